@@ -1,0 +1,5 @@
+pub mod Fronts
+pub mod Creds
+pub mod Written
+pub mod CallLaws
+pub mod ReplyLaws

@@ -1,0 +1,4 @@
+pub mod Auth
+pub mod Cred
+pub mod Call
+pub mod Reply

@@ -1,0 +1,13 @@
+//! ONC RPC version 2 (RFC 5531): the heads of calls, replies and refusals.
+#![tactic(auto)]
+
+mod call;
+mod cred;
+mod front;
+mod reply;
+#[cfg(test)]
+mod tests;
+
+pub use call::{CallFault, CallHead, read_call, write_call, xid_of};
+pub use cred::Cred;
+pub use reply::{Reply, ReplyFault, read_reply, write_accepted, write_denied, write_refused};

@@ -1,0 +1,5 @@
+pub mod Begins
+pub mod Laws
+pub mod MoreLaws
+pub mod Written
+pub mod WholeLaws
