@@ -1,0 +1,9 @@
+pub mod Tools
+pub mod AttributesLaws
+pub mod TransferLaws
+pub mod FileSystemLaws
+pub mod CallLaws
+pub mod ReplyLaws
+pub mod Written
+pub mod WrittenCalls
+pub mod WrittenReplies
