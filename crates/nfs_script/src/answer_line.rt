@@ -1,0 +1,66 @@
+//! Writes the lines that answer operations.
+
+ghost use Rattle.std.specs.Prelude.{◌≡◌, ◌++◌, decimal, OnOk, OnErr};
+ghost use Rattle.xdr_codec.specs.Spelling.{BeginsWith};
+ghost use Rattle.world_model.specs.Transcript.{answer_text, fault_text, line_text};
+
+use itoa::Buffer;
+use world_model::{Answer, Fault, Value};
+use xdr_codec::{Memory, Writer};
+
+/// Appends the line that answers an operation: its lane, the number of its line and its answer's text, parted by single
+/// spaces, and a line feed. After want of memory the writer begins with what it held.
+#[tactic(auto, using(xdr_codec::proofs::Begins::begins_then, std::proofs::Common::append_assoc), unfolding(world_model::specs::Transcript::line_text))]
+pub fn line(out: &mut Writer, lane: u8, number: u32, answer: &Answer) -> Result<(), Memory>
+    ensures ok { OnOk result (out.new ≡ out.old ++ line_text lane number answer.now) }
+    ensures err { OnErr result (BeginsWith out.old out.new) }
+{
+    write_number(out, u64::from(lane))?;
+    out.raw(b" ")?;
+    write_number(out, u64::from(number))?;
+    out.raw(b" ")?;
+    write_answer(out, answer)?;
+    out.raw(b"\n")?;
+    Ok(())
+}
+
+fn write_answer(out: &mut Writer, answer: &Answer) -> Result<(), Memory>
+    ensures ok { OnOk result (out.new ≡ out.old ++ answer_text answer.now) }
+    ensures err { OnErr result (BeginsWith out.old out.new) }
+{
+    match answer {
+        Answer::Done(Value::Nothing) => out.raw(b"ok"),
+        Answer::Refused(fault) => write_fault(out, *fault),
+    }
+}
+
+#[tactic(auto, using(xdr_codec::proofs::Begins::begins_then, std::proofs::Common::append_assoc))]
+fn write_fault(out: &mut Writer, fault: Fault) -> Result<(), Memory>
+    ensures ok { OnOk result (out.new ≡ out.old ++ fault_text fault) }
+    ensures err { OnErr result (BeginsWith out.old out.new) }
+{
+    match fault {
+        Fault::Nfs(status) => write_counted(out, b"nfs ", status),
+        Fault::Bad(rule) => write_counted(out, b"bad ", rule),
+        Fault::Lost => out.raw(b"lost"),
+        Fault::Memory => out.raw(b"memory"),
+    }
+}
+
+#[tactic(auto, using(xdr_codec::proofs::Begins::begins_then, std::proofs::Common::append_assoc))]
+fn write_counted(out: &mut Writer, word: &[u8], number: u32) -> Result<(), Memory>
+    ensures ok { OnOk result (out.new ≡ out.old ++ (word.now ++ decimal number)) }
+    ensures err { OnErr result (BeginsWith out.old out.new) }
+{
+    out.raw(word)?;
+    write_number(out, u64::from(number))?;
+    Ok(())
+}
+
+fn write_number(out: &mut Writer, number: u64) -> Result<(), Memory>
+    ensures ok { OnOk result (out.new ≡ out.old ++ decimal number) }
+    ensures err { OnErr result (out.new ≡ out.old) }
+{
+    let mut buffer = Buffer::new();
+    out.raw(buffer.format(number).as_bytes())
+}

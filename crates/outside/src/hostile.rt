@@ -1,0 +1,122 @@
+//! A link in memory that hands out given records, whatever was sent.
+
+ghost use Rattle.std.specs.Prelude.{◌≡◌, ◌++◌, ◌∷◌, [], OnOk, OnErr};
+
+use crate::link::{Link, LinkFault, Received};
+use std::alloc::Global;
+use std::marker::Model;
+use world_model::{Entry, Mark};
+use xdr_codec::{Blob, Memory};
+
+/// A link that hands out given records, one at each wait, and is silent exactly after the last. It never fails, and
+/// tells its history.
+#[derive(Debug, Drop)]
+pub struct HostileLink {
+    alloc: Global,
+    entries: Vec<Entry>,
+    records: Vec<Blob>,
+    next: usize,
+    faults: u64,
+}
+
+impl Model for HostileLink {
+    ghost use Rattle.std.specs.Prelude.{◌≤◌, drop, length};
+    ghost use Rattle.outside.specs.Hostile.{HostileView};
+
+    ghost Value = { HostileView };
+
+    ghost view = { λ l. record { entries = l.entries.items; left = drop l.next l.records.items; faults = l.faults } };
+
+    ghost invariant = { λ l. l.next ≤ length l.records.items };
+}
+
+impl HostileLink {
+    /// A link with no records yet.
+    pub fn new(alloc: Global) -> HostileLink
+        ensures { result ≡ record { entries = []; left = []; faults = 0 } }
+    {
+        HostileLink {
+            alloc,
+            entries: Vec::new(alloc),
+            records: Vec::new(alloc),
+            next: 0,
+            faults: 0,
+        }
+    }
+
+    /// One more record at the end. After want of memory nothing is changed.
+    pub fn reply(&mut self, rec: &[u8]) -> Result<(), Memory>
+        ensures ok { OnOk result (self.new ≡ record self.old { left = self.old.left ++ rec.now ∷ [] }) }
+        ensures err { OnErr result (self.new ≡ self.old) }
+    {
+        let record = Blob::copy(self.alloc, rec)?;
+        self.records.push(record)?;
+        Ok(())
+    }
+}
+
+impl Link for HostileLink {
+    ghost use Rattle.std.specs.Prelude.{◌≡◌, ◌≤◌, Some};
+    ghost use Rattle.world_model.specs.Told.{Tells};
+    ghost use Rattle.outside.specs.Causes.{HasCauseReceived};
+    ghost use Rattle.outside.specs.Link.{received_as};
+    ghost use Rattle.outside.specs.Hostile.{HandsOut};
+
+    ghost told = { λ l. Some (record { entries = l.entries }) };
+
+    ghost faults = { λ l. l.faults };
+
+    fn dial(&mut self, port: u16) -> Result<(), LinkFault> {
+        if self.entries.push(Entry::Dialed { port }).is_err() {
+            return Err(LinkFault::Memory);
+        }
+        Ok(())
+    }
+
+    fn send(&mut self, rec: &[u8]) -> Result<(), LinkFault> {
+        let Ok(bytes) = Blob::copy(self.alloc, rec) else {
+            return Err(LinkFault::Memory);
+        };
+        if self.entries.push(Entry::Sent { bytes }).is_err() {
+            return Err(LinkFault::Memory);
+        }
+        Ok(())
+    }
+
+    fn receive(&mut self, _wait_ms: u32, rec: &mut Vec<u8>) -> Received
+        requires { 15000 ≤ _wait_ms }
+        ensures told { Tells (Some (record { entries = self.old.entries })) (Some (record { entries = self.new.entries })) (received_as rec.new.items result) }
+        ensures cause { HasCauseReceived self.old.faults self.new.faults result }
+        ensures given { HandsOut self.old.left self.new.left rec.new.items result }
+    {
+        let Some(record) = self.records.as_slice().get(self.next) else {
+            if self.entries.push(Entry::Failed).is_err() {
+                return Received::Memory;
+            }
+            self.faults = self.faults.saturating_add(1);
+            return Received::Silent;
+        };
+        let Ok(bytes) = Blob::copy(self.alloc, record.bytes()) else {
+            return Received::Memory;
+        };
+        rec.clear();
+        if rec.extend_from_slice(record.bytes()).is_err() {
+            return Received::Memory;
+        }
+        if self.entries.push(Entry::Delivered { bytes }).is_err() {
+            return Received::Memory;
+        }
+        self.next += 1;
+        Received::Whole
+    }
+
+    fn note(&mut self, mark: Mark) -> Result<(), Memory> {
+        let entry = match mark {
+            Mark::Began { lane, line, op } => Entry::Began { lane, line, op },
+            Mark::Answered { lane, line, answer } => Entry::Answered { lane, line, answer },
+            Mark::Clock { ms } => Entry::Clock { ms },
+        };
+        self.entries.push(entry)?;
+        Ok(())
+    }
+}

@@ -1,0 +1,61 @@
+//! The way to the server, by what happened on it.
+
+ghost use Rattle.std.specs.Prelude.{◌≤◌, ℕ, Option};
+ghost use Rattle.world_model.specs.Told.{Told, Tells};
+ghost use Rattle.outside.specs.Causes.{HasCause, HasCauseReceived};
+ghost use Rattle.outside.specs.Link.{dialed_as, sent_as, received_as, noted_as};
+
+use world_model::Mark;
+use xdr_codec::Memory;
+
+/// Why the outside did not do what it was asked.
+#[derive(Clone, Copy, Debug, PartialEq, Eq)]
+pub enum LinkFault {
+    /// The outside failed.
+    Failed,
+    /// Want of memory.
+    Memory,
+}
+
+/// What came of waiting for a record.
+#[derive(Clone, Copy, Debug, PartialEq, Eq)]
+pub enum Received {
+    /// A record came whole.
+    Whole,
+    /// No record came in time.
+    Silent,
+    /// The outside failed.
+    Failed,
+    /// Want of memory; no byte that came is lost.
+    Memory,
+}
+
+/// A way to a server. Between the entries that a call adds, the server may add any number of its own.
+pub trait Link {
+    /// The history, where the link tells it.
+    ghost told: { Self → Option Told };
+
+    /// How often the outside failed. It never falls.
+    ghost faults: { Self → ℕ };
+
+    /// Makes a connection to that port, in place of the one before.
+    fn dial(&mut self, port: u16) -> Result<(), LinkFault>
+        ensures told { Tells (told self.old) (told self.new) (dialed_as port result) }
+        ensures cause { HasCause (faults self.old) (faults self.new) result };
+
+    /// Sends a record. After want of memory nothing was sent.
+    fn send(&mut self, rec: &[u8]) -> Result<(), LinkFault>
+        ensures told { Tells (told self.old) (told self.new) (sent_as rec.now result) }
+        ensures cause { HasCause (faults self.old) (faults self.new) result };
+
+    /// Waits for a record for at most so many milliseconds. A whole one takes the place of what rec held.
+    fn receive(&mut self, wait_ms: u32, rec: &mut Vec<u8>) -> Received
+        requires { 15000 ≤ wait_ms }
+        ensures told { Tells (told self.old) (told self.new) (received_as rec.new.items result) }
+        ensures cause { HasCauseReceived (faults self.old) (faults self.new) result };
+
+    /// Notes a mark in the history.
+    fn note(&mut self, mark: Mark) -> Result<(), Memory>
+        ensures told { Tells (told self.old) (told self.new) (noted_as mark result) }
+        ensures cause { faults self.old ≤ faults self.new };
+}

@@ -1,0 +1,6 @@
+pub mod Entries
+pub mod Told
+pub mod Messages
+pub mod Waiting
+pub mod Rows
+pub mod Transcript
