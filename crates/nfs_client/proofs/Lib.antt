@@ -1,0 +1,16 @@
+pub mod HeardLaws
+pub mod RecordLaws
+pub mod Moves
+pub mod PutFact
+pub mod Phases
+pub mod PhaseSteps
+pub mod PhaseTakes
+pub mod PhaseFact
+pub mod RowFact
+pub mod MarkFact
+pub mod Commands
+pub mod Turns
+pub mod Ending
+pub mod Runs
+pub mod Lefts
+pub mod StreamLaws

@@ -1,0 +1,10 @@
+pub mod Words
+pub mod Records
+pub mod View
+pub mod Results
+pub mod Machine
+pub mod Reaches
+pub mod Shown
+pub mod Streams
+pub mod Session
+pub mod Run
