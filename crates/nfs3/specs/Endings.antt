@@ -1,0 +1,23 @@
+-- How the program ends.
+use Rattle.std.specs.Prelude.{ℕ, List, codes, ◌==◌, if◌then◌else◌, Option, Some, None}
+use Rattle.nfs3.specs.declared.ending.Ending.{Ending}
+use Rattle.nfs3.specs.declared.ending.Ending.TheVariants as endings
+
+-- the exit status
+abbrev pub status_of : Ending → ℕ
+status_of endings.Usage = 2
+status_of endings.Memory = 7
+status_of (endings.Schedule line) = 9
+status_of (endings.Ran status) = status
+
+-- what standard error says of a session that ended with the status
+abbrev pub message_of : ℕ → Option (List ℕ)
+message_of status =
+    if status == 2 then Some (codes "usage")
+    else if status == 3 then Some (codes "script refused")
+    else if status == 4 then Some (codes "read fault")
+    else if status == 5 then Some (codes "write fault")
+    else if status == 6 then Some (codes "link lost")
+    else if status == 7 then Some (codes "want of memory")
+    else if status == 8 then Some (codes "mount refused")
+    else None

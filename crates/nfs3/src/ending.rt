@@ -1,0 +1,48 @@
+//! How the program ends.
+
+ghost use Rattle.std.specs.Prelude.{◌≡◌, Option};
+ghost use Rattle.std.specs.Option.{option_map};
+ghost use Rattle.nfs3.specs.Endings.{status_of, message_of};
+
+/// How the program ends.
+#[derive(Clone, Copy, Debug, PartialEq, Eq)]
+pub enum Ending {
+    /// The words are of no known form.
+    Usage,
+    /// Want of memory before the session.
+    Memory,
+    /// The schedule is faulty at that line; at 0 it can't be read or is too long.
+    Schedule(u32),
+    /// The session ended with that status.
+    Ran(u8),
+}
+
+impl Ending {
+    /// The exit status.
+    pub fn status(self) -> u8
+        ensures { result ≡ status_of self }
+    {
+        match self {
+            Ending::Usage => 2,
+            Ending::Memory => 7,
+            Ending::Schedule(_) => 9,
+            Ending::Ran(status) => status,
+        }
+    }
+}
+
+/// What standard error says of a status of a session, where it says anything.
+pub fn message(status: u8) -> Option<&'static str>
+    ensures { option_map (λ text. text.now) result ≡ message_of status }
+{
+    match status {
+        2 => Some("usage"),
+        3 => Some("script refused"),
+        4 => Some("read fault"),
+        5 => Some("write fault"),
+        6 => Some("link lost"),
+        7 => Some("want of memory"),
+        8 => Some("mount refused"),
+        _ => None,
+    }
+}

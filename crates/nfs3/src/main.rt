@@ -1,0 +1,57 @@
+//! A user-space client of NFS version 3. `nfs3 replay SCHEDULE WORDS` runs the script on standard input over a simulated
+//! server, which the file SCHEDULE describes.
+#![tactic(auto)]
+
+mod edge;
+mod ending;
+mod replay;
+#[cfg(test)]
+mod tests;
+
+use crate::ending::{Ending, message};
+use std::alloc::AllocError;
+use std::env;
+use std::io::ErrorKind;
+use std::process::ExitCode;
+
+fn main(rt: HostRuntime) -> ExitCode {
+    let ending = program(&rt);
+    report(&rt, ending);
+    ExitCode::from(ending.status())
+}
+
+/// Does what the program's words ask for.
+fn program(rt: &HostRuntime) -> Ending {
+    let args = match env::args(rt) {
+        Ok(args) => args,
+        Err(error) if error.kind() == ErrorKind::OutOfMemory => return Ending::Memory,
+        Err(_) => return Ending::Usage,
+    };
+    let words: Result<Vec<String>, AllocError> = args.skip(1).collect(rt.alloc());
+    match words {
+        Ok(words) => command(rt, words),
+        Err(_) => Ending::Memory,
+    }
+}
+
+/// Runs the command that the first word names.
+fn command(rt: &HostRuntime, mut words: Vec<String>) -> Ending {
+    match words.as_slice() {
+        [name, _, ..] if name.as_str() == "replay" => {
+            let path = words.remove(1);
+            replay::replay(rt, path.as_str(), words.as_slice())
+        }
+        _ => Ending::Usage,
+    }
+}
+
+/// Says on standard error how the program ends. Where that can't be written, nothing is said.
+fn report(rt: &HostRuntime, ending: Ending) {
+    let _ = match ending {
+        Ending::Schedule(line) => eprintln!(rt; "nfs3: schedule {line}"),
+        _ => match message(ending.status()) {
+            Some(text) => eprintln!(rt; "nfs3: {text}"),
+            None => Ok(()),
+        },
+    };
+}

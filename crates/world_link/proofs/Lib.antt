@@ -1,0 +1,5 @@
+pub mod Parting
+pub mod Taken
+pub mod Decimals
+pub mod Utf8
+pub mod Faults

@@ -1,0 +1,5 @@
+pub mod View
+pub mod Lines
+pub mod Replies
+pub mod Objects
+pub mod Schedule
