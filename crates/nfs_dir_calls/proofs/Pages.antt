@@ -1,15 +1,18 @@
 -- What a page gives, row by row.
 use Rattle.std.proofs.Common.{append_assoc, ◌+◌, ◌≡◌, ◌≤◌, ◌<◌, ℕ, zero, suc, Bool, true, false, cond, List, [], ◌∷◌, ◌++◌, length, Result, Ok, Err, refl, sym, ap, ◌∙◌, arith}
-use Rattle.std.proofs.lemmas.List.{length-append}
+use Rattle.std.proofs.lemmas.List.{append-nil, length-append}
 use Rattle.xdr_codec.specs.declared.reader.XdrFault.{XdrFault}
 use Rattle.xdr_codec.specs.declared.reader.XdrFault.TheVariants.{Short}
 use Rattle.xdr_codec.specs.Reading.{◌>>=◌, flag_at}
 use Rattle.xdr_codec.specs.Bytes.{IsBytes}
 use Rattle.xdr_codec.specs.Lists.{items_at}
-use Rattle.xdr_codec.specs.Spells.{SpellsList}
+use Rattle.xdr_codec.specs.Spelling.{flag_bytes}
+use Rattle.xdr_codec.specs.Spells.{◌⨾◌, SpellsFlag, SpellsList, Wrote}
+use Rattle.xdr_codec.proofs.Begins.{begins_same, begins_more, begins_then}
 use Rattle.xdr_codec.proofs.Laws.{Codec, bind_ok}
-use Rattle.xdr_codec.proofs.MoreLaws.{list_codec, items_takes, items_again, list_long, flag_codec, flag_long, ok_is}
-use Rattle.nfs_dir_calls.specs.Pages.{page_at, firsts, rows_of, IsPage, prepends, Along}
+use Rattle.xdr_codec.proofs.MoreLaws.{list_codec, items_takes, items_again, list_long, flag_codec, flag_long, of, ok_is}
+use Rattle.nfs_dir_calls.proofs.Wrote.{wrote_across}
+use Rattle.nfs_dir_calls.specs.Pages.{page_at, firsts, rows_of, page_bytes, IsPage, prepends, Along, Writing, Copied}
 
 pub page_codec : {A : Type 0} {read : List ℕ → Result (A × List ℕ) XdrFault} {S : A → List ℕ → Type 0} → Codec read S → Codec (page_at read) (SpellsList S)
 unfolding page_at
@@ -70,6 +73,13 @@ pub record Next {A : Type 0} (read : List ℕ → Result (A × List ℕ) XdrFaul
   pub page : IsPage read rest
   pub is : rows_of read bytes ≡ v ∷ rows_of read rest
 
+rows_next : {A : Type 0} (read : List ℕ → Result (A × List ℕ) XdrFault) (bytes rest : List ℕ) (all left : List A × List ℕ) (v : A)
+    → page_at read bytes ≡ Ok all → of (v ∷ left.0, left.1) ≡ of all → page_at read rest ≡ Ok left → rows_of read bytes ≡ v ∷ rows_of read rest
+rows_next {A = A} read bytes rest all left v e f g =
+    let pair : List A × List ℕ = (v ∷ left.0, left.1) in
+    let same : pair ≡ all = ok_is pair all f in
+    rw (e, ← same, g) refl
+
 pub page_next : {A : Type 0} {read : List ℕ → Result (A × List ℕ) XdrFault} {S : A → List ℕ → Type 0} → Codec read S → (bytes more rest : List ℕ) (v : A) → IsPage read bytes → flag_at bytes ≡ Ok (true, more) → read more ≡ Ok (v, rest) → Next read bytes rest v
 page_next {A = A} {read = read} c bytes more rest v p e g =
     let o = page_front {read = read} bytes p.all p.is in
@@ -77,13 +87,11 @@ page_next {A = A} {read = read} c bytes more rest v p e g =
     let q = bind_ok (read more) (λ w. items_at read o.0 w.1 >>= λ vs. Ok (w.0 ∷ vs.0, vs.1)) p.all (rw same at o.1.goes) in
     let vr : q.0 ≡ (v, rest) = two_are (read more) _ _ q.1 g in
     let r = bind_ok (items_at read o.0 rest) (λ vs. Ok (v ∷ vs.0, vs.1)) p.all (rw vr at q.2) in
-    let pair : List A × List ℕ = (v ∷ r.0.0, r.0.1) in
-    let all : pair ≡ p.all = ok_is pair p.all r.2 in
     let fits = (c.takes more (v, rest) (flag_codec.takes bytes (true, more) p.fits e).rest g).rest in
     let tail : page_at read rest ≡ Ok r.0 = items_enough c o.0 rest r.0 fits r.1 in
     record {
       page = record { fits = fits; all = r.0; is = tail };
-      is = ap firsts p.is ∙ ap (λ (y : List A × List ℕ). y.0) (sym all) ∙ ap (λ (l : List A). v ∷ l) (sym (ap firsts tail));
+      is = rows_next read bytes rest p.all r.0 v p.is r.2 tail;
     }
 
 -- ---- reading a page
@@ -169,3 +177,30 @@ refused_turn read (suc n) now f le e = rw e refl
 
 pub along_broken : {A : Type 0} (read : List ℕ → Result (A × List ℕ) XdrFault) (old now : List ℕ) (f : XdrFault) → Along read old now → flag_at now ≡ Err f → page_at read old ≡ Err f
 along_broken read old now f a e = a.same ∙ ap (prepends a.seen) (refused_turn read a.turns now f a.enough e)
+
+-- ---- writing a page
+
+pub writing_begins : {A : Type 0} (write : A → List ℕ) (S : A → List ℕ → Type 0) (all : List A) (old : List ℕ) → Writing write S all all old old
+writing_begins write S all old = record { begins = begins_same old old refl; same = refl; spells = λ new w. w }
+
+pub writing_next : {A : Type 0} (write : A → List ℕ) (S : A → List ℕ → Type 0) (all : List A) (v : A) (left : List A) (old now new : List ℕ) → Writing write S all (v ∷ left) old now
+    → new ≡ now ++ (flag_bytes true ++ write v) → Wrote (SpellsFlag true ⨾ S v) now new → Writing write S all left old new
+unfolding page_bytes
+writing_next write S all v left old now new w e s = record {
+  begins = begins_then old now new w.begins (begins_more now new (flag_bytes true ++ write v) e);
+  same = w.same ∙ sym (append_assoc now (flag_bytes true ++ write v) (page_bytes write left)) ∙ ap (λ (t : List ℕ). t ++ page_bytes write left) (sym e);
+  spells = λ end t. w.spells end (wrote_across (SpellsFlag true) (S v) (SpellsList S left) now new end s t);
+}
+
+pub writing_end : {A : Type 0} (write : A → List ℕ) (S : A → List ℕ → Type 0) (all : List A) (old now new : List ℕ) → Writing write S all [] old now → new ≡ now ++ flag_bytes false → new ≡ old ++ page_bytes write all
+unfolding page_bytes
+writing_end write S all old now new w e = e ∙ sym w.same
+
+pub copied_begins : {A : Type 0} (all : List A) → Copied all [] all
+copied_begins all = record { is = refl }
+
+pub copied_next : {A : Type 0} (all rows : List A) (v : A) (left : List A) → Copied all rows (v ∷ left) → Copied all (rows ++ v ∷ []) left
+copied_next all rows v left c = record { is = c.is ∙ sym (append_assoc rows (v ∷ []) left) }
+
+pub copied_end : {A : Type 0} (all rows : List A) → Copied all rows [] → rows ≡ all
+copied_end all rows c = sym (append-nil rows) ∙ sym c.is

@@ -16,5 +16,5 @@ place_at bytes = do
 unfoldable pub place_bytes : List ℕ → List ℕ → List ℕ
 place_bytes dir name = handle_bytes dir ++ name_bytes name
 
-abbrev pub SpellsPlace : Place → List ℕ → Type 0
-SpellsPlace v = SpellsHandle v.dir ⨾ SpellsName v.name
+abbrev pub SpellsPlace : List ℕ → List ℕ → List ℕ → Type 0
+SpellsPlace dir name = SpellsHandle dir ⨾ SpellsName name

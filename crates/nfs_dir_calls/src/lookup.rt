@@ -2,6 +2,8 @@
 
 ghost use Rattle.std.specs.Prelude.{◌≡◌, ◌++◌, OnOk, OnErr};
 ghost use Rattle.xdr_codec.specs.Spelling.{BeginsWith};
+ghost use Rattle.xdr_codec.specs.Spells.{◌⨾◌, SpellsU32, Wrote};
+ghost use Rattle.nfs_types.specs.Spells.{SpellsHandle, SpellsOptAttr};
 ghost use Rattle.xdr_codec.specs.Whole.{Gives};
 ghost use Rattle.nfs_dir_calls.specs.Kept.{kept_of};
 ghost use Rattle.nfs_dir_calls.specs.Lookup.{lookup_call_at, lookup_at, lookup_bytes};
@@ -14,7 +16,7 @@ use xdr_codec::{Memory, Reader, Writer, XdrFault};
 
 /// Reads the arguments.
 #[tactic(auto, unfolding(crate::specs::Lookup::lookup_call_at))]
-pub fn read_lookup_call(args: &[u8]) -> Result<DirCall, XdrFault>
+pub fn read_call(args: &[u8]) -> Result<DirCall, XdrFault>
     ensures { result ≡ lookup_call_at args.now }
 {
     let mut r = Reader::new(args);
@@ -28,8 +30,8 @@ pub fn read_lookup_call(args: &[u8]) -> Result<DirCall, XdrFault>
 
 /// Reads the results.
 #[tactic(auto, unfolding(crate::specs::Lookup::lookup_at))]
-pub fn read_lookup_reply(results: &[u8]) -> Result<DirReply, XdrFault>
-    ensures { Gives kept_of result (lookup_at results.now) }
+pub fn read_reply<'a>(results: &'a [u8]) -> Result<DirReply<'a>, XdrFault>
+    ensures { Gives kept_of result (lookup_at results.entry.now) }
 {
     let mut r = Reader::new(results);
     let status = r.u32()?;
@@ -50,7 +52,7 @@ pub fn read_lookup_reply(results: &[u8]) -> Result<DirReply, XdrFault>
 
 /// Appends the results at status 0.
 #[tactic(auto, using(xdr_codec::proofs::Begins::begins_then, std::proofs::Common::append_assoc), unfolding(crate::specs::Lookup::lookup_bytes))]
-pub fn write_lookup(
+pub fn write_reply(
     w: &mut Writer,
     found: &Handle,
     attr: &Option<Attr>,
@@ -58,6 +60,7 @@ pub fn write_lookup(
 ) -> Result<(), Memory>
     ensures ok { OnOk result (w.new ≡ w.old ++ lookup_bytes found.now attr.now dir.now) }
     ensures err { OnErr result (BeginsWith w.old w.new) }
+    ensures spelled { OnOk result (Wrote (SpellsU32 0 ⨾ SpellsHandle found.now ⨾ SpellsOptAttr attr.now ⨾ SpellsOptAttr dir.now) w.old w.new) }
 {
     w.u32(0)?;
     write_handle(w, found)?;

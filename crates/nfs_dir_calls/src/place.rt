@@ -29,20 +29,11 @@ pub fn read_place(r: &mut Reader<'_>) -> Result<Place, XdrFault>
 }
 
 /// Appends a place.
+#[tactic(auto, using(xdr_codec::proofs::Begins::begins_then, std::proofs::Common::append_assoc), unfolding(crate::specs::Places::place_bytes))]
 pub fn write_place(w: &mut Writer, dir: &Handle, name: &Name) -> Result<(), Memory>
     ensures ok { OnOk result (w.new ≡ w.old ++ place_bytes dir.now name.now) }
     ensures err { OnErr result (BeginsWith w.old w.new) }
-    ensures spelled { OnOk result (Wrote (SpellsPlace (record { dir = dir.now; name = name.now })) w.old w.new) }
-{
-    let _dir = dir.bytes();
-    let _name = name.bytes();
-    place_into(w, dir, name)
-}
-
-#[tactic(auto, using(xdr_codec::proofs::Begins::begins_then, std::proofs::Common::append_assoc), unfolding(crate::specs::Places::place_bytes))]
-fn place_into(w: &mut Writer, dir: &Handle, name: &Name) -> Result<(), Memory>
-    ensures ok { OnOk result (w.new ≡ w.old ++ place_bytes dir.now name.now) }
-    ensures err { OnErr result (BeginsWith w.old w.new) }
+    ensures spelled { OnOk result (Wrote (SpellsPlace dir.now name.now) w.old w.new) }
 {
     write_handle(w, dir)?;
     write_name(w, name)?;
