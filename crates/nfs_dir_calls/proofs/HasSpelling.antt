@@ -1,9 +1,15 @@
 -- What is spelled has a spelling.
-use Rattle.std.proofs.Common.{ℕ, List}
+use Rattle.std.proofs.Common.{ℕ, List, Result, Ok, Err}
+use Rattle.std.specs.Prelude.{IfOk}
+use Rattle.xdr_codec.specs.declared.reader.XdrFault.{XdrFault}
+use Rattle.xdr_codec.specs.declared.codec_fault.CodecFault.{CodecFault}
+use Rattle.xdr_codec.specs.Whole.{FindsWhole, FindsOwned}
 use Rattle.nfs_dir_calls.specs.declared.call.DirCall.{DirCall}
 use Rattle.nfs_dir_calls.specs.declared.keeping.DirKept.{DirKept}
-use Rattle.nfs_dir_calls.specs.Calls.{SpellsDirCall, HasSpellingDirCall}
-use Rattle.nfs_dir_calls.specs.Replies.{SpellsReply, HasSpellingDirReply}
+use Rattle.nfs_dir_calls.specs.declared.reply.DirReply.{DirReply}
+use Rattle.nfs_dir_calls.specs.Calls.{SpellsDirCall, SpellsDirCallOf, HasSpellingDirCall}
+use Rattle.nfs_dir_calls.specs.Kept.{kept_of}
+use Rattle.nfs_dir_calls.specs.Replies.{SpellsReply, SpellsDirReply, HasSpellingDirReply}
 use Rattle.nfs_dir_calls.specs.declared.call.DirCall.TheVariants as calls
 use Rattle.nfs_dir_calls.specs.declared.keeping.DirKept.TheVariants as kept
 
@@ -48,3 +54,13 @@ reply_has_spelling (kept.ReadDir attr verf page eof) results s = tt
 reply_has_spelling (kept.ReadDirFail status attr) results s = s.failed
 reply_has_spelling (kept.ReadDirPlus attr verf page eof) results s = tt
 reply_has_spelling (kept.ReadDirPlusFail status attr) results s = s.failed
+
+-- so a call that was read has one
+pub read_call_has : (proc : ℕ) (args : List ℕ) (result : Result DirCall CodecFault) → FindsOwned (SpellsDirCallOf proc) args result → IfOk result HasSpellingDirCall
+read_call_has proc args (Ok v) f = call_has_spelling v args f.found.is
+read_call_has proc args (Err e) f = tt
+
+-- and a reply that was read
+pub read_reply_has : (proc : ℕ) (results : List ℕ) (result : Result DirReply XdrFault) → FindsWhole kept_of (SpellsDirReply proc) results result → IfOk result (λ v. HasSpellingDirReply (kept_of v))
+read_reply_has proc results (Ok v) f = reply_has_spelling (kept_of v) results f.found.is
+read_reply_has proc results (Err e) f = tt

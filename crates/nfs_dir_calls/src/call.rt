@@ -1,6 +1,6 @@
 //! The calls: what a client asks of a directory.
 
-ghost use Rattle.std.specs.Prelude.{◌≡◌, ◌++◌, IsTrue, ◌↔◌, OnOk, OnErr};
+ghost use Rattle.std.specs.Prelude.{◌≡◌, ◌++◌, IsTrue, ◌↔◌, OnOk, OnErr, IfOk};
 ghost use Rattle.xdr_codec.specs.Spelling.{BeginsWith};
 ghost use Rattle.xdr_codec.specs.Spells.{Wrote};
 ghost use Rattle.xdr_codec.specs.Whole.{GivesOwned, FindsOwned};
@@ -134,6 +134,7 @@ pub fn read_dir_call(alloc: Global, proc: u32, args: &[u8]) -> Result<DirCall, C
     requires { IsDirProc proc }
     ensures exact { GivesOwned result (dir_call_at proc args.now) }
     ensures spelled { FindsOwned (SpellsDirCallOf proc) args.now result }
+    ensures writable { IfOk result HasSpellingDirCall }
 {
     Reader::new(args).holds_bytes();
     call_of(alloc, proc, args)

@@ -1,6 +1,6 @@
 //! The replies: what a server answers to a call on a directory.
 
-ghost use Rattle.std.specs.Prelude.{◌≡◌, ◌++◌, OnOk, OnErr};
+ghost use Rattle.std.specs.Prelude.{◌≡◌, ◌++◌, OnOk, OnErr, IfOk};
 ghost use Rattle.xdr_codec.specs.Spelling.{BeginsWith};
 ghost use Rattle.xdr_codec.specs.Spells.{Wrote};
 ghost use Rattle.xdr_codec.specs.Whole.{Gives, FindsWhole};
@@ -163,6 +163,7 @@ pub fn read_dir_reply<'a>(proc: u32, results: &'a [u8]) -> Result<DirReply<'a>, 
     requires { IsDirProc proc }
     ensures exact { Gives kept_of result (dir_reply_at proc results.entry.now) }
     ensures spelled { FindsWhole kept_of (SpellsDirReply proc) results.entry.now result }
+    ensures writable { IfOk result (λ v. HasSpellingDirReply (kept_of v)) }
 {
     Reader::new(results).holds_bytes();
     reply_of(proc, results)
