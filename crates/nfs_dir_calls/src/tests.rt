@@ -16,52 +16,36 @@ type Record = (u32, &'static [u32], &'static [usize], &'static [usize]);
 /// Arguments: the place is the directory 0000000000000001 and the name `a`; the attributes to set are the mode 0644, the
 /// group 5, the server's time of access and the time 8 and 9 of change.
 static CALLS: [Record; 16] = [
-    (3, &[8, 0, 1, 1, 0x6100_0000], &[0, 3], &[]),
+    (3, &[8, 0, 1, 1, 0x61000000], &[0, 3], &[]),
     (5, &[8, 0, 1], &[0], &[]),
     (
         8,
-        &[8, 0, 1, 1, 0x6100_0000, 0, 1, 0o644, 0, 1, 5, 0, 1, 2, 8, 9],
+        &[8, 0, 1, 1, 0x61000000, 0, 1, 0o644, 0, 1, 5, 0, 1, 2, 8, 9],
         &[0, 3],
         &[6, 8, 9, 11],
     ),
     (
         8,
-        &[8, 0, 1, 1, 0x6100_0000, 1, 1, 0o644, 0, 1, 5, 0, 1, 2, 8, 9],
+        &[8, 0, 1, 1, 0x61000000, 1, 1, 0o644, 0, 1, 5, 0, 1, 2, 8, 9],
         &[0, 3],
         &[6, 8, 9, 11],
     ),
     (
         8,
-        &[8, 0, 1, 1, 0x6100_0000, 2, 0x0102_0304, 0x0506_0708],
+        &[8, 0, 1, 1, 0x61000000, 2, 0x01020304, 0x05060708],
         &[0, 3],
         &[],
     ),
     (
         9,
-        &[8, 0, 1, 1, 0x6100_0000, 1, 0o644, 0, 1, 5, 0, 1, 2, 8, 9],
+        &[8, 0, 1, 1, 0x61000000, 1, 0o644, 0, 1, 5, 0, 1, 2, 8, 9],
         &[0, 3],
         &[5, 7, 8, 10],
     ),
     (
         10,
         &[
-            8,
-            0,
-            1,
-            1,
-            0x6100_0000,
-            1,
-            0o644,
-            0,
-            1,
-            5,
-            0,
-            1,
-            2,
-            8,
-            9,
-            4,
-            0x2e2e_2f62,
+            8, 0, 1, 1, 0x61000000, 1, 0o644, 0, 1, 5, 0, 1, 2, 8, 9, 4, 0x2e2e2f62,
         ],
         &[0, 3, 15],
         &[5, 7, 8, 10],
@@ -69,58 +53,36 @@ static CALLS: [Record; 16] = [
     (
         11,
         &[
-            8,
-            0,
-            1,
-            1,
-            0x6100_0000,
-            3,
-            1,
-            0o644,
-            0,
-            1,
-            5,
-            0,
-            1,
-            2,
-            8,
-            9,
-            1,
-            2,
+            8, 0, 1, 1, 0x61000000, 3, 1, 0o644, 0, 1, 5, 0, 1, 2, 8, 9, 1, 2,
         ],
         &[0, 3],
         &[6, 8, 9, 11],
     ),
     (
         11,
-        &[8, 0, 1, 1, 0x6100_0000, 7, 1, 0o644, 0, 1, 5, 0, 1, 2, 8, 9],
+        &[8, 0, 1, 1, 0x61000000, 7, 1, 0o644, 0, 1, 5, 0, 1, 2, 8, 9],
         &[0, 3],
         &[6, 8, 9, 11],
     ),
-    (11, &[8, 0, 1, 1, 0x6100_0000, 1], &[0, 3], &[]),
-    (12, &[8, 0, 1, 1, 0x6100_0000], &[0, 3], &[]),
-    (13, &[8, 0, 1, 1, 0x6100_0000], &[0, 3], &[]),
+    (11, &[8, 0, 1, 1, 0x61000000, 1], &[0, 3], &[]),
+    (12, &[8, 0, 1, 1, 0x61000000], &[0, 3], &[]),
+    (13, &[8, 0, 1, 1, 0x61000000], &[0, 3], &[]),
     (
         14,
-        &[8, 0, 1, 1, 0x6100_0000, 0, 2, 0x6263_0000],
+        &[8, 0, 1, 1, 0x61000000, 0, 2, 0x62630000],
         &[0, 3, 5, 6],
         &[],
     ),
     (
         15,
-        &[3, 0x0102_0300, 8, 0, 1, 1, 0x6100_0000],
+        &[3, 0x01020300, 8, 0, 1, 1, 0x61000000],
         &[0, 2, 5],
         &[],
     ),
-    (
-        16,
-        &[8, 0, 1, 0, 5, 0x0102_0304, 0x0506_0708, 512],
-        &[0],
-        &[],
-    ),
+    (16, &[8, 0, 1, 0, 5, 0x01020304, 0x05060708, 512], &[0], &[]),
     (
         17,
-        &[8, 0, 1, 1, 0, 0x0102_0304, 0x0506_0708, 8192, 32768],
+        &[8, 0, 1, 1, 0, 0x01020304, 0x05060708, 8192, 32768],
         &[0],
         &[],
     ),
@@ -140,31 +102,8 @@ static REPLIES: [Record; 12] = [
     (
         5,
         &[
-            0,
-            1,
-            2,
-            3,
-            4,
-            5,
-            6,
-            0,
-            7,
-            0,
-            8,
-            9,
-            10,
-            0,
-            11,
-            0,
-            12,
-            13,
-            14,
-            15,
-            16,
-            17,
-            18,
-            2,
-            0x2f61_0000,
+            0, 1, 2, 3, 4, 5, 6, 0, 7, 0, 8, 9, 10, 0, 11, 0, 12, 13, 14, 15, 16, 17, 18, 2,
+            0x2f610000,
         ],
         &[23],
         &[1],
@@ -200,26 +139,8 @@ static REPLIES: [Record; 12] = [
     (
         16,
         &[
-            0,
-            0,
-            0x0102_0304,
-            0x0506_0708,
-            1,
-            0,
-            3,
-            1,
-            0x6100_0000,
-            0,
-            1,
-            1,
-            0,
-            4,
-            2,
-            0x6263_0000,
-            0,
-            2,
-            0,
-            1,
+            0, 0, 0x01020304, 0x05060708, 1, 0, 3, 1, 0x61000000, 0, 1, 1, 0, 4, 2, 0x62630000, 0,
+            2, 0, 1,
         ],
         &[7, 14],
         &[1, 4, 11, 18, 19],
@@ -227,45 +148,8 @@ static REPLIES: [Record; 12] = [
     (
         17,
         &[
-            0,
-            0,
-            0x0102_0304,
-            0x0506_0708,
-            1,
-            0,
-            3,
-            1,
-            0x6100_0000,
-            0,
-            1,
-            1,
-            2,
-            3,
-            4,
-            5,
-            6,
-            0,
-            7,
-            0,
-            8,
-            9,
-            10,
-            0,
-            11,
-            0,
-            12,
-            13,
-            14,
-            15,
-            16,
-            17,
-            18,
-            1,
-            8,
-            0,
-            3,
-            0,
-            0,
+            0, 0, 0x01020304, 0x05060708, 1, 0, 3, 1, 0x61000000, 0, 1, 1, 2, 3, 4, 5, 6, 0, 7, 0,
+            8, 9, 10, 0, 11, 0, 12, 13, 14, 15, 16, 17, 18, 1, 8, 0, 3, 0, 0,
         ],
         &[7, 34],
         &[1, 4, 11, 33, 37, 38],
@@ -305,46 +189,12 @@ static REFUSALS: [Record; 12] = [
 
 /// Entries of a page of READDIR, with its end.
 const LISTED: [u32; 15] = [
-    1,
-    0,
-    3,
-    1,
-    0x6100_0000,
-    0,
-    1,
-    1,
-    0,
-    4,
-    2,
-    0x6263_0000,
-    1,
-    2,
-    0,
+    1, 0, 3, 1, 0x61000000, 0, 1, 1, 0, 4, 2, 0x62630000, 1, 2, 0,
 ];
 
 /// Entries of a page of READDIRPLUS, with its end.
 const LISTED_PLUS: [u32; 21] = [
-    1,
-    0,
-    3,
-    1,
-    0x6100_0000,
-    0,
-    1,
-    0,
-    1,
-    1,
-    0x0900_0000,
-    1,
-    0,
-    4,
-    2,
-    0x6263_0000,
-    1,
-    2,
-    0,
-    0,
-    0,
+    1, 0, 3, 1, 0x61000000, 0, 1, 0, 1, 1, 0x09000000, 1, 0, 4, 2, 0x62630000, 1, 2, 0, 0, 0,
 ];
 
 /// These words, one after another.
@@ -596,23 +446,19 @@ static REFUSED: [(u32, &[u32], XdrFault); 12] = [
     (3, &[65], XdrFault::TooLong),
     (3, &[0, 256], XdrFault::TooLong),
     (3, &[0, 0], XdrFault::BadValue),
-    (3, &[0, 1, 0x2f00_0000], XdrFault::BadValue),
-    (3, &[0, 2, 0x6100_0000], XdrFault::BadValue),
-    (8, &[0, 1, 0x6100_0000, 3, 0, 0], XdrFault::BadValue),
-    (
-        9,
-        &[0, 1, 0x6100_0000, 0, 0, 0, 0, 3, 0],
-        XdrFault::BadValue,
-    ),
+    (3, &[0, 1, 0x2f000000], XdrFault::BadValue),
+    (3, &[0, 2, 0x61000000], XdrFault::BadValue),
+    (8, &[0, 1, 0x61000000, 3, 0, 0], XdrFault::BadValue),
+    (9, &[0, 1, 0x61000000, 0, 0, 0, 0, 3, 0], XdrFault::BadValue),
     (
         10,
-        &[0, 1, 0x6100_0000, 0, 0, 0, 0, 0, 0, 1025],
+        &[0, 1, 0x61000000, 0, 0, 0, 0, 0, 0, 1025],
         XdrFault::TooLong,
     ),
-    (11, &[0, 1, 0x6100_0000, 5, 0], XdrFault::Trailing),
-    (11, &[0, 1, 0x6100_0000, 6, 2], XdrFault::BadBool),
-    (12, &[0, 1, 0x6100_0000, 0], XdrFault::Trailing),
-    (14, &[0, 1, 0x2f00_0000, u32::MAX], XdrFault::BadValue),
+    (11, &[0, 1, 0x61000000, 5, 0], XdrFault::Trailing),
+    (11, &[0, 1, 0x61000000, 6, 2], XdrFault::BadBool),
+    (12, &[0, 1, 0x61000000, 0], XdrFault::Trailing),
+    (14, &[0, 1, 0x2f000000, u32::MAX], XdrFault::BadValue),
 ];
 
 #[test]
@@ -633,7 +479,7 @@ fn replies_refused(rt: HostRuntime) -> Result<(), Fail> {
     let alloc = rt.alloc();
     let long_text = [0, 0, 1025];
     assert_eq!(rt; reply_fault(alloc, 5, &long_text)?, Some(XdrFault::TooLong));
-    let slash_listed = [0, 0, 0, 0, 1, 0, 3, 1, 0x2f00_0000, 0, 1, 0, 1];
+    let slash_listed = [0, 0, 0, 0, 1, 0, 3, 1, 0x2f000000, 0, 1, 0, 1];
     assert_eq!(rt;
         reply_fault(alloc, 16, &slash_listed)?,
         Some(XdrFault::BadValue)
@@ -659,11 +505,11 @@ fn replies_refused(rt: HostRuntime) -> Result<(), Fail> {
 #[test]
 fn padding_of_any_value(rt: HostRuntime) -> Result<(), Fail> {
     let alloc = rt.alloc();
-    let args = bytes_of(alloc, &[8, 0, 1, 1, 0x61ff_2f00])?;
+    let args = bytes_of(alloc, &[8, 0, 1, 1, 0x61ff2f00])?;
     let call = read_dir_call(alloc, 3, args.bytes())?;
     let mut w = Writer::new(alloc);
     write_dir_call(&mut w, &call)?;
-    let zeros = bytes_of(alloc, &[8, 0, 1, 1, 0x6100_0000])?;
+    let zeros = bytes_of(alloc, &[8, 0, 1, 1, 0x61000000])?;
     assert_eq!(rt; w.finish().bytes(), zeros.bytes());
     Ok(())
 }
@@ -677,18 +523,24 @@ fn name() -> Result<Name, Fail> {
     Ok(Name::make(b"a").ok_or("a name")?)
 }
 
-/// A whole record of 60 bytes: the xid 2, a call (0) of RPC version 2, program 100003, version 3, procedure 3, and no
-/// credential or verifier (RFC 5531, section 9), then the arguments.
+/// What stands before the arguments in a call of NFS under the xid 2: the word 0 for a call, RPC version 2, program
+/// 100003, version 3, the procedure, and no credential or verifier (RFC 5531, section 9).
+fn write_head(w: &mut Writer, proc: u32) -> Result<(), Memory> {
+    for word in [2, 0, 2, 100_003, 3, proc, 0, 0, 0, 0] {
+        w.u32(word)?;
+    }
+    Ok(())
+}
+
 #[test]
 fn lookup_of_a(rt: HostRuntime) -> Result<(), Fail> {
+    let mut w = Writer::new(rt.alloc());
+    write_head(&mut w, 3)?;
     let call = DirCall::Lookup {
         dir: dir()?,
         name: name()?,
     };
-    let mut w = Writer::new(rt.alloc());
-    for word in [2, 0, 2, 100_003, 3, dir_proc(&call), 0, 0, 0, 0] {
-        w.u32(word)?;
-    }
+    assert_eq!(rt; dir_proc(&call), 3);
     write_dir_call(&mut w, &call)?;
     let record = [
         0, 0, 0, 2, 0, 0, 0, 0, 0, 0, 0, 2, 0, 1, 0x86, 0xa3, 0, 0, 0, 3, 0, 0, 0, 3, 0, 0, 0, 0,
@@ -712,7 +564,7 @@ const SET: SetAttr = SetAttr {
     }),
 };
 
-/// The verifier that the words 0x0102_0304 and 0x0506_0708 spell.
+/// The verifier that the words 0x01020304 and 0x05060708 spell.
 const VERF: Verf = Verf([1, 2, 3, 4, 5, 6, 7, 8]);
 
 const NOTHING: Wcc = Wcc {
@@ -745,7 +597,7 @@ fn calls_on_names(rt: HostRuntime) -> Result<(), Fail> {
     let alloc = rt.alloc();
     let dir = dir()?;
     let name = name()?;
-    let place = [8, 0, 1, 1, 0x6100_0000];
+    let place = [8, 0, 1, 1, 0x61000000];
     let call = DirCall::ReadLink { file: dir };
     assert!(rt; spells_call(alloc, &call, &[8, 0, 1])?);
     assert!(rt; spells_call(alloc, &DirCall::Remove { dir, name }, &place)?);
@@ -756,14 +608,14 @@ fn calls_on_names(rt: HostRuntime) -> Result<(), Fail> {
         to_dir: Handle::make(&[]).ok_or("a handle")?,
         to: Name::make(b"bc").ok_or("a name")?,
     };
-    let words = [8, 0, 1, 1, 0x6100_0000, 0, 2, 0x6263_0000];
+    let words = [8, 0, 1, 1, 0x61000000, 0, 2, 0x62630000];
     assert!(rt; spells_call(alloc, &call, &words)?);
     let call = DirCall::Link {
         file: Handle::make(&[1, 2, 3]).ok_or("a handle")?,
         dir,
         name,
     };
-    let words = [3, 0x0102_0300, 8, 0, 1, 1, 0x6100_0000];
+    let words = [3, 0x01020300, 8, 0, 1, 1, 0x61000000];
     assert!(rt; spells_call(alloc, &call, &words)?);
     Ok(())
 }
@@ -778,21 +630,21 @@ fn calls_that_make(rt: HostRuntime) -> Result<(), Fail> {
         name,
         making: Making::Unchecked(SET),
     };
-    let words = [8, 0, 1, 1, 0x6100_0000, 0, 1, 0o644, 0, 1, 5, 0, 1, 2, 8, 9];
+    let words = [8, 0, 1, 1, 0x61000000, 0, 1, 0o644, 0, 1, 5, 0, 1, 2, 8, 9];
     assert!(rt; spells_call(alloc, &call, &words)?);
     let call = DirCall::Create {
         dir,
         name,
         making: Making::Guarded(SET),
     };
-    let words = [8, 0, 1, 1, 0x6100_0000, 1, 1, 0o644, 0, 1, 5, 0, 1, 2, 8, 9];
+    let words = [8, 0, 1, 1, 0x61000000, 1, 1, 0o644, 0, 1, 5, 0, 1, 2, 8, 9];
     assert!(rt; spells_call(alloc, &call, &words)?);
     let call = DirCall::Create {
         dir,
         name,
         making: Making::Exclusive(VERF),
     };
-    let words = [8, 0, 1, 1, 0x6100_0000, 2, 0x0102_0304, 0x0506_0708];
+    let words = [8, 0, 1, 1, 0x61000000, 2, 0x01020304, 0x05060708];
     assert!(rt; spells_call(alloc, &call, &words)?);
     Ok(())
 }
@@ -807,7 +659,7 @@ fn calls_that_make_others(rt: HostRuntime) -> Result<(), Fail> {
         name,
         set: SET,
     };
-    let words = [8, 0, 1, 1, 0x6100_0000, 1, 0o644, 0, 1, 5, 0, 1, 2, 8, 9];
+    let words = [8, 0, 1, 1, 0x61000000, 1, 0o644, 0, 1, 5, 0, 1, 2, 8, 9];
     assert!(rt; spells_call(alloc, &call, &words)?);
     let call = DirCall::SymLink {
         dir,
@@ -816,23 +668,7 @@ fn calls_that_make_others(rt: HostRuntime) -> Result<(), Fail> {
         target: Blob::copy(alloc, b"../b")?,
     };
     let words = [
-        8,
-        0,
-        1,
-        1,
-        0x6100_0000,
-        1,
-        0o644,
-        0,
-        1,
-        5,
-        0,
-        1,
-        2,
-        8,
-        9,
-        4,
-        0x2e2e_2f62,
+        8, 0, 1, 1, 0x61000000, 1, 0o644, 0, 1, 5, 0, 1, 2, 8, 9, 4, 0x2e2e2f62,
     ];
     assert!(rt; spells_call(alloc, &call, &words)?);
     Ok(())
@@ -854,24 +690,7 @@ fn calls_that_make_nodes(rt: HostRuntime) -> Result<(), Fail> {
         },
     };
     let words = [
-        8,
-        0,
-        1,
-        1,
-        0x6100_0000,
-        3,
-        1,
-        0o644,
-        0,
-        1,
-        5,
-        0,
-        1,
-        2,
-        8,
-        9,
-        1,
-        2,
+        8, 0, 1, 1, 0x61000000, 3, 1, 0o644, 0, 1, 5, 0, 1, 2, 8, 9, 1, 2,
     ];
     assert!(rt; spells_call(alloc, &call, &words)?);
     let call = DirCall::MkNod {
@@ -879,14 +698,14 @@ fn calls_that_make_nodes(rt: HostRuntime) -> Result<(), Fail> {
         name,
         node: Node::Pipe { kind: 7, set: SET },
     };
-    let words = [8, 0, 1, 1, 0x6100_0000, 7, 1, 0o644, 0, 1, 5, 0, 1, 2, 8, 9];
+    let words = [8, 0, 1, 1, 0x61000000, 7, 1, 0o644, 0, 1, 5, 0, 1, 2, 8, 9];
     assert!(rt; spells_call(alloc, &call, &words)?);
     let call = DirCall::MkNod {
         dir,
         name,
         node: Node::Plain { kind: 1 },
     };
-    assert!(rt; spells_call(alloc, &call, &[8, 0, 1, 1, 0x6100_0000, 1])?);
+    assert!(rt; spells_call(alloc, &call, &[8, 0, 1, 1, 0x61000000, 1])?);
     Ok(())
 }
 
@@ -899,7 +718,7 @@ fn calls_that_list(rt: HostRuntime) -> Result<(), Fail> {
         verf: VERF,
         count: 512,
     };
-    let words = [8, 0, 1, 0, 5, 0x0102_0304, 0x0506_0708, 512];
+    let words = [8, 0, 1, 0, 5, 0x01020304, 0x05060708, 512];
     assert!(rt; spells_call(rt.alloc(), &call, &words)?);
     let call = DirCall::ReadDirPlus {
         dir,
@@ -908,7 +727,7 @@ fn calls_that_list(rt: HostRuntime) -> Result<(), Fail> {
         dircount: 8192,
         maxcount: 32768,
     };
-    let words = [8, 0, 1, 1, 0, 0x0102_0304, 0x0506_0708, 8192, 32768];
+    let words = [8, 0, 1, 1, 0, 0x01020304, 0x05060708, 8192, 32768];
     assert!(rt; spells_call(rt.alloc(), &call, &words)?);
     Ok(())
 }
@@ -961,7 +780,7 @@ fn text_of_a_link(rt: HostRuntime) -> Result<(), Fail> {
         attr: None,
         text: b"/a",
     };
-    assert!(rt; spells_reply(rt.alloc(), &reply, &[0, 0, 2, 0x2f61_0000])?);
+    assert!(rt; spells_reply(rt.alloc(), &reply, &[0, 0, 2, 0x2f610000])?);
     let DirKept::ReadLink { text, .. } = kept(rt.alloc(), &reply)? else {
         return Err("another reply".into());
     };
