@@ -4,7 +4,7 @@ use Rattle.xdr_codec.specs.Bytes.{IsBytes}
 use Rattle.xdr_codec.specs.Spells.{◌⨾◌}
 use Rattle.xdr_codec.specs.Whole.{whole_at}
 use Rattle.xdr_codec.specs.Arms.{Arms, Done, Failure, arms_at, SpellsArms}
-use Rattle.xdr_codec.proofs.MoreLaws.{of, arms_codec}
+use Rattle.xdr_codec.proofs.MoreLaws.{arms_codec}
 use Rattle.xdr_codec.proofs.WholeLaws.{WholeCodec, whole_codec}
 use Rattle.nfs_types.specs.declared.attr.Attr.{Attr}
 use Rattle.nfs_types.specs.declared.wcc.Wcc.{Wcc}

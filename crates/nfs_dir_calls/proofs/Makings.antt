@@ -1,7 +1,6 @@
 -- What is read as a way to make a file is spelled so, and what is spelled so is read.
-use Rattle.std.proofs.Common.{◌≡◌, ℕ, zero, suc, List, ◌++◌, Result, Ok, Err, refl, subst, ◌∙◌}
+use Rattle.std.proofs.Common.{◌≡◌, ℕ, zero, suc, List, ◌++◌, Ok, refl, subst}
 use Rattle.xdr_codec.specs.Reading.{u32_at}
-use Rattle.xdr_codec.specs.Bytes.{IsBytes}
 use Rattle.xdr_codec.specs.Spells.{SpellsU32}
 use Rattle.xdr_codec.proofs.Laws.{Takes, Codec, bind_ok, u32_codec}
 use Rattle.xdr_codec.proofs.MoreLaws.{ok_is, both}

@@ -2,7 +2,6 @@
 use Rattle.std.proofs.Common.{◌≡◌, ℕ, List, Ok, refl}
 use Rattle.xdr_codec.specs.Bytes.{IsBytes}
 use Rattle.xdr_codec.specs.Arms.{Done, Failure}
-use Rattle.xdr_codec.proofs.MoreLaws.{of}
 use Rattle.xdr_codec.proofs.WholeLaws.{whole_codec}
 use Rattle.nfs_types.specs.declared.set_attr.SetAttr.{SetAttr}
 use Rattle.nfs_types.proofs.Laws.{set_attr_codec}

@@ -2,7 +2,6 @@
 use Rattle.std.proofs.Common.{◌≡◌, ℕ, List, Ok, refl}
 use Rattle.xdr_codec.specs.Bytes.{IsBytes}
 use Rattle.xdr_codec.specs.Arms.{Done, Failure}
-use Rattle.xdr_codec.proofs.MoreLaws.{of}
 use Rattle.xdr_codec.proofs.WholeLaws.{whole_codec}
 use Rattle.nfs_dir_calls.specs.declared.call.DirCall.{DirCall}
 use Rattle.nfs_dir_calls.specs.declared.keeping.DirKept.{DirKept}

@@ -1,5 +1,5 @@
 -- What is read as an entry of READDIRPLUS is spelled so, and what is spelled so is read.
-use Rattle.std.proofs.Common.{◌≡◌, ℕ, List, Result, Ok, Err, refl, true}
+use Rattle.std.proofs.Common.{◌≡◌, ℕ, List, Ok, refl, true}
 use Rattle.xdr_codec.specs.Reading.{flag_at}
 use Rattle.xdr_codec.specs.Bytes.{IsBytes}
 use Rattle.xdr_codec.proofs.Laws.{Codec, field_if, last_if, always, u64_codec}

@@ -1,5 +1,5 @@
 -- What was written one after another.
-use Rattle.std.proofs.Common.{◌≡◌, ◌<◌, ℕ, List, ◌++◌, Result, Ok, Err, OnOk, refl, ap, sym, ◌∙◌, append_assoc}
+use Rattle.std.proofs.Common.{◌<◌, ℕ, List, ◌++◌, Result, Ok, Err, OnOk, refl, ap, ◌∙◌, append_assoc}
 use Rattle.xdr_codec.specs.Spells.{SpellsU32, ◌⨾◌, Wrote}
 use Rattle.xdr_codec.specs.Arms.{SpellsStatus}
 

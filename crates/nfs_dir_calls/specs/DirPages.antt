@@ -1,5 +1,5 @@
 -- The entries that READDIR lists (RFC 1813, section 3.3.16, entry3): a number, a name and a cookie.
-use Rattle.std.specs.Prelude.{ℕ, List, ◌++◌, Result, Ok, Err}
+use Rattle.std.specs.Prelude.{ℕ, List, ◌++◌, Result, Ok}
 use Rattle.xdr_codec.specs.declared.reader.XdrFault.{XdrFault}
 use Rattle.xdr_codec.specs.Reading.{◌>>=◌, u64_at}
 use Rattle.xdr_codec.specs.Spelling.{u64_bytes}

@@ -1,5 +1,5 @@
 -- What stands in the results after a status other than 0.
-use Rattle.std.specs.Prelude.{◌≡◌, ◌<◌, ℕ, List, ◌++◌, Option}
+use Rattle.std.specs.Prelude.{◌<◌, ℕ, List, ◌++◌, Option}
 use Rattle.xdr_codec.specs.Spelling.{u32_bytes}
 use Rattle.nfs_types.specs.declared.attr.Attr.{Attr}
 use Rattle.nfs_types.specs.declared.wcc.Wcc.{Wcc}

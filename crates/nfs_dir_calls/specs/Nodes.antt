@@ -1,6 +1,6 @@
 -- What MKNOD makes (RFC 1813, section 3.3.11, mknoddata3): after a kind of 3 or 4 the attributes to set and the two
 -- numbers of the device, after 6 or 7 the attributes to set, after another nothing.
-use Rattle.std.specs.Prelude.{◌≡◌, ℕ, List, ◌++◌, Bool, true, false, ◌||◌, ◌==◌, Result, Ok, Err, if◌then◌else◌}
+use Rattle.std.specs.Prelude.{◌≡◌, ℕ, List, ◌++◌, Bool, true, false, ◌||◌, ◌==◌, Result, Ok, if◌then◌else◌}
 use Rattle.xdr_codec.specs.declared.reader.XdrFault.{XdrFault}
 use Rattle.xdr_codec.specs.Reading.{◌>>=◌, u32_at}
 use Rattle.xdr_codec.specs.Spelling.{u32_bytes}

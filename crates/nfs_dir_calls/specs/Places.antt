@@ -1,5 +1,5 @@
 -- A name in a directory (RFC 1813, section 2.5, diropargs3): the directory's file handle and the name.
-use Rattle.std.specs.Prelude.{ℕ, List, ◌++◌, Result, Ok, Err}
+use Rattle.std.specs.Prelude.{ℕ, List, ◌++◌, Result, Ok}
 use Rattle.xdr_codec.specs.declared.reader.XdrFault.{XdrFault}
 use Rattle.xdr_codec.specs.Reading.{◌>>=◌}
 use Rattle.xdr_codec.specs.Spells.{◌⨾◌}

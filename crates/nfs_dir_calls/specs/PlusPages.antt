@@ -1,11 +1,10 @@
 -- The entries that READDIRPLUS lists (RFC 1813, section 3.3.17, entryplus3): a number, a name, a cookie, and attributes
 -- and a file handle or none.
-use Rattle.std.specs.Prelude.{ℕ, List, ◌++◌, Result, Ok, Err}
+use Rattle.std.specs.Prelude.{ℕ, List, ◌++◌, Result, Ok}
 use Rattle.xdr_codec.specs.declared.reader.XdrFault.{XdrFault}
 use Rattle.xdr_codec.specs.Reading.{◌>>=◌, u64_at}
-use Rattle.xdr_codec.specs.Spelling.{u64_bytes}
 use Rattle.xdr_codec.specs.Spells.{◌⨾◌, SpellsU64}
-use Rattle.nfs_types.specs.Fields.{name_at, name_bytes, opt_attr_at, opt_attr_bytes}
+use Rattle.nfs_types.specs.Fields.{name_at, opt_attr_at, opt_attr_bytes}
 use Rattle.nfs_types.specs.Spells.{SpellsName, SpellsOptAttr}
 use Rattle.nfs_dir_calls.specs.DirPages.{dir_row_bytes}
 use Rattle.nfs_dir_calls.specs.OptHandles.{opt_handle_at, opt_handle_bytes, SpellsOptHandle}

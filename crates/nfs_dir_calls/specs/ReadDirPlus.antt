@@ -1,5 +1,5 @@
 -- READDIRPLUS (RFC 1813, section 3.3.17).
-use Rattle.std.specs.Prelude.{ℕ, List, ◌++◌, Bool, Option, Result, Ok, Err}
+use Rattle.std.specs.Prelude.{ℕ, List, ◌++◌, Bool, Option, Result, Ok}
 use Rattle.xdr_codec.specs.declared.reader.XdrFault.{XdrFault}
 use Rattle.xdr_codec.specs.Reading.{◌>>=◌, u32_at, u64_at, flag_at}
 use Rattle.xdr_codec.specs.Whole.{whole_at}

@@ -1,6 +1,6 @@
 -- REMOVE and RMDIR (RFC 1813, sections 3.3.12 and 3.3.13): the name of a directory is removed by RMDIR, any other by
 -- REMOVE.
-use Rattle.std.specs.Prelude.{ℕ, List, Result, Ok, Err}
+use Rattle.std.specs.Prelude.{ℕ, List, Result, Ok}
 use Rattle.xdr_codec.specs.declared.reader.XdrFault.{XdrFault}
 use Rattle.xdr_codec.specs.Reading.{◌>>=◌}
 use Rattle.xdr_codec.specs.Whole.{whole_at}

@@ -1,5 +1,5 @@
 -- RENAME (RFC 1813, section 3.3.14).
-use Rattle.std.specs.Prelude.{ℕ, List, ◌++◌, Result, Ok, Err}
+use Rattle.std.specs.Prelude.{ℕ, List, ◌++◌, Result, Ok}
 use Rattle.xdr_codec.specs.declared.reader.XdrFault.{XdrFault}
 use Rattle.xdr_codec.specs.Reading.{◌>>=◌}
 use Rattle.xdr_codec.specs.Whole.{whole_at}

@@ -1,5 +1,5 @@
 -- SYMLINK (RFC 1813, section 3.3.10).
-use Rattle.std.specs.Prelude.{ℕ, List, Option, Result, Ok, Err}
+use Rattle.std.specs.Prelude.{ℕ, List, Option, Result, Ok}
 use Rattle.xdr_codec.specs.declared.reader.XdrFault.{XdrFault}
 use Rattle.xdr_codec.specs.Reading.{◌>>=◌, opaque_at}
 use Rattle.xdr_codec.specs.Whole.{whole_at}

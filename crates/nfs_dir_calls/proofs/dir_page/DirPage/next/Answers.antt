@@ -1,5 +1,3 @@
-use Rattle.std.proofs.Common.{refl}
-use Rattle.nfs_dir_calls.specs.DirPages.{dir_row_at, dir_row_of}
 use Rattle.nfs_dir_calls.proofs.Pages.{page_flag, page_end, page_row, page_next}
 use Rattle.nfs_dir_calls.proofs.DirPages.{dir_row_codec, dir_row_named}
 use Rattle.nfs_dir_calls.proofs.dir_page.DirPage.next.Goals as goal

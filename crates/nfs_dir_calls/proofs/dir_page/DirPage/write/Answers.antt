@@ -1,4 +1,3 @@
-use Rattle.std.proofs.Common.{refl}
 use Rattle.std.proofs.lemmas.Result.{err_from_is_err_and}
 use Rattle.xdr_codec.proofs.Begins.{begins_then}
 use Rattle.nfs_dir_calls.proofs.Pages.{writing_next, writing_end}

@@ -1,5 +1,3 @@
-use Rattle.std.proofs.Common.{refl}
-use Rattle.nfs_dir_calls.specs.PlusPages.{plus_row_at, plus_row_of}
 use Rattle.nfs_dir_calls.proofs.Pages.{page_flag, page_end, page_row, page_next}
 use Rattle.nfs_dir_calls.proofs.PlusPages.{plus_row_codec, plus_row_named}
 use Rattle.nfs_dir_calls.proofs.plus_page.PlusPage.next.Goals as goal
