@@ -47,9 +47,12 @@ pub fn hear(step: &Step, count: usize, rec: &[u8]) -> Outcome
 fn hear_lookup(results: &[u8]) -> Outcome
     ensures { FoundBy results.now result }
 {
-    match read_dir_reply(3, results) {
-        Ok(DirReply::Lookup { found, .. }) => Outcome::Next(Step::Write { file: found }),
-        Ok(DirReply::LookupFail { status, .. }) => Outcome::Refused(Fault::Nfs(status.0)),
+    let Ok(reply) = read_dir_reply(3, results) else {
+        return Outcome::Refused(Fault::Bad(2));
+    };
+    match &reply {
+        DirReply::Lookup { found, .. } => Outcome::Next(Step::Write { file: *found }),
+        DirReply::LookupFail { status, .. } => Outcome::Refused(Fault::Nfs(status.0)),
         _ => Outcome::Refused(Fault::Bad(2)),
     }
 }
