@@ -1,5 +1,5 @@
 -- The command line as `clap` sees it: one positional, ten options that take a value, and a flag.
-use Rattle.std.specs.Prelude.{List, Some, codes}
+use Rattle.std.specs.Prelude.{Some, codes}
 use Rattle.clap.specs.Words.{App, Rule, Text, new_app, new_rule, with_rule}
 use Rattle.clap.specs.declared.builder.ArgAction.TheVariants.{SetTrue}
 

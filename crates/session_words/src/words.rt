@@ -39,7 +39,7 @@ fn settings(alloc: Global, matches: &ArgMatches<'_>) -> Result<Settings, WordsFa
 
 /// The settings that the matches give, of what the client works on. None exactly where they give none.
 fn settings_of(matches: &ArgMatches<'_>, export: Export) -> Option<Settings>
-    requires { IsExport (given_in matches.now (codes "export")) (given_in matches.now (codes "root")) export.entry }
+    requires { IsExport (given_in matches.now (codes "export")) (given_in matches.now (codes "root")) export }
     ensures { MatchOption result ((s : Setting) → ¬ GivesSettings (rows_in matches.now) s) (λ s. GivesSettings (rows_in matches.now) s) }
 {
     let mount_port = port(matches, "mount-port", 20_048)?;

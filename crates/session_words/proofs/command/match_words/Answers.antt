@@ -1,4 +1,4 @@
-use Rattle.std.proofs.Common.{◌≡◌, ◌⊎◌, List, [], rules, ap, subst, ◌∙◌, codes, true, refl, inl, inr, map}
+use Rattle.std.proofs.Common.{◌≡◌, [], ap, subst, ◌∙◌, true, refl, inl, inr, map}
 use Rattle.std.specs.String.{string_bytes}
 use Rattle.clap.specs.Words.{App, fault_of, is_simple_and_free, is_simple, matches_of, HasKind, Kinds, kind_of, IsAmong}
 use Rattle.clap.proofs.OnLiterals.{clap_on_literals}

@@ -1,5 +1,5 @@
 use Rattle.std.proofs.Common.{sym, ◌∙◌}
-use Rattle.session_words.proofs.Decimals.{no_digits, number_from}
+use Rattle.session_words.proofs.Decimals.{no_digits}
 use Rattle.session_words.proofs.number.number.Goals as goal
 
 pub returns-then-not-are_digits : goal.returns-then-not-are_digits
