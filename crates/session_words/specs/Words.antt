@@ -1,7 +1,8 @@
 -- Which words are a command line, and the settings that they give. `clap` says which words it takes and what text they
 -- give each argument; the rest is a table with a row for each argument.
-use Rattle.std.specs.Prelude.{◌≡◌, ◌≤◌, ◌⊎◌, ◌↔◌, IsTrue, ℕ, Bool, List, [], codes, length, Option, Some, None, unwrap_or, Ok}
+use Rattle.std.specs.Prelude.{◌≡◌, ◌≤◌, ◌⊎◌, ◌↔◌, IsTrue, ℕ, Bool, List, [], codes, length, Option, Some, None, unwrap_or, Ok, MatchOption}
 use Rattle.std.specs.Str.Parse.{IsNumeral, digits_value}
+use Rattle.std.specs.Str.{IsUtf8}
 use Rattle.hex.specs.Hex.{decode_of}
 use Rattle.clap.specs.Words.{Row, Text, fault_of, first_of, matches_of, found_of, rows_of}
 use Rattle.clap.specs.declared.parser.matches.ArgMatches.{ArgMatches}
@@ -11,6 +12,10 @@ use Rattle.session_words.specs.declared.settings.Export.{Export}
 use Rattle.session_words.specs.declared.settings.Export.TheVariants as exports
 use Rattle.session_words.specs.declared.settings.Settings.{Settings}
 use Rattle.session_words.specs.Command.{client_app}
+
+-- what is found is such, and where none is found nothing is
+abbrev pub FindsOne : {A : Type 0} → (A → Type 0) → Option A → Type 0
+FindsOne {A = A} Is found = MatchOption found ((x : A) → ¬ Is x) Is
 
 -- one decimal digit or more, leading zeros allowed, and the number that they write
 pub record SpellsNumber (number : ℕ) (digits : Text) : Type 0 where
@@ -63,8 +68,9 @@ pub record GivesCred (matches : List Row) (cred : Cred) : Type 0 where
   pub gid_is : IsId (first_of (codes "gid") matches) gid
   pub auth : IsAuth (unwrap_or (first_of (codes "auth") matches) (codes "sys")) uid gid cred
 
--- a path is 1 to 1,024 bytes; as a word it is UTF-8 text
+-- a path is UTF-8 text of 1 to 1,024 bytes
 pub record IsPath (path : Text) : Type 0 where
+  pub text : IsUtf8 path
   pub some : 1 ≤ length path
   pub most : length path ≤ 1024
 
@@ -80,7 +86,7 @@ IsExport (Some path) None export = IsPath path × (export ≡ exports.Path path)
 IsExport None (Some hex) (exports.Root root) = IsRootWord hex root
 IsExport _ _ _ = ⊥
 
--- a flag is set exactly where it stands among the words
+-- a flag is set exactly where it stands among the words: `clap` then gives it the text `true`, and else `false`
 abbrev pub IsFlag : Option Text → Bool → Type 0
 IsFlag text flag = IsTrue flag ↔ (text ≡ Some (codes "true"))
 

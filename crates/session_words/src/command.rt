@@ -10,7 +10,10 @@ use clap::{Arg, ArgAction, ArgMatches, Command};
 use std::alloc::{AllocError, Global};
 
 /// The matches of the words. Refused exactly where `clap` faults them, unless memory runs out.
-pub(crate) fn match_words<'a>(alloc: Global, words: &'a [String]) -> Result<ArgMatches<'a>, WordsFault>
+pub(crate) fn match_words<'a>(
+    alloc: Global,
+    words: &'a [String],
+) -> Result<ArgMatches<'a>, WordsFault>
     ensures taken { IfOk result (λ m. fault_of client_app (map string_bytes words.entry.now) ≡ []) }
     ensures rows { IfOk result (λ m. rows_of (found_of m) ≡ matches_of client_app (map string_bytes words.entry.now)) }
     ensures refused { result ≡ Err WordsFault.Refused → fault_of client_app (map string_bytes words.entry.now) ≢ [] }
@@ -45,7 +48,11 @@ fn client_command<'a>(alloc: Global) -> Result<Command<'a>, AllocError>
     command.arg(flag(alloc, "count"))
 }
 
-fn with_option<'a>(alloc: Global, command: Command<'a>, name: &'a str) -> Result<Command<'a>, AllocError>
+fn with_option<'a>(
+    alloc: Global,
+    command: Command<'a>,
+    name: &'a str,
+) -> Result<Command<'a>, AllocError>
     ensures { IfOk result (λ c. app_of c ≡ with_rule (app_of command.entry) (option_rule name.entry.now)) }
 {
     let option = option(alloc, name);

@@ -3,11 +3,11 @@
 ghost use Rattle.std.specs.Prelude.{◌≡◌, ◌<◌, ◌^◌, ℕ, MatchOption};
 ghost use Rattle.std.specs.List.{list_all};
 ghost use Rattle.std.specs.Char.{is_ascii_digit};
-ghost use Rattle.session_words.specs.Words.{SpellsNumber, IsNumberIn};
+ghost use Rattle.session_words.specs.Words.{FindsOne, SpellsNumber, IsNumberIn};
 
 /// The number that the digits spell. None exactly where they spell none from `least` to `most`.
 pub(crate) fn number_in(digits: &str, least: u32, most: u32) -> Option<u32>
-    ensures { MatchOption result ((n : ℕ) → ¬ IsNumberIn least most digits.now n) (λ n. IsNumberIn least most digits.now n) }
+    ensures { FindsOne (IsNumberIn least most digits.now) result }
 {
     let number = number(digits)?;
     if number < least || number > most {

@@ -1,10 +1,9 @@
 //! What the words give each argument.
 
-ghost use Rattle.std.specs.Prelude.{◌≡◌, ℕ, List, Option, codes, Err, None, Some, option_map, MatchOption, IfOk};
-ghost use Rattle.session_words.specs.Words.{given_in, rows_in, IsNumberOr, IsPort, IsXid, IsExport, IsPath, IsRootWord, IsFlag, GivesCred};
-ghost use Rattle.session_words.specs.declared.settings.Export.TheVariants as exports;
+ghost use Rattle.std.specs.Prelude.{◌≡◌, ℕ, List, codes, Err, None, Some, option_map, IfOk};
+ghost use Rattle.session_words.specs.Words.{FindsOne, given_in, rows_in, IsNumberOr, IsPort, IsId, IsSize, IsCalls, IsXid, IsExport, IsPath, IsRootWord, IsFlag, GivesCred};
 ghost use Rattle.session_words.specs.declared.settings.Export.{Export as Exported};
-ghost use Rattle.rpc_message.specs.declared.cred.Cred.{Cred as Credential};
+ghost use Rattle.session_words.specs.declared.settings.Export.TheVariants as exports;
 
 use crate::number::number_in;
 use crate::settings::{Export, WordsFault};
@@ -20,6 +19,11 @@ const MAX_PATH: usize = 1_024;
 /// The user and the group where the words give none.
 const NOBODY: u32 = 65_534;
 
+/// The fewest and the most bytes that a READ or a WRITE may be bounded by.
+const MIN_SIZE: u32 = 512;
+
+const MAX_SIZE: u32 = 65_536;
+
 /// The text that the words give the argument of this name.
 fn given<'a>(matches: &ArgMatches<'a>, name: &str) -> Option<&'a str>
     ensures { option_map (λ t. t.now) result ≡ given_in matches.now name.now }
@@ -28,9 +32,14 @@ fn given<'a>(matches: &ArgMatches<'a>, name: &str) -> Option<&'a str>
 }
 
 /// A number from `least` to `most`, and `without` where the words give none. None exactly where they give another text.
-pub(crate) fn number_or(matches: &ArgMatches<'_>, name: &str, without: u32, least: u32, most: u32) -> Option<u32>
-    ensures { MatchOption result ((n : ℕ) → ¬ IsNumberOr without least most (given_in matches.now name.now) n)
-        (λ n. IsNumberOr without least most (given_in matches.now name.now) n) }
+fn number_or(
+    matches: &ArgMatches<'_>,
+    name: &str,
+    without: u32,
+    least: u32,
+    most: u32,
+) -> Option<u32>
+    ensures { FindsOne (IsNumberOr without least most (given_in matches.now name.now)) result }
 {
     match given(matches, name) {
         None => Some(without),
@@ -40,17 +49,36 @@ pub(crate) fn number_or(matches: &ArgMatches<'_>, name: &str, without: u32, leas
 
 /// A port, and `without` where the words give none. None exactly where they give another text.
 pub(crate) fn port(matches: &ArgMatches<'_>, name: &str, without: u16) -> Option<u16>
-    ensures { MatchOption result ((n : ℕ) → ¬ IsPort without (given_in matches.now name.now) n)
-        (λ n. IsPort without (given_in matches.now name.now) n) }
+    ensures { FindsOne (IsPort without (given_in matches.now name.now)) result }
 {
     let port = number_or(matches, name, u32::from(without), 1, 65_535)?;
     Some(port as u16)
 }
 
+/// The number of a user or group. None exactly where the words give another text.
+fn id(matches: &ArgMatches<'_>, name: &str) -> Option<u32>
+    ensures { FindsOne (IsId (given_in matches.now name.now)) result }
+{
+    number_or(matches, name, NOBODY, 0, u32::MAX)
+}
+
+/// The most bytes of a READ or WRITE. None exactly where the words give another text.
+pub(crate) fn size(matches: &ArgMatches<'_>, name: &str) -> Option<u32>
+    ensures { FindsOne (IsSize (given_in matches.now name.now)) result }
+{
+    number_or(matches, name, MAX_SIZE, MIN_SIZE, MAX_SIZE)
+}
+
+/// The most calls. None exactly where the words give another text.
+pub(crate) fn calls(matches: &ArgMatches<'_>) -> Option<u32>
+    ensures { FindsOne (IsCalls (given_in matches.now (codes "calls"))) result }
+{
+    number_or(matches, "calls", 1_000_000, 2, 2_147_483_647)
+}
+
 /// The first xid, if the words give one. None exactly where they give another text.
 pub(crate) fn xid(matches: &ArgMatches<'_>) -> Option<Option<u32>>
-    ensures { MatchOption result ((x : Option ℕ) → ¬ IsXid (given_in matches.now (codes "xid")) x)
-        (λ x. IsXid (given_in matches.now (codes "xid")) x) }
+    ensures { FindsOne (IsXid (given_in matches.now (codes "xid"))) result }
 {
     match given(matches, "xid") {
         None => Some(None),
@@ -70,10 +98,10 @@ pub(crate) fn flag(matches: &ArgMatches<'_>, name: &str) -> bool
 
 /// As whom calls are made. None exactly where the words name nobody.
 pub(crate) fn cred(matches: &ArgMatches<'_>) -> Option<Cred>
-    ensures { MatchOption result ((c : Credential) → ¬ GivesCred (rows_in matches.now) c) (λ c. GivesCred (rows_in matches.now) c) }
+    ensures { FindsOne (GivesCred (rows_in matches.now)) result }
 {
-    let uid = number_or(matches, "uid", NOBODY, 0, u32::MAX)?;
-    let gid = number_or(matches, "gid", NOBODY, 0, u32::MAX)?;
+    let uid = id(matches, "uid")?;
+    let gid = id(matches, "gid")?;
     match given(matches, "auth").unwrap_or("sys") {
         "none" => Some(Cred::None),
         "sys" => Some(Cred::Sys {
@@ -94,7 +122,7 @@ fn machine() -> Option<Name>
 
 /// What the client works on. Refused exactly where the words give no path or root, or both, unless memory runs out.
 pub(crate) fn export(alloc: Global, matches: &ArgMatches<'_>) -> Result<Export, WordsFault>
-    ensures found { IfOk result (λ e. IsExport (given_in matches.now (codes "export")) (given_in matches.now (codes "root")) e) }
+    ensures found { IfOk result (IsExport (given_in matches.now (codes "export")) (given_in matches.now (codes "root"))) }
     ensures refused { result ≡ Err WordsFault.Refused
         → (e : Exported) → ¬ IsExport (given_in matches.now (codes "export")) (given_in matches.now (codes "root")) e }
 {
@@ -126,7 +154,7 @@ fn path(alloc: Global, path: &str) -> Result<Export, WordsFault>
 
 /// The root of a handle in hex digits. Refused exactly where they don't spell 1 to 64 bytes.
 fn root(hex: &str) -> Result<Export, WordsFault>
-    ensures found { IfOk result (λ e. IsExport None (Some hex.now) e) }
+    ensures found { IfOk result (IsExport None (Some hex.now)) }
     ensures refused { result ≡ Err WordsFault.Refused → (e : Exported) → ¬ IsExport None (Some hex.now) e }
 {
     match handle(hex.as_bytes()) {
@@ -138,7 +166,7 @@ fn root(hex: &str) -> Result<Export, WordsFault>
 /// The handle in hex digits. None exactly where they don't spell 1 to 64 bytes.
 #[tactic(auto, using(crate::proofs::Roots::digits_of_root))]
 fn handle(hex: &[u8]) -> Option<Handle>
-    ensures { MatchOption result ((root : List ℕ) → ¬ IsRootWord hex.now root) (λ root. IsRootWord hex.now root) }
+    ensures { FindsOne (IsRootWord hex.now) result }
 {
     if hex.is_empty() || hex.len() > 2 * Handle::MAX {
         return None;
