@@ -80,7 +80,8 @@ fn has_xid<R: Abort + AllocGlobal>(
 
 /// That the line names this export.
 fn has_path<R: Abort + AllocGlobal>(rt: &R, line: &str, path: &[u8]) -> Result<(), Fail> {
-    match settings(rt, line)?.export {
+    let settings = settings(rt, line)?;
+    match &settings.export {
         Export::Path(bytes) => assert_eq!(rt; bytes.bytes(), path),
         Export::Root(_) => assert!(rt; false, "{line}"),
     }
@@ -89,7 +90,8 @@ fn has_path<R: Abort + AllocGlobal>(rt: &R, line: &str, path: &[u8]) -> Result<(
 
 /// That the line names this root.
 fn has_root<R: Abort + AllocGlobal>(rt: &R, line: &str, root: &[u8]) -> Result<(), Fail> {
-    match settings(rt, line)?.export {
+    let settings = settings(rt, line)?;
+    match &settings.export {
         Export::Root(handle) => assert_eq!(rt; handle.bytes(), root),
         Export::Path(_) => assert!(rt; false, "{line}"),
     }
