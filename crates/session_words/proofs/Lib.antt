@@ -1,3 +1,4 @@
 pub mod Decimals
 pub mod Roots
 pub mod Single
+pub mod Ranges

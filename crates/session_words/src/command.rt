@@ -70,5 +70,5 @@ fn flag<'a>(alloc: Global, name: &'a str) -> Arg<'a>
     ensures rule { rule_of result ≡ flag_rule name.entry.now }
     ensures local { result.global ≡ false }
 {
-    Arg::new(alloc, name).long(name).action(ArgAction::SetTrue)
+    option(alloc, name).action(ArgAction::SetTrue)
 }
