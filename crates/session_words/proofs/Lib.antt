@@ -1,0 +1,4 @@
+pub mod Decimals
+pub mod Roots
+pub mod Single
+pub mod Ranges

@@ -1,0 +1,13 @@
+//! The words of the client's command line: which are taken, and the settings that they give.
+#![tactic(auto)]
+
+mod command;
+mod number;
+mod rows;
+mod settings;
+#[cfg(test)]
+mod tests;
+mod words;
+
+pub use settings::{Export, Settings, WordsFault};
+pub use words::read_words;
