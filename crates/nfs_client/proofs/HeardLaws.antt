@@ -1,5 +1,6 @@
--- What a record means for a put, from what its results mean.
-use Rattle.std.proofs.Common.{◌≡◌, ◌≢◌, ◌≤◌, ℕ, not, cond, ltb, eqb, List, [], length, drop, Option, Some, Result, Ok, Err, refl, sym, ap, subst, ◌∙◌, arith}
+-- What a record means for a call, from what its results mean.
+use Rattle.std.specs.Prelude.{IsErrAnd}
+use Rattle.std.proofs.Common.{◌≡◌, ◌≢◌, ◌≤◌, ◌+◌, inr, ℕ, zero, suc, not, cond, ltb, eqb, List, [], length, drop, Option, Some, None, Result, Ok, Err, refl, sym, ap, subst, ◌∙◌, arith}
 use Rattle.std.proofs.lemmas.Bool.{ltb-false, le-ltb, ne_eqb}
 use Rattle.std.proofs.lemmas.List.{length-drop}
 use Rattle.xdr_codec.specs.declared.reader.XdrFault.{XdrFault}
@@ -9,28 +10,41 @@ use Rattle.xdr_codec.proofs.MoreLaws.{guard_ok, ok_is}
 use Rattle.rpc_message.specs.declared.reply.ReplyFault.{ReplyFault}
 use Rattle.rpc_message.specs.declared.reply.ReplyFault.TheVariants.{NotReply, Xdr}
 use Rattle.rpc_message.specs.Call.{xid_at, value_read}
-use Rattle.rpc_message.specs.Reply.{RpcReply, Accepted, Refused, Denied, reply_at, answer_at, ◌>>=-reply◌, SpellsReply as SpellsRpc, SpellsAccepted}
+use Rattle.rpc_message.specs.Reply.{RpcReply, Accepted, Refused, Denied, reply_at, answer_at, ◌>>=-reply◌, SpellsReply as SpellsRpc, SpellsAccepted, SpellsRefusal, refusal_number}
 use Rattle.rpc_message.proofs.ReplyLaws.{reply_first}
+use Rattle.mount_calls.specs.Replies.{SpellsMountReply}
+use Rattle.nfs_dir_calls.specs.declared.call.DirCall.TheVariants as dirs
 use Rattle.nfs_dir_calls.specs.Replies.{SpellsDirReply}
+use Rattle.nfs_file_calls.specs.declared.call.FileCall.TheVariants as files
 use Rattle.nfs_file_calls.specs.Replies.{SpellsFileReply}
+use Rattle.world_model.specs.declared.message.Call.{Call}
+use Rattle.world_model.specs.declared.message.Call.TheVariants as calls
+use Rattle.world_model.specs.declared.message.Reply.{Reply}
 use Rattle.world_model.specs.declared.message.Reply.TheVariants as replies
+use Rattle.world_model.specs.declared.answer.Fault.{Fault}
 use Rattle.world_model.specs.declared.answer.Fault.TheVariants as faults
-use Rattle.world_model.specs.Messages.{HasXid}
-use Rattle.world_model.specs.Rows.{PutOf, lookup_call, write_call, commit_call, IsNotReply, IsUnspelled, Breaks, not_a_reply, unspelled, wrong_committed as broke_committed, wrong_count as broke_count}
-use Rattle.nfs_client.specs.declared.heard.Outcome.{Outcome}
-use Rattle.nfs_client.specs.declared.heard.Outcome.TheVariants as outcomes
-use Rattle.nfs_client.specs.declared.machine.Step.{Step}
-use Rattle.nfs_client.specs.declared.machine.Step.TheVariants as steps
-use Rattle.nfs_client.specs.Machine.{Hears, call_of, xid_of}
-use Rattle.nfs_client.specs.Results.{NoDirReply, NoFileReply, FoundBy, WrittenBy, CommittedBy, BadWrite, unspelled as bad_spelling, wrong_committed, wrong_count}
+use Rattle.world_model.specs.Messages.{HasXid, SpellsReply}
+use Rattle.world_model.specs.Rules.{IsNotReply, Breaks, not_a_reply, unspelled, wrong_committed as broke_committed, wrong_count as broke_count}
+use Rattle.world_model.specs.Heard.{Refuses}
+use Rattle.world_model.specs.Mounts.{mount_call, info_call}
+use Rattle.world_model.specs.Puts.{commit_call}
+use Rattle.nfs_client.specs.declared.halt.Halt.{Halt}
+use Rattle.nfs_client.specs.declared.halt.Halt.TheVariants as halts
+use Rattle.nfs_client.specs.Results.{denial_number, HasResults, ResultsIn, LookupHeard, WriteHeard, CommitHeard, MountHeard, InfoHeard, NoDirReply, NoFileReply, NoMountReply, FoundBy, WrittenBy, CommittedBy, MountedBy, InformedBy, BadWrite, unspelled as bad_spelling, wrong_committed, wrong_count}
 
 abbrev some : ℕ → Option ℕ
 some n = Some n
+
+abbrev nothing : Option ℕ
+nothing = None
 
 -- ---- which record is a reply
 
 some_is : (m n : ℕ) → some m ≡ some n → m ≡ n
 some_is m n e = cc
+
+none_is : (n : ℕ) → nothing ≡ some n → ⊥
+none_is n e = absurd cc
 
 word_in : Result (ℕ × List ℕ) XdrFault → ℕ
 word_in (Ok x) = x.0
@@ -97,12 +111,6 @@ read_not_reply bytes e =
 
 -- ---- records that were accepted
 
--- The record under the xid has these results, and no others.
-pub record HasResults (x : ℕ) (results rec : List ℕ) : Type 0 where
-  pub is : SpellsAccepted x results rec
-  pub only : (others : List ℕ) → SpellsAccepted x others rec → others ≡ results
-  pub reply : IsNotReply rec → ⊥
-
 results_in : RpcReply → List ℕ
 results_in (Accepted x rs) = rs
 results_in (Refused x a b c) = []
@@ -127,84 +135,142 @@ has_results rec results xid x found only e has =
       is = subst (λ (n : ℕ). SpellsAccepted n results rec) same found;
       only = λ others s. ap results_in (sym (only (Accepted x others) s));
       reply = λ none. read_differs (Accepted xid results) NotReply (sym e ∙ not_reply_read rec none);
+      accepted = λ n s. none_is n (subst (λ (r : RpcReply). refusal_number r ≡ some n) (sym (only s.reply s.is)) s.numbered);
     }
 
--- a broken rule is what was heard, whatever the step
-pub bad_heard : (p : PutOf) (step : Step) (rec : List ℕ) (n : ℕ) → Breaks (xid_of step) (call_of p step) rec n → Hears p step rec (outcomes.Refused (faults.Bad n))
-bad_heard p steps.Lookup rec n b = b
-bad_heard p (steps.Write file) rec n b = b
-bad_heard p (steps.Commit file) rec n b = b
+-- ---- records that were refused
 
-abbrev pub IsRefusal : RpcReply → Type 0
-IsRefusal (Accepted xid results) = ⊥
-IsRefusal (Refused xid stat low high) = Unit {0}
-IsRefusal (Denied xid stat first second) = Unit {0}
+-- a refusal of that number, under the xid that waits
+numbered_so : (rec : List ℕ) (r : RpcReply) (n x : ℕ) → SpellsRpc r rec → refusal_number r ≡ some n → HasXid rec x → SpellsRefusal x n rec
+numbered_so rec r n x s numbered has = record { reply = r; of = some_is _ _ (sym (reply_first r rec s) ∙ has); numbered = numbered; is = s }
 
-refusal_differs : (r : RpcReply) (xid : ℕ) (results : List ℕ) → IsRefusal r → r ≡ Accepted xid results → ⊥
-refusal_differs r xid results is e = subst IsRefusal e is
+denied_number : (xid stat first second n : ℕ) → n ≡ denial_number stat first → refusal_number (Denied xid stat first second) ≡ some n
+denied_number xid zero first second n e = ap (λ (k : ℕ). some k) (sym e)
+denied_number xid (suc m) first second n e =
+    let f : n ≡ 200 + first = e ∙ rw (ne_eqb (suc m) 0 (λ none. omega (arith, none))) refl in
+    ap (λ (k : ℕ). some k) (sym f)
 
--- a refusal by RPC spells no reply to a call
-pub refusal_heard : (p : PutOf) (step : Step) (rec : List ℕ) (r : RpcReply) → IsRefusal r → ((reply : RpcReply) → SpellsRpc reply rec → r ≡ reply) → reply_at rec ≡ Ok r → Hears p step rec (outcomes.Refused (faults.Bad 2))
-refusal_heard p step rec r is only e =
-    bad_heard p step rec 2 (unspelled refl (λ none. read_differs r NotReply (sym e ∙ not_reply_read rec none)) (λ reply s. refusal_differs r (xid_of step) s.results is (only (Accepted (xid_of step) s.results) s.accepted)))
+pub refused_so : (rec : List ℕ) (xid stat low high n x : ℕ) → SpellsRpc (Refused xid stat low high) rec → n ≡ stat → HasXid rec x → SpellsRefusal x n rec
+refused_so rec xid stat low high n x s e has = numbered_so rec (Refused xid stat low high) n x s (ap (λ (k : ℕ). some k) (sym e)) has
+
+pub denied_so : (rec : List ℕ) (xid stat first second n x : ℕ) → SpellsRpc (Denied xid stat first second) rec → n ≡ denial_number stat first → HasXid rec x → SpellsRefusal x n rec
+denied_so rec xid stat first second n x s e has = numbered_so rec (Denied xid stat first second) n x s (denied_number xid stat first second n e) has
 
 -- a record that isn't a reply
-pub not_reply_heard : (p : PutOf) (step : Step) (rec : List ℕ) → reply_at rec ≡ Err NotReply → Hears p step rec (outcomes.Refused (faults.Bad 1))
-not_reply_heard p step rec e = bad_heard p step rec 1 (not_a_reply refl (read_not_reply rec e))
+pub not_reply_heard : (x : ℕ) (call : Call) (rec : List ℕ) → reply_at rec ≡ Err NotReply → Breaks x call rec 1
+not_reply_heard x call rec e = not_a_reply refl (read_not_reply rec e)
 
 faults_differ : (f : XdrFault) → refused_as NotReply ≡ refused_as (Xdr f) → ⊥
 faults_differ f e = absurd cc
 
 -- a reply that the grammar doesn't spell
-pub unspelled_heard : (p : PutOf) (step : Step) (rec : List ℕ) (f : XdrFault) → ((reply : RpcReply) → SpellsRpc reply rec → ⊥) → reply_at rec ≡ Err (Xdr f) → Hears p step rec (outcomes.Refused (faults.Bad 2))
-unspelled_heard p step rec f none e =
-    bad_heard p step rec 2 (unspelled refl (λ not. faults_differ f (sym (not_reply_read rec not) ∙ e)) (λ reply s. none (Accepted (xid_of step) s.results) s.accepted))
+pub unspelled_heard : (x : ℕ) (call : Call) (rec : List ℕ) (f : XdrFault) → ((reply : RpcReply) → SpellsRpc reply rec → ⊥) → reply_at rec ≡ Err (Xdr f) → Breaks x call rec 2
+unspelled_heard x call rec f none e =
+    unspelled refl (λ not. faults_differ f (sym (not_reply_read rec not) ∙ e)) (record { no_reply = λ reply s. none (Accepted x s.results) s.accepted; no_refusal = λ n s. none s.reply s.is })
 
--- ---- what results mean for the put
+-- a record that refuses every call refuses this one
+pub refuses : (x : ℕ) (call : Call) (rec : List ℕ) (f : Fault) → ResultsIn x rec (Err f) → Refuses x call rec f
+refuses x call rec (faults.Nfs n) r = absurd r
+refuses x call rec (faults.Rpc n) r = r
+refuses x call rec (faults.Bad n) r = r call
+refuses x call rec faults.Lost r = r
+refuses x call rec faults.Spent r = r
+refuses x call rec faults.Memory r = r
 
-dir_unspelled : (xid : ℕ) (p : PutOf) (results rec : List ℕ) → HasResults xid results rec → NoDirReply 3 results → IsUnspelled xid (lookup_call p) rec
-dir_unspelled xid p results rec one lacks (replies.Dir reply) s = lacks reply (subst (λ (rs : List ℕ). SpellsDirReply 3 reply rs) (one.only s.results s.accepted) s.is)
-dir_unspelled xid p results rec one lacks (replies.File reply) s = s.is
+-- ---- what results mean for a call
 
-pub lookup_heard : (p : PutOf) (results rec : List ℕ) (outcome : Outcome) → HasResults 1 results rec → FoundBy results outcome → Hears p steps.Lookup rec outcome
-lookup_heard p results rec (outcomes.Next (steps.Write file)) one f = (f.0, f.1, record { results = results; accepted = one.is; is = f.2 })
-lookup_heard p results rec (outcomes.Next steps.Lookup) one f = f
-lookup_heard p results rec (outcomes.Next (steps.Commit file)) one f = f
-lookup_heard p results rec outcomes.Done one f = f
-lookup_heard p results rec (outcomes.Refused (faults.Nfs n)) one f = (replies.Dir f.0, record { results = results; accepted = one.is; is = f.1 }, f.2, f.3)
-lookup_heard p results rec (outcomes.Refused (faults.Bad n)) one f = unspelled f.0 one.reply (dir_unspelled 1 p results rec one f.1)
-lookup_heard p results rec (outcomes.Refused faults.Lost) one f = f
-lookup_heard p results rec (outcomes.Refused faults.Memory) one f = f
+dir_unspelled : (x : ℕ) (dir name results rec : List ℕ) → HasResults x results rec → NoDirReply 3 results → (reply : Reply) → SpellsReply x (calls.Dir (dirs.Lookup dir name)) reply rec → ⊥
+dir_unspelled x dir name results rec one lacks (replies.Dir reply) s = lacks reply (subst (λ (rs : List ℕ). SpellsDirReply 3 reply rs) (one.only s.results s.accepted) s.is)
+dir_unspelled x dir name results rec one lacks (replies.File reply) s = s.is
+dir_unspelled x dir name results rec one lacks (replies.Mount reply) s = s.is
 
-write_unspelled : (p : PutOf) (file results rec : List ℕ) → HasResults 2 results rec → NoFileReply 7 results → IsUnspelled 2 (write_call p file) rec
-write_unspelled p file results rec one lacks (replies.File reply) s = lacks reply (subst (λ (rs : List ℕ). SpellsFileReply 7 reply rs) (one.only s.results s.accepted) s.is)
-write_unspelled p file results rec one lacks (replies.Dir reply) s = s.is
+pub lookup_heard : (x : ℕ) (dir name results rec : List ℕ) (result : Result (List ℕ) Fault) → HasResults x results rec → FoundBy results result → LookupHeard x dir name rec result
+lookup_heard x dir name results rec (Ok file) one f = (f.0, f.1, record { results = results; accepted = one.is; is = f.2 })
+lookup_heard x dir name results rec (Err (faults.Nfs n)) one f = (replies.Dir f.0, record { results = results; accepted = one.is; is = f.1 }, f.2, f.3)
+lookup_heard x dir name results rec (Err (faults.Rpc n)) one f = absurd f
+lookup_heard x dir name results rec (Err (faults.Bad n)) one f = unspelled f.0 one.reply (record { no_reply = dir_unspelled x dir name results rec one f.1; no_refusal = one.accepted })
+lookup_heard x dir name results rec (Err faults.Lost) one f = f
+lookup_heard x dir name results rec (Err faults.Spent) one f = f
+lookup_heard x dir name results rec (Err faults.Memory) one f = f
 
-bad_write : (p : PutOf) (file results rec : List ℕ) (n : ℕ) → HasResults 2 results rec → BadWrite (length p.bytes) results n → Breaks 2 (write_call p file) rec n
-bad_write p file results rec n one (bad_spelling e lacks) = unspelled e one.reply (write_unspelled p file results rec one lacks)
-bad_write p file results rec n one (wrong_committed e wcc written committed verf s big) = broke_committed e wcc written committed verf (record { results = results; accepted = one.is; is = s }) big
-bad_write p file results rec n one (wrong_count e wcc written committed verf s differs) = broke_count e wcc written committed verf file p.offset 0 p.bytes refl (record { results = results; accepted = one.is; is = s }) differs
+write_unspelled : (x : ℕ) (file : List ℕ) (offset : ℕ) (bytes results rec : List ℕ) → HasResults x results rec → NoFileReply 7 results
+    → (reply : Reply) → SpellsReply x (calls.File (files.Write file offset 0 bytes)) reply rec → ⊥
+write_unspelled x file offset bytes results rec one lacks (replies.File reply) s = lacks reply (subst (λ (rs : List ℕ). SpellsFileReply 7 reply rs) (one.only s.results s.accepted) s.is)
+write_unspelled x file offset bytes results rec one lacks (replies.Dir reply) s = s.is
+write_unspelled x file offset bytes results rec one lacks (replies.Mount reply) s = s.is
 
-pub write_heard : (p : PutOf) (file results rec : List ℕ) (outcome : Outcome) → HasResults 2 results rec → WrittenBy file (length p.bytes) results outcome → Hears p (steps.Write file) rec outcome
-write_heard p file results rec (outcomes.Next (steps.Commit same)) one f = (f.0, (f.1.0, f.1.1, f.1.2, record { results = results; accepted = one.is; is = f.1.3 }))
-write_heard p file results rec (outcomes.Next steps.Lookup) one f = f
-write_heard p file results rec (outcomes.Next (steps.Write other)) one f = f
-write_heard p file results rec outcomes.Done one f = f
-write_heard p file results rec (outcomes.Refused (faults.Nfs n)) one f = (replies.File f.0, record { results = results; accepted = one.is; is = f.1 }, f.2, f.3)
-write_heard p file results rec (outcomes.Refused (faults.Bad n)) one f = bad_write p file results rec n one f
-write_heard p file results rec (outcomes.Refused faults.Lost) one f = f
-write_heard p file results rec (outcomes.Refused faults.Memory) one f = f
+bad_write : (x : ℕ) (file : List ℕ) (offset : ℕ) (bytes results rec : List ℕ) (n : ℕ) → HasResults x results rec → BadWrite (length bytes) results n → Breaks x (calls.File (files.Write file offset 0 bytes)) rec n
+bad_write x file offset bytes results rec n one (bad_spelling e lacks) = unspelled e one.reply (record { no_reply = write_unspelled x file offset bytes results rec one lacks; no_refusal = one.accepted })
+bad_write x file offset bytes results rec n one (wrong_committed e wcc count committed verf s big) =
+    broke_committed e wcc count committed verf file offset 0 bytes refl (record { results = results; accepted = one.is; is = s }) (inr big)
+bad_write x file offset bytes results rec n one (wrong_count e wcc count committed verf s differs) =
+    broke_count e wcc count committed verf file offset 0 bytes refl (record { results = results; accepted = one.is; is = s }) differs
 
-commit_unspelled : (file results rec : List ℕ) → HasResults 3 results rec → NoFileReply 21 results → IsUnspelled 3 (commit_call file) rec
-commit_unspelled file results rec one lacks (replies.File reply) s = lacks reply (subst (λ (rs : List ℕ). SpellsFileReply 21 reply rs) (one.only s.results s.accepted) s.is)
-commit_unspelled file results rec one lacks (replies.Dir reply) s = s.is
+pub write_heard : (x : ℕ) (file : List ℕ) (offset : ℕ) (bytes results rec : List ℕ) (result : Result ℕ Fault) → HasResults x results rec → WrittenBy (length bytes) results result → WriteHeard x file offset bytes rec result
+write_heard x file offset bytes results rec (Ok count) one f = record { wcc = f.0; committed = f.1; verf = f.2; spells = record { results = results; accepted = one.is; is = f.3 }; some = f.4; fits = f.5 }
+write_heard x file offset bytes results rec (Err (faults.Nfs n)) one f = (replies.File f.0, record { results = results; accepted = one.is; is = f.1 }, f.2, f.3)
+write_heard x file offset bytes results rec (Err (faults.Rpc n)) one f = absurd f
+write_heard x file offset bytes results rec (Err (faults.Bad n)) one f = bad_write x file offset bytes results rec n one f
+write_heard x file offset bytes results rec (Err faults.Lost) one f = f
+write_heard x file offset bytes results rec (Err faults.Spent) one f = f
+write_heard x file offset bytes results rec (Err faults.Memory) one f = f
 
-pub commit_heard : (p : PutOf) (file results rec : List ℕ) (outcome : Outcome) → HasResults 3 results rec → CommittedBy results outcome → Hears p (steps.Commit file) rec outcome
-commit_heard p file results rec outcomes.Done one f = (f.0, f.1, record { results = results; accepted = one.is; is = f.2 })
-commit_heard p file results rec (outcomes.Next steps.Lookup) one f = f
-commit_heard p file results rec (outcomes.Next (steps.Write other)) one f = f
-commit_heard p file results rec (outcomes.Next (steps.Commit other)) one f = f
-commit_heard p file results rec (outcomes.Refused (faults.Nfs n)) one f = (replies.File f.0, record { results = results; accepted = one.is; is = f.1 }, f.2, f.3)
-commit_heard p file results rec (outcomes.Refused (faults.Bad n)) one f = unspelled f.0 one.reply (commit_unspelled file results rec one f.1)
-commit_heard p file results rec (outcomes.Refused faults.Lost) one f = f
-commit_heard p file results rec (outcomes.Refused faults.Memory) one f = f
+-- where there were no results, the WRITE is refused
+pub write_refused : (x : ℕ) (file : List ℕ) (offset : ℕ) (bytes rec : List ℕ) (result : Result ℕ Fault) (f : Fault) → IsErrAnd result (λ e. e ≡ f) → ResultsIn x rec (Err f) → WriteHeard x file offset bytes rec result
+write_refused x file offset bytes rec (Ok n) f same r = absurd same
+write_refused x file offset bytes rec (Err g) f same r = subst (λ (k : Fault). Refuses x (calls.File (files.Write file offset 0 bytes)) rec k) (sym same) (refuses x (calls.File (files.Write file offset 0 bytes)) rec f r)
+
+commit_unspelled : (x : ℕ) (file results rec : List ℕ) → HasResults x results rec → NoFileReply 21 results → (reply : Reply) → SpellsReply x (commit_call file) reply rec → ⊥
+commit_unspelled x file results rec one lacks (replies.File reply) s = lacks reply (subst (λ (rs : List ℕ). SpellsFileReply 21 reply rs) (one.only s.results s.accepted) s.is)
+commit_unspelled x file results rec one lacks (replies.Dir reply) s = s.is
+commit_unspelled x file results rec one lacks (replies.Mount reply) s = s.is
+
+pub commit_heard : (x : ℕ) (file results rec : List ℕ) (result : Result (Unit {0}) Fault) → HasResults x results rec → CommittedBy results result → CommitHeard x file rec result
+commit_heard x file results rec (Ok u) one f = (f.0, f.1, record { results = results; accepted = one.is; is = f.2 })
+commit_heard x file results rec (Err (faults.Nfs n)) one f = (replies.File f.0, record { results = results; accepted = one.is; is = f.1 }, f.2, f.3)
+commit_heard x file results rec (Err (faults.Rpc n)) one f = absurd f
+commit_heard x file results rec (Err (faults.Bad n)) one f = unspelled f.0 one.reply (record { no_reply = commit_unspelled x file results rec one f.1; no_refusal = one.accepted })
+commit_heard x file results rec (Err faults.Lost) one f = f
+commit_heard x file results rec (Err faults.Spent) one f = f
+commit_heard x file results rec (Err faults.Memory) one f = f
+
+mount_unspelled : (x : ℕ) (path results rec : List ℕ) → HasResults x results rec → NoMountReply 1 results → (reply : Reply) → SpellsReply x (mount_call path) reply rec → ⊥
+mount_unspelled x path results rec one lacks (replies.Mount reply) s = lacks reply (subst (λ (rs : List ℕ). SpellsMountReply 1 reply rs) (one.only s.results s.accepted) s.is)
+mount_unspelled x path results rec one lacks (replies.Dir reply) s = s.is
+mount_unspelled x path results rec one lacks (replies.File reply) s = s.is
+
+pub mount_heard : (x : ℕ) (path results rec : List ℕ) (result : Result (List ℕ) Halt) → HasResults x results rec → MountedBy results result → MountHeard x path rec result
+mount_heard x path results rec (Ok root) one f = (f.0, record { results = results; accepted = one.is; is = f.1 })
+mount_heard x path results rec (Err (halts.Refused (faults.Nfs n))) one f = (replies.Mount f.0, record { results = results; accepted = one.is; is = f.1 }, f.2, f.3)
+mount_heard x path results rec (Err (halts.Refused (faults.Rpc n))) one f = absurd f
+mount_heard x path results rec (Err (halts.Refused (faults.Bad n))) one f = unspelled f.0 one.reply (record { no_reply = mount_unspelled x path results rec one f.1; no_refusal = one.accepted })
+mount_heard x path results rec (Err (halts.Refused faults.Lost)) one f = f
+mount_heard x path results rec (Err (halts.Refused faults.Spent)) one f = f
+mount_heard x path results rec (Err (halts.Refused faults.Memory)) one f = f
+mount_heard x path results rec (Err halts.Memory) one f = tt
+
+info_unspelled : (x : ℕ) (root results rec : List ℕ) → HasResults x results rec → NoFileReply 19 results → (reply : Reply) → SpellsReply x (info_call root) reply rec → ⊥
+info_unspelled x root results rec one lacks (replies.File reply) s = lacks reply (subst (λ (rs : List ℕ). SpellsFileReply 19 reply rs) (one.only s.results s.accepted) s.is)
+info_unspelled x root results rec one lacks (replies.Dir reply) s = s.is
+info_unspelled x root results rec one lacks (replies.Mount reply) s = s.is
+
+pub info_heard : (x : ℕ) (root results rec : List ℕ) (result : Result ℕ Fault) → HasResults x results rec → InformedBy results result → InfoHeard x root rec result
+info_heard x root results rec (Ok wtmax) one f = record {
+  attr = f.0;
+  rtmax = f.1;
+  rtpref = f.2;
+  rtmult = f.3;
+  wtpref = f.4;
+  wtmult = f.5;
+  dtpref = f.6;
+  maxfilesize = f.7;
+  delta = f.8;
+  properties = f.9;
+  spells = record { results = results; accepted = one.is; is = f.10 };
+}
+info_heard x root results rec (Err (faults.Nfs n)) one f = (replies.File f.0, record { results = results; accepted = one.is; is = f.1 }, f.2, f.3)
+info_heard x root results rec (Err (faults.Rpc n)) one f = absurd f
+info_heard x root results rec (Err (faults.Bad n)) one f = unspelled f.0 one.reply (record { no_reply = info_unspelled x root results rec one f.1; no_refusal = one.accepted })
+info_heard x root results rec (Err faults.Lost) one f = f
+info_heard x root results rec (Err faults.Spent) one f = f
+info_heard x root results rec (Err faults.Memory) one f = f

@@ -1,31 +1,16 @@
 -- What a run comes to: of the words, the script and the session.
-use Rattle.std.proofs.Common.{inl, inr, ◌≡◌, ◌≤◌, ℕ, List, [], ◌∷◌, take, Option, Some, None, sym, ap, subst, ◌∙◌, arith}
+use Rattle.std.proofs.Common.{◌≡◌, ℕ, List, [], ◌∷◌, take, Option, Some, None, sym, ap, subst, ◌∙◌}
 use Rattle.std.specs.Prelude.{slice_get, IfSome}
 use Rattle.world_model.specs.declared.op.Op.{Op}
 use Rattle.world_model.specs.Told.{Told, Relates}
 use Rattle.nfs_script.specs.declared.script.ScriptLine.{ScriptLine}
 use Rattle.nfs_script.specs.Script.{SpellsScript, SpellsPut}
-use Rattle.nfs_client.specs.Words.{IsCommand}
+use Rattle.session_words.specs.declared.settings.Settings.{Settings}
+use Rattle.session_words.specs.Words.{IsCommand}
 use Rattle.nfs_client.specs.Streams.{script_limit, TakesAll}
-use Rattle.nfs_client.specs.Run.{IsEnding, SessionIs, IsScript, AsksFor, RunIs, session, Says}
+use Rattle.nfs_client.specs.Run.{SessionBy, IsScript, AsksFor, RunIs, session, Says}
 
--- a session never ends with 2, 3 or 4
-pub between : (status n : ℕ) → IsEnding status → 2 ≤ n → n ≤ 4 → status ≡ n → ⊥
-between status n e low high q =
-    elim e [
-      | inl a ↦ omega (arith, a, q, low, high)
-      | inr r ↦ elim r [
-        | inl a ↦ omega (arith, a, q, low, high)
-        | inr s ↦ elim s [
-          | inl a ↦ omega (arith, a, q, low, high)
-          | inr t ↦ elim t [ inl a ↦ omega (arith, a, q, low, high) | inr a ↦ omega (arith, a, q, low, high) ]
-        ]
-      ]
-    ]
-
-pub never_three : (left : Option (List ℕ)) (status : ℕ) → IsEnding status → IfSome left (λ l. status ≡ 3 → IsScript (take script_limit l) → ⊥)
-never_three None status e = tt
-never_three (Some l) status e = λ q s. between status 3 e (omega arith) (omega arith) q
+-- ---- scripts
 
 -- a text that spells no script was all that the source had
 pub no_script : (left : Option (List ℕ)) (status : ℕ) (text items : List ℕ) → ((lines : List ScriptLine) → SpellsScript lines text → ⊥) → text ≡ items → TakesAll left items → IfSome left (λ l. status ≡ 3 → IsScript (take script_limit l) → ⊥)
@@ -51,16 +36,19 @@ asks_for (Some l) lines text items first s g v t = record {
   put = subst (SpellsPut s.op) (v ∙ t) s.put;
 }
 
-relates_run : (old new : Option Told) (cause : Type 0) (words : List (List ℕ)) (left : Option (List ℕ)) (root : List ℕ) (op : Op) (status : ℕ) (text : List ℕ) → IsCommand words root → AsksFor left op
-    → Relates old new (λ before h. before ≡ [] → SessionIs cause root op h status text) → Relates old new (λ before h. before ≡ [] → RunIs cause words left h status text)
-relates_run None new cause words left root op status text w a r = tt
-relates_run (Some x) None cause words left root op status text w a r = absurd r
-relates_run (Some x) (Some y) cause words left root op status text w a r = λ e. session root op w a (r e)
+-- ---- what a run says
 
-pub run_says : (v w : Option (List ℕ)) (old new : Option Told) (cause : Type 0) (words : List (List ℕ)) (left : Option (List ℕ)) (root : List ℕ) (op : Op) (status : ℕ) → IsCommand words root → AsksFor left op
-    → Says v w (λ text. Relates old new (λ before h. before ≡ [] → SessionIs cause root op h status text)) → Says v w (λ text. Relates old new (λ before h. before ≡ [] → RunIs cause words left h status text))
-run_says v w old new cause words left root op status c a s = record {
-  text = s.text;
-  added = s.added;
-  is = relates_run old new cause words left root op status s.text c a s.is;
+relates_run : (old new : Option Told) (cause : Type 0) (words : List (List ℕ)) (left : Option (List ℕ)) (s : Settings) (op : Op) (status : ℕ) (text : List ℕ) → IsCommand words s → AsksFor left op
+    → Relates old new (λ before h. before ≡ [] → SessionBy cause s op h status text) → Relates old new (λ before h. before ≡ [] → RunIs cause words left h status text)
+relates_run None new cause words left s op status text w a r = tt
+relates_run (Some x) None cause words left s op status text w a r = absurd r
+relates_run (Some x) (Some y) cause words left s op status text w a r = λ e. session s op w a (r e)
+
+-- there was a session
+pub run_says : (v w : Option (List ℕ)) (old new : Option Told) (cause : Type 0) (words : List (List ℕ)) (left : Option (List ℕ)) (s : Settings) (op : Op) (status : ℕ) → IsCommand words s → AsksFor left op
+    → Says v w (λ text. Relates old new (λ before h. before ≡ [] → SessionBy cause s op h status text)) → Says v w (λ text. Relates old new (λ before h. before ≡ [] → RunIs cause words left h status text))
+run_says v w old new cause words left s op status c a said = record {
+  text = said.text;
+  added = said.added;
+  is = relates_run old new cause words left s op status said.text c a said.is;
 }

@@ -1,22 +1,81 @@
 -- What the top call promises: statuses with their causes, the history and the text, of a script of one put.
-use Rattle.std.specs.Prelude.{◌≡◌, ◌⊎◌, ℕ, List, [], ◌∷◌, take, codes, Option, Some, None}
+use Rattle.std.specs.Prelude.{◌≡◌, ◌≤◌, ◌⊎◌, ◌^◌, ℕ, Bool, List, [], ◌∷◌, ◌++◌, length, take, codes, Option, Some, None, if◌then◌else◌}
 use Rattle.world_model.specs.declared.entry.Entry.{Entry}
 use Rattle.world_model.specs.declared.entry.Entry.TheVariants.{Began, Answered}
 use Rattle.world_model.specs.declared.op.Op.{Op}
-use Rattle.world_model.specs.declared.op.Op.TheVariants.{Put}
 use Rattle.world_model.specs.declared.answer.Answer.{Answer}
 use Rattle.world_model.specs.declared.answer.Answer.TheVariants as answers
+use Rattle.world_model.specs.declared.answer.Fault.{Fault}
 use Rattle.world_model.specs.declared.answer.Fault.TheVariants as faults
-use Rattle.world_model.specs.Told.{Told, Tells}
-use Rattle.world_model.specs.Rows.{PutOf}
-use Rattle.world_model.specs.Transcript.{line_text, transcript}
+use Rattle.world_model.specs.Entries.{At}
+use Rattle.world_model.specs.Heard.{Refused}
+use Rattle.world_model.specs.Puts.{PutOf, IsPutOf}
+use Rattle.world_model.specs.Rows.{Limits, LostShown, AnswerShown}
+use Rattle.world_model.specs.Counts.{tally_of, tally_text}
+use Rattle.world_model.specs.Mounts.{Origin, Mounting, mount_call, Rooted, Sized}
+use Rattle.world_model.specs.AskedFor.{Terms, CallsAsked}
+use Rattle.world_model.specs.Transcript.{transcript, mount_text}
 use Rattle.nfs_script.specs.declared.script.ScriptLine.{ScriptLine}
 use Rattle.nfs_script.specs.Script.{SpellsScript}
-use Rattle.nfs_client.specs.Words.{IsCommand}
+use Rattle.session_words.specs.declared.settings.Settings.{Settings}
+use Rattle.session_words.specs.Words.{IsCommand}
+use Rattle.nfs_client.specs.SetUp.{origin_of}
 use Rattle.nfs_client.specs.Streams.{script_limit, IsFront, Appends}
-use Rattle.nfs_client.specs.Shown.{marks, Follows, RowsShown}
+use Rattle.nfs_client.specs.Session.{marks}
 
--- the status of a session whose operations were answered so: 6 where the link was lost, 1 at another refusal, else 0
+-- ---- what a session is given
+
+-- a first xid is 1 to 2 ^ 31
+abbrev pub IsXidOption : Option ℕ → Type 0
+IsXidOption None = Unit {0}
+IsXidOption (Some xid) = (1 ≤ xid) × (xid ≤ 2 ^ 31)
+
+-- the first xid is the one that is wanted, and else one of that range
+abbrev pub IsFirst : Option ℕ → ℕ → Type 0
+IsFirst None first = (1 ≤ first) × (first ≤ 2 ^ 31)
+IsFirst (Some xid) first = first ≡ xid
+
+abbrev pub terms_of : Settings → ℕ → Terms
+terms_of s first = record { origin = origin_of s.export; cred = s.cred; first = first; calls = s.calls; size = s.wsize }
+
+abbrev pub limits_in : Terms → ℕ → Limits
+limits_in terms wsize = record { first = terms.first; calls = terms.calls; wsize = wsize }
+
+-- ---- how a session goes
+
+-- The row of the answer: the put was done, or refused, in the root that the session has; or the session was lost before
+-- it began.
+pub data Shown (cause : Type 0) (terms : Terms) (h : List Entry) (from to : ℕ) (p : PutOf) (answer : Answer) : Type 0 where
+  worked : (wsize : ℕ) → Rooted terms.origin h from p.root → Sized h from p.root terms.size wsize → AnswerShown cause (limits_in terms wsize) h from to p answer → Shown cause terms h from to p answer
+  lost_before : (lost_by : ℕ) → lost_by ≤ from → answer ≡ answers.Refused faults.Lost → LostShown cause h lost_by → Shown cause terms h from to p answer
+
+-- The operation began, and was answered so: each once, and the answer has its row.
+pub record AnsweredSo (cause : Type 0) (terms : Terms) (op : Op) (h : List Entry) (answer : Answer) : Type 0 where
+  pub p : PutOf
+  pub from : ℕ
+  pub at : ℕ
+  pub by : ℕ
+  pub put : IsPutOf op p
+  pub began : At h from (Began 1 1 op)
+  pub answered : At h at (Answered 1 1 answer)
+  pub within : by ≤ at
+  pub marks_are : marks h ≡ Began 1 1 op ∷ Answered 1 1 answer ∷ []
+  pub shown : Shown cause terms h from by p answer
+
+-- The mount of the path was refused so, by the first record that came under MNT's xid, and nothing began.
+pub record MountRefusedSo (terms : Terms) (h : List Entry) (fault : Fault) : Type 0 where
+  pub path : List ℕ
+  pub mounting : terms.origin ≡ Mounting path
+  pub refused : Refused h 0 (length h) (mount_call path) fault
+  pub unbegun : marks h ≡ []
+
+-- the operation wasn't answered, and perhaps not even begun
+abbrev pub NotAnswered : Op → List Entry → Type 0
+NotAnswered op h = (marks h ≡ []) ⊎ (marks h ≡ Began 1 1 op ∷ [])
+
+-- ---- how it ends
+
+-- the status of a session whose operation was answered so: 6 where the link was lost, 1 at another refusal, else 0
 abbrev pub status_of : Answer → ℕ
 status_of (answers.Done value) = 0
 status_of (answers.Refused faults.Lost) = 6
@@ -26,39 +85,35 @@ status_of (answers.Refused fault) = 1
 abbrev pub IsCutOff : ℕ → Type 0
 IsCutOff status = (status ≡ 5) ⊎ (status ≡ 7)
 
--- a session that was begun ends with one of these: each operation went well, one was refused, the link was lost, or it
--- was cut off
-abbrev pub IsEnding : ℕ → Type 0
-IsEnding status = (status ≡ 0) ⊎ (status ≡ 1) ⊎ (status ≡ 6) ⊎ IsCutOff status
+-- the answers, and the counts of calls where they are wanted
+abbrev pub final_text : Bool → List Entry → List ℕ
+final_text count h = transcript h ++ (if count then tally_text (tally_of h) else [])
+
+-- The operation was answered, the status is that of its answer and the text is all of it; or the mount was refused; or
+-- the session was cut off, and the text is a front of it.
+pub data EndsAs (cause : Type 0) (terms : Terms) (count : Bool) (op : Op) (h : List Entry) (status : ℕ) (text : List ℕ) : Type 0 where
+  answered : (answer : Answer) → AnsweredSo cause terms op h answer → status ≡ status_of answer → text ≡ final_text count h → EndsAs cause terms count op h status text
+  answered_cut : (answer : Answer) → AnsweredSo cause terms op h answer → IsCutOff status → IsFront text (final_text count h) → EndsAs cause terms count op h status text
+  refused : (fault : Fault) → MountRefusedSo terms h fault → status ≡ 8 → text ≡ mount_text fault → EndsAs cause terms count op h status text
+  refused_cut : (fault : Fault) → MountRefusedSo terms h fault → IsCutOff status → IsFront text (mount_text fault) → EndsAs cause terms count op h status text
+  unanswered : NotAnswered op h → IsCutOff status → text ≡ [] → EndsAs cause terms count op h status text
+
+-- A session of one put: each call was asked for, and it ends so.
+pub record SessionIs (cause : Type 0) (terms : Terms) (count : Bool) (op : Op) (h : List Entry) (status : ℕ) (text : List ℕ) : Type 0 where
+  pub calls : CallsAsked terms op h
+  pub ends : EndsAs cause terms count op h status text
+
+-- a session by these settings
+pub record SessionBy (cause : Type 0) (s : Settings) (op : Op) (h : List Entry) (status : ℕ) (text : List ℕ) : Type 0 where
+  pub first : ℕ
+  pub is_first : IsFirst s.xid first
+  pub is : SessionIs cause (terms_of s first) s.count op h status text
+
+-- ---- how a run ends
 
 -- the text that refuses a script
 abbrev pub refusal_text : List ℕ
 refusal_text = codes "script 0 10\n"
-
--- The answer was noted and its line written, or the session was cut off: before the answer was noted, or within its line.
-pub data Finishes (old new : Option Told) (answer : Answer) (status : ℕ) (text : List ℕ) : Type 0 where
-  unnoted : Tells old new [] → status ≡ 7 → text ≡ [] → Finishes old new answer status text
-  written : Tells old new (Answered 1 1 answer ∷ []) → status ≡ status_of answer → text ≡ line_text 1 1 answer → Finishes old new answer status text
-  cut : Tells old new (Answered 1 1 answer ∷ []) → IsCutOff status → IsFront text (line_text 1 1 answer) → Finishes old new answer status text
-
--- The put was answered, the status is that of its answer and the text is the transcript; or the session was cut off, and
--- the text is a front of it.
-pub data EndsAs (h : List Entry) (op : Op) (status : ℕ) (text : List ℕ) : Type 0 where
-  answered : (answer : Answer) → marks h ≡ Began 1 1 op ∷ Answered 1 1 answer ∷ [] → status ≡ status_of answer → text ≡ transcript h → EndsAs h op status text
-  cut_off : IsCutOff status → IsFront text (transcript h) → EndsAs h op status text
-
--- the put that an operation asks for in a root
-pub record IsPutOf (root : List ℕ) (op : Op) (p : PutOf) : Type 0 where
-  pub asked : op ≡ Put (p.name ∷ []) p.offset p.bytes
-  pub root_is : p.root ≡ root
-
--- A session of one put: it follows the script, each answer has its row, and it ends so.
-pub record SessionIs (cause : Type 0) (root : List ℕ) (op : Op) (h : List Entry) (status : ℕ) (text : List ℕ) : Type 0 where
-  pub p : PutOf
-  pub put : IsPutOf root op p
-  pub follows : Follows h op
-  pub rows : RowsShown cause h op p
-  pub ends : EndsAs h op status text
 
 -- the bytes spell a script
 abbrev pub IsScript : List ℕ → Type 0
@@ -77,10 +132,10 @@ pub data Unbegun (status : ℕ) (text : List ℕ) : Type 0 where
   cut_before : IsCutOff status → IsFront text refusal_text → Unbegun status text
 
 -- What the history is at the end, and what was written: nothing was begun, or there was a session of the put that the
--- script asks for, in the root that the words name.
+-- script asks for, by the settings that the words give.
 pub data RunIs (cause : Type 0) (words : List (List ℕ)) (left : Option (List ℕ)) (h : List Entry) (status : ℕ) (text : List ℕ) : Type 0 where
   unbegun : h ≡ [] → Unbegun status text → RunIs cause words left h status text
-  session : (root : List ℕ) (op : Op) → IsCommand words root → AsksFor left op → SessionIs cause root op h status text → RunIs cause words left h status text
+  session : (s : Settings) (op : Op) → IsCommand words s → AsksFor left op → SessionBy cause s op h status text → RunIs cause words left h status text
 
 -- no operation was answered: the words or the script were refused, the source failed, or the session was cut off
 abbrev pub Refuses : ℕ → Type 0

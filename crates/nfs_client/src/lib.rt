@@ -2,13 +2,20 @@
 //! and ends in a status.
 #![tactic(auto)]
 
+mod calls;
+mod exchange;
+mod halt;
 mod heard;
 mod input;
-mod machine;
 mod output;
+mod put;
 mod record;
+mod report;
 mod session;
+mod set_up;
+mod status;
+#[cfg(test)]
+mod tests;
 mod top;
-mod words;
 
 pub use top::run;

@@ -1,144 +1,147 @@
-//! The session with the server: the connection, the put, its answer.
+//! A session with a server: what comes before the operation, the operation, its answer.
 
-ghost use Rattle.std.specs.Prelude.{◌≡◌, ◌≢◌, ◌<◌, [], Some, OnOk, IfOk};
-ghost use Rattle.world_model.specs.Told.{Tells};
-ghost use Rattle.outside.specs.declared.link.Received.TheVariants as received_as;
-ghost use Rattle.nfs_client.specs.Machine.{Begins, IsBusy, IsOpen, IsWaiting, left_of, answer_of};
-ghost use Rattle.nfs_client.specs.Session.{IsBuilt, dialed_so, IsDialCause, ConnectsAs, OpensAs, GoesOn, HeedsAs, Along};
+ghost use Rattle.std.specs.Prelude.{◌≡◌, ◌≤◌, ◌<◌, ◌+◌, ◌^◌, [], ◌∷◌};
+ghost use Rattle.nfs_client.specs.Calls.{SameCalls};
+ghost use Rattle.nfs_client.specs.Putting.{IsBuilt};
+ghost use Rattle.nfs_client.specs.SetUp.{IsOptions};
+ghost use Rattle.nfs_client.specs.Session.{Along};
+ghost use Rattle.nfs_client.specs.Run.{terms_of};
+ghost use Rattle.nfs_client.specs.Working.{IsKnown, BeginsSo, AnswersSo, WorksSo, ConversesSo};
 
-use crate::machine::Core;
-use nfs_types::Handle;
-use outside::{Clock, Link, LinkFault, Received};
+use crate::calls::Calls;
+use crate::halt::Halt;
+use crate::put::put;
+use crate::set_up::{SetUp, set_up};
+use outside::{Clock, Link};
+use session_words::Settings;
 use std::alloc::Global;
-use world_model::{Answer, Mark, Op};
+use world_model::{Answer, Fault, Mark, Op, Tally, Value};
 use xdr_codec::Memory;
 
-/// The port of NFS (RFC 1813, section 2.1).
-const NFS_PORT: u16 = 2049;
-/// How long a record is waited for, in milliseconds.
-const WAIT_MS: u32 = 15_000;
+/// What a session comes to.
+#[derive(Clone, Copy, Debug)]
+pub enum Ended {
+    /// The mount was refused, and no operation began.
+    MountRefused(Fault),
+    /// The operation was answered.
+    Answered {
+        /// The answer.
+        answer: Answer,
+        /// The calls that were made.
+        tally: Tally,
+    },
+}
 
-/// Dials, and begins the put: the connection comes first, then the mark of its beginning.
-pub fn open<L: Link, C: Clock>(
+/// Opens the session, does the operation, and notes its answer.
+pub fn converse<L: Link, C: Clock>(
     alloc: Global,
-    root: Handle,
-    op: Op,
+    settings: &Settings,
+    first: u32,
+    op: &Op,
     link: &mut L,
     clock: &mut C,
-) -> Result<Core, Memory>
-    requires { IsBuilt op }
-    ensures goes { Along (L.told link.old) (L.told link.new) (L.faults link.old) (L.faults link.new) (λ before h. before ≡ [] → OpensAs root op result h) }
-    ensures open { IfOk result (λ core. IsOpen core.state) }
+) -> Result<Ended, Memory>
+    requires options { IsOptions settings.now }
+    requires calls { 2 ≤ settings.now.calls }
+    requires xids { first + settings.now.calls < 2 ^ 32 }
+    requires built { IsBuilt op.now }
+    ensures { Along (L.told link.old) (L.told link.new) (L.faults link.old) (L.faults link.new) (λ h k. h ≡ [] → ConversesSo (terms_of settings.now first) op.now result k) }
 {
-    let lost = connect(link, clock)?;
-    let begun = op.copy(alloc)?;
-    link.note(Mark::Began {
+    let mut calls = Calls::new(first, settings.calls, settings.cred);
+    match set_up(alloc, settings, link, &mut calls) {
+        Ok(set_up) => work(alloc, Some(set_up), op, link, clock, calls),
+        Err(Halt::Refused(fault)) => match fault {
+            Fault::Lost => work(alloc, None, op, link, clock, calls),
+            Fault::Memory => Err(Memory),
+            _ => Ok(Ended::MountRefused(fault)),
+        },
+        Err(Halt::Memory) => Err(Memory),
+    }
+}
+
+/// Does the operation, and notes its beginning and its answer. Without a set-up the session is lost.
+fn work<L: Link, C: Clock>(
+    alloc: Global,
+    set_up: Option<SetUp>,
+    op: &Op,
+    link: &mut L,
+    clock: &mut C,
+    calls: Calls,
+) -> Result<Ended, Memory>
+    requires built { IsBuilt op.now }
+    requires known { IsKnown set_up }
+    ensures { Along (L.told link.old) (L.told link.new) (L.faults link.old) (L.faults link.new) (WorksSo set_up op.now calls result) }
+{
+    let mut calls = calls;
+    match begin(alloc, op, link, clock) {
+        Ok(()) => {}
+        Err(wanting) => return Err(wanting),
+    }
+    let answer = match answer(alloc, set_up, op, link, &mut calls) {
+        Ok(answer) => answer,
+        Err(wanting) => return Err(wanting),
+    };
+    let mark = Mark::Answered {
         lane: 1,
         line: 1,
-        op: begun,
-    })?;
-    Ok(begin(alloc, root, op, lost))
+        answer,
+    };
+    match link.note(mark) {
+        Ok(()) => Ok(Ended::Answered {
+            answer,
+            tally: calls.tally(),
+        }),
+        Err(wanting) => Err(wanting),
+    }
 }
 
-/// Dials, and notes the time. It answers whether the connection is lost.
-fn connect<L: Link, C: Clock>(link: &mut L, clock: &mut C) -> Result<bool, Memory>
-    ensures { Along (L.told link.old) (L.told link.new) (L.faults link.old) (L.faults link.new) (λ before h. before ≡ [] → ConnectsAs result h) }
+/// Notes the time, and that the operation begins.
+fn begin<L: Link, C: Clock>(
+    alloc: Global,
+    op: &Op,
+    link: &mut L,
+    clock: &mut C,
+) -> Result<(), Memory>
+    ensures { Along (L.told link.old) (L.told link.new) (L.faults link.old) (L.faults link.new) (BeginsSo op.now result) }
 {
-    let lost = dial(link)?;
     let ms = clock.now();
-    link.note(Mark::Clock { ms })?;
-    Ok(lost)
-}
-
-/// Dials the port of NFS, and answers whether the connection is lost.
-fn dial<L: Link>(link: &mut L) -> Result<bool, Memory>
-    ensures told { Tells (L.told link.old) (L.told link.new) (dialed_so result) }
-    ensures cause { IsDialCause (L.faults link.old) (L.faults link.new) result }
-{
-    match link.dial(NFS_PORT) {
-        Ok(()) => Ok(false),
-        Err(LinkFault::Failed) => Ok(true),
-        Err(LinkFault::Memory) => Err(Memory),
+    match link.note(Mark::Clock { ms }) {
+        Ok(()) => {}
+        Err(wanting) => return Err(wanting),
+    }
+    let Ok(op) = op.copy(alloc) else {
+        return Err(Memory);
+    };
+    let mark = Mark::Began {
+        lane: 1,
+        line: 1,
+        op,
+    };
+    match link.note(mark) {
+        Ok(()) => Ok(()),
+        Err(wanting) => Err(wanting),
     }
 }
 
-/// The client that begins this put.
-fn begin(alloc: Global, root: Handle, op: Op, lost: bool) -> Core
-    requires { IsBuilt op }
-    ensures begun { Begins root op lost result }
-    ensures open { IsOpen result.state }
+/// Does the put, and says what it came to.
+fn answer<L: Link>(
+    alloc: Global,
+    set_up: Option<SetUp>,
+    op: &Op,
+    link: &mut L,
+    calls: &mut Calls,
+) -> Result<Answer, Memory>
+    requires built { IsBuilt op.now }
+    requires known { IsKnown set_up }
+    ensures goes { Along (L.told link.old) (L.told link.new) (L.faults link.old) (L.faults link.new) (AnswersSo set_up op.now calls.old calls.new result) }
+    ensures same { SameCalls calls.old calls.new }
 {
-    let Op::Put {
-        path,
-        offset,
-        bytes,
-    } = op;
-    let name = path.names()[0];
-    Core::begin(alloc, root, name, offset, bytes, lost)
-}
-
-/// Goes on until the put is over, and answers what it came to.
-pub fn converse<L: Link>(alloc: Global, link: &mut L, core: &mut Core) -> Result<Answer, Memory>
-    requires { IsOpen core.old.state }
-    ensures goes { Along (L.told link.old) (L.told link.new) (L.faults link.old) (L.faults link.new) (GoesOn core.old core.new) }
-    ensures over { IfOk result (λ answer. answer_of core.new.state ≡ Some answer) }
-{
-    loop {
-        if let Some(answer) = core.answer() {
-            return Ok(answer);
-        }
-        turn(alloc, link, core)?;
-    }
-}
-
-/// One turn: sends the record that is due, else waits for one.
-fn turn<L: Link>(alloc: Global, link: &mut L, core: &mut Core) -> Result<(), Memory>
-    requires { IsBusy core.old.state }
-    ensures goes { Along (L.told link.old) (L.told link.new) (L.faults link.old) (L.faults link.new) (GoesOn core.old core.new) }
-    ensures open { IsOpen core.new.state }
-    ensures left { OnOk result (left_of core.new < left_of core.old) }
-{
-    if let Some(record) = core.due() {
-        match link.send(record) {
-            Ok(()) => core.sent(),
-            Err(LinkFault::Failed) => {
-                core.sent();
-                core.failed();
-            }
-            Err(LinkFault::Memory) => return Err(Memory),
-        }
-        Ok(())
-    } else {
-        listen(alloc, link, core)
-    }
-}
-
-/// Waits for a record, and takes it.
-fn listen<L: Link>(alloc: Global, link: &mut L, core: &mut Core) -> Result<(), Memory>
-    requires { IsWaiting core.old.state }
-    ensures goes { Along (L.told link.old) (L.told link.new) (L.faults link.old) (L.faults link.new) (GoesOn core.old core.new) }
-    ensures open { IsOpen core.new.state }
-    ensures left { OnOk result (left_of core.new < left_of core.old) }
-{
-    let mut record = Vec::new(alloc);
-    let received = link.receive(WAIT_MS, &mut record);
-    heed(alloc, core, received, record.as_slice());
-    match received {
-        Received::Memory => Err(Memory),
-        _ => Ok(()),
-    }
-}
-
-/// Goes on by what came of waiting.
-fn heed(alloc: Global, core: &mut Core, received: Received, record: &[u8])
-    requires { IsWaiting core.old.state }
-    ensures step { HeedsAs core.old received record.now core.new }
-    ensures open { IsOpen core.new.state }
-    ensures left { received ≢ received_as.Memory → left_of core.new < left_of core.old }
-{
-    match received {
-        Received::Whole => core.take(alloc, record),
-        Received::Silent | Received::Failed => core.failed(),
-        Received::Memory => {}
+    let Some(set_up) = set_up else {
+        return Ok(Answer::Refused(Fault::Lost));
+    };
+    match put(alloc, &set_up, op, link, calls) {
+        Ok(()) => Ok(Answer::Done(Value::Nothing)),
+        Err(Halt::Refused(fault)) => Ok(Answer::Refused(fault)),
+        Err(Halt::Memory) => Err(Memory),
     }
 }

@@ -1,46 +1,34 @@
 //! The top call.
 
-ghost use Rattle.std.specs.Prelude.{◌≡◌, ◌≤◌, ◌↔◌, ◌⊎◌, ℕ, List, [], map, take, Option, Some, IfSome};
+ghost use Rattle.std.specs.Prelude.{◌≡◌, ◌≤◌, ◌<◌, ◌+◌, ◌^◌, ◌⊎◌, [], map, take, IfSome};
 ghost use Rattle.std.specs.String.{string_bytes};
-ghost use Rattle.world_model.specs.declared.op.Op.{Op};
 ghost use Rattle.world_model.specs.Told.{Relates};
 ghost use Rattle.outside.specs.Causes.{Rose};
-ghost use Rattle.nfs_client.specs.Words.{IsCommand};
-ghost use Rattle.nfs_client.specs.Streams.{script_limit, Appends, IsFront};
-ghost use Rattle.nfs_client.specs.Session.{IsBuilt, Along};
-ghost use Rattle.nfs_client.specs.Run.{status_of, IsEnding, IsCutOff, refusal_text, Finishes, SessionIs, IsScript, AsksFor, RunIs, Unbegun, Refuses, Says};
+ghost use Rattle.session_words.specs.declared.settings.Settings.{Settings as SettingsOf};
+ghost use Rattle.session_words.specs.Words.{IsCommand};
+ghost use Rattle.nfs_client.specs.Putting.{IsBuilt};
+ghost use Rattle.nfs_client.specs.SetUp.{IsOptions};
+ghost use Rattle.nfs_client.specs.Streams.{script_limit};
+ghost use Rattle.nfs_client.specs.Run.{IsXidOption, IsFirst, IsCutOff, IsScript, Refuses, RunIs, SessionBy, Unbegun, Says};
+ghost use Rattle.nfs_client.specs.Reports.{IsEnding};
 
 use crate::input::{ReadFault, read_script};
 use crate::output::write_all;
-use crate::session::{converse, open};
-use crate::words::root_of;
-use nfs_script::{ParseFault, line, parse};
-use nfs_types::Handle;
+use crate::report::report;
+use crate::session::converse;
+use crate::status;
+use nfs_script::{ParseFault, parse};
 use outside::{Clock, Link, LinkFault, Sink, Source};
+use session_words::{Settings, WordsFault, read_words};
 use std::alloc::Global;
-use world_model::{Answer, Fault, Mark, Op};
-use xdr_codec::Writer;
+use world_model::Op;
 
-/// The words of the command line are refused.
-const WORDS_REFUSED: u8 = 2;
-/// The script is refused.
-const SCRIPT_REFUSED: u8 = 3;
-/// The source failed.
-const READ_FAULT: u8 = 4;
-/// The sink failed.
-const WRITE_FAULT: u8 = 5;
-/// The link is lost.
-const LINK_LOST: u8 = 6;
-/// Want of memory outside an operation.
-const NO_MEMORY: u8 = 7;
-
-/// Runs the script that the source gives, and writes an answer line for each operation. It answers the status of the
-/// session: 0 where each operation went well, 1 where one was refused, 2 where the words are refused, 3 where the script
-/// is, 4 where the source failed, 5 where the sink failed, 6 where the link is lost, 7 for want of memory outside an
-/// operation.
+/// Runs the script that the source gives, and writes an answer line for each operation. The words say where the files
+/// are and how they are asked for. It answers the status of the session: 0 where each operation went well, 1 where one
+/// was refused, 2 where the words are refused, 3 where the script is, 4 where the source failed, 5 where the sink
+/// failed, 6 where the link is lost, 7 for want of memory outside an operation, 8 where the mount is refused.
 ///
-/// For now the words are a name, `--root` and the root's file handle in hex, and a script is one line
-/// `1 put /NAME OFF HEX`.
+/// For now a script is one line `1 put /NAME OFF HEX`.
 pub fn run<S: Source, L: Link, C: Clock, K: Sink>(
     alloc: Global,
     words: &[String],
@@ -49,8 +37,9 @@ pub fn run<S: Source, L: Link, C: Clock, K: Sink>(
     clock: &mut C,
     out: &mut K,
 ) -> u8
-    // 2 comes exactly where the words aren't of their form.
-    ensures words { (result ≡ 2) ↔ ((root : List ℕ) → IsCommand (map string_bytes words.now) root → ⊥) }
+    // 2 comes only where the words aren't of their form, and where they aren't only want of memory comes in its place.
+    ensures words { result ≡ 2 → (s : SettingsOf) → IsCommand (map string_bytes words.now) s → ⊥ }
+    ensures no_words { ((s : SettingsOf) → IsCommand (map string_bytes words.now) s → ⊥) → (result ≡ 2) ⊎ (result ≡ 7) }
 
     // 3 comes only where the script's bytes spell none, and where they don't no operation is answered.
     ensures script { IfSome (S.left script.old) (λ left. result ≡ 3 → IsScript (take script_limit left) → ⊥) }
@@ -65,21 +54,23 @@ pub fn run<S: Source, L: Link, C: Clock, K: Sink>(
         Relates (L.told link.old) (L.told link.new) (λ before h. before ≡ [] →
         RunIs (Rose (L.faults link.old) (L.faults link.new)) (map string_bytes words.now) (S.left script.old) h result text)) }
 {
-    let Some(root) = root_of(words) else {
-        return WORDS_REFUSED;
+    let settings = match read_words(alloc, words) {
+        Ok(settings) => settings,
+        Err(WordsFault::Refused) => return status::WORDS_REFUSED,
+        Err(WordsFault::Memory) => return status::NO_MEMORY,
     };
     let text = match read_script(alloc, script) {
         Ok(text) => text,
-        Err(ReadFault::Failed) => return READ_FAULT,
-        Err(ReadFault::Memory) => return NO_MEMORY,
+        Err(ReadFault::Failed) => return status::READ_FAULT,
+        Err(ReadFault::Memory) => return status::NO_MEMORY,
     };
     match parse(alloc, text.as_slice()) {
         Ok(script) => {
             let (_, _, op) = script.op(0);
-            perform(alloc, root, op, link, clock, out)
+            session(alloc, &settings, op, link, clock, out)
         }
         Err(ParseFault::Script(_)) => refuse(out),
-        Err(ParseFault::Memory) => NO_MEMORY,
+        Err(ParseFault::Memory) => status::NO_MEMORY,
     }
 }
 
@@ -90,75 +81,47 @@ fn refuse<K: Sink>(out: &mut K) -> u8
     ensures said { Says (K.written out.old) (K.written out.new) (Unbegun result) }
 {
     match write_all(out, b"script 0 10\n") {
-        Ok(()) => SCRIPT_REFUSED,
-        Err(LinkFault::Failed) => WRITE_FAULT,
-        Err(LinkFault::Memory) => NO_MEMORY,
+        Ok(()) => status::SCRIPT_REFUSED,
+        Err(LinkFault::Failed) => status::WRITE_FAULT,
+        Err(LinkFault::Memory) => status::NO_MEMORY,
     }
 }
 
-/// A session of one put.
-fn perform<L: Link, C: Clock, K: Sink>(
+/// A session of one operation.
+fn session<L: Link, C: Clock, K: Sink>(
     alloc: Global,
-    root: Handle,
+    settings: &Settings,
     op: &Op,
     link: &mut L,
     clock: &mut C,
     out: &mut K,
 ) -> u8
-    requires { IsBuilt op.now }
+    requires options { IsOptions settings.now }
+    requires calls { 2 ≤ settings.now.calls }
+    requires most { settings.now.calls < 2 ^ 31 }
+    requires xid { IsXidOption settings.now.xid }
+    requires built { IsBuilt op.now }
     ensures ending { IsEnding result }
     ensures sink { result ≡ 5 → Rose (K.faults out.old) (K.faults out.new) }
     ensures shown { Says (K.written out.old) (K.written out.new) (λ text.
         Relates (L.told link.old) (L.told link.new) (λ before h. before ≡ [] →
-        SessionIs (Rose (L.faults link.old) (L.faults link.new)) root op.now h result text)) }
+        SessionBy (Rose (L.faults link.old) (L.faults link.new)) settings.now op.now h result text)) }
 {
-    let Ok(op) = op.copy(alloc) else {
-        return NO_MEMORY;
-    };
-    let Ok(mut core) = open(alloc, root, op, link, clock) else {
-        return NO_MEMORY;
-    };
-    match converse(alloc, link, &mut core) {
-        Ok(answer) => finish(alloc, answer, link, out),
-        Err(_) => NO_MEMORY,
+    let first = first_xid(settings.xid, clock);
+    match converse(alloc, settings, first, op, link, clock) {
+        Ok(ended) => report(alloc, &ended, settings.count, out),
+        Err(_) => status::NO_MEMORY,
     }
 }
 
-/// Notes the answer, and writes its line.
-fn finish<L: Link, K: Sink>(alloc: Global, answer: Answer, link: &mut L, out: &mut K) -> u8
-    ensures ending { IsEnding result }
-    ensures later { L.faults link.old ≤ L.faults link.new }
-    ensures sink { result ≡ 5 → Rose (K.faults out.old) (K.faults out.new) }
-    ensures said { Says (K.written out.old) (K.written out.new) (Finishes (L.told link.old) (L.told link.new) answer result) }
+/// The xid of the first call: the one that is wanted, or one by the time.
+fn first_xid<C: Clock>(wanted: Option<u32>, clock: &mut C) -> u32
+    requires { IsXidOption wanted }
+    ensures { IsFirst wanted result }
 {
-    let mut text = Writer::new(alloc);
-    if line(&mut text, 1, 1, &answer).is_err() {
-        return NO_MEMORY;
-    }
-    let status = status_of(&answer);
-    let mark = Mark::Answered {
-        lane: 1,
-        line: 1,
-        answer,
-    };
-    if link.note(mark).is_err() {
-        return NO_MEMORY;
-    }
-    match write_all(out, text.finish().bytes()) {
-        Ok(()) => status,
-        Err(LinkFault::Failed) => WRITE_FAULT,
-        Err(LinkFault::Memory) => NO_MEMORY,
-    }
-}
-
-/// The status of a session whose put was answered so.
-fn status_of(answer: &Answer) -> u8
-    ensures is { result ≡ status_of answer.now }
-    ensures ending { IsEnding result }
-{
-    match answer {
-        Answer::Done(_) => 0,
-        Answer::Refused(Fault::Lost) => LINK_LOST,
-        Answer::Refused(_) => 1,
+    let now = clock.now();
+    match wanted {
+        Some(xid) => xid,
+        None => (now % (1 << 31)) as u32 + 1,
     }
 }

@@ -10,7 +10,7 @@ digits_of_payload bytes hex s = (decode_of-ok hex bytes s.decodes).2
 pub one_payload : (a b hex : List ℕ) → SpellsPayload a hex → SpellsPayload b hex → a ≡ b
 one_payload a b hex s t = decode_of-same hex a b s.decodes t.decodes
 
-pub payload_of : (bytes hex : List ℕ) → decode_of hex ≡ Ok bytes → 1 ≤ length hex → length hex ≤ 1024 → SpellsPayload bytes hex
+pub payload_of : (bytes hex : List ℕ) → decode_of hex ≡ Ok bytes → 1 ≤ length hex → length hex ≤ 131072 → SpellsPayload bytes hex
 payload_of bytes hex e low high =
     let twice = (decode_of-ok hex bytes e).2 in
     record { decodes = e; some = omega (arith, twice); most = omega (arith, twice) }

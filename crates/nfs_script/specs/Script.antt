@@ -27,11 +27,11 @@ pub record SpellsOffset (offset : ℕ) (digits : List ℕ) : Type 0 where
   pub number : SpellsNumber offset digits
   pub most : offset ≤ 4611686018427387904
 
--- 1 to 512 bytes, each as two hex digits of either case
+-- 1 to 65,536 bytes, each as two hex digits of either case
 pub record SpellsPayload (bytes hex : List ℕ) : Type 0 where
   pub decodes : decode_of hex ≡ Ok bytes
   pub some : 1 ≤ length bytes
-  pub most : length bytes ≤ 512
+  pub most : length bytes ≤ 65536
 
 -- an operation is the put of these words: of the name in the root, at the offset, of the bytes
 pub record IsPut (op : Op) (name digits hex : List ℕ) : Type 0 where

@@ -35,29 +35,31 @@ fn write_answer(out: &mut Writer, answer: &Answer) -> Result<(), Memory>
 }
 
 #[tactic(auto, using(xdr_codec::proofs::Begins::begins_then, std::proofs::Common::append_assoc))]
-fn write_fault(out: &mut Writer, fault: Fault) -> Result<(), Memory>
+pub(crate) fn write_fault(out: &mut Writer, fault: Fault) -> Result<(), Memory>
     ensures ok { OnOk result (out.new ≡ out.old ++ fault_text fault) }
     ensures err { OnErr result (BeginsWith out.old out.new) }
 {
     match fault {
-        Fault::Nfs(status) => write_counted(out, b"nfs ", status),
-        Fault::Bad(rule) => write_counted(out, b"bad ", rule),
+        Fault::Nfs(status) => write_counted(out, b"nfs ", u64::from(status)),
+        Fault::Rpc(refusal) => write_counted(out, b"rpc ", refusal),
+        Fault::Bad(rule) => write_counted(out, b"bad ", u64::from(rule)),
         Fault::Lost => out.raw(b"lost"),
+        Fault::Spent => out.raw(b"spent"),
         Fault::Memory => out.raw(b"memory"),
     }
 }
 
 #[tactic(auto, using(xdr_codec::proofs::Begins::begins_then, std::proofs::Common::append_assoc))]
-fn write_counted(out: &mut Writer, word: &[u8], number: u32) -> Result<(), Memory>
+fn write_counted(out: &mut Writer, word: &[u8], number: u64) -> Result<(), Memory>
     ensures ok { OnOk result (out.new ≡ out.old ++ (word.now ++ decimal number)) }
     ensures err { OnErr result (BeginsWith out.old out.new) }
 {
     out.raw(word)?;
-    write_number(out, u64::from(number))?;
+    write_number(out, number)?;
     Ok(())
 }
 
-fn write_number(out: &mut Writer, number: u64) -> Result<(), Memory>
+pub(crate) fn write_number(out: &mut Writer, number: u64) -> Result<(), Memory>
     ensures ok { OnOk result (out.new ≡ out.old ++ decimal number) }
     ensures err { OnErr result (out.new ≡ out.old) }
 {

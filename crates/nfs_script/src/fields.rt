@@ -17,7 +17,7 @@ use xdr_codec::Blob;
 const MAX_OFFSET: u64 = 4_611_686_018_427_387_904;
 
 /// The most bytes of a put.
-const MAX_PAYLOAD: usize = 512;
+const MAX_PAYLOAD: usize = 65_536;
 
 /// A name of 1 to 255 bytes from 33 to 126 without `%` and `/`. None exactly where the bytes are no such name.
 pub(crate) fn plain_name(bytes: &[u8]) -> Option<Name>
@@ -71,7 +71,7 @@ fn are_digits(bytes: &[u8]) -> bool
     bytes.iter().all(|byte| byte.is_ascii_digit())
 }
 
-/// A payload in hex digits. It is refused exactly where they don't spell 1 to 512 bytes, unless memory runs out.
+/// A payload in hex digits. It is refused exactly where they don't spell 1 to 65,536 bytes, unless memory runs out.
 #[tactic(auto, using(crate::proofs::Payloads::digits_of_payload, crate::proofs::Payloads::one_payload, crate::proofs::Payloads::payload_of))]
 pub(crate) fn payload(alloc: Global, hex: &[u8]) -> Result<Blob, ParseFault>
     ensures found { IfOk result (λ bytes. SpellsPayload bytes hex.now) }

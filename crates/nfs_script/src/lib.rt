@@ -6,11 +6,15 @@ mod answer_line;
 mod fault;
 mod fields;
 mod put;
+mod refused_mount;
 mod script;
+mod tally;
 #[cfg(test)]
 mod tests;
 mod words;
 
 pub use answer_line::line;
 pub use fault::{ParseFault, ScriptFault};
+pub use refused_mount::mount_line;
 pub use script::{Script, ScriptLine, one_script, parse};
+pub use tally::tally_line;

@@ -73,7 +73,7 @@ impl Script {
 
 /// Reads a script. For now a script is exactly one line `1 put /NAME OFF HEX`, with or without a line feed at its end,
 /// its words parted by single spaces: a name of 1 to 255 bytes from 33 to 126 without `%` and `/`, an offset of one
-/// decimal digit or more up to 2^62, and 1 to 512 bytes in hex digits of either case. Any other text is refused with
+/// decimal digit or more up to 2^62, and 1 to 65,536 bytes in hex digits of either case. Any other text is refused with
 /// line 0 and kind 10, unless memory runs out.
 pub fn parse(alloc: Global, text: &[u8]) -> Result<Script, ParseFault>
     ensures found { IfOk result (λ lines. SpellsScript lines text.now) }

@@ -1,10 +1,10 @@
 //! Texts that are a put and texts that are none, and the lines of answers.
 
-use crate::{ParseFault, ScriptFault, line, parse};
+use crate::{ParseFault, ScriptFault, line, mount_line, parse, tally_line};
 use std::alloc::Global;
 use std::process::Abort;
 use std::test::Fail;
-use world_model::{Answer, Fault, Op, Value};
+use world_model::{Answer, Fault, Op, Tally, Value};
 use xdr_codec::Writer;
 
 /// That the text is the put of these bytes at the offset of the file `/a`.
@@ -73,7 +73,7 @@ fn reads_the_greatest_put(rt: HostRuntime) -> Result<(), Fail> {
         4_611_686_018_427_387_904,
         &[0],
     )?;
-    let text = long_put(rt.alloc(), 255, 512)?;
+    let text = long_put(rt.alloc(), 255, 65_536)?;
     assert!(rt; parse(rt.alloc(), text.as_slice()).is_ok());
     Ok(())
 }
@@ -81,7 +81,7 @@ fn reads_the_greatest_put(rt: HostRuntime) -> Result<(), Fail> {
 #[test]
 fn refuses_what_is_too_long(rt: HostRuntime) -> Result<(), Fail> {
     is_refused(&rt, rt.alloc(), long_put(rt.alloc(), 256, 1)?.as_slice());
-    is_refused(&rt, rt.alloc(), long_put(rt.alloc(), 1, 513)?.as_slice());
+    is_refused(&rt, rt.alloc(), long_put(rt.alloc(), 1, 65_537)?.as_slice());
     Ok(())
 }
 
@@ -111,6 +111,18 @@ fn writes_answers(rt: HostRuntime) -> Result<(), Fail> {
         Answer::Refused(Fault::Bad(2)),
         b"1 1 bad 2\n",
     )?;
+    is_line(
+        &rt,
+        rt.alloc(),
+        Answer::Refused(Fault::Rpc(205)),
+        b"1 1 rpc 205\n",
+    )?;
+    is_line(
+        &rt,
+        rt.alloc(),
+        Answer::Refused(Fault::Spent),
+        b"1 1 spent\n",
+    )?;
     is_line(&rt, rt.alloc(), Answer::Refused(Fault::Lost), b"1 1 lost\n")?;
     is_line(
         &rt,
@@ -118,4 +130,36 @@ fn writes_answers(rt: HostRuntime) -> Result<(), Fail> {
         Answer::Refused(Fault::Memory),
         b"1 1 memory\n",
     )
+}
+
+/// That the refusal of a mount is this text.
+fn is_mount_line(rt: &impl Abort, alloc: Global, fault: Fault, text: &[u8]) -> Result<(), Fail> {
+    let mut out = Writer::new(alloc);
+    mount_line(&mut out, fault)?;
+    assert_eq!(rt; out.finish().bytes(), text);
+    Ok(())
+}
+
+#[test]
+fn writes_refused_mounts(rt: HostRuntime) -> Result<(), Fail> {
+    is_mount_line(&rt, rt.alloc(), Fault::Nfs(13), b"mount 13\n")?;
+    is_mount_line(&rt, rt.alloc(), Fault::Rpc(100), b"mount rpc 100\n")?;
+    is_mount_line(&rt, rt.alloc(), Fault::Bad(2), b"mount bad 2\n")
+}
+
+#[test]
+fn writes_counts(rt: HostRuntime) -> Result<(), Fail> {
+    let tally = Tally {
+        calls: 9,
+        getattr: 2,
+        lookup: 3,
+        read: 1,
+        write: 4_294_967_295,
+        commit: 0,
+    };
+    let mut out = Writer::new(rt.alloc());
+    tally_line(&mut out, &tally)?;
+    let text = b"calls 9 getattr 2 lookup 3 read 1 write 4294967295 commit 0\n";
+    assert_eq!(rt; out.finish().bytes(), text.as_slice());
+    Ok(())
 }

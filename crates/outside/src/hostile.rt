@@ -103,7 +103,7 @@ impl Link for HostileLink {
         if rec.extend_from_slice(record.bytes()).is_err() {
             return Received::Memory;
         }
-        if self.entries.push(Entry::Delivered { bytes }).is_err() {
+        if tell(&mut self.entries, Entry::Delivered { bytes }).is_err() {
             return Received::Memory;
         }
         self.next += 1;
@@ -119,4 +119,13 @@ impl Link for HostileLink {
         self.entries.push(entry)?;
         Ok(())
     }
+}
+
+/// Adds an entry to those that are told. After want of memory nothing is changed.
+fn tell(entries: &mut Vec<Entry>, entry: Entry) -> Result<(), Memory>
+    ensures ok { OnOk result (entries.new.items ≡ entries.old.items ++ entry ∷ []) }
+    ensures err { OnErr result (entries.new.items ≡ entries.old.items) }
+{
+    entries.push(entry)?;
+    Ok(())
 }

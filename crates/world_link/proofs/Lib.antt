@@ -3,3 +3,7 @@ pub mod Taken
 pub mod Decimals
 pub mod Utf8
 pub mod Faults
+pub mod Given
+pub mod Denied
+pub mod Spelled
+pub mod Turning

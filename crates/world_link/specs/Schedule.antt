@@ -39,7 +39,7 @@ is_count digits = is_number digits && not (digits_value 10 digits == 0)
 
 -- the name of a procedure that a sending can ask for
 abbrev pub is_proc : List ℕ → Bool
-is_proc name = bytes_eq name (codes "LOOKUP") || bytes_eq name (codes "WRITE") || bytes_eq name (codes "COMMIT")
+is_proc name = bytes_eq name (codes "LOOKUP") || bytes_eq name (codes "WRITE") || bytes_eq name (codes "FSINFO") || bytes_eq name (codes "COMMIT")
 
 -- ---- lines
 
@@ -50,6 +50,11 @@ has names name = list_any (bytes_eq name) names
 abbrev pub new_name : (List ℕ → Bool) → Option (List ℕ) → Option (List (List ℕ))
 new_name taken None = None
 new_name taken (Some name) = if taken name then None else Some (name ∷ [])
+
+-- the one word that there is
+abbrev pub one : List (List ℕ) → Option (List ℕ)
+one (a ∷ []) = Some a
+one words = None
 
 -- the two words that there are
 abbrev pub two : List (List ℕ) → Option (List ℕ × List ℕ)
@@ -66,11 +71,23 @@ abbrev pub answer_adds : List (List ℕ) → Option (List (List ℕ))
 answer_adds (proc ∷ k ∷ status ∷ []) = if is_proc proc && is_count k && is_count status then Some [] else None
 answer_adds words = None
 
+-- after `limit`: WRITE, which of its sendings, and the most bytes
+abbrev pub limit_adds : List (List ℕ) → Option (List (List ℕ))
+limit_adds (proc ∷ k ∷ most ∷ []) = if bytes_eq proc (codes "WRITE") && is_count k && is_count most then Some [] else None
+limit_adds words = None
+
+-- after `mnt`: a status
+abbrev pub mount_adds : List (List ℕ) → Option (List (List ℕ))
+mount_adds (status ∷ []) = if is_count status then Some [] else None
+mount_adds words = None
+
 abbrev pub words_add : (List ℕ → Bool) → List (List ℕ) → Option (List (List ℕ))
 words_add taken [] = None
 words_add taken (command ∷ words) =
     if bytes_eq command (codes "file") then file_adds taken words else
-    (if bytes_eq command (codes "answer") then answer_adds words else None)
+    (if bytes_eq command (codes "answer") then answer_adds words else
+    (if bytes_eq command (codes "limit") then limit_adds words else
+    (if bytes_eq command (codes "mnt") then mount_adds words else None)))
 
 -- an empty line, or one that begins with `#`
 abbrev pub is_skipped : List ℕ → Bool

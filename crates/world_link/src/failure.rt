@@ -15,13 +15,15 @@ impl Failure {
     /// The failure of that number.
     pub(crate) fn of(number: u32) -> Failure
         requires { 0 < number }
+        ensures { result.number ≡ number }
     {
         Failure { number }
     }
 
     /// As the status of a reply.
     pub(crate) fn status(self) -> Status
-        ensures { 0 < result.0 }
+        ensures failed { 0 < result.0 }
+        ensures same { result.0 ≡ self.number }
     {
         Status(self.number)
     }

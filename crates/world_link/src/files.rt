@@ -2,7 +2,7 @@
 
 ghost use Rattle.std.specs.Prelude.{◌≡◌, ◌+◌, ◌<◌, ◌≤◌, ℕ, List, [], length, not, ◌&&◌, ◌||◌, IfOk, OnErr};
 ghost use Rattle.std.specs.Str.{bytes_eq};
-ghost use Rattle.world_link.specs.Objects.{IsIn};
+ghost use Rattle.world_link.specs.Objects.{IsIn, root_handle};
 ghost use Rattle.world_link.specs.Schedule.{has};
 
 use crate::failure::Failure;
@@ -35,6 +35,13 @@ const STALE: u32 = 70;
 
 const BADHANDLE: u32 = 10001;
 
+/// The file handle of the root directory.
+pub(crate) fn root() -> Handle
+    ensures { result ≡ root_handle }
+{
+    Handle::make(&[0, 0, 0, 0, 0, 0, 0, ROOT as u8]).unwrap()
+}
+
 /// The bytes of a file.
 #[derive(Drop)]
 struct File {
@@ -45,6 +52,7 @@ struct File {
 }
 
 /// What a file handle names.
+#[derive(Drop)]
 enum Object {
     /// The root directory.
     Root,
@@ -132,6 +140,12 @@ impl Files {
         Err(Failure::of(STALE))
     }
 
+    /// That the file handle names the root or a file.
+    pub(crate) fn known(&self, handle: &Handle) -> Result<(), Failure> {
+        let _object = self.object(handle)?;
+        Ok(())
+    }
+
     /// The file that the file handle names, by its place in order of making.
     pub(crate) fn file(&self, handle: &Handle) -> Result<usize, Failure>
         ensures { IfOk result (λ at. at < self.now.count) }
@@ -190,6 +204,13 @@ impl Files {
         let stable = self.files[at].now.as_slice().to_vec(self.alloc)?;
         self.files[at].stable = stable;
         Ok(())
+    }
+
+    /// The bytes of a file as they are now and as they are after a restart, by its place in order of making.
+    #[cfg(test)]
+    pub(crate) fn bytes(&self, at: usize) -> Option<(&[u8], &[u8])> {
+        let file = self.files.as_slice().get(at)?;
+        Some((file.now.as_slice(), file.stable.as_slice()))
     }
 }
 

@@ -3,12 +3,14 @@
 #![tactic(auto)]
 
 mod answering;
+mod asking;
 mod failure;
 mod files;
 mod lines;
-mod record;
+mod refusal;
 mod schedule;
 mod server;
+mod spelling;
 #[cfg(test)]
 mod tests;
 mod world;

@@ -7,13 +7,13 @@ ghost use Rattle.std.specs.List.{list_all};
 ghost use Rattle.std.specs.Str.{is_utf8};
 ghost use Rattle.std.specs.Str.Parse.{digits_value};
 ghost use Rattle.world_link.specs.Lines.{words};
-ghost use Rattle.world_link.specs.Schedule.{two, is_plain, is_name, name_of, is_hex, is_number, is_count, is_proc, has, is_skipped, file_adds, answer_adds, words_add, line_adds, Follows, first_fault, NamesFault};
+ghost use Rattle.world_link.specs.Schedule.{one, two, is_plain, is_name, name_of, is_hex, is_number, is_count, is_proc, has, is_skipped, file_adds, answer_adds, limit_adds, mount_adds, words_add, line_adds, Follows, first_fault, NamesFault};
 
 use crate::answering::{Answering, Sending};
+use crate::asking::{COMMIT, FSINFO, LOOKUP, WRITE};
 use crate::failure::Failure;
 use crate::files::Files;
 use crate::lines::{first_line, next_word};
-use crate::record::{COMMIT, LOOKUP, WRITE};
 use crate::server::Server;
 use crate::world::World;
 use hex::FromHexError;
@@ -51,11 +51,13 @@ impl From<Memory> for ScheduleFault {
 
 /// Reads a schedule: the world, and the milliseconds from one reading of its clock to the next.
 ///
-/// Its lines are `file /NAME HEX`, a file of these bytes in the root, and `answer PROC K N`: the K-th sending of PROC
-/// is answered with the status N. Empty lines and lines that begin with `#` are skipped.
+/// Its lines are `file /NAME HEX`, a file of these bytes in the root; `answer PROC K N`: the K-th sending of PROC,
+/// which is LOOKUP, WRITE, FSINFO or COMMIT, is answered with the status N; `limit WRITE K N`: the K-th sending of WRITE
+/// takes at most N bytes; and `mnt N`: MNT is answered with the status N, by the last such line. Empty lines and lines
+/// that begin with `#` are skipped.
 pub fn parse_schedule(alloc: Global, text: &[u8]) -> Result<(World, u64), ScheduleFault>
     ensures fault { NamesFault result (first_fault text.now) }
-    ensures begins { IfOk result (λ x. x.0 ≡ record { entries = []; faults = 0 }) }
+    ensures begins { IfOk result (λ x. x.0 ≡ record { entries = []; faults = 0; waiting = []; ready = [] }) }
     ensures tick { IfOk result (λ x. x.1 ≡ 0) }
 {
     if text.len() > MOST_BYTES {
@@ -120,6 +122,12 @@ fn read_words(alloc: Global, line: &[u8], server: &mut Server) -> Result<bool, M
     if command == b"answer".as_slice() {
         return answer(rest, &mut server.answering);
     }
+    if command == b"limit".as_slice() {
+        return limit(rest, &mut server.answering);
+    }
+    if command == b"mnt".as_slice() {
+        return Ok(mount(rest, &mut server.answering));
+    }
     Ok(false)
 }
 
@@ -154,6 +162,48 @@ fn answer(line: &[u8], answering: &mut Answering) -> Result<bool, Memory>
     };
     answering.add(Sending { proc, k }, Failure::of(status))?;
     Ok(true)
+}
+
+/// Gives a sending of WRITE the most bytes that it takes.
+fn limit(line: &[u8], answering: &mut Answering) -> Result<bool, Memory>
+    ensures { IfOk result (λ formed. formed ≡ is_some (limit_adds (words line.now))) }
+{
+    let Some((proc, rest)) = next_word(line) else {
+        return Ok(false);
+    };
+    let Some((k, most)) = two_words(rest) else {
+        return Ok(false);
+    };
+    let (true, Some(k), Some(most)) = (proc == b"WRITE".as_slice(), count(k), count(most)) else {
+        return Ok(false);
+    };
+    answering.add_limit(Sending { proc: WRITE, k }, most)?;
+    Ok(true)
+}
+
+/// Gives MNT its status.
+fn mount(line: &[u8], answering: &mut Answering) -> bool
+    ensures { result ≡ is_some (mount_adds (words line.now)) }
+{
+    let Some(status) = one_word(line) else {
+        return false;
+    };
+    let Some(status) = count(status) else {
+        return false;
+    };
+    answering.refuse_mount(Failure::of(status));
+    true
+}
+
+/// The word of a line that has one.
+fn one_word<'a>(line: &'a [u8]) -> Option<&'a [u8]>
+    ensures { option_map (λ word. word.now) result ≡ one (words line.entry.now) }
+{
+    let (word, rest) = next_word(line)?;
+    match next_word(rest) {
+        None => Some(word),
+        Some(_) => None,
+    }
 }
 
 /// The words of a line that has two.
@@ -225,6 +275,9 @@ fn proc_named(name: &[u8]) -> Option<u32>
     }
     if name == b"WRITE".as_slice() {
         return Some(WRITE);
+    }
+    if name == b"FSINFO".as_slice() {
+        return Some(FSINFO);
     }
     if name == b"COMMIT".as_slice() {
         return Some(COMMIT);

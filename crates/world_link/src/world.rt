@@ -3,16 +3,21 @@
 ghost use Rattle.std.specs.Prelude.{◌≡◌, ℕ, List, [], ◌∷◌, ◌++◌, OnOk, OnErr};
 ghost use Rattle.world_model.specs.declared.entry.Entry.TheVariants.{Sent};
 ghost use Rattle.outside.specs.Causes.{HasCauseReceived};
+ghost use Rattle.outside.specs.Hostile.{HandsOut};
 ghost use Rattle.outside.specs.Link.{received_as};
 ghost use Rattle.world_model.specs.Told.{Adds};
+ghost use Rattle.world_link.specs.Asking.{IsServed};
+ghost use Rattle.world_link.specs.Turns.{Executes, Refuses, TurnsOldest, NotGiven};
 
-use crate::record::{asked, spelled};
+use crate::asking::{Asking, asked};
+use crate::refusal::{Refusal, refusal_record};
 use crate::server::Server;
+use crate::spelling::spelled;
 use outside::{Link, LinkFault, Received};
 use std::alloc::Global;
 use std::collections::VecDeque;
 use std::marker::Model;
-use world_model::{Call, Entry, Mark, Reply};
+use world_model::{Call, Entry, Mark};
 use xdr_codec::{Blob, Memory};
 
 /// A link to a simulated server, which tells its history. A sending is executed when the client waits and no reply
@@ -35,13 +40,13 @@ impl Model for World {
 
     ghost Value = { WorldView };
 
-    ghost view = { λ w. record { entries = w.entries.items; faults = w.faults } };
+    ghost view = { λ w. record { entries = w.entries.items; faults = w.faults; waiting = w.waiting.items; ready = w.ready.items } };
 }
 
 impl World {
     /// A world whose history is empty, and in which nothing was sent.
     pub(crate) fn of(alloc: Global, server: Server) -> World
-        ensures { result ≡ record { entries = []; faults = 0 } }
+        ensures { result ≡ record { entries = []; faults = 0; waiting = []; ready = [] } }
     {
         World {
             alloc,
@@ -55,7 +60,7 @@ impl World {
 
     /// Puts a record after those that wait, and tells that it was sent. After want of memory nothing is changed.
     fn take(&mut self, rec: &[u8]) -> Result<(), Memory>
-        ensures ok { OnOk result (self.new ≡ record self.old { entries = self.old.entries ++ Sent rec.now ∷ [] }) }
+        ensures ok { OnOk result (self.new ≡ record self.old { entries = self.old.entries ++ Sent rec.now ∷ []; waiting = self.old.waiting ++ rec.now ∷ [] }) }
         ensures err { OnErr result (self.new ≡ self.old) }
     {
         let sending = Blob::copy(self.alloc, rec)?;
@@ -68,15 +73,17 @@ impl World {
 
     /// Gives the oldest sending its turn, if there is one. After want of memory nothing is changed.
     fn turn(&mut self) -> Result<(), Memory>
-        ensures told { Adds (record { entries = self.old.entries }) (record { entries = self.new.entries }) [] }
+        ensures ok { OnOk result (TurnsOldest self.old.waiting self.old self.new) }
         ensures faults { self.new.faults ≡ self.old.faults }
         ensures err { OnErr result (self.new ≡ self.old) }
     {
         let Some(rec) = self.waiting.front() else {
             return Ok(());
         };
-        if let Some((xid, call)) = asked(self.alloc, rec.bytes())? {
-            self.execute(xid, call)?;
+        match asked(self.alloc, rec.bytes())? {
+            Some((xid, Asking::Call(call))) => self.execute(xid, call)?,
+            Some((xid, Asking::Refused(refusal))) => self.refuse(xid, refusal)?,
+            None => {}
         }
         let _ = self.waiting.pop_front();
         Ok(())
@@ -86,25 +93,23 @@ impl World {
     fn turns(&mut self) -> Result<(), Memory>
         ensures told { Adds (record { entries = self.old.entries }) (record { entries = self.new.entries }) [] }
         ensures faults { self.new.faults ≡ self.old.faults }
+        ensures done { OnOk result (self.new.ready ≡ [] → self.new.waiting ≡ []) }
     {
-        for _turn in 0..self.waiting.len() {
-            if !self.ready.is_empty() {
-                break;
-            }
+        while self.ready.is_empty() && !self.waiting.is_empty() {
             self.turn()?;
         }
         Ok(())
     }
 
-    /// Executes a call, and makes the reply to it ready; one that the server doesn't know is dropped. After want of memory nothing is changed.
+    /// Executes a call, and makes the reply to it ready. After want of memory nothing is changed.
     fn execute(&mut self, xid: u32, call: Call) -> Result<(), Memory>
-        ensures told { Adds (record { entries = self.old.entries }) (record { entries = self.new.entries }) [] }
+        requires { IsServed call }
+        ensures ok { OnOk result (Executes xid call self.old self.new) }
+        ensures waiting { self.new.waiting ≡ self.old.waiting }
         ensures faults { self.new.faults ≡ self.old.faults }
         ensures err { OnErr result (self.new ≡ self.old) }
     {
-        let Some(reply) = self.server.answer(&call) else {
-            return Ok(());
-        };
+        let reply = self.server.answer(self.alloc, &call)?;
         let bytes = spelled(self.alloc, xid, &reply)?;
         self.entries.reserve(1)?;
         self.ready.reserve(1)?;
@@ -116,10 +121,25 @@ impl World {
         Ok(())
     }
 
+    /// Makes the refusal of a call ready, which isn't executed. After want of memory nothing is changed.
+    fn refuse(&mut self, xid: u32, refusal: Refusal) -> Result<(), Memory>
+        ensures ok { OnOk result (Refuses xid refusal self.old self.new) }
+        ensures waiting { self.new.waiting ≡ self.old.waiting }
+        ensures faults { self.new.faults ≡ self.old.faults }
+        ensures err { OnErr result (self.new ≡ self.old) }
+    {
+        let refused = refusal_record(self.alloc, xid, refusal)?;
+        self.ready.reserve(1)?;
+        self.ready.push_back_reserved(refused);
+        Ok(())
+    }
+
     /// Hands out the first reply that is ready, and tells it; where none is, it is silent, and tells that.
     fn hand_out(&mut self, rec: &mut Vec<u8>) -> Received
         ensures told { Adds (record { entries = self.old.entries }) (record { entries = self.new.entries }) (received_as rec.new.items result) }
         ensures cause { HasCauseReceived self.old.faults self.new.faults result }
+        ensures waiting { self.new.waiting ≡ self.old.waiting }
+        ensures given { HandsOut self.old.ready self.new.ready rec.new.items result }
     {
         let Some(bytes) = self.ready.front() else {
             return self.silent();
@@ -142,6 +162,9 @@ impl World {
     fn silent(&mut self) -> Received
         ensures told { (rec : List ℕ) → Adds (record { entries = self.old.entries }) (record { entries = self.new.entries }) (received_as rec result) }
         ensures cause { HasCauseReceived self.old.faults self.new.faults result }
+        ensures waiting { self.new.waiting ≡ self.old.waiting }
+        ensures ready { self.new.ready ≡ self.old.ready }
+        ensures never { NotGiven result }
     {
         if self.entries.push(Entry::Failed).is_err() {
             return Received::Memory;
@@ -149,10 +172,20 @@ impl World {
         self.faults = self.faults.saturating_add(1);
         Received::Silent
     }
+
+    /// The bytes of a file as they are now and as they are after a restart, by its place in order of making.
+    #[cfg(test)]
+    pub(crate) fn bytes(&self, at: usize) -> Option<(&[u8], &[u8])> {
+        self.server.files.bytes(at)
+    }
 }
 
 impl Link for World {
-    ghost use Rattle.std.specs.Prelude.{Some};
+    ghost use Rattle.std.specs.Prelude.{◌≤◌, Some};
+    ghost use Rattle.outside.specs.Causes.{HasCauseReceived};
+    ghost use Rattle.outside.specs.Link.{received_as};
+    ghost use Rattle.world_model.specs.Told.{Tells};
+    ghost use Rattle.world_link.specs.Turns.{EndsAs};
 
     ghost told = { λ w. Some (record { entries = w.entries }) };
 
@@ -172,7 +205,12 @@ impl Link for World {
         Ok(())
     }
 
-    fn receive(&mut self, _wait_ms: u32, rec: &mut Vec<u8>) -> Received {
+    fn receive(&mut self, _wait_ms: u32, rec: &mut Vec<u8>) -> Received
+        requires { 15000 ≤ _wait_ms }
+        ensures told { Tells (Some (record { entries = self.old.entries })) (Some (record { entries = self.new.entries })) (received_as rec.new.items result) }
+        ensures cause { HasCauseReceived self.old.faults self.new.faults result }
+        ensures ends { EndsAs self.new result }
+    {
         if self.turns().is_err() {
             return Received::Memory;
         }

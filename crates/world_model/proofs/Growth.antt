@@ -8,11 +8,15 @@ use Rattle.world_model.specs.declared.message.Call.{Call}
 use Rattle.world_model.specs.declared.message.Reply.{Reply}
 use Rattle.world_model.specs.declared.answer.Answer.{Answer}
 use Rattle.world_model.specs.declared.answer.Answer.TheVariants as answers
+use Rattle.world_model.specs.declared.answer.Fault.{Fault}
 use Rattle.world_model.specs.declared.answer.Fault.TheVariants as faults
 use Rattle.world_model.specs.Entries.{At}
 use Rattle.world_model.specs.Messages.{HasXid}
 use Rattle.world_model.specs.Waiting.{FirstSent, Waits, Drops, Answers}
-use Rattle.world_model.specs.Rows.{Heard, Asked, PutOf, Found, Written, Committed, OkShown, IsAsked, looks_up, writes, commits, NfsShown, BadShown, DropRun, begins, drops, LostShown, AnswerShown}
+use Rattle.world_model.specs.Heard.{Heard, Asked, Refused}
+use Rattle.world_model.specs.Puts.{PutOf, Found, WrittenAt, WrittenTo, Committed, IsAsked, looks_up, writes, commits}
+use Rattle.world_model.specs.Rows.{OkShown, RefusalShown, DropRun, begins, drops, LostShown, WasSent, Limits, SpentShown, AnswerShown}
+use Rattle.world_model.specs.Mounts.{Origin, Mounting, Given, Rooted, Sized, told, untold}
 use Rattle.world_model.proofs.Places.{At-grow, At-below, At-back}
 
 pub FirstSent-grow : (h more : List Entry) (i x : ℕ) (bytes : List ℕ) → FirstSent h i x bytes → FirstSent (h ++ more) i x bytes
@@ -69,14 +73,72 @@ Heard-grow h more from to call xid bytes a = record {
   before = a.before;
 }
 
+-- what was heard between two places was heard between places further apart
+pub Heard-wide : (h : List Entry) (from to less more : ℕ) (call : Call) (xid : ℕ) (bytes : List ℕ) → less ≤ from → to ≤ more → Heard h from to call xid bytes → Heard h less more call xid bytes
+Heard-wide h from to less more call xid bytes p q a = record {
+  sent_at = a.sent_at;
+  record_sent = a.record_sent;
+  got_at = a.got_at;
+  sent = a.sent;
+  spells = a.spells;
+  got = a.got;
+  after = omega (arith, p, a.after);
+  later = a.later;
+  before = omega (arith, q, a.before);
+}
+
 pub Asked-grow : (h more : List Entry) (from to : ℕ) (call : Call) (reply : Reply) → Asked h from to call reply → Asked (h ++ more) from to call reply
 Asked-grow h more from to call reply a = record { xid = a.xid; bytes = a.bytes; heard = Heard-grow h more from to call a.xid a.bytes a.heard; spells = a.spells }
+
+pub Asked-wide : (h : List Entry) (from to less more : ℕ) (call : Call) (reply : Reply) → less ≤ from → to ≤ more → Asked h from to call reply → Asked h less more call reply
+Asked-wide h from to less more call reply p q a = record { xid = a.xid; bytes = a.bytes; heard = Heard-wide h from to less more call a.xid a.bytes p q a.heard; spells = a.spells }
+
+pub Refused-grow : (h more : List Entry) (from to : ℕ) (call : Call) (fault : Fault) → Refused h from to call fault → Refused (h ++ more) from to call fault
+Refused-grow h more from to call fault a = record { xid = a.xid; bytes = a.bytes; heard = Heard-grow h more from to call a.xid a.bytes a.heard; refuses = a.refuses }
+
+pub Refused-wide : (h : List Entry) (from to less more : ℕ) (call : Call) (fault : Fault) → less ≤ from → to ≤ more → Refused h from to call fault → Refused h less more call fault
+Refused-wide h from to less more call fault p q a = record { xid = a.xid; bytes = a.bytes; heard = Heard-wide h from to less more call a.xid a.bytes p q a.heard; refuses = a.refuses }
+
+-- ---- the put
 
 pub Found-grow : (h more : List Entry) (from to : ℕ) (p : PutOf) (file : List ℕ) → Found h from to p file → Found (h ++ more) from to p file
 Found-grow h more from to p file f = record { attr = f.attr; dir = f.dir; asked = Asked-grow h more from to _ _ f.asked }
 
-pub Written-grow : (h more : List Entry) (from to : ℕ) (p : PutOf) (file : List ℕ) → Written h from to p file → Written (h ++ more) from to p file
-Written-grow h more from to p file f = record { wcc = f.wcc; committed = f.committed; verf = f.verf; asked = Asked-grow h more from to _ _ f.asked }
+pub Found-wide : (h : List Entry) (from to less more : ℕ) (p : PutOf) (file : List ℕ) → less ≤ from → to ≤ more → Found h from to p file → Found h less more p file
+Found-wide h from to less more p file a b f = record { attr = f.attr; dir = f.dir; asked = Asked-wide h from to less more _ _ a b f.asked }
+
+pub WrittenAt-grow : (h more : List Entry) (from to : ℕ) (p : PutOf) (file : List ℕ) (i : ℕ) → WrittenAt h from to p file i → WrittenAt (h ++ more) from to p file i
+WrittenAt-grow h more from to p file i f = record {
+  start = f.start;
+  size = f.size;
+  count = f.count;
+  wcc = f.wcc;
+  committed = f.committed;
+  verf = f.verf;
+  asked = Asked-grow h more from to _ _ f.asked;
+  inside = f.inside;
+  fits = f.fits;
+  low = f.low;
+  high = f.high;
+}
+
+pub WrittenAt-wide : (h : List Entry) (from to less more : ℕ) (p : PutOf) (file : List ℕ) (i : ℕ) → less ≤ from → to ≤ more → WrittenAt h from to p file i → WrittenAt h less more p file i
+WrittenAt-wide h from to less more p file i a b f = record {
+  start = f.start;
+  size = f.size;
+  count = f.count;
+  wcc = f.wcc;
+  committed = f.committed;
+  verf = f.verf;
+  asked = Asked-wide h from to less more _ _ a b f.asked;
+  inside = f.inside;
+  fits = f.fits;
+  low = f.low;
+  high = f.high;
+}
+
+pub WrittenTo-grow : (h more : List Entry) (from to : ℕ) (p : PutOf) (file : List ℕ) (n : ℕ) → WrittenTo h from to p file n → WrittenTo (h ++ more) from to p file n
+WrittenTo-grow h more from to p file n w i low = WrittenAt-grow h more from to p file i (w i low)
 
 pub Committed-grow : (h more : List Entry) (from to : ℕ) (file : List ℕ) → Committed h from to file → Committed (h ++ more) from to file
 Committed-grow h more from to file f = record { wcc = f.wcc; verf = f.verf; asked = Asked-grow h more from to _ _ f.asked }
@@ -87,20 +149,27 @@ OkShown-grow h more from to p s = record {
   found_by = s.found_by;
   written_by = s.written_by;
   found = Found-grow h more from s.found_by p s.file s.found;
-  written = Written-grow h more s.found_by s.written_by p s.file s.written;
+  written = WrittenTo-grow h more s.found_by s.written_by p s.file (length p.bytes) s.written;
   committed = Committed-grow h more s.written_by to s.file s.committed;
 }
 
-pub IsAsked-grow : (h more : List Entry) (from to : ℕ) (p : PutOf) (call : Call) → IsAsked h from to p call → IsAsked (h ++ more) from to p call
-IsAsked-grow h more from to p call (looks_up e) = looks_up e
-IsAsked-grow h more from to p call (writes file f e) = writes file (Found-grow h more from to p file f) e
-IsAsked-grow h more from to p call (commits file f e) = commits file (Found-grow h more from to p file f) e
+pub IsAsked-grow : (most : ℕ) (h more : List Entry) (from to : ℕ) (p : PutOf) (call : Call) → IsAsked most h from to p call → IsAsked most (h ++ more) from to p call
+IsAsked-grow most h more from to p call (looks_up e) = looks_up e
+IsAsked-grow most h more from to p call (writes file start size f e some few inside) = writes file start size (Found-grow h more from to p file f) e some few inside
+IsAsked-grow most h more from to p call (commits file f e) = commits file (Found-grow h more from to p file f) e
 
-pub NfsShown-grow : (h more : List Entry) (from to : ℕ) (p : PutOf) (n : ℕ) → NfsShown h from to p n → NfsShown (h ++ more) from to p n
-NfsShown-grow h more from to p n s = record { call = s.call; reply = s.reply; of = IsAsked-grow h more from to p s.call s.of; asked = Asked-grow h more from to s.call s.reply s.asked; status = s.status; failed = s.failed }
+pub IsAsked-wide : (most : ℕ) (h : List Entry) (from to less more : ℕ) (p : PutOf) (call : Call) → less ≤ from → to ≤ more → IsAsked most h from to p call → IsAsked most h less more p call
+IsAsked-wide most h from to less more p call a b (looks_up e) = looks_up e
+IsAsked-wide most h from to less more p call a b (writes file start size f e some few inside) = writes file start size (Found-wide h from to less more p file a b f) e some few inside
+IsAsked-wide most h from to less more p call a b (commits file f e) = commits file (Found-wide h from to less more p file a b f) e
 
-pub BadShown-grow : (h more : List Entry) (from to : ℕ) (p : PutOf) (n : ℕ) → BadShown h from to p n → BadShown (h ++ more) from to p n
-BadShown-grow h more from to p n s = record { call = s.call; xid = s.xid; bytes = s.bytes; of = IsAsked-grow h more from to p s.call s.of; heard = Heard-grow h more from to s.call s.xid s.bytes s.heard; breaks = s.breaks }
+pub RefusalShown-grow : (most : ℕ) (h more : List Entry) (from to : ℕ) (p : PutOf) (fault : Fault) → RefusalShown most h from to p fault → RefusalShown most (h ++ more) from to p fault
+RefusalShown-grow most h more from to p fault s = record { call = s.call; of = IsAsked-grow most h more from to p s.call s.of; refused = Refused-grow h more from to s.call fault s.refused }
+
+pub RefusalShown-wide : (most : ℕ) (h : List Entry) (from to less more : ℕ) (p : PutOf) (fault : Fault) → less ≤ from → to ≤ more → RefusalShown most h from to p fault → RefusalShown most h less more p fault
+RefusalShown-wide most h from to less more p fault a b s = record { call = s.call; of = IsAsked-wide most h from to less more p s.call a b s.of; refused = Refused-wide h from to less more s.call fault a b s.refused }
+
+-- ---- the other rows
 
 pub DropRun-grow : (h more : List Entry) (n to : ℕ) → to ≤ length h → DropRun h n to → DropRun (h ++ more) n to
 DropRun-grow h more _ _ within (begins n to e) = begins n to e
@@ -111,9 +180,37 @@ pub LostShown-grow : {cause later : Type 0} (h more : List Entry) (to : ℕ) →
 LostShown-grow h more to within go (inl c) = inl (go c)
 LostShown-grow h more to within go (inr run) = inr (DropRun-grow h more _ to within run)
 
-pub AnswerShown-grow : {cause later : Type 0} (h more : List Entry) (from to : ℕ) (p : PutOf) (a : Answer) → to ≤ length h → (cause → later) → AnswerShown cause h from to p a → AnswerShown later (h ++ more) from to p a
-AnswerShown-grow h more from to p (answers.Done v) within go s = OkShown-grow h more from to p s
-AnswerShown-grow h more from to p (answers.Refused (faults.Nfs n)) within go s = NfsShown-grow h more from to p n s
-AnswerShown-grow h more from to p (answers.Refused (faults.Bad n)) within go s = BadShown-grow h more from to p n s
-AnswerShown-grow h more from to p (answers.Refused faults.Lost) within go s = LostShown-grow h more to within go s
-AnswerShown-grow h more from to p (answers.Refused faults.Memory) within go s = tt
+pub WasSent-grow : (h more : List Entry) (x to : ℕ) → WasSent h x to → WasSent (h ++ more) x to
+WasSent-grow h more x to w = record { at = w.at; bytes = w.bytes; sent = At-grow h more w.at (Sent w.bytes) w.sent; under = w.under; before = w.before }
+
+pub SpentShown-grow : (limits : Limits) (h more : List Entry) (to : ℕ) → SpentShown limits h to → SpentShown limits (h ++ more) to
+SpentShown-grow limits h more to s x low high = WasSent-grow h more x to (s x low high)
+
+pub AnswerShown-grow : {cause later : Type 0} (limits : Limits) (h more : List Entry) (from to : ℕ) (p : PutOf) (a : Answer) → to ≤ length h → (cause → later) → AnswerShown cause limits h from to p a → AnswerShown later limits (h ++ more) from to p a
+AnswerShown-grow limits h more from to p (answers.Done v) within go s = OkShown-grow h more from to p s
+AnswerShown-grow limits h more from to p (answers.Refused (faults.Nfs n)) within go s = RefusalShown-grow limits.wsize h more from to p (faults.Nfs n) s
+AnswerShown-grow limits h more from to p (answers.Refused (faults.Rpc n)) within go s = RefusalShown-grow limits.wsize h more from to p (faults.Rpc n) s
+AnswerShown-grow limits h more from to p (answers.Refused (faults.Bad n)) within go s = RefusalShown-grow limits.wsize h more from to p (faults.Bad n) s
+AnswerShown-grow limits h more from to p (answers.Refused faults.Lost) within go s = LostShown-grow h more to within go s
+AnswerShown-grow limits h more from to p (answers.Refused faults.Spent) within go s = SpentShown-grow limits h more to s
+AnswerShown-grow limits h more from to p (answers.Refused faults.Memory) within go s = tt
+
+-- ---- the mount, and the size of WRITE
+
+pub Rooted-grow : (origin : Origin) (h more : List Entry) (to : ℕ) (root : List ℕ) → Rooted origin h to root → Rooted origin (h ++ more) to root
+Rooted-grow (Mounting path) h more to root r = (r.0, Asked-grow h more 0 to _ _ r.1)
+Rooted-grow (Given given) h more to root r = r
+
+pub Rooted-wide : (origin : Origin) (h : List Entry) (to more : ℕ) (root : List ℕ) → to ≤ more → Rooted origin h to root → Rooted origin h more root
+Rooted-wide (Mounting path) h to more root le r = (r.0, Asked-wide h 0 to 0 more _ _ (omega arith) le r.1)
+Rooted-wide (Given given) h to more root le r = r
+
+pub Sized-grow : (h more : List Entry) (to : ℕ) (root : List ℕ) (size wsize : ℕ) → Sized h to root size wsize → Sized (h ++ more) to root size wsize
+Sized-grow h more to root size wsize (told attr rtmax rtpref rtmult wtmax wtpref wtmult dtpref maxfilesize delta properties a e) =
+    told attr rtmax rtpref rtmult wtmax wtpref wtmult dtpref maxfilesize delta properties (Asked-grow h more 0 to _ _ a) e
+Sized-grow h more to root size wsize (untold fault r e) = untold fault (Refused-grow h more 0 to _ fault r) e
+
+pub Sized-wide : (h : List Entry) (to more : ℕ) (root : List ℕ) (size wsize : ℕ) → to ≤ more → Sized h to root size wsize → Sized h more root size wsize
+Sized-wide h to more root size wsize le (told attr rtmax rtpref rtmult wtmax wtpref wtmult dtpref maxfilesize delta properties a e) =
+    told attr rtmax rtpref rtmult wtmax wtpref wtmult dtpref maxfilesize delta properties (Asked-wide h 0 to 0 more _ _ (omega arith) le a) e
+Sized-wide h to more root size wsize le (untold fault r e) = untold fault (Refused-wide h 0 to 0 more _ fault (omega arith) le r) e

@@ -2,5 +2,11 @@ pub mod Entries
 pub mod Told
 pub mod Messages
 pub mod Waiting
+pub mod Rules
+pub mod Heard
+pub mod Puts
 pub mod Rows
+pub mod Mounts
+pub mod AskedFor
 pub mod Transcript
+pub mod Counts

@@ -10,8 +10,10 @@ use Rattle.world_model.specs.declared.entry.Entry.TheVariants.{Answered}
 
 abbrev pub fault_text : Fault → List ℕ
 fault_text (faults.Nfs n) = codes "nfs " ++ decimal n
+fault_text (faults.Rpc n) = codes "rpc " ++ decimal n
 fault_text (faults.Bad n) = codes "bad " ++ decimal n
 fault_text faults.Lost = codes "lost"
+fault_text faults.Spent = codes "spent"
 fault_text faults.Memory = codes "memory"
 
 abbrev pub answer_text : Answer → List ℕ
@@ -26,3 +28,12 @@ abbrev pub transcript : List Entry → List ℕ
 transcript [] = []
 transcript (Answered lane line answer ∷ es) = line_text lane line answer ++ transcript es
 transcript (e ∷ es) = transcript es
+
+-- why a mount was refused: its status alone, or the word of the refusal and its number
+abbrev pub mount_fault_text : Fault → List ℕ
+mount_fault_text (faults.Nfs n) = decimal n
+mount_fault_text fault = fault_text fault
+
+-- the text of a session whose mount was refused
+unfoldable pub mount_text : Fault → List ℕ
+mount_text fault = codes "mount " ++ mount_fault_text fault ++ codes "\n"

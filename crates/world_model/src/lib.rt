@@ -6,8 +6,10 @@ mod answer;
 mod entry;
 mod message;
 mod op;
+mod tally;
 
 pub use answer::{Answer, Fault, Value};
 pub use entry::{Entry, Mark};
 pub use message::{Call, Reply};
 pub use op::{Op, Path};
+pub use tally::Tally;

@@ -1,15 +1,18 @@
-//! The calls of the protocol and their replies.
+//! The calls of the protocols and their replies.
 
+use mount_calls::{MountCall, MountReply};
 use nfs_dir_calls::{DirCall, DirKept};
 use nfs_file_calls::{FileCall, FileKept};
 
-/// A call of NFS version 3 (RFC 1813).
+/// A call of NFS version 3 or of MOUNT version 3 (RFC 1813).
 #[derive(Debug, Drop)]
 pub enum Call {
     /// A call on a file.
     File(FileCall),
     /// A call on a directory.
     Dir(DirCall),
+    /// A call of MOUNT.
+    Mount(MountCall),
 }
 
 /// A reply to a call.
@@ -19,4 +22,6 @@ pub enum Reply {
     File(FileKept),
     /// The reply to a call on a directory.
     Dir(DirKept),
+    /// The reply to a call of MOUNT.
+    Mount(MountReply),
 }

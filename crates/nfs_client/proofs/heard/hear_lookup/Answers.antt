@@ -1,8 +1,5 @@
-use Rattle.std.proofs.Common.{refl, arith}
-use Rattle.nfs_dir_calls.specs.declared.keeping.DirKept.TheVariants as found
+use Rattle.nfs_client.proofs.HeardLaws.{lookup_heard}
 use Rattle.nfs_client.proofs.heard.hear_lookup.Goals as goal
 
-pub returns-in-LookupFail : goal.returns-in-LookupFail
-returns-in-LookupFail c =
-    let s = rw c.in-LookupFail.is at c.in-Ok.ensures.spelled.found in
-    (found.LookupFail c.in-LookupFail.status c.in-LookupFail.dir, s, refl, λ e. omega (arith, e, s.is.failed))
+pub returns : goal.returns
+returns c = λ x has root name. lookup_heard x root name _ _ _ (c.in_ok-results.ensures x has) c.found.ensures

@@ -1,19 +1,11 @@
-use Rattle.std.proofs.Common.{refl, arith}
-use Rattle.nfs_file_calls.specs.declared.owned.FileKept.TheVariants as kept
-use Rattle.nfs_client.specs.Results.{wrong_committed, wrong_count}
+use Rattle.std.proofs.Common.{ℕ, sym, subst}
+use Rattle.nfs_client.specs.Results.{WrittenBy}
+use Rattle.nfs_client.proofs.HeardLaws.{write_heard, write_refused}
 use Rattle.nfs_client.proofs.heard.hear_write.Goals as goal
 
-pub returns-then-committed-gt2 : goal.returns-then-committed-gt2
-returns-then-committed-gt2 c =
-    let s = rw c.in-Ok-Write.field-0-is at c.in-Ok-Write.ensures.spelled.found in
-    wrong_committed refl _ _ _ _ s c.if-committed-gt2.true
+pub returns-in_err-results-clause-heard : goal.returns-in_err-results-clause-heard
+returns-in_err-results-clause-heard c = λ x has file offset bytes len. write_refused x file offset bytes _ _ _ c.from_residual.ensures.1 (c.in_err-results.ensures x has)
 
-pub returns-then-written-count : goal.returns-then-written-count
-returns-then-written-count c =
-    let s = rw c.in-Ok-Write.field-0-is at c.in-Ok-Write.ensures.spelled.found in
-    wrong_count refl _ _ _ _ s c.if-written-count.true
-
-pub returns-in-Ok-WriteFail : goal.returns-in-Ok-WriteFail
-returns-in-Ok-WriteFail c =
-    let s = rw c.in-Ok-WriteFail.field-0-is at c.in-Ok-WriteFail.ensures.spelled.found in
-    (kept.WriteFail c.in-Ok-WriteFail.status _, s, refl, λ e. omega (arith, e, s.is.failed))
+pub returns-clause-heard : goal.returns-clause-heard
+returns-clause-heard c = λ x has file offset bytes len. write_heard x file offset bytes _ _ _ (c.in_ok-results.ensures x has)
+    (subst (λ (n : ℕ). WrittenBy n c.in_ok-results.results.now c.written.result) (sym len) c.written.ensures.is)

@@ -1,0 +1,246 @@
+-- How the set-up and the operation make a session whose calls were asked for.
+use Rattle.std.proofs.Common.{inl, inr, ◌⊎◌, ◌≡◌, ◌≢◌, ◌≤◌, ◌<◌, ◌+◌, ℕ, zero, suc, true, List, [], ◌∷◌, ◌++◌, length, Option, Some, None, Result, Ok, Err, refl, sym, ap, subst, ◌∙◌, arith}
+use Rattle.std.proofs.lemmas.List.{append-nil}
+use Rattle.rpc_message.specs.declared.cred.Cred.{Cred}
+use Rattle.xdr_codec.specs.declared.blob.Memory.{Memory}
+use Rattle.world_model.specs.declared.entry.Entry.{Entry}
+use Rattle.world_model.specs.declared.entry.Entry.TheVariants.{Began, Answered, Sent}
+use Rattle.world_model.specs.declared.message.Call.{Call}
+use Rattle.world_model.specs.declared.tally.Tally.{Tally}
+use Rattle.world_model.specs.declared.op.Op.{Op}
+use Rattle.world_model.specs.declared.answer.Answer.{Answer}
+use Rattle.world_model.specs.declared.answer.Fault.{Fault}
+use Rattle.world_model.specs.declared.answer.Fault.TheVariants as faults
+use Rattle.world_model.specs.Entries.{At}
+use Rattle.world_model.specs.Messages.{HasXid, SpellsCallBy}
+use Rattle.world_model.specs.Puts.{PutOf, IsPutOf}
+use Rattle.world_model.specs.Rows.{Limits, AnswerShown, DropRun, LostShown}
+use Rattle.world_model.specs.Mounts.{Origin, Mounting, Rooted, Sized}
+use Rattle.world_model.specs.AskedFor.{Terms, NoneBegan, IsCause, mounts, informs, puts, IsCaused, CallsAsked}
+use Rattle.world_model.proofs.Places.{At-below, At-back, At-grow}
+use Rattle.world_model.proofs.Growth.{Rooted-grow, Rooted-wide, Sized-grow, Sized-wide, LostShown-grow}
+use Rattle.session_words.specs.declared.settings.Settings.{Settings}
+use Rattle.nfs_client.specs.declared.halt.Halt.{Halt}
+use Rattle.nfs_client.specs.declared.halt.Halt.TheVariants as halts
+use Rattle.nfs_client.specs.declared.set_up.SetUp.{SetUp}
+use Rattle.nfs_client.specs.declared.session.Ended.{Ended}
+use Rattle.nfs_client.specs.declared.session.Ended.TheVariants as ends
+use Rattle.nfs_client.specs.Calls.{CallsView, SameCalls, fresh_calls}
+use Rattle.nfs_client.specs.Session.{fails, marks, Extends}
+use Rattle.nfs_client.specs.Exchange.{SentTrue, IdleTrue, limits_of}
+use Rattle.nfs_client.specs.Putting.{IsBuilt, PutSent}
+use Rattle.nfs_client.specs.SetUp.{origin_of, SetsUp, SetUpSent, SetUpHalts, IsSetUp, IsSetUpCall, mounts as set_up_mounts, informs as set_up_informs}
+use Rattle.nfs_client.specs.Run.{terms_of, limits_in, Shown, worked, lost_before, AnsweredSo, MountRefusedSo, NotAnswered}
+use Rattle.nfs_client.specs.Working.{ShownOf, IsReady, IsIn, SentIn, WorkedSo, WorksTo, WorkSent, WorksBy, WorksSo, ConversesTo, ConversesSo}
+use Rattle.nfs_client.proofs.Growing.{fails-grow, none_began}
+use Rattle.nfs_client.proofs.Sendings.{xid_of_call}
+use Rattle.nfs_client.proofs.Putting.{same_then}
+
+-- ---- the beginning
+
+-- nothing was called yet
+pub idle_first : (first limit : ℕ) (cred : Cred) → IdleTrue [] (fresh_calls first limit cred)
+idle_first first limit cred = record {
+  sent = record {
+    among = λ i x b at has. absurd (none_at i b at);
+    each = λ x low high. absurd (omega (arith, low, high));
+    once = λ i j x a b at bt ha hb. absurd (none_at i a at);
+    few = omega arith;
+    named = λ i b at. absurd (none_at i b at);
+    tally = refl;
+  };
+  answered = λ i x b at has. absurd (none_at i b at);
+}
+  where
+    none_at : (i : ℕ) (b : List ℕ) → At [] i (Sent b) → ⊥
+    none_at i b at = absurd cc
+
+-- What the set-up has shown of the history k: nothing was marked, and each record that was sent is a call before the
+-- operations.
+pub record Opened (s : Settings) (c new : CallsView) (k : List Entry) : Type 0 where
+  pub unmarked : marks k ≡ []
+  pub same : SameCalls c new
+  pub sent : (i : ℕ) (b : List ℕ) → At k i (Sent b) → SetUpSent s c [] k i b
+  pub calls : SentTrue k new
+
+opened_by : (s : Settings) (c new : CallsView) (k : List Entry) → SameCalls c new → marks k ≡ [] → ((i : ℕ) (b : List ℕ) → At k i (Sent b) → At [] i (Sent b) ⊎ ((0 ≤ i) × SetUpSent s c [] k i b)) → SentTrue k new → Opened s c new k
+opened_by s c new k same unmarked sends calls = record {
+  unmarked = unmarked;
+  same = same;
+  sent = λ i b at. elim (sends i b at) [ inl before ↦ absurd (none_at i b before) | inr next ↦ next.1 ];
+  calls = calls;
+}
+  where
+    none_at : (i : ℕ) (b : List ℕ) → At [] i (Sent b) → ⊥
+    none_at i b at = absurd cc
+
+-- ---- calls that were asked for
+
+-- where nothing is marked, nothing began before a place in it
+none_before : (k l : List Entry) (i : ℕ) → marks k ≡ [] → Extends k l → i < length k → NoneBegan l i
+none_before k l i unmarked e low j lane line op at before =
+    none_began k j lane line op unmarked (At-back k e.more j (Began lane line op) (subst (λ (h : List Entry). At h j (Began lane line op)) e.is at) (omega (arith, before, low)))
+
+-- a call before the operations, where nothing began yet
+set_up_cause : (s : Settings) (first : ℕ) (op : Op) (k l : List Entry) (i : ℕ) (call : Call) → marks k ≡ [] → Extends k l → i < length k → IsSetUpCall (origin_of s.export) k i call → IsCause (terms_of s first) op l i call
+set_up_cause s first op k l i call unmarked e low (set_up_mounts path is q) = mounts path is q (none_before k l i unmarked e low)
+set_up_cause s first op k l i call unmarked e low (set_up_informs root r q) =
+    informs root (subst (λ (h : List Entry). Rooted (origin_of s.export) h i root) (sym e.is) (Rooted-grow (origin_of s.export) k e.more i root r)) q (none_before k l i unmarked e low)
+
+set_up_caused : (s : Settings) (first limit : ℕ) (op : Op) (k l : List Entry) (i : ℕ) (b : List ℕ) → marks k ≡ [] → Extends k l → At k i (Sent b) → SetUpSent s (fresh_calls first limit s.cred) [] k i b → (xid : ℕ) × HasXid b xid × IsCaused (terms_of s first) op l i xid b
+set_up_caused s first limit op k l i b unmarked e at t =
+    (t.xid, xid_of_call t.xid t.call b t.made.spells, record { call = t.call; made = t.made; cause = set_up_cause s first op k l i t.call unmarked e (At-below k i (Sent b) at) (t.is (idle_first first limit s.cred)) })
+
+-- the xids of calls that were made are those that there are
+among_by : (s : Settings) (first : ℕ) (c : CallsView) (l : List Entry) → SameCalls (fresh_calls first s.calls s.cred) c → SentTrue l c → (i x : ℕ) (b : List ℕ) → At l i (Sent b) → HasXid b x → (first ≤ x) × (x < first + s.calls)
+among_by s first c l same t i x b at has =
+    let a = t.among i x b at has in
+    let few = t.few in
+    (omega (arith, a.0, same.first), omega (arith, a.1, few, same.first, same.limit))
+
+-- where there was no more than the set-up
+asked_opened : (s : Settings) (first : ℕ) (op : Op) (c : CallsView) (k : List Entry) → Opened s (fresh_calls first s.calls s.cred) c k → CallsAsked (terms_of s first) op k
+asked_opened s first op c k o = record {
+  asked = λ i b at. set_up_caused s first s.calls op k k i b o.unmarked (record { more = []; is = sym (append-nil k) }) at (o.sent i b at);
+  among = among_by s first c k o.same o.calls;
+  once = o.calls.once;
+}
+
+-- ---- how the set-up ends a session
+
+pub set_up_memory : (s : Settings) (first : ℕ) (op : Op) (c : CallsView) (m : Memory) (k : List Entry) → Opened s (fresh_calls first s.calls s.cred) c k → ConversesSo (terms_of s first) op (Err m) k
+set_up_memory s first op c m k o = record { asked = asked_opened s first op c k o; comes = inl o.unmarked }
+
+pub set_up_refused : (s : Settings) (first : ℕ) (op : Op) (c : CallsView) (fault : Fault) (k : List Entry) → (fault ≡ faults.Lost → ⊥) → (fault ≡ faults.Memory → ⊥) → Opened s (fresh_calls first s.calls s.cred) c k → SetUpHalts s (halts.Refused fault) [] k
+    → ConversesSo (terms_of s first) op (Ok (ends.MountRefused fault)) k
+set_up_refused s first op c faults.Lost k lost memory o h = absurd (lost refl)
+set_up_refused s first op c faults.Memory k lost memory o h = absurd (memory refl)
+set_up_refused s first op c faults.Spent k lost memory o h = absurd h
+set_up_refused s first op c (faults.Nfs n) k lost memory o h = record { asked = asked_opened s first op c k o; comes = record { path = h.0; mounting = ap origin_of h.1; refused = h.2; unbegun = o.unmarked } }
+set_up_refused s first op c (faults.Rpc n) k lost memory o h = record { asked = asked_opened s first op c k o; comes = record { path = h.0; mounting = ap origin_of h.1; refused = h.2; unbegun = o.unmarked } }
+set_up_refused s first op c (faults.Bad n) k lost memory o h = record { asked = asked_opened s first op c k o; comes = record { path = h.0; mounting = ap origin_of h.1; refused = h.2; unbegun = o.unmarked } }
+
+-- ---- how the operation ends it
+
+-- what the set-up knows: the root and the size, or that the session is lost
+abbrev pub Knows : Settings → Option SetUp → List Entry → Type 0
+Knows s None k = LostShown (fails k ≡ true) k (length k)
+Knows s (Some v) k = IsSetUp s v [] k
+
+rooted_on : (s : Settings) (k l : List Entry) (from : ℕ) (root : List ℕ) → Extends k l → length k ≤ from → Rooted (origin_of s.export) k (length k) root → Rooted (origin_of s.export) l from root
+rooted_on s k l from root e le r = Rooted-wide (origin_of s.export) l (length k) from root le (subst (λ (h : List Entry). Rooted (origin_of s.export) h (length k) root) (sym e.is) (Rooted-grow (origin_of s.export) k e.more (length k) root r))
+
+sized_on : (k l : List Entry) (from : ℕ) (root : List ℕ) (size wsize : ℕ) → Extends k l → length k ≤ from → Sized k (length k) root size wsize → Sized l from root size wsize
+sized_on k l from root size wsize e le r = Sized-wide l (length k) from root size wsize le (subst (λ (h : List Entry). Sized h (length k) root size wsize) (sym e.is) (Sized-grow k e.more (length k) root size wsize r))
+
+-- a call that the put asked for
+put_caused : (s : Settings) (first : ℕ) (v : Option SetUp) (op : Op) (c : CallsView) (p : PutOf) (k l : List Entry) (i : ℕ) (b : List ℕ) → IsPutOf op p → IsIn v p → Extends k l → Knows s v k → SameCalls (fresh_calls first s.calls s.cred) c → WorkSent v op c p k l i b
+    → (xid : ℕ) × HasXid b xid × IsCaused (terms_of s first) op l i xid b
+put_caused s first None op c p k l i b put within e known same w = absurd w.sent
+put_caused s first (Some v) op c p k l i b put within e known same w =
+    let t = w.sent in (
+      t.xid,
+      xid_of_call t.xid t.call b t.made.spells,
+      record {
+        call = t.call;
+        made = subst (λ d. SpellsCallBy d t.xid t.call b) same.cred t.made;
+        cause = puts p w.from v.wsize put w.began (subst (Rooted (origin_of s.export) l w.from) (sym within) (rooted_on s k l w.from v.root e w.after known.rooted)) (subst (λ (r : List ℕ). Sized l w.from r s.wsize v.wsize) (sym within) (sized_on k l w.from v.root s.wsize v.wsize e w.after known.sized)) t.is;
+      },
+    )
+
+limits_same : (s : Settings) (first wsize : ℕ) (c : CallsView) → SameCalls (fresh_calls first s.calls s.cred) c → limits_of c wsize ≡ limits_in (terms_of s first) wsize
+limits_same s first wsize c same = ap (λ (n : ℕ). limit_by n c.limit) same.first ∙ ap (λ (n : ℕ). limit_by first n) same.limit
+  where
+    limit_by : ℕ → ℕ → Limits
+    limit_by f n = record { first = f; calls = n; wsize = wsize }
+
+shown_by : (s : Settings) (first : ℕ) (v : Option SetUp) (c : CallsView) (p : PutOf) (from to : ℕ) (answer : Answer) (k l : List Entry) → IsIn v p → Extends k l → length k ≤ from → Knows s v k → SameCalls (fresh_calls first s.calls s.cred) c → ShownOf v c p from to answer l
+    → Shown (fails l ≡ true) (terms_of s first) l from to p answer
+shown_by s first None c p from to answer k l within e le known same w =
+    lost_before (length k) le w (subst (λ (h : List Entry). LostShown (fails h ≡ true) h (length k)) (sym e.is) (LostShown-grow k e.more (length k) (omega arith) (fails-grow k e.more) known))
+shown_by s first (Some v) c p from to answer k l within e le known same w =
+    worked v.wsize (subst (Rooted (origin_of s.export) l from) (sym within) (rooted_on s k l from v.root e le known.rooted)) (subst (λ (r : List ℕ). Sized l from r s.wsize v.wsize) (sym within) (sized_on k l from v.root s.wsize v.wsize e le known.sized))
+    (subst (λ (limits : Limits). AnswerShown (fails l ≡ true) limits l from to p answer) (limits_same s first v.wsize c same) w)
+
+-- the put of the operation in the root that there is
+abbrev root_in : Option SetUp → List ℕ
+root_in None = []
+root_in (Some v) = v.root
+
+abbrev put_in : Option SetUp → (op : Op) → IsBuilt op → PutOf
+put_in v op b = record { root = root_in v; name = b.name; offset = b.offset; bytes = b.bytes }
+
+is_in : (v : Option SetUp) (op : Op) (b : IsBuilt op) → IsIn v (put_in v op b)
+is_in None op b = tt
+is_in (Some v) op b = refl
+
+comes_to : (s : Settings) (first : ℕ) (v : Option SetUp) (op : Op) (c : CallsView) (p : PutOf) (result : Result Ended Memory) (k l : List Entry) → IsPutOf op p → IsIn v p → Extends k l → marks k ≡ [] → Knows s v k → SameCalls (fresh_calls first s.calls s.cred) c → WorksTo v op c p result k l
+    → ConversesTo (terms_of s first) op result l
+comes_to s first v op c p (Err m) k l put within e unmarked known same w =
+    elim w [ inl q ↦ inl (q ∙ unmarked) | inr q ↦ inr (q ∙ ap (λ (t : List Entry). t ++ Began 1 1 op ∷ []) unmarked) ]
+comes_to s first v op c p (Ok (ends.MountRefused fault)) k l put within e unmarked known same w = absurd w
+comes_to s first v op c p (Ok (ends.Answered answer tally)) k l put within e unmarked known same w = (
+  record {
+    p = p;
+    from = w.from;
+    at = w.at;
+    by = w.by;
+    put = put;
+    began = w.began;
+    answered = w.answered;
+    within = w.within;
+    marks_are = w.marks_are ∙ ap (λ (t : List Entry). t ++ Began 1 1 op ∷ Answered 1 1 answer ∷ []) unmarked;
+    shown = shown_by s first v c p w.from w.by answer k l within e w.after known same w.shown;
+  },
+  w.counted,
+)
+
+pub worked_so : (s : Settings) (first : ℕ) (v : Option SetUp) (op : Op) (c : CallsView) (result : Result Ended Memory) (k l : List Entry) → IsBuilt op → Extends k l → Opened s (fresh_calls first s.calls s.cred) c k → Knows s v k → IsReady v k c → WorksSo v op c result k l
+    → ConversesSo (terms_of s first) op result l
+worked_so s first v op c result k l built e o known ready works =
+    let p = put_in v op built in
+    let w = works p built.is (is_in v op built) ready in
+    let same = same_then o.same w.same in
+    record {
+      asked = record {
+        asked = λ i b at. elim (w.sends i b at) [
+          | inl before ↦ set_up_caused s first s.calls op k l i b o.unmarked e before (o.sent i b before)
+          | inr next ↦ put_caused s first v op c p k l i b built.is (is_in v op built) e known o.same next.1
+        ];
+        among = among_by s first w.new l same w.sent;
+        once = w.sent.once;
+      };
+      comes = comes_to s first v op c p result k l built.is (is_in v op built) e o.unmarked known o.same w.comes;
+    }
+
+-- ---- from what setting up came to
+
+opened_from : (s : Settings) (c new : CallsView) (r : Result SetUp Halt) (k : List Entry) → SameCalls c new → SentTrue k new → SetsUp s c new r [] k → Opened s c new k
+opened_from s c new r k same t g = opened_by s c new k same g.same g.sends t
+
+pub knows_well : (s : Settings) (first : ℕ) (c : CallsView) (v : SetUp) (op : Op) (result : Result Ended Memory) (h k l : List Entry) → IsBuilt op → SameCalls (fresh_calls first s.calls s.cred) c → h ≡ [] → Extends k l → SetsUp s (fresh_calls first s.calls s.cred) c (Ok v) h k → WorksSo (Some v) op c result k l
+    → ConversesSo (terms_of s first) op result l
+knows_well s first c v op result h k l built same z e g works =
+    let f = subst (λ (t : List Entry). SetsUp s (fresh_calls first s.calls s.cred) c (Ok v) t k) z g in
+    let x = f.comes (idle_first first s.calls s.cred) in
+    worked_so s first (Some v) op c result k l built e (opened_from s (fresh_calls first s.calls s.cred) c (Ok v) k same x.0.sent f) x.1 x.0 works
+
+pub knows_lost : (s : Settings) (first : ℕ) (c : CallsView) (fault : Fault) (op : Op) (result : Result Ended Memory) (h k l : List Entry) → fault ≡ faults.Lost → IsBuilt op → SameCalls (fresh_calls first s.calls s.cred) c → h ≡ [] → Extends k l
+    → SetsUp s (fresh_calls first s.calls s.cred) c (Err (halts.Refused fault)) h k → WorksSo None op c result k l → ConversesSo (terms_of s first) op result l
+knows_lost s first c fault op result h k l lost built same z e g works =
+    let f = subst (λ (t : List Entry). SetsUp s (fresh_calls first s.calls s.cred) c (Err (halts.Refused faults.Lost)) t k) z (subst (λ (q : Fault). SetsUp s (fresh_calls first s.calls s.cred) c (Err (halts.Refused q)) h k) lost g) in
+    let x = f.comes (idle_first first s.calls s.cred) in
+    worked_so s first None op c result k l built e (opened_from s (fresh_calls first s.calls s.cred) c (Err (halts.Refused faults.Lost)) k same x.0 f) x.1 x.0 works
+
+pub knows_refused : (s : Settings) (first : ℕ) (c : CallsView) (fault : Fault) (op : Op) (h k : List Entry) → (fault ≡ faults.Lost → ⊥) → (fault ≡ faults.Memory → ⊥) → SameCalls (fresh_calls first s.calls s.cred) c → h ≡ [] → SetsUp s (fresh_calls first s.calls s.cred) c (Err (halts.Refused fault)) h k
+    → ConversesSo (terms_of s first) op (Ok (ends.MountRefused fault)) k
+knows_refused s first c fault op h k lost memory same z g =
+    let f = subst (λ (t : List Entry). SetsUp s (fresh_calls first s.calls s.cred) c (Err (halts.Refused fault)) t k) z g in
+    let x = f.comes (idle_first first s.calls s.cred) in
+    set_up_refused s first op c fault k lost memory (opened_from s (fresh_calls first s.calls s.cred) c (Err (halts.Refused fault)) k same x.0 f) x.1
+
+pub knows_nothing : (s : Settings) (first : ℕ) (c : CallsView) (halt : Halt) (op : Op) (m : Memory) (h k : List Entry) → SameCalls (fresh_calls first s.calls s.cred) c → h ≡ [] → SetsUp s (fresh_calls first s.calls s.cred) c (Err halt) h k → ConversesSo (terms_of s first) op (Err m) k
+knows_nothing s first c halt op m h k same z g =
+    let f = subst (λ (t : List Entry). SetsUp s (fresh_calls first s.calls s.cred) c (Err halt) t k) z g in
+    let x = f.comes (idle_first first s.calls s.cred) in
+    set_up_memory s first op c m k (opened_from s (fresh_calls first s.calls s.cred) c (Err halt) k same x.0 f)
