@@ -24,7 +24,7 @@ asks_exchanged call old new r h k e = record { same = e.same; sends = e.sends; c
   where
     by_result : (s : Result (List ℕ) Halt) → ComesTo (HeardBy old call) ExchangeHalts new s h k → ComesTo (HeardBy old call) (HaltedAs old call) new s h k
     by_result (Ok bytes) c = c
-    by_result (Err (halts.Refused faults.Lost)) c = c
+    by_result (Err (halts.Refused faults.Lost)) c = (c.0, c.1.0)
     by_result (Err (halts.Refused faults.Memory)) c = c
     by_result (Err (halts.Refused faults.Spent)) c = absurd c.1
     by_result (Err (halts.Refused (faults.Nfs n))) c = absurd c.1

@@ -4,7 +4,7 @@ use Rattle.std.proofs.lemmas.List.{append-nil}
 use Rattle.rpc_message.specs.declared.cred.Cred.{Cred}
 use Rattle.xdr_codec.specs.declared.blob.Memory.{Memory}
 use Rattle.world_model.specs.declared.entry.Entry.{Entry}
-use Rattle.world_model.specs.declared.entry.Entry.TheVariants.{Began, Answered, Sent}
+use Rattle.world_model.specs.declared.entry.Entry.TheVariants.{Began, Answered, Sent, Delivered}
 use Rattle.world_model.specs.declared.message.Call.{Call}
 use Rattle.world_model.specs.declared.tally.Tally.{Tally}
 use Rattle.world_model.specs.declared.op.Op.{Op}
@@ -15,10 +15,11 @@ use Rattle.world_model.specs.Entries.{At}
 use Rattle.world_model.specs.Messages.{HasXid, SpellsCallBy}
 use Rattle.world_model.specs.Puts.{PutOf, IsPutOf}
 use Rattle.world_model.specs.Rows.{Limits, AnswerShown, DropRun, LostShown}
-use Rattle.world_model.specs.Mounts.{Origin, Mounting, Rooted, Sized}
+use Rattle.world_model.specs.Mounts.{Origin, Mounting, mount_call, Rooted, Sized}
 use Rattle.world_model.specs.AskedFor.{Terms, NoneBegan, IsCause, mounts, informs, puts, IsCaused, CallsAsked}
 use Rattle.world_model.proofs.Places.{At-below, At-back, At-grow}
-use Rattle.world_model.proofs.Growth.{Rooted-grow, Rooted-wide, Sized-grow, Sized-wide, LostShown-grow}
+use Rattle.world_model.specs.Heard.{Heard}
+use Rattle.world_model.proofs.Growth.{Waits-back, Rooted-grow, Rooted-wide, Sized-grow, Sized-wide, LostShown-grow}
 use Rattle.session_words.specs.declared.settings.Settings.{Settings}
 use Rattle.nfs_client.specs.declared.halt.Halt.{Halt}
 use Rattle.nfs_client.specs.declared.halt.Halt.TheVariants as halts
@@ -29,8 +30,8 @@ use Rattle.nfs_client.specs.Calls.{CallsView, SameCalls, fresh_calls}
 use Rattle.nfs_client.specs.Session.{fails, marks, Extends}
 use Rattle.nfs_client.specs.Exchange.{SentTrue, IdleTrue, limits_of}
 use Rattle.nfs_client.specs.Putting.{IsBuilt, PutSent}
-use Rattle.nfs_client.specs.SetUp.{origin_of, SetsUp, SetUpSent, SetUpHalts, IsSetUp, IsSetUpCall, mounts as set_up_mounts, informs as set_up_informs}
-use Rattle.nfs_client.specs.Run.{terms_of, limits_in, Shown, worked, lost_before, AnsweredSo, MountRefusedSo, NotAnswered}
+use Rattle.nfs_client.specs.SetUp.{origin_of, SetsUp, SetUpSent, SetUpHalts, IsSetUp, IsUnrefused, IsSetUpCall, mounts as set_up_mounts, informs as set_up_informs}
+use Rattle.nfs_client.specs.Run.{terms_of, limits_in, MountUnrefused, rooted, unheard, Shown, worked, lost_before, AnsweredSo, MountRefusedSo, NotAnswered}
 use Rattle.nfs_client.specs.Working.{ShownOf, IsReady, IsIn, SentIn, WorkedSo, WorksTo, WorkSent, WorksBy, WorksSo, ConversesTo, ConversesSo}
 use Rattle.nfs_client.proofs.Growing.{fails-grow, none_began}
 use Rattle.nfs_client.proofs.Sendings.{xid_of_call}
@@ -122,9 +123,32 @@ set_up_refused s first op c (faults.Bad n) k lost memory o h = record { asked = 
 
 -- ---- how the operation ends it
 
+-- what was heard of a longer history was heard before its last entries
+heard_back : (h more : List Entry) (from to : ℕ) (call : Call) (xid : ℕ) (bytes : List ℕ) → to ≤ length h → Heard (h ++ more) from to call xid bytes → Heard h from to call xid bytes
+heard_back h more from to call xid bytes le e =
+    let later = e.later in
+    let before = e.before in
+    record {
+      sent_at = e.sent_at;
+      record_sent = e.record_sent;
+      got_at = e.got_at;
+      sent = record { sent = At-back h more e.sent_at (Sent e.record_sent) e.sent.sent (omega (arith, later, before, le)); under = e.sent.under; first = λ j b at has. e.sent.first j b (At-grow h more j (Sent b) at) has };
+      spells = e.spells;
+      got = record { got = At-back h more e.got_at (Delivered bytes) e.got.got (omega (arith, before, le)); under = e.got.under; waits = Waits-back h more xid e.got_at (omega (arith, before, le)) e.got.waits };
+      after = e.after;
+      later = e.later;
+      before = e.before;
+    }
+
+-- a mount that wasn't refused
+unrefused_on : (s : Settings) (first : ℕ) (k l : List Entry) → Extends k l → IsUnrefused s [] k → MountUnrefused (terms_of s first) l (length k)
+unrefused_on s first k l e (inl r) = rooted r.0 (subst (λ (h : List Entry). Rooted (origin_of s.export) h (length k) r.0) (sym e.is) (Rooted-grow (origin_of s.export) k e.more (length k) r.0 r.1))
+unrefused_on s first k l e (inr none) =
+    unheard (λ path xid bytes heard. none (mount_call path) xid bytes (heard_back k e.more 0 (length k) (mount_call path) xid bytes (omega arith) (subst (λ (h : List Entry). Heard h 0 (length k) (mount_call path) xid bytes) e.is heard)))
+
 -- what the set-up knows: the root and the size, or that the session is lost
 abbrev pub Knows : Settings → Option SetUp → List Entry → Type 0
-Knows s None k = LostShown (fails k ≡ true) k (length k)
+Knows s None k = LostShown (fails k ≡ true) k (length k) × IsUnrefused s [] k
 Knows s (Some v) k = IsSetUp s v [] k
 
 rooted_on : (s : Settings) (k l : List Entry) (from : ℕ) (root : List ℕ) → Extends k l → length k ≤ from → Rooted (origin_of s.export) k (length k) root → Rooted (origin_of s.export) l from root
@@ -157,7 +181,7 @@ limits_same s first wsize c same = ap (λ (n : ℕ). limit_by n c.limit) same.fi
 shown_by : (s : Settings) (first : ℕ) (v : Option SetUp) (c : CallsView) (p : PutOf) (from to : ℕ) (answer : Answer) (k l : List Entry) → IsIn v p → Extends k l → length k ≤ from → Knows s v k → SameCalls (fresh_calls first s.calls s.cred) c → ShownOf v c p from to answer l
     → Shown (fails l ≡ true) (terms_of s first) l from to p answer
 shown_by s first None c p from to answer k l within e le known same w =
-    lost_before (length k) le w (subst (λ (h : List Entry). LostShown (fails h ≡ true) h (length k)) (sym e.is) (LostShown-grow k e.more (length k) (omega arith) (fails-grow k e.more) known))
+    lost_before (length k) le w (subst (λ (h : List Entry). LostShown (fails h ≡ true) h (length k)) (sym e.is) (LostShown-grow k e.more (length k) (omega arith) (fails-grow k e.more) known.0)) (unrefused_on s first k l e known.1)
 shown_by s first (Some v) c p from to answer k l within e le known same w =
     worked v.wsize (subst (Rooted (origin_of s.export) l from) (sym within) (rooted_on s k l from v.root e le known.rooted)) (subst (λ (r : List ℕ). Sized l from r s.wsize v.wsize) (sym within) (sized_on k l from v.root s.wsize v.wsize e le known.sized))
     (subst (λ (limits : Limits). AnswerShown (fails l ≡ true) limits l from to p answer) (limits_same s first v.wsize c same) w)

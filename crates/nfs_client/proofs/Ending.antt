@@ -41,7 +41,7 @@ for_cause cause other limits h from to p (answers.Refused faults.Memory) f s = s
 
 shown_for : (cause other : Type 0) (terms : Terms) (h : List Entry) (from to : ℕ) (p : PutOf) (answer : Answer) → (cause → other) → Shown cause terms h from to p answer → Shown other terms h from to p answer
 shown_for cause other terms h from to p answer f (worked wsize r z s) = worked wsize r z (for_cause cause other (record { first = terms.first; calls = terms.calls; wsize = wsize }) h from to p answer f s)
-shown_for cause other terms h from to p answer f (lost_before lost_by le e s) = lost_before lost_by le e (lost_for cause other h lost_by f s)
+shown_for cause other terms h from to p answer f (lost_before lost_by le e s u) = lost_before lost_by le e (lost_for cause other h lost_by f s) u
 
 answered_for : (cause other : Type 0) (terms : Terms) (op : Op) (h : List Entry) (answer : Answer) → (cause → other) → AnsweredSo cause terms op h answer → AnsweredSo other terms op h answer
 answered_for cause other terms op h answer f a = record {

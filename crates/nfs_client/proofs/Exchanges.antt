@@ -10,15 +10,16 @@ use Rattle.world_model.specs.Entries.{At, ours}
 use Rattle.world_model.specs.Messages.{HasXid, SpellsCall, SpellsCallBy}
 use Rattle.world_model.specs.Told.{Told, Adds}
 use Rattle.world_model.specs.Rows.{DropRun, drops, begins, most_dropped, LostShown}
+use Rattle.world_model.proofs.Places.{At-below}
 use Rattle.world_model.proofs.Growth.{Heard-wide}
 use Rattle.world_model.proofs.Histories.{IsQuiet, quietly, steps_on, steps_on_twice}
 use Rattle.nfs_client.specs.declared.halt.Halt.{Halt}
 use Rattle.nfs_client.specs.declared.halt.Halt.TheVariants as halts
 use Rattle.nfs_client.specs.Calls.{CallsView, counted}
 use Rattle.nfs_client.specs.Session.{fails, marks, Extends}
-use Rattle.nfs_client.specs.Exchange.{SentTrue, IdleTrue, WaitsTrue, SendsTo, SendsAs, ListensTo, ListensAs, ComesTo, HeardBy, ExchangeHalts, Exchanges}
+use Rattle.nfs_client.specs.Exchange.{SentTrue, IdleTrue, WaitsTrue, SendsTo, SendsAs, ListensTo, ListensAs, ComesTo, HeardBy, NoneHeard, ExchangeHalts, Exchanges}
 use Rattle.nfs_client.proofs.Growing.{fails-grow, fails_added, marks_same, sends_of}
-use Rattle.nfs_client.proofs.Sendings.{sent_quiet, sent_stays, sent_more, idle_quiet, waits_quiet, waits_first}
+use Rattle.nfs_client.proofs.Sendings.{sent_quiet, sent_stays, sent_more, idle_quiet, waits_quiet, waits_first, waits_stays, xid_of_call}
 
 -- ---- sending
 
@@ -64,8 +65,10 @@ sent_failed call bytes c a b room p = record {
   comes = λ idle s. (
     refl,
     fails_added a b (Sent bytes ∷ Failed ∷ []) p refl,
-    steps_on_twice (λ h. IdleTrue h c) (λ h. SentTrue h (counted c call)) (λ h. SentTrue h (counted c call)) a b (Sent bytes) Failed (idle_quiet c) (sent_quiet (counted c call)) (sent_quiet (counted c call))
-        (λ h q. sent_more h c call bytes room s.spells q.sent) (λ h q. sent_stays h Failed (counted c call) (λ k is. cc) q) p idle,
+    steps_on_twice (λ h. IdleTrue h c × Long (length a.entries) h) (Waiting (length a.entries) (c.first + c.made) bytes (counted c call)) (Waiting (length a.entries) (c.first + c.made) bytes (counted c call)) a b (Sent bytes) Failed
+        (idle_long_quiet (length a.entries) c) (waiting_quiet (length a.entries) (c.first + c.made) bytes (counted c call)) (waiting_quiet (length a.entries) (c.first + c.made) bytes (counted c call))
+        (λ h q. (length h, q.1, waits_first h c call bytes s.spells q.0, sent_more h c call bytes room s.spells q.0.sent))
+        (λ h q. (q.0, q.1, waits_stays h Failed q.0 (c.first + c.made) bytes 0 (λ k is. cc) (λ k is. cc) q.2, sent_stays h Failed (counted c call) (λ k is. cc) q.3)) p (idle, omega arith),
   );
 }
 
@@ -86,6 +89,18 @@ IsOther fault = Unit {0}
 not_lost : (f : Fault) → IsOther f → f ≡ faults.Lost → ⊥
 not_lost f other e = subst IsOther e other
 
+one_number : (b : List ℕ) (x y : ℕ) → HasXid b x → HasXid b y → x ≡ y
+one_number b x y p q = cc
+
+-- where one call was sent, and it waits, no call was answered
+none_heard : (h k : List Entry) (x at : ℕ) (b : List ℕ) (n : ℕ) → ((i : ℕ) (c : List ℕ) → At k i (Sent c) → length h ≤ i → HasXid c x) → WaitsTrue k at x b n → NoneHeard h k
+none_heard h k x at b n single w call xid bytes e =
+    let mine = single e.sent_at e.record_sent e.sent.sent e.after in
+    let same : xid ≡ x = one_number e.record_sent xid x e.sent.under mine in
+    let first = w.sent.first e.sent_at e.record_sent e.sent.sent mine in
+    let later = e.later in
+    w.unanswered e.got_at bytes e.got.got (subst (λ (m : ℕ). HasXid bytes m) same e.got.under) (omega (arith, first, later))
+
 -- a call whose record went out, and whose reply was waited for
 pub exchanged : (call : Call) (bytes : List ℕ) (old new : CallsView) (result : Result (List ℕ) Halt) (h k l : List Entry) → SpellsCallBy old.cred (old.first + old.made) call bytes → SendsAs call bytes old new (Ok tt) h k
     → ListensAs (old.first + old.made) result k l → Extends h k → Extends k l → Exchanges call old new result h l
@@ -95,9 +110,16 @@ exchanged call bytes old new result h k l s a b p q = record {
   comes = λ idle. came (a.comes idle s);
 }
   where
+    single : (i : ℕ) (c : List ℕ) → At l i (Sent c) → length h ≤ i → HasXid c (old.first + old.made)
+    single i c at le =
+        elim (a.sends i c (b.sends i c at)) [
+          | inl before ↦ let low = At-below h i (Sent c) before in absurd (omega (arith, low, le))
+          | inr after ↦ subst (λ (t : List ℕ). HasXid t (old.first + old.made)) (sym after.1) (xid_of_call (old.first + old.made) call bytes s.spells)
+        ]
+
     answer : (r : Result (List ℕ) Halt) (at : ℕ) → length h ≤ at → ListensTo at (old.first + old.made) bytes r l → SentTrue l new → ComesTo (HeardBy old call) ExchangeHalts new r h l
     answer (Ok rec) at le f t = (record { sent = t; answered = (f call s.spells).1 }, Heard-wide l at (length l) (length h) (length l) call (old.first + old.made) rec le (omega arith) (f call s.spells).0)
-    answer (Err (halts.Refused faults.Lost)) at le f t = (t, f.1)
+    answer (Err (halts.Refused faults.Lost)) at le f t = (t, (f.1, none_heard h l (old.first + old.made) at bytes f.2.0 single f.2.1))
     answer (Err (halts.Refused (faults.Nfs n))) at le f t = absurd (not_lost (faults.Nfs n) tt f.0)
     answer (Err (halts.Refused (faults.Rpc n))) at le f t = absurd (not_lost (faults.Rpc n) tt f.0)
     answer (Err (halts.Refused (faults.Bad n))) at le f t = absurd (not_lost (faults.Bad n) tt f.0)
@@ -116,8 +138,15 @@ unsent call bytes old new halt h k s a = record {
   comes = λ idle. by_halt halt (a.comes idle s);
 }
   where
+    single : (i : ℕ) (c : List ℕ) → At k i (Sent c) → length h ≤ i → HasXid c (old.first + old.made)
+    single i c at le =
+        elim (a.sends i c at) [
+          | inl before ↦ let low = At-below h i (Sent c) before in absurd (omega (arith, low, le))
+          | inr after ↦ subst (λ (t : List ℕ). HasXid t (old.first + old.made)) (sym after.1) (xid_of_call (old.first + old.made) call bytes s.spells)
+        ]
+
     by_halt : (r : Halt) → SendsTo call bytes old new (Err r) h k → ComesTo (HeardBy old call) ExchangeHalts new (Err r) h k
-    by_halt (halts.Refused faults.Lost) t = (t.2, inl t.1)
+    by_halt (halts.Refused faults.Lost) t = (t.2.3, (inl t.1, none_heard h k (old.first + old.made) t.2.0 bytes 0 single t.2.2))
     by_halt (halts.Refused (faults.Nfs n)) t = absurd (not_lost (faults.Nfs n) tt t.0)
     by_halt (halts.Refused (faults.Rpc n)) t = absurd (not_lost (faults.Rpc n) tt t.0)
     by_halt (halts.Refused (faults.Bad n)) t = absurd (not_lost (faults.Bad n) tt t.0)

@@ -22,7 +22,7 @@ use Rattle.nfs_client.specs.Calls.{CallsView}
 use Rattle.nfs_client.specs.Session.{fails, marks, Extends}
 use Rattle.nfs_client.specs.Exchange.{SentTrue, WaitsTrue, WasAnswered, ListensTo, ListensAs, received_so, OnlyLost}
 use Rattle.nfs_client.proofs.Growing.{fails-grow, fails_added, marks_same, sends_none}
-use Rattle.nfs_client.proofs.Sendings.{sent_quiet, sent_stays, waits_quiet, waits_more, heard_now, all_answered, AllAnswered, answered_quiet}
+use Rattle.nfs_client.proofs.Sendings.{sent_quiet, sent_stays, waits_quiet, waits_stays, waits_more, heard_now, all_answered, AllAnswered, answered_quiet}
 
 -- The call under the xid waits on, while n more records were dropped.
 pub record WaitsOn (xid n : ℕ) (h k : List Entry) : Type 0 where
@@ -103,7 +103,7 @@ lost_then xid n h k low high w = record {
   same = w.same;
   sends = w.sends;
   keeps = w.keeps;
-  comes = λ at r q. (refl, inr (subst (λ (m : ℕ). DropRun k m (length k)) (omega (arith, low, high)) (w.waits at r q).run));
+  comes = λ at r q. (refl, inr (subst (λ (m : ℕ). DropRun k m (length k)) (omega (arith, low, high)) (w.waits at r q).run), (n, w.waits at r q));
 }
 
 -- none came
@@ -115,7 +115,7 @@ fails_lost f a b e p xid n g w = record {
   same = marks_same a b (Failed ∷ []) refl p ∙ w.same;
   sends = λ i x at. w.sends i x (sends_none a b (Failed ∷ []) p only_failed i x at);
   keeps = λ c s. keeps_failed a b p c (w.keeps c s);
-  comes = λ at r q. (e, inl (fails_added a b (Failed ∷ []) p refl));
+  comes = λ at r q. (e, inl (fails_added a b (Failed ∷ []) p refl), (n, steps_on (λ h. WaitsTrue h at xid r n) (λ h. WaitsTrue h at xid r n) a b Failed (waits_quiet at xid r n) (waits_quiet at xid r n) (λ h z. waits_stays h Failed at xid r n (λ k is. cc) (λ k is. cc) z) p (w.waits at r q)));
 }
 
 pub fails_memory : (a b : Told) → Adds a b [] → Fails (Err halts.Memory) a.entries b.entries

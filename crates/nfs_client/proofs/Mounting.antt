@@ -11,6 +11,8 @@ use Rattle.world_model.specs.Messages.{HasXid, SpellsCallBy}
 use Rattle.world_model.specs.Told.{Told, Adds, Tells}
 use Rattle.world_model.specs.Heard.{Heard}
 use Rattle.world_model.specs.Mounts.{Origin, Mounting, mount_call, info_call, Rooted, Sized, told, untold}
+use Rattle.std.proofs.lemmas.Bool.{cases_lt}
+use Rattle.world_model.proofs.Places.{At-below, At-back}
 use Rattle.world_model.proofs.Growth.{Heard-wide, Asked-wide, Rooted-grow, Rooted-wide}
 use Rattle.world_model.proofs.Histories.{quietly, steps_on, steps_on_twice}
 use Rattle.session_words.specs.declared.settings.Export.TheVariants as exports
@@ -20,7 +22,7 @@ use Rattle.nfs_client.specs.declared.halt.Halt.TheVariants as halts
 use Rattle.nfs_client.specs.declared.set_up.SetUp.{SetUp}
 use Rattle.nfs_client.specs.Calls.{CallsView, SameCalls}
 use Rattle.nfs_client.specs.Session.{fails, marks, Extends, Along}
-use Rattle.nfs_client.specs.Exchange.{IdleTrue, ComesTo, Goes, IsNext, HeardBy, ExchangeHalts, Exchanges, IsCauseOf}
+use Rattle.nfs_client.specs.Exchange.{IdleTrue, ComesTo, Goes, IsNext, HeardBy, ExchangeHalts, LinkHalts, NoneHeard, Exchanges, IsCauseOf}
 use Rattle.nfs_client.specs.Results.{MountHeard, InfoHeard}
 use Rattle.nfs_client.specs.SetUp.{origin_of, dialed_so, OnlyDialHalts, MountedSo, MountHalts, Mounts, SizedSo, Informs, LesserBy, SizesDone, SizesUp, mounts, informs, IsSetUp, SetUpHalts, SetsUp}
 use Rattle.nfs_client.proofs.Growing.{fails_added, marks_same, sends_none}
@@ -109,7 +111,35 @@ dial_halted P Done Halted c halt h k lost memory only d = record {
     by_halt halts.Memory is f = memory
 
 -- why an exchange came to no end, seen from an earlier history, and of the mount and the set-up
-earlier_halts : (r : Halt) (h k l : List Entry) → ExchangeHalts r k l → ExchangeHalts r h l
+link_halts : (r : Halt) (h k l : List Entry) → ExchangeHalts r k l → LinkHalts r h l
+link_halts (halts.Refused faults.Lost) h k l e = e.0
+link_halts (halts.Refused faults.Memory) h k l e = tt
+link_halts (halts.Refused faults.Spent) h k l e = e
+link_halts (halts.Refused (faults.Nfs n)) h k l e = e
+link_halts (halts.Refused (faults.Rpc n)) h k l e = e
+link_halts (halts.Refused (faults.Bad n)) h k l e = e
+link_halts halts.Memory h k l e = tt
+
+-- no call was answered since an earlier history, where none was sent between
+none_earlier : (h k l : List Entry) → Extends k l → ((i : ℕ) (b : List ℕ) → At k i (Sent b) → At h i (Sent b)) → NoneHeard k l → NoneHeard h l
+none_earlier h k l p sends none call xid bytes e =
+    elim (cases_lt e.sent_at (length k)) [
+      | inl lt ↦
+          let here = At-back k p.more e.sent_at (Sent e.record_sent) (subst (λ (t : List Entry). At t e.sent_at (Sent e.record_sent)) p.is e.sent.sent) lt in
+          let low = At-below h e.sent_at (Sent e.record_sent) (sends e.sent_at e.record_sent here) in
+          let after = e.after in
+          omega (arith, low, after)
+      | inr le ↦ none call xid bytes (record { sent_at = e.sent_at; record_sent = e.record_sent; got_at = e.got_at; sent = e.sent; spells = e.spells; got = e.got; after = le; later = e.later; before = e.before })
+    ]
+
+-- where nothing was sent nothing was heard
+none_sent_heard : (h k : List Entry) → ((i : ℕ) (b : List ℕ) → At k i (Sent b) → At h i (Sent b)) → NoneHeard h k
+none_sent_heard h k sends call xid bytes e =
+    let low = At-below h e.sent_at (Sent e.record_sent) (sends e.sent_at e.record_sent e.sent.sent) in
+    let after = e.after in
+    omega (arith, low, after)
+
+earlier_halts : (r : Halt) (h k l : List Entry) → LinkHalts r k l → LinkHalts r h l
 earlier_halts (halts.Refused faults.Lost) h k l e = e
 earlier_halts (halts.Refused faults.Memory) h k l e = tt
 earlier_halts (halts.Refused faults.Spent) h k l e = e
@@ -118,37 +148,37 @@ earlier_halts (halts.Refused (faults.Rpc n)) h k l e = e
 earlier_halts (halts.Refused (faults.Bad n)) h k l e = e
 earlier_halts halts.Memory h k l e = tt
 
-mount_halts : (path : List ℕ) (r : Halt) (h k l : List Entry) → ExchangeHalts r k l → MountHalts path r h l
-mount_halts path (halts.Refused faults.Lost) h k l e = e
-mount_halts path (halts.Refused faults.Memory) h k l e = tt
-mount_halts path (halts.Refused faults.Spent) h k l e = e
-mount_halts path (halts.Refused (faults.Nfs n)) h k l e = absurd e
-mount_halts path (halts.Refused (faults.Rpc n)) h k l e = absurd e
-mount_halts path (halts.Refused (faults.Bad n)) h k l e = absurd e
-mount_halts path halts.Memory h k l e = tt
+mount_halts : (path : List ℕ) (r : Halt) (h k l : List Entry) → Extends k l → ((i : ℕ) (b : List ℕ) → At k i (Sent b) → At h i (Sent b)) → ExchangeHalts r k l → MountHalts path r h l
+mount_halts path (halts.Refused faults.Lost) h k l p sends e = (e.0, none_earlier h k l p sends e.1)
+mount_halts path (halts.Refused faults.Memory) h k l p sends e = tt
+mount_halts path (halts.Refused faults.Spent) h k l p sends e = e
+mount_halts path (halts.Refused (faults.Nfs n)) h k l p sends e = absurd e
+mount_halts path (halts.Refused (faults.Rpc n)) h k l p sends e = absurd e
+mount_halts path (halts.Refused (faults.Bad n)) h k l p sends e = absurd e
+mount_halts path halts.Memory h k l p sends e = tt
 
-set_up_halts : (s : Settings) (r : Halt) (h k l : List Entry) → ExchangeHalts r k l → SetUpHalts s r h l
-set_up_halts s (halts.Refused faults.Lost) h k l e = e
-set_up_halts s (halts.Refused faults.Memory) h k l e = tt
-set_up_halts s (halts.Refused faults.Spent) h k l e = e
-set_up_halts s (halts.Refused (faults.Nfs n)) h k l e = absurd e
-set_up_halts s (halts.Refused (faults.Rpc n)) h k l e = absurd e
-set_up_halts s (halts.Refused (faults.Bad n)) h k l e = absurd e
-set_up_halts s halts.Memory h k l e = tt
+set_up_halts : (s : Settings) (root : List ℕ) (r : Halt) (h k l : List Entry) → Rooted (origin_of s.export) l (length l) root → LinkHalts r k l → SetUpHalts s r h l
+set_up_halts s root (halts.Refused faults.Lost) h k l r e = (e, inl (root, r))
+set_up_halts s root (halts.Refused faults.Memory) h k l r e = tt
+set_up_halts s root (halts.Refused faults.Spent) h k l r e = e
+set_up_halts s root (halts.Refused (faults.Nfs n)) h k l r e = absurd e
+set_up_halts s root (halts.Refused (faults.Rpc n)) h k l r e = absurd e
+set_up_halts s root (halts.Refused (faults.Bad n)) h k l r e = absurd e
+set_up_halts s root halts.Memory h k l r e = tt
 
 -- ---- the mount
 
 pub mount_undialed : (path : List ℕ) (c : CallsView) (halt : Halt) (h k : List Entry) → OnlyDialHalts (Err halt) → Dials (Err halt) h k → Mounts path c c (Err halt) h k
-mount_undialed path c halt h k only d = dial_halted (IsNext c (mount_call path)) (MountedSo path) (MountHalts path) c halt h k (λ f. inl f) tt only d
+mount_undialed path c halt h k only d = dial_halted (IsNext c (mount_call path)) (MountedSo path) (MountHalts path) c halt h k (λ f. (inl f, none_sent_heard h k d.sends)) tt only d
 
 -- the call found no memory
 pub mount_unmade : (path : List ℕ) (c : CallsView) (result : Result (Unit {0}) Halt) (h k : List Entry) → Dials result h k → Mounts path c c (Err halts.Memory) h k
 mount_unmade path c result h k d = record { same = d.same; sends = λ i b at. inl (d.sends i b at); comes = λ idle. ((d.idle c idle).sent, tt) }
 
 -- the link was lost, or memory was wanting
-pub mount_lost : (path : List ℕ) (old new : CallsView) (halt : Halt) (dialed : Result (Unit {0}) Halt) (h k l : List Entry) → Extends h k → Dials dialed h k → Exchanges (mount_call path) old new (Err halt) k l → Mounts path old new (Err halt) h l
-mount_lost path old new halt dialed h k l p d e =
-    dialed_then (IsNext old (mount_call path)) (HeardBy old (mount_call path)) ExchangeHalts (MountedSo path) (MountHalts path) old new (Err halt) (Err halt) dialed h k l p d e (λ c. (c.0, mount_halts path halt h k l c.1))
+pub mount_lost : (path : List ℕ) (old new : CallsView) (halt : Halt) (dialed : Result (Unit {0}) Halt) (h k l : List Entry) → Extends h k → Extends k l → Dials dialed h k → Exchanges (mount_call path) old new (Err halt) k l → Mounts path old new (Err halt) h l
+mount_lost path old new halt dialed h k l p q d e =
+    dialed_then (IsNext old (mount_call path)) (HeardBy old (mount_call path)) ExchangeHalts (MountedSo path) (MountHalts path) old new (Err halt) (Err halt) dialed h k l p d e (λ c. (c.0, mount_halts path halt h k l q d.sends c.1))
 
 -- a record came, which gives the root or refuses it
 pub mount_answered : (path : List ℕ) (old new : CallsView) (rec : List ℕ) (result : Result (List ℕ) Halt) (dialed : Result (Unit {0}) Halt) (h k l : List Entry) → ((x : ℕ) → HasXid rec x → (q : List ℕ) → MountHeard x q rec result)
@@ -169,6 +199,10 @@ mount_answered path old new rec result dialed h k l says p d e =
 
 -- ---- the sizes
 
+-- no record came that says anything
+pub info_lost : (root : List ℕ) (wanted : ℕ) (old new : CallsView) (halt : Halt) (h k : List Entry) → Exchanges (info_call root) old new (Err halt) h k → Informs root wanted old new (Err halt) h k
+info_lost root wanted old new halt h k e = record { same = e.same; sends = e.sends; comes = λ idle. let c = e.comes idle in (c.0, link_halts halt h h k c.1) }
+
 -- a record came, which names the greatest WRITE or refuses to
 pub info_answered : (root : List ℕ) (wanted : ℕ) (old new : CallsView) (rec : List ℕ) (greatest : Result ℕ Fault) (wsize : ℕ) (h k : List Entry) → ((x : ℕ) → HasXid rec x → (r : List ℕ) → InfoHeard x r rec greatest) → LesserBy wanted greatest wsize
     → Exchanges (info_call root) old new (Ok rec) h k → Informs root wanted old new (Ok wsize) h k
@@ -186,15 +220,15 @@ info_answered root wanted old new rec greatest wsize h k says lesser e = record 
     sized (Err fault) is heard i = untold fault (record { xid = old.first + old.made; bytes = rec; heard = heard; refuses = i }) is
 
 pub sizes_undialed : (root : List ℕ) (wanted : ℕ) (c : CallsView) (halt : Halt) (h k : List Entry) → OnlyDialHalts (Err halt) → Dials (Err halt) h k → SizesUp root wanted c c (Err halt) h k
-sizes_undialed root wanted c halt h k only d = dial_halted (IsNext c (info_call root)) (SizesDone root wanted) ExchangeHalts c halt h k (λ f. inl f) tt only d
+sizes_undialed root wanted c halt h k only d = dial_halted (IsNext c (info_call root)) (SizesDone root wanted) LinkHalts c halt h k (λ f. inl f) tt only d
 
 pub sizes_known : (root : List ℕ) (wanted : ℕ) (old new : CallsView) (v : SetUp) (dialed : Result (Unit {0}) Halt) (h k l : List Entry) → v.root ≡ root → Extends h k → Dials dialed h k → Informs root wanted old new (Ok v.wsize) k l → SizesUp root wanted old new (Ok v) h l
 sizes_known root wanted old new v dialed h k l is p d e =
-    dialed_then (IsNext old (info_call root)) (SizedSo root wanted) ExchangeHalts (SizesDone root wanted) ExchangeHalts old new (Ok v.wsize) (Ok v) dialed h k l p d e (λ c. (c.0, (is, c.1)))
+    dialed_then (IsNext old (info_call root)) (SizedSo root wanted) LinkHalts (SizesDone root wanted) LinkHalts old new (Ok v.wsize) (Ok v) dialed h k l p d e (λ c. (c.0, (is, c.1)))
 
 pub sizes_lost : (root : List ℕ) (wanted : ℕ) (old new : CallsView) (halt : Halt) (dialed : Result (Unit {0}) Halt) (h k l : List Entry) → Extends h k → Dials dialed h k → Informs root wanted old new (Err halt) k l → SizesUp root wanted old new (Err halt) h l
 sizes_lost root wanted old new halt dialed h k l p d e =
-    dialed_then (IsNext old (info_call root)) (SizedSo root wanted) ExchangeHalts (SizesDone root wanted) ExchangeHalts old new (Err halt) (Err halt) dialed h k l p d e (λ c. (c.0, earlier_halts halt h k l c.1))
+    dialed_then (IsNext old (info_call root)) (SizedSo root wanted) LinkHalts (SizesDone root wanted) LinkHalts old new (Err halt) (Err halt) dialed h k l p d e (λ c. (c.0, earlier_halts halt h k l c.1))
 
 -- ---- the set-up
 
@@ -213,9 +247,9 @@ set_up_given s root old new result h k is u = record {
     rooted : (to : ℕ) → Rooted (origin_of s.export) k to root
     rooted to = rw is refl
 
-    by_result : (r : Result SetUp Halt) → ComesTo (SizesDone root s.wsize) ExchangeHalts new r h k → ComesTo (IsSetUp s) (SetUpHalts s) new r h k
+    by_result : (r : Result SetUp Halt) → ComesTo (SizesDone root s.wsize) LinkHalts new r h k → ComesTo (IsSetUp s) (SetUpHalts s) new r h k
     by_result (Ok v) c = (c.0, record { rooted = subst (λ (t : List ℕ). Rooted (origin_of s.export) k (length k) t) (sym c.1.0) (rooted (length k)); sized = subst (λ (t : List ℕ). Sized k (length k) t s.wsize v.wsize) (sym c.1.0) c.1.1 })
-    by_result (Err halt) c = (c.0, set_up_halts s halt h h k c.1)
+    by_result (Err halt) c = (c.0, set_up_halts s root halt h h k (rooted (length k)) c.1)
 
 -- the mount came to no end
 pub set_up_unmounted : (s : Settings) (path : List ℕ) (old new : CallsView) (halt : Halt) (h k : List Entry) → s.export ≡ exports.Path path → Mounts path old new (Err halt) h k → SetsUp s old new (Err halt) h k
@@ -230,7 +264,7 @@ set_up_unmounted s path old new halt h k is m = record {
 }
   where
     by_halt : (r : Halt) → ComesTo (MountedSo path) (MountHalts path) new (Err r) h k → ComesTo (IsSetUp s) (SetUpHalts s) new (Err r) h k
-    by_halt (halts.Refused faults.Lost) c = c
+    by_halt (halts.Refused faults.Lost) c = (c.0, (c.1.0, inr c.1.1))
     by_halt (halts.Refused faults.Memory) c = c
     by_halt (halts.Refused faults.Spent) c = absurd c.1
     by_halt (halts.Refused (faults.Nfs n)) c = (c.0, (path, is, c.1))
@@ -272,7 +306,7 @@ set_up_mounted s path root old mid new result h k l is like p q m u = record {
         let there : Rooted (Mounting path) l (length k) root = grown (λ (t : List Entry). Rooted (Mounting path) t (length k) root) k l (λ more. Rooted-grow (Mounting path) k more (length k) root here) q in
         subst (λ (o : Origin). Rooted o l to root) (sym (ap origin_of is)) (Rooted-wide (Mounting path) l (length k) to root le there)
 
-    by_result : (r : Result SetUp Halt) → IdleTrue h old → ComesTo (SizesDone root s.wsize) ExchangeHalts new r k l → ComesTo (IsSetUp s) (SetUpHalts s) new r h l
+    by_result : (r : Result SetUp Halt) → IdleTrue h old → ComesTo (SizesDone root s.wsize) LinkHalts new r k l → ComesTo (IsSetUp s) (SetUpHalts s) new r h l
     by_result (Ok v) idle c = (
       c.0,
       record {
@@ -280,4 +314,4 @@ set_up_mounted s path root old mid new result h k l is like p q m u = record {
         sized = subst (λ (t : List ℕ). Sized l (length l) t s.wsize v.wsize) (sym c.1.0) c.1.1;
       },
     )
-    by_result (Err halt) idle c = (c.0, set_up_halts s halt h k l c.1)
+    by_result (Err halt) idle c = (c.0, set_up_halts s root halt h k l (rooted idle (length l) (extends_longer k l q)) c.1)

@@ -80,8 +80,19 @@ abbrev pub HeardBy : CallsView → Call → List ℕ → List Entry → List Ent
 HeardBy c call bytes h k = Heard k (length h) (length k) call (c.first + c.made) bytes
 
 -- the link was lost, or memory was wanting
+abbrev pub LinkHalts : Halt → List Entry → List Entry → Type 0
+LinkHalts (halts.Refused faults.Lost) h k = LostShown (fails k ≡ true) k (length k)
+LinkHalts (halts.Refused faults.Memory) h k = Unit {0}
+LinkHalts (halts.Refused fault) h k = ⊥
+LinkHalts halts.Memory h k = Unit {0}
+
+-- no record came that answers a call which was first sent since the history h
+abbrev pub NoneHeard : List Entry → List Entry → Type 0
+NoneHeard h k = (call : Call) (xid : ℕ) (bytes : List ℕ) → Heard k (length h) (length k) call xid bytes → ⊥
+
+-- the same, and where the link was lost the call wasn't answered
 abbrev pub ExchangeHalts : Halt → List Entry → List Entry → Type 0
-ExchangeHalts (halts.Refused faults.Lost) h k = LostShown (fails k ≡ true) k (length k)
+ExchangeHalts (halts.Refused faults.Lost) h k = LostShown (fails k ≡ true) k (length k) × NoneHeard h k
 ExchangeHalts (halts.Refused faults.Memory) h k = Unit {0}
 ExchangeHalts (halts.Refused fault) h k = ⊥
 ExchangeHalts halts.Memory h k = Unit {0}
@@ -112,7 +123,7 @@ pub record IsCauseOf (before now : ℕ) (es : List Entry) : Type 0 where
 -- the record was sent, and its call waits; or the link was lost, or memory was wanting before anything was sent
 abbrev pub SendsTo : Call → List ℕ → CallsView → CallsView → Result (Unit {0}) Halt → List Entry → List Entry → Type 0
 SendsTo call bytes old new (Ok u) h k = (at : ℕ) × (length h ≤ at) × WaitsTrue k at (old.first + old.made) bytes 0 × SentTrue k new
-SendsTo call bytes old new (Err (halts.Refused fault)) h k = (fault ≡ faults.Lost) × (fails k ≡ true) × SentTrue k new
+SendsTo call bytes old new (Err (halts.Refused fault)) h k = (fault ≡ faults.Lost) × (fails k ≡ true) × ((at : ℕ) × (length h ≤ at) × WaitsTrue k at (old.first + old.made) bytes 0 × SentTrue k new)
 SendsTo call bytes old new (Err halts.Memory) h k = SentTrue k new
 
 pub record SendsAs (call : Call) (bytes : List ℕ) (old new : CallsView) (result : Result (Unit {0}) Halt) (h k : List Entry) : Type 0 where
@@ -123,7 +134,7 @@ pub record SendsAs (call : Call) (bytes : List ℕ) (old new : CallsView) (resul
 -- the record under the xid came; or the link was lost, or memory was wanting
 abbrev pub ListensTo : ℕ → ℕ → List ℕ → Result (List ℕ) Halt → List Entry → Type 0
 ListensTo at x record_sent (Ok bytes) k = (call : Call) → SpellsCall x call record_sent → Heard k at (length k) call x bytes × ((i y : ℕ) (b : List ℕ) → At k i (Sent b) → HasXid b y → WasAnswered k i y)
-ListensTo at x record_sent (Err (halts.Refused fault)) k = (fault ≡ faults.Lost) × LostShown (fails k ≡ true) k (length k)
+ListensTo at x record_sent (Err (halts.Refused fault)) k = (fault ≡ faults.Lost) × LostShown (fails k ≡ true) k (length k) × ((n : ℕ) × WaitsTrue k at x record_sent n)
 ListensTo at x record_sent (Err halts.Memory) k = Unit {0}
 
 pub record ListensAs (xid : ℕ) (result : Result (List ℕ) Halt) (h k : List Entry) : Type 0 where

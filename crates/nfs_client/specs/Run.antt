@@ -8,7 +8,7 @@ use Rattle.world_model.specs.declared.answer.Answer.TheVariants as answers
 use Rattle.world_model.specs.declared.answer.Fault.{Fault}
 use Rattle.world_model.specs.declared.answer.Fault.TheVariants as faults
 use Rattle.world_model.specs.Entries.{At}
-use Rattle.world_model.specs.Heard.{Refused}
+use Rattle.world_model.specs.Heard.{Heard, Refused}
 use Rattle.world_model.specs.Puts.{PutOf, IsPutOf}
 use Rattle.world_model.specs.Rows.{Limits, LostShown, AnswerShown}
 use Rattle.world_model.specs.Counts.{tally_of, tally_text}
@@ -43,11 +43,16 @@ limits_in terms wsize = record { first = terms.first; calls = terms.calls; wsize
 
 -- ---- how a session goes
 
+-- The mount wasn't refused before the place to: there is a root, or no call of MNT was answered.
+pub data MountUnrefused (terms : Terms) (h : List Entry) (to : ℕ) : Type 0 where
+  rooted : (root : List ℕ) → Rooted terms.origin h to root → MountUnrefused terms h to
+  unheard : ((path : List ℕ) (xid : ℕ) (bytes : List ℕ) → Heard h 0 to (mount_call path) xid bytes → ⊥) → MountUnrefused terms h to
+
 -- The row of the answer: the put was done, or refused, in the root that the session has; or the session was lost before
 -- it began.
 pub data Shown (cause : Type 0) (terms : Terms) (h : List Entry) (from to : ℕ) (p : PutOf) (answer : Answer) : Type 0 where
   worked : (wsize : ℕ) → Rooted terms.origin h from p.root → Sized h from p.root terms.size wsize → AnswerShown cause (limits_in terms wsize) h from to p answer → Shown cause terms h from to p answer
-  lost_before : (lost_by : ℕ) → lost_by ≤ from → answer ≡ answers.Refused faults.Lost → LostShown cause h lost_by → Shown cause terms h from to p answer
+  lost_before : (lost_by : ℕ) → lost_by ≤ from → answer ≡ answers.Refused faults.Lost → LostShown cause h lost_by → MountUnrefused terms h lost_by → Shown cause terms h from to p answer
 
 -- The operation began, and was answered so: each once, and the answer has its row.
 pub record AnsweredSo (cause : Type 0) (terms : Terms) (op : Op) (h : List Entry) (answer : Answer) : Type 0 where

@@ -1,5 +1,5 @@
 -- What a session shows of the mount and of the server's sizes.
-use Rattle.std.specs.Prelude.{◌≡◌, ◌≤◌, min, ℕ, true, List, [], ◌∷◌, length, Result, Ok, Err}
+use Rattle.std.specs.Prelude.{◌≡◌, ◌⊎◌, ◌≤◌, min, ℕ, true, List, [], ◌∷◌, length, Result, Ok, Err}
 use Rattle.mount_calls.specs.declared.reply.MountReply.TheVariants as mounted
 use Rattle.world_model.specs.declared.entry.Entry.{Entry}
 use Rattle.world_model.specs.declared.entry.Entry.TheVariants.{Dialed, Failed}
@@ -18,7 +18,7 @@ use Rattle.nfs_client.specs.declared.halt.Halt.{Halt}
 use Rattle.nfs_client.specs.declared.halt.Halt.TheVariants as halts
 use Rattle.nfs_client.specs.declared.set_up.SetUp.{SetUp}
 use Rattle.nfs_client.specs.Calls.{CallsView}
-use Rattle.nfs_client.specs.Exchange.{IdleTrue, Goes, IsNext, ExchangeHalts}
+use Rattle.nfs_client.specs.Exchange.{IdleTrue, Goes, IsNext, LinkHalts, NoneHeard}
 use Rattle.nfs_client.specs.Session.{fails}
 
 -- where the root comes from
@@ -54,7 +54,7 @@ MountedSo path root h k = (flavors : List ℕ) × Asked k (length h) (length k) 
 
 -- the link was lost, or MNT was refused, or memory was wanting
 abbrev pub MountHalts : List ℕ → Halt → List Entry → List Entry → Type 0
-MountHalts path (halts.Refused faults.Lost) h k = LostShown (fails k ≡ true) k (length k)
+MountHalts path (halts.Refused faults.Lost) h k = LostShown (fails k ≡ true) k (length k) × NoneHeard h k
 MountHalts path (halts.Refused faults.Spent) h k = ⊥
 MountHalts path (halts.Refused faults.Memory) h k = Unit {0}
 MountHalts path (halts.Refused fault) h k = Refused k (length h) (length k) (mount_call path) fault
@@ -68,7 +68,7 @@ abbrev pub SizedSo : List ℕ → ℕ → ℕ → List Entry → List Entry → 
 SizedSo root wanted wsize h k = Sized k (length k) root wanted wsize
 
 abbrev pub Informs : List ℕ → ℕ → CallsView → CallsView → Result ℕ Halt → List Entry → List Entry → Type 0
-Informs root wanted old new result h k = Goes (IsNext old (info_call root)) (SizedSo root wanted) ExchangeHalts old new result h k
+Informs root wanted old new result h k = Goes (IsNext old (info_call root)) (SizedSo root wanted) LinkHalts old new result h k
 
 -- the lesser of a size and the greatest, where that is known, and else of the size and 4,096
 abbrev pub LesserBy : ℕ → Result ℕ Fault → ℕ → Type 0
@@ -80,7 +80,7 @@ abbrev pub SizesDone : List ℕ → ℕ → SetUp → List Entry → List Entry 
 SizesDone root wanted v h k = (v.root ≡ root) × Sized k (length k) root wanted v.wsize
 
 abbrev pub SizesUp : List ℕ → ℕ → CallsView → CallsView → Result SetUp Halt → List Entry → List Entry → Type 0
-SizesUp root wanted old new result h k = Goes (IsNext old (info_call root)) (SizesDone root wanted) ExchangeHalts old new result h k
+SizesUp root wanted old new result h k = Goes (IsNext old (info_call root)) (SizesDone root wanted) LinkHalts old new result h k
 
 -- a call before the operations: MNT of the path, or FSINFO of the root that the session has
 pub data IsSetUpCall (origin : Origin) (k : List Entry) (i : ℕ) (call : Call) : Type 0 where
@@ -99,9 +99,13 @@ pub record IsSetUp (s : Settings) (v : SetUp) (h k : List Entry) : Type 0 where
   pub rooted : Rooted (origin_of s.export) k (length k) v.root
   pub sized : Sized k (length k) v.root s.wsize v.wsize
 
+-- the mount wasn't refused: there is a root, or no call was answered
+abbrev pub IsUnrefused : Settings → List Entry → List Entry → Type 0
+IsUnrefused s h k = ((root : List ℕ) × Rooted (origin_of s.export) k (length k) root) ⊎ NoneHeard h k
+
 -- the link was lost, or the mount was refused, or memory was wanting
 abbrev pub SetUpHalts : Settings → Halt → List Entry → List Entry → Type 0
-SetUpHalts s (halts.Refused faults.Lost) h k = LostShown (fails k ≡ true) k (length k)
+SetUpHalts s (halts.Refused faults.Lost) h k = LostShown (fails k ≡ true) k (length k) × IsUnrefused s h k
 SetUpHalts s (halts.Refused faults.Spent) h k = ⊥
 SetUpHalts s (halts.Refused faults.Memory) h k = Unit {0}
 SetUpHalts s (halts.Refused fault) h k = (path : List ℕ) × (s.export ≡ exports.Path path) × Refused k (length h) (length k) (mount_call path) fault

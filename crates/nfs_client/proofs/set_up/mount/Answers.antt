@@ -24,4 +24,4 @@ pub returns-clause-goes : goal.returns-clause-goes
 returns-clause-goes g c =
     let d = c.in-Ok.ensures in
     let e = rw (c.in-Ok-copy.ensures, c.bytes.ensures) at c.in-Err-exchange.ensures.goes in
-    along_then _ _ _ _ _ _ _ _ _ (λ h k l p q a b. mount_lost c.args.path.now c.args.calls.now c.exchange.new.calls c.in-Err-exchange.halt (Ok tt) h k l p a b) (along_dial _ _ _ _ c.args.port (Ok tt) d.told d.cause) e
+    along_then _ _ _ _ _ _ _ _ _ (λ h k l p q a b. mount_lost c.args.path.now c.args.calls.now c.exchange.new.calls c.in-Err-exchange.halt (Ok tt) h k l p q a b) (along_dial _ _ _ _ c.args.port (Ok tt) d.told d.cause) e
