@@ -1,5 +1,5 @@
 -- From the record that answers a call to what the call came to.
-use Rattle.std.proofs.Common.{inl, inr, ◌⊎◌, ◌≡◌, ◌≤◌, ◌<◌, ◌+◌, ℕ, true, List, length, Result, Ok, Err, refl, sym, subst, arith}
+use Rattle.std.proofs.Common.{inl, ◌≡◌, ◌+◌, ℕ, List, length, Result, Ok, Err, refl, arith}
 use Rattle.world_model.specs.declared.entry.Entry.{Entry}
 use Rattle.world_model.specs.declared.message.Call.{Call}
 use Rattle.world_model.specs.declared.answer.Fault.{Fault}
@@ -9,7 +9,7 @@ use Rattle.world_model.specs.Heard.{Heard, Refuses}
 use Rattle.nfs_client.specs.declared.halt.Halt.{Halt}
 use Rattle.nfs_client.specs.declared.halt.Halt.TheVariants as halts
 use Rattle.nfs_client.specs.Calls.{CallsView}
-use Rattle.nfs_client.specs.Exchange.{IdleTrue, SentTrue, ComesTo, HaltedAs, ExchangeHalts, HeardBy, Goes, Called, IsNext, Exchanges, Asks}
+use Rattle.nfs_client.specs.Exchange.{ComesTo, HaltedAs, ExchangeHalts, HeardBy, Called, Exchanges, Asks}
 
 -- no further call may be made
 pub asks_spent : (call : Call) (c : CallsView) (h : List Entry) → c.made ≡ c.limit → Asks call c c (Err (halts.Refused faults.Spent)) h h

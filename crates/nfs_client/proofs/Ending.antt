@@ -108,6 +108,7 @@ told_ends (Some x) (Some y) f g s first op ended status text is a r = λ e.
       is_first = is;
       is = record {
         calls = c.asked;
+        single = c.single;
         ends = reported (Rose f g) (terms_of s first) s.count op ended y.entries status text (from_nothing x.entries y.entries f g e a.told.2) c.comes r;
       };
     }

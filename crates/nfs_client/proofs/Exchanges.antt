@@ -1,24 +1,23 @@
 -- What sending, waiting and both together lead to.
-use Rattle.std.proofs.Common.{inl, inr, ◌⊎◌, ◌≡◌, ◌≤◌, ◌<◌, ◌+◌, ◌-◌, ℕ, zero, suc, true, List, [], ◌∷◌, ◌++◌, length, Result, Ok, Err, refl, sym, ap, subst, ◌∙◌, arith}
+use Rattle.std.proofs.Common.{inl, inr, ◌≡◌, ◌≤◌, ◌<◌, ◌+◌, ℕ, zero, suc, List, [], ◌∷◌, length, Result, Ok, Err, refl, sym, subst, ◌∙◌, arith}
 use Rattle.std.proofs.lemmas.List.{length-append}
 use Rattle.world_model.specs.declared.entry.Entry.{Entry}
-use Rattle.world_model.specs.declared.entry.Entry.TheVariants.{Sent, Delivered, Failed}
+use Rattle.world_model.specs.declared.entry.Entry.TheVariants.{Sent, Failed}
 use Rattle.world_model.specs.declared.message.Call.{Call}
 use Rattle.world_model.specs.declared.answer.Fault.{Fault}
 use Rattle.world_model.specs.declared.answer.Fault.TheVariants as faults
-use Rattle.world_model.specs.Entries.{At, ours}
-use Rattle.world_model.specs.Messages.{HasXid, SpellsCall, SpellsCallBy}
+use Rattle.world_model.specs.Entries.{At}
+use Rattle.world_model.specs.Messages.{HasXid, SpellsCallBy}
 use Rattle.world_model.specs.Told.{Told, Adds}
-use Rattle.world_model.specs.Rows.{DropRun, drops, begins, most_dropped, LostShown}
 use Rattle.world_model.proofs.Places.{At-below}
 use Rattle.world_model.proofs.Growth.{Heard-wide}
 use Rattle.world_model.proofs.Histories.{IsQuiet, quietly, steps_on, steps_on_twice}
 use Rattle.nfs_client.specs.declared.halt.Halt.{Halt}
 use Rattle.nfs_client.specs.declared.halt.Halt.TheVariants as halts
 use Rattle.nfs_client.specs.Calls.{CallsView, counted}
-use Rattle.nfs_client.specs.Session.{fails, marks, Extends}
+use Rattle.nfs_client.specs.Session.{Extends}
 use Rattle.nfs_client.specs.Exchange.{SentTrue, IdleTrue, WaitsTrue, SendsTo, SendsAs, ListensTo, ListensAs, ComesTo, HeardBy, NoneHeard, ExchangeHalts, Exchanges}
-use Rattle.nfs_client.proofs.Growing.{fails-grow, fails_added, marks_same, sends_of}
+use Rattle.nfs_client.proofs.Growing.{fails_added, marks_same, sends_of}
 use Rattle.nfs_client.proofs.Sendings.{sent_quiet, sent_stays, sent_more, idle_quiet, waits_quiet, waits_first, waits_stays, xid_of_call}
 
 -- ---- sending

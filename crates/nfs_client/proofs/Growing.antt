@@ -1,22 +1,18 @@
 -- Failures, marks, sendings and counts of a history, and how they go on as it grows.
-use Rattle.std.proofs.Common.{inl, inr, ◌⊎◌, ◌≡◌, ◌≢◌, ◌<◌, ◌≤◌, ◌+◌, ◌-◌, ℕ, zero, suc, Bool, true, false, ◌||◌, cond, eqb, List, [], ◌∷◌, ◌++◌, length, Option, Some, None, Result, Ok, Err, refl, sym, ap, subst, ◌∙◌, append_assoc, arith}
+use Rattle.std.proofs.Common.{inl, inr, ◌⊎◌, ◌≡◌, ◌≢◌, ◌≤◌, ◌+◌, ◌-◌, ℕ, zero, suc, Bool, true, false, ◌||◌, cond, eqb, List, [], ◌∷◌, ◌++◌, length, Option, Some, Ok, refl, sym, ap, subst, ◌∙◌, append_assoc, arith}
 use Rattle.std.specs.List.{list_any}
 use Rattle.std.proofs.lemmas.Bool.{cases_lt, ne_eqb, eqb-false}
-use Rattle.std.proofs.lemmas.List.{append-nil, length-append}
+use Rattle.std.proofs.lemmas.List.{append-nil}
 use Rattle.rpc_message.specs.declared.call.CallHead.{CallHead}
 use Rattle.rpc_message.specs.Call.{call_at}
-use Rattle.rpc_message.proofs.CallLaws.{call_again, call_xid}
 use Rattle.world_model.specs.declared.entry.Entry.{Entry}
 use Rattle.world_model.specs.declared.entry.Entry.TheVariants.{Began, Answered, Dialed, Sent, Executed, Foreign, Flushed, Reboot, Delivered, Failed, Clock}
-use Rattle.world_model.specs.declared.message.Call.{Call}
-use Rattle.world_model.specs.declared.answer.Answer.{Answer}
 use Rattle.world_model.specs.declared.op.Op.{Op}
 use Rattle.world_model.specs.Entries.{At, ours}
-use Rattle.world_model.specs.Messages.{HasXid, SpellsCall, head_of}
 use Rattle.world_model.specs.Told.{Told, Adds}
 use Rattle.world_model.specs.Transcript.{line_text, transcript}
 use Rattle.world_model.specs.Counts.{Counted, counts_head, xid_counted, xids_sent, different, calls_made}
-use Rattle.world_model.proofs.Histories.{ours_after, ours-append}
+use Rattle.world_model.proofs.Histories.{ours_after}
 use Rattle.world_model.proofs.Places.{At-back}
 use Rattle.outside.specs.Causes.{Rose}
 use Rattle.nfs_client.specs.Session.{fails, marks, FailsBy}

@@ -1,5 +1,5 @@
 -- What waiting for a record leads to.
-use Rattle.std.proofs.Common.{inl, inr, ◌⊎◌, ◌≡◌, ◌≤◌, ◌<◌, ◌+◌, ℕ, zero, suc, true, false, eqb, Option, Some, None, List, [], ◌∷◌, ◌++◌, length, Result, Ok, Err, refl, sym, ap, subst, ◌∙◌, arith}
+use Rattle.std.proofs.Common.{inl, inr, ◌≡◌, ◌≤◌, ◌+◌, ℕ, zero, suc, true, false, eqb, Option, Some, None, List, [], ◌∷◌, ◌++◌, length, Result, Ok, Err, refl, sym, ap, subst, ◌∙◌, arith}
 use Rattle.std.specs.Option.{option_eq}
 use Rattle.std.proofs.lemmas.Bool.{eqb-true, eqb-false}
 use Rattle.std.proofs.lemmas.List.{length-append}
@@ -13,15 +13,15 @@ use Rattle.world_model.specs.Entries.{At}
 use Rattle.world_model.specs.Messages.{HasXid, SpellsCall}
 use Rattle.world_model.specs.Told.{Told, Adds}
 use Rattle.world_model.specs.Heard.{Heard}
-use Rattle.world_model.specs.Rows.{DropRun, LostShown}
+use Rattle.world_model.specs.Rows.{DropRun}
 use Rattle.world_model.proofs.Growth.{Heard-grow, Heard-wide}
-use Rattle.world_model.proofs.Histories.{IsQuiet, quiet_by, quietly, steps_on}
+use Rattle.world_model.proofs.Histories.{IsQuiet, quietly, steps_on}
 use Rattle.nfs_client.specs.declared.halt.Halt.{Halt}
 use Rattle.nfs_client.specs.declared.halt.Halt.TheVariants as halts
 use Rattle.nfs_client.specs.Calls.{CallsView}
-use Rattle.nfs_client.specs.Session.{fails, marks, Extends}
-use Rattle.nfs_client.specs.Exchange.{SentTrue, WaitsTrue, WasAnswered, ListensTo, ListensAs, received_so, OnlyLost}
-use Rattle.nfs_client.proofs.Growing.{fails-grow, fails_added, marks_same, sends_none}
+use Rattle.nfs_client.specs.Session.{marks}
+use Rattle.nfs_client.specs.Exchange.{SentTrue, WaitsTrue, ListensTo, ListensAs, received_so, OnlyLost}
+use Rattle.nfs_client.proofs.Growing.{fails_added, marks_same, sends_none}
 use Rattle.nfs_client.proofs.Sendings.{sent_quiet, sent_stays, waits_quiet, waits_stays, waits_more, heard_now, all_answered, AllAnswered, answered_quiet}
 
 -- The call under the xid waits on, while n more records were dropped.

@@ -24,7 +24,7 @@ use Rattle.nfs_client.specs.Calls.{CallsView, SameCalls}
 use Rattle.nfs_client.specs.Session.{fails, marks, Extends, Along}
 use Rattle.nfs_client.specs.Exchange.{IdleTrue, ComesTo, Goes, IsNext, HeardBy, ExchangeHalts, LinkHalts, NoneHeard, Exchanges, IsCauseOf}
 use Rattle.nfs_client.specs.Results.{MountHeard, InfoHeard}
-use Rattle.nfs_client.specs.SetUp.{origin_of, dialed_so, OnlyDialHalts, MountedSo, MountHalts, Mounts, SizedSo, Informs, LesserBy, SizesDone, SizesUp, mounts, informs, IsSetUp, SetUpHalts, SetsUp}
+use Rattle.nfs_client.specs.SetUp.{origin_of, dialed_so, OnlyDialHalts, MountedSo, MountHalts, Mounts, SizedSo, Informs, LesserBy, SizesDone, SizesUp, as_mount, as_info, mounts, informs, IsSetUp, SetUpHalts, SetsUp}
 use Rattle.nfs_client.proofs.Growing.{fails_added, marks_same, sends_none}
 use Rattle.nfs_client.proofs.Alongs.{along_call, grown}
 use Rattle.nfs_client.proofs.Sendings.{idle_quiet, idle_stays}
@@ -235,13 +235,16 @@ sizes_lost root wanted old new halt dialed h k l p d e =
 -- the root is given
 pub set_up_given : (s : Settings) (root : List ℕ) (old new : CallsView) (result : Result SetUp Halt) (h k : List Entry) → s.export ≡ exports.Root root → SizesUp root s.wsize old new result h k → SetsUp s old new result h k
 set_up_given s root old new result h k is u = record {
-  same = u.same;
-  sends = λ i b at.
-      elim (u.sends i b at) [
-        | inl before ↦ inl before
-        | inr after ↦ inr (after.0, record { xid = old.first + old.made; call = info_call root; made = after.1; is = λ idle. informs root (rooted i) refl })
-      ];
-  comes = λ idle. by_result result (u.comes idle);
+  info = old.first + old.made;
+  goes = record {
+    same = u.same;
+    sends = λ i b at.
+        elim (u.sends i b at) [
+          | inl before ↦ inl before
+          | inr after ↦ inr (after.0, record { xid = old.first + old.made; call = info_call root; made = after.1; numbered = as_info root refl refl; is = λ idle. informs root (rooted i) refl })
+        ];
+    comes = λ idle. by_result result (u.comes idle);
+  };
 }
   where
     rooted : (to : ℕ) → Rooted (origin_of s.export) k to root
@@ -254,13 +257,16 @@ set_up_given s root old new result h k is u = record {
 -- the mount came to no end
 pub set_up_unmounted : (s : Settings) (path : List ℕ) (old new : CallsView) (halt : Halt) (h k : List Entry) → s.export ≡ exports.Path path → Mounts path old new (Err halt) h k → SetsUp s old new (Err halt) h k
 set_up_unmounted s path old new halt h k is m = record {
-  same = m.same;
-  sends = λ i b at.
-      elim (m.sends i b at) [
-        | inl before ↦ inl before
-        | inr after ↦ inr (after.0, record { xid = old.first + old.made; call = mount_call path; made = after.1; is = λ idle. mounts path (ap origin_of is) refl })
-      ];
-  comes = λ idle. by_halt halt (m.comes idle);
+  info = 0;
+  goes = record {
+    same = m.same;
+    sends = λ i b at.
+        elim (m.sends i b at) [
+          | inl before ↦ inl before
+          | inr after ↦ inr (after.0, record { xid = old.first + old.made; call = mount_call path; made = after.1; numbered = as_mount path refl refl; is = λ idle. mounts path (ap origin_of is) refl })
+        ];
+    comes = λ idle. by_halt halt (m.comes idle);
+  };
 }
   where
     by_halt : (r : Halt) → ComesTo (MountedSo path) (MountHalts path) new (Err r) h k → ComesTo (IsSetUp s) (SetUpHalts s) new (Err r) h k
@@ -276,27 +282,31 @@ set_up_unmounted s path old new halt h k is m = record {
 pub set_up_mounted : (s : Settings) (path root : List ℕ) (old mid new : CallsView) (result : Result SetUp Halt) (h k l : List Entry) → s.export ≡ exports.Path path → SameCalls old mid → Extends h k → Extends k l
     → Mounts path old mid (Ok root) h k → SizesUp root s.wsize mid new result k l → SetsUp s old new result h l
 set_up_mounted s path root old mid new result h k l is like p q m u = record {
-  same = u.same ∙ m.same;
-  sends = λ i b at.
-      elim (u.sends i b at) [
-        | inl before ↦
-            elim (m.sends i b before) [
-              | inl first ↦ inl first
-              | inr after ↦ inr (after.0, record { xid = old.first + old.made; call = mount_call path; made = after.1; is = λ idle. mounts path (ap origin_of is) refl })
-            ]
-        | inr after ↦
-            let le = extends_longer h k p in
-            inr (
-              omega (arith, after.0, le),
-              record {
-                xid = mid.first + mid.made;
-                call = info_call root;
-                made = subst (λ (t : Cred). SpellsCallBy t (mid.first + mid.made) (info_call root) b) like.cred after.1;
-                is = λ idle. informs root (rooted idle i after.0) refl;
-              },
-            )
-      ];
-  comes = λ idle. by_result result idle (u.comes (m.comes idle).0);
+  info = mid.first + mid.made;
+  goes = record {
+    same = u.same ∙ m.same;
+    sends = λ i b at.
+        elim (u.sends i b at) [
+          | inl before ↦
+              elim (m.sends i b before) [
+                | inl first ↦ inl first
+                | inr after ↦ inr (after.0, record { xid = old.first + old.made; call = mount_call path; made = after.1; numbered = as_mount path refl refl; is = λ idle. mounts path (ap origin_of is) refl })
+              ]
+          | inr after ↦
+              let le = extends_longer h k p in
+              inr (
+                omega (arith, after.0, le),
+                record {
+                  xid = mid.first + mid.made;
+                  call = info_call root;
+                  made = subst (λ (t : Cred). SpellsCallBy t (mid.first + mid.made) (info_call root) b) like.cred after.1;
+                  numbered = as_info root refl refl;
+                  is = λ idle. informs root (rooted idle i after.0) refl;
+                },
+              )
+        ];
+    comes = λ idle. by_result result idle (u.comes (m.comes idle).0);
+  };
 }
   where
     rooted : IdleTrue h old → (to : ℕ) → length k ≤ to → Rooted (origin_of s.export) l to root

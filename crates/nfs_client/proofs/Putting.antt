@@ -1,5 +1,5 @@
 -- How the calls of a put make the put.
-use Rattle.std.proofs.Common.{inl, inr, ◌⊎◌, ◌≡◌, ◌≤◌, ◌<◌, ◌+◌, ℕ, zero, suc, true, List, [], ◌∷◌, ◌++◌, length, take, drop, Option, Result, Ok, Err, refl, sym, ap, subst, ◌∙◌, arith}
+use Rattle.std.proofs.Common.{inl, inr, ◌⊎◌, ◌≡◌, ◌≤◌, ◌<◌, ◌+◌, ℕ, zero, suc, List, [], ◌∷◌, length, take, drop, Result, Ok, Err, refl, sym, ap, subst, ◌∙◌, arith}
 use Rattle.std.proofs.lemmas.Bool.{cases_lt}
 use Rattle.std.proofs.lemmas.List.{length-append}
 use Rattle.nfs_dir_calls.specs.declared.call.DirCall.TheVariants as dirs
@@ -10,21 +10,19 @@ use Rattle.world_model.specs.declared.message.Call.{Call}
 use Rattle.world_model.specs.declared.message.Call.TheVariants as calls
 use Rattle.world_model.specs.declared.answer.Fault.{Fault}
 use Rattle.world_model.specs.declared.answer.Fault.TheVariants as faults
-use Rattle.world_model.specs.declared.answer.Answer.TheVariants as answers
 use Rattle.world_model.specs.declared.op.Op.{Op}
 use Rattle.world_model.specs.declared.op.Op.TheVariants.{Put}
 use Rattle.world_model.specs.Entries.{At}
 use Rattle.world_model.specs.Messages.{HasXid, SpellsCallBy}
-use Rattle.world_model.specs.Heard.{Refused}
-use Rattle.world_model.specs.Puts.{PutOf, IsPutOf, piece_of, lookup_call, write_call, commit_call, Found, WrittenAt, WrittenTo, Committed, IsAsked, looks_up, writes, commits}
-use Rattle.world_model.specs.Rows.{Limits, SpentShown, RefusalShown, AnswerShown}
-use Rattle.world_model.proofs.Growth.{Asked-wide, Refused-wide, Found-grow, Found-wide, WrittenAt-grow, WrittenAt-wide, WrittenTo-grow, IsAsked-grow}
+use Rattle.world_model.specs.Puts.{PutOf, IsPutOf, piece_of, lookup_call, write_call, commit_call, Found, WrittenAt, WrittenTo, IsAsked, looks_up, writes, commits}
+use Rattle.world_model.specs.Rows.{SpentShown}
+use Rattle.world_model.proofs.Growth.{Asked-wide, Refused-wide, Found-grow, Found-wide, WrittenAt-wide, WrittenTo-grow, IsAsked-grow}
 use Rattle.nfs_client.specs.declared.halt.Halt.{Halt}
 use Rattle.nfs_client.specs.declared.halt.Halt.TheVariants as halts
 use Rattle.nfs_client.specs.Calls.{CallsView, SameCalls}
 use Rattle.nfs_client.specs.Results.{LookupHeard, WriteHeard, CommitHeard}
-use Rattle.nfs_client.specs.Session.{marks, Extends}
-use Rattle.nfs_client.specs.Exchange.{IdleTrue, SentTrue, ComesTo, Goes, Called, HaltedAs, Asks, IsNext, limits_of}
+use Rattle.nfs_client.specs.Session.{Extends}
+use Rattle.nfs_client.specs.Exchange.{IdleTrue, ComesTo, Goes, Called, HaltedAs, Asks, IsNext, limits_of}
 use Rattle.nfs_client.specs.Putting.{FoundSo, LooksUp, WrittenSo, WritesPiece, CommittedSo, Commits, PutSent, PutHalts, AllWritten, PutDone, WritesTo, WritesAll, Puts}
 use Rattle.nfs_client.proofs.Alongs.{extends_then}
 use Rattle.nfs_client.proofs.Asking.{hears_ok, hears_err}

@@ -1,10 +1,7 @@
 -- How a session's calls stand after each entry: those that were made, and the one that waits.
-use Rattle.std.proofs.Common.{inl, inr, ◌⊎◌, ◌≡◌, ◌≢◌, ◌<◌, ◌≤◌, ◌+◌, ℕ, zero, suc, Bool, true, false, cond, eqb, List, [], ◌∷◌, ◌++◌, length, Option, Some, Result, Ok, Err, refl, sym, ap, subst, ◌∙◌, arith}
+use Rattle.std.proofs.Common.{inl, inr, ◌≡◌, ◌<◌, ◌≤◌, ◌+◌, ℕ, suc, Bool, true, false, cond, eqb, List, [], ◌∷◌, ◌++◌, length, refl, sym, ap, subst, ◌∙◌, arith}
 use Rattle.std.specs.List.{list_any}
 use Rattle.std.proofs.lemmas.Bool.{cases_lt, ne_eqb, eqb-true, eqb-false}
-use Rattle.std.proofs.lemmas.List.{append-nil, length-append}
-use Rattle.rpc_message.specs.declared.call.CallHead.{CallHead}
-use Rattle.rpc_message.specs.Call.{call_at}
 use Rattle.rpc_message.proofs.CallLaws.{call_again, call_xid}
 use Rattle.world_model.specs.declared.entry.Entry.{Entry}
 use Rattle.world_model.specs.declared.entry.Entry.TheVariants.{Began, Answered, Dialed, Sent, Executed, Foreign, Flushed, Reboot, Delivered, Failed, Clock}
@@ -13,14 +10,14 @@ use Rattle.world_model.specs.declared.message.Call.TheVariants as calls
 use Rattle.world_model.specs.declared.tally.Tally.{Tally}
 use Rattle.world_model.specs.Entries.{At, ours}
 use Rattle.world_model.specs.Messages.{HasXid, SpellsCall, head_of}
-use Rattle.world_model.specs.Waiting.{FirstSent, Waits, Drops}
+use Rattle.world_model.specs.Waiting.{Waits, Drops}
 use Rattle.world_model.specs.Heard.{Heard}
 use Rattle.world_model.specs.Rows.{DropRun, begins, drops, WasSent}
-use Rattle.world_model.specs.Counts.{Counted, Every, Only, counts_head, xid_counted, xids_sent, calls_made, tally_of}
+use Rattle.world_model.specs.Counts.{Counted, Every, Only, counts_head, xids_sent, calls_made, tally_of}
 use Rattle.world_model.proofs.Places.{At-grow, At-below, At-back, At-last, At-cases, length_last}
 use Rattle.world_model.proofs.Growth.{FirstSent-grow, Waits-back, Drops-grow, DropRun-grow, WasSent-grow}
 use Rattle.world_model.proofs.Histories.{IsQuiet, quiet_by}
-use Rattle.nfs_client.specs.Calls.{CallsView, counted, one_if, tally_of_proc, tally_with}
+use Rattle.nfs_client.specs.Calls.{CallsView, counted, one_if, tally_with}
 use Rattle.nfs_client.specs.Exchange.{SentTrue, IdleTrue, WaitsTrue, WasAnswered}
 use Rattle.nfs_client.proofs.Growing.{count_same, count_more}
 

@@ -1,5 +1,5 @@
 -- How the marks, the answer and the calls make a session.
-use Rattle.std.proofs.Common.{inl, inr, ◌⊎◌, ◌≡◌, ◌≢◌, ◌≤◌, ◌<◌, ◌+◌, ℕ, zero, suc, true, List, [], ◌∷◌, ◌++◌, length, Option, Some, None, Result, Ok, Err, refl, sym, ap, subst, ◌∙◌, append_assoc, arith}
+use Rattle.std.proofs.Common.{inl, inr, ◌⊎◌, ◌≡◌, ◌≤◌, ◌<◌, ℕ, zero, suc, true, List, [], ◌∷◌, ◌++◌, length, Option, Some, None, Result, Ok, Err, refl, sym, ap, subst, ◌∙◌, append_assoc, arith}
 use Rattle.std.proofs.lemmas.List.{length-append, append-nil}
 use Rattle.xdr_codec.specs.declared.blob.Memory.{Memory}
 use Rattle.world_model.specs.declared.entry.Entry.{Entry}
@@ -13,26 +13,23 @@ use Rattle.world_model.specs.declared.answer.Fault.TheVariants as faults
 use Rattle.world_model.specs.declared.answer.Value.TheVariants as values
 use Rattle.world_model.specs.Entries.{At}
 use Rattle.world_model.specs.Told.{Told, Adds}
-use Rattle.world_model.specs.Puts.{PutOf, IsPutOf}
+use Rattle.world_model.specs.Puts.{PutOf}
 use Rattle.world_model.specs.Rows.{AnswerShown}
-use Rattle.world_model.specs.Counts.{tally_of}
 use Rattle.world_model.proofs.Places.{At-grow, At-last}
 use Rattle.world_model.proofs.Growth.{AnswerShown-grow}
 use Rattle.world_model.proofs.Histories.{IsQuiet, quietly, steps_on}
-use Rattle.nfs_client.specs.declared.halt.Halt.{Halt}
 use Rattle.nfs_client.specs.declared.halt.Halt.TheVariants as halts
 use Rattle.nfs_client.specs.declared.set_up.SetUp.{SetUp}
-use Rattle.nfs_client.specs.declared.session.Ended.{Ended}
 use Rattle.nfs_client.specs.declared.session.Ended.TheVariants as ends
 use Rattle.nfs_client.specs.Calls.{CallsView, SameCalls}
 use Rattle.nfs_client.specs.Session.{fails, marks, Extends}
 use Rattle.nfs_client.specs.Exchange.{SentTrue, IdleTrue, limits_of}
-use Rattle.nfs_client.specs.Putting.{PutSent, Puts}
-use Rattle.nfs_client.specs.Working.{BeginsWith, BeginsSo, ShownOf, AnswerComes, IsReady, IsIn, SentIn, AnswersBy, AnswersSo, WorkedSo, WorksTo, WorkSent, WorksBy, WorksSo}
+use Rattle.nfs_client.specs.Putting.{Puts}
+use Rattle.nfs_client.specs.Working.{BeginsSo, ShownOf, IsReady, SentIn, AnswersSo, WorkSent, WorksSo}
 use Rattle.nfs_client.proofs.Growing.{fails-grow, marks_after, marks_same, sends_none}
 use Rattle.nfs_client.proofs.Sendings.{NoSending, sent_stays, sent_quiet, idle_stays, idle_quiet}
 use Rattle.nfs_client.proofs.Alongs.{extends_then}
-use Rattle.nfs_client.proofs.Putting.{longer, sent_on, same_then}
+use Rattle.nfs_client.proofs.Putting.{longer, sent_on}
 
 -- ---- marks
 

@@ -3,7 +3,6 @@ use Rattle.std.specs.Prelude.{◌≡◌, ◌≢◌, ◌≤◌, ◌<◌, ◌+◌,
 use Rattle.world_model.specs.declared.entry.Entry.{Entry}
 use Rattle.world_model.specs.declared.entry.Entry.TheVariants.{Sent, Delivered, Failed}
 use Rattle.world_model.specs.declared.message.Call.{Call}
-use Rattle.world_model.specs.declared.answer.Fault.{Fault}
 use Rattle.world_model.specs.declared.answer.Fault.TheVariants as faults
 use Rattle.world_model.specs.Entries.{At}
 use Rattle.world_model.specs.Messages.{HasXid, SpellsCall, SpellsCallBy}
@@ -14,7 +13,7 @@ use Rattle.world_model.specs.Counts.{tally_of}
 use Rattle.outside.specs.Causes.{Rose}
 use Rattle.nfs_client.specs.declared.halt.Halt.{Halt}
 use Rattle.nfs_client.specs.declared.halt.Halt.TheVariants as halts
-use Rattle.nfs_client.specs.Calls.{CallsView, counted}
+use Rattle.nfs_client.specs.Calls.{CallsView}
 use Rattle.nfs_client.specs.Session.{fails, marks}
 
 -- The records that were sent are calls, those that were made: each xid from the first on, once.

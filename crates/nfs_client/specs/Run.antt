@@ -1,18 +1,20 @@
 -- What the top call promises: statuses with their causes, the history and the text, of a script of one put.
 use Rattle.std.specs.Prelude.{◌≡◌, ◌≤◌, ◌⊎◌, ◌^◌, ℕ, Bool, List, [], ◌∷◌, ◌++◌, length, take, codes, Option, Some, None, if◌then◌else◌}
 use Rattle.world_model.specs.declared.entry.Entry.{Entry}
-use Rattle.world_model.specs.declared.entry.Entry.TheVariants.{Began, Answered}
+use Rattle.world_model.specs.declared.entry.Entry.TheVariants.{Began, Answered, Sent}
 use Rattle.world_model.specs.declared.op.Op.{Op}
 use Rattle.world_model.specs.declared.answer.Answer.{Answer}
 use Rattle.world_model.specs.declared.answer.Answer.TheVariants as answers
 use Rattle.world_model.specs.declared.answer.Fault.{Fault}
 use Rattle.world_model.specs.declared.answer.Fault.TheVariants as faults
 use Rattle.world_model.specs.Entries.{At}
+use Rattle.world_model.specs.declared.message.Call.{Call}
+use Rattle.world_model.specs.Messages.{SpellsCall}
 use Rattle.world_model.specs.Heard.{Heard, Refused}
 use Rattle.world_model.specs.Puts.{PutOf, IsPutOf}
 use Rattle.world_model.specs.Rows.{Limits, LostShown, AnswerShown}
 use Rattle.world_model.specs.Counts.{tally_of, tally_text}
-use Rattle.world_model.specs.Mounts.{Origin, Mounting, mount_call, Rooted, Sized}
+use Rattle.world_model.specs.Mounts.{Mounting, mount_call, info_call, Rooted, Sized}
 use Rattle.world_model.specs.AskedFor.{Terms, CallsAsked}
 use Rattle.world_model.specs.Transcript.{transcript, mount_text}
 use Rattle.nfs_script.specs.declared.script.ScriptLine.{ScriptLine}
@@ -78,6 +80,18 @@ pub record MountRefusedSo (terms : Terms) (h : List Entry) (fault : Fault) : Typ
 abbrev pub NotAnswered : Op → List Entry → Type 0
 NotAnswered op h = (marks h ≡ []) ⊎ (marks h ≡ Began 1 1 op ∷ [])
 
+-- the record that was sent at the place i is this call
+pub record SentAs (h : List Entry) (i : ℕ) (call : Call) : Type 0 where
+  pub xid : ℕ
+  pub bytes : List ℕ
+  pub sent : At h i (Sent bytes)
+  pub spells : SpellsCall xid call bytes
+
+-- MNT and FSINFO are each sent once at most.
+pub record SetUpOnce (h : List Entry) : Type 0 where
+  pub mount : (i j : ℕ) (path other : List ℕ) → SentAs h i (mount_call path) → SentAs h j (mount_call other) → i ≡ j
+  pub info : (i j : ℕ) (root other : List ℕ) → SentAs h i (info_call root) → SentAs h j (info_call other) → i ≡ j
+
 -- ---- how it ends
 
 -- the status of a session whose operation was answered so: 6 where the link was lost, 1 at another refusal, else 0
@@ -103,9 +117,10 @@ pub data EndsAs (cause : Type 0) (terms : Terms) (count : Bool) (op : Op) (h : L
   refused_cut : (fault : Fault) → MountRefusedSo terms h fault → IsCutOff status → IsFront text (mount_text fault) → EndsAs cause terms count op h status text
   unanswered : NotAnswered op h → IsCutOff status → text ≡ [] → EndsAs cause terms count op h status text
 
--- A session of one put: each call was asked for, and it ends so.
+-- A session of one put: each call was asked for, those before it once at most, and it ends so.
 pub record SessionIs (cause : Type 0) (terms : Terms) (count : Bool) (op : Op) (h : List Entry) (status : ℕ) (text : List ℕ) : Type 0 where
   pub calls : CallsAsked terms op h
+  pub single : SetUpOnce h
   pub ends : EndsAs cause terms count op h status text
 
 -- a session by these settings

@@ -1,5 +1,5 @@
 -- What a session shows of the mount and of the server's sizes.
-use Rattle.std.specs.Prelude.{◌≡◌, ◌⊎◌, ◌≤◌, min, ℕ, true, List, [], ◌∷◌, length, Result, Ok, Err}
+use Rattle.std.specs.Prelude.{◌≡◌, ◌⊎◌, ◌≤◌, ◌+◌, min, ℕ, true, List, [], ◌∷◌, length, Result, Ok, Err}
 use Rattle.mount_calls.specs.declared.reply.MountReply.TheVariants as mounted
 use Rattle.world_model.specs.declared.entry.Entry.{Entry}
 use Rattle.world_model.specs.declared.entry.Entry.TheVariants.{Dialed, Failed}
@@ -87,11 +87,17 @@ pub data IsSetUpCall (origin : Origin) (k : List Entry) (i : ℕ) (call : Call) 
   mounts : (path : List ℕ) → origin ≡ Mounting path → call ≡ mount_call path → IsSetUpCall origin k i call
   informs : (root : List ℕ) → Rooted origin k i root → call ≡ info_call root → IsSetUpCall origin k i call
 
+-- under which xid such a call is made: MNT under the first, and FSINFO under one of its own
+pub data IsNumbered (c : CallsView) (info xid : ℕ) (call : Call) : Type 0 where
+  as_mount : (path : List ℕ) → call ≡ mount_call path → xid ≡ c.first + c.made → IsNumbered c info xid call
+  as_info : (root : List ℕ) → call ≡ info_call root → xid ≡ info → IsNumbered c info xid call
+
 -- a record that was sent is such a call, where no call waited before, in the history h
-pub record SetUpSent (s : Settings) (c : CallsView) (h k : List Entry) (i : ℕ) (b : List ℕ) : Type 0 where
+pub record SetUpSent (s : Settings) (c : CallsView) (info : ℕ) (h k : List Entry) (i : ℕ) (b : List ℕ) : Type 0 where
   pub xid : ℕ
   pub call : Call
   pub made : SpellsCallBy c.cred xid call b
+  pub numbered : IsNumbered c info xid call
   pub is : IdleTrue h c → IsSetUpCall (origin_of s.export) k i call
 
 -- the root and the size of WRITE are known
@@ -111,5 +117,6 @@ SetUpHalts s (halts.Refused faults.Memory) h k = Unit {0}
 SetUpHalts s (halts.Refused fault) h k = (path : List ℕ) × (s.export ≡ exports.Path path) × Refused k (length h) (length k) (mount_call path) fault
 SetUpHalts s halts.Memory h k = Unit {0}
 
-abbrev pub SetsUp : Settings → CallsView → CallsView → Result SetUp Halt → List Entry → List Entry → Type 0
-SetsUp s old new result h k = Goes (SetUpSent s old h) (IsSetUp s) (SetUpHalts s) old new result h k
+pub record SetsUp (s : Settings) (old new : CallsView) (result : Result SetUp Halt) (h k : List Entry) : Type 0 where
+  pub info : ℕ
+  pub goes : Goes (SetUpSent s old info h) (IsSetUp s) (SetUpHalts s) old new result h k

@@ -9,11 +9,9 @@ use Rattle.world_model.specs.declared.answer.Answer.{Answer}
 use Rattle.world_model.specs.declared.answer.Answer.TheVariants as answers
 use Rattle.world_model.specs.declared.answer.Fault.TheVariants as faults
 use Rattle.world_model.specs.Entries.{At}
-use Rattle.world_model.specs.Heard.{Refused}
 use Rattle.world_model.specs.Puts.{PutOf, IsPutOf}
-use Rattle.world_model.specs.Rows.{LostShown, AnswerShown}
+use Rattle.world_model.specs.Rows.{AnswerShown}
 use Rattle.world_model.specs.Counts.{tally_of}
-use Rattle.world_model.specs.Mounts.{Origin, Mounting, mount_call, Rooted, Sized}
 use Rattle.world_model.specs.AskedFor.{Terms, CallsAsked}
 use Rattle.nfs_client.specs.declared.set_up.SetUp.{SetUp}
 use Rattle.nfs_client.specs.declared.session.Ended.{Ended}
@@ -22,7 +20,7 @@ use Rattle.nfs_client.specs.Calls.{CallsView, SameCalls}
 use Rattle.nfs_client.specs.Exchange.{SentTrue, IdleTrue, limits_of}
 use Rattle.nfs_client.specs.Putting.{PutSent}
 use Rattle.nfs_client.specs.Session.{fails, marks}
-use Rattle.nfs_client.specs.Run.{AnsweredSo, MountRefusedSo, NotAnswered}
+use Rattle.nfs_client.specs.Run.{SetUpOnce, AnsweredSo, MountRefusedSo, NotAnswered}
 
 -- the size of WRITE is one that a record can carry
 abbrev pub IsKnown : Option SetUp → Type 0
@@ -118,4 +116,5 @@ ConversesTo terms op (Err e) k = NotAnswered op k
 
 pub record ConversesSo (terms : Terms) (op : Op) (result : Result Ended Memory) (k : List Entry) : Type 0 where
   pub asked : CallsAsked terms op k
+  pub single : SetUpOnce k
   pub comes : ConversesTo terms op result k

@@ -1,5 +1,5 @@
-use Rattle.nfs_client.proofs.Alongs.{along_then, along_less, along_none}
-use Rattle.nfs_client.proofs.Exchanges.{exchanged, unsent, unmade}
+use Rattle.nfs_client.proofs.Alongs.{along_then, along_less}
+use Rattle.nfs_client.proofs.Exchanges.{exchanged, unsent}
 use Rattle.nfs_client.proofs.exchange.exchange.Goals as goal
 
 pub returns-in-Ok-send-clause-goes : goal.returns-in-Ok-send-clause-goes

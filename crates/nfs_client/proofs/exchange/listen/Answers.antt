@@ -1,6 +1,6 @@
 use Rattle.std.proofs.Common.{arith}
 use Rattle.nfs_client.proofs.Alongs.{along_call, along_then, along_less, along_none}
-use Rattle.nfs_client.proofs.Listening.{WaitsOn, Comes, Fails, waits_at_first, comes_by, waits_then, takes_then, lost_then, fails_so, has_xid, lacks_xid}
+use Rattle.nfs_client.proofs.Listening.{Comes, Fails, waits_at_first, comes_by, waits_then, takes_then, lost_then, fails_so, has_xid, lacks_xid}
 use Rattle.nfs_client.proofs.exchange.listen.Goals as goal
 
 pub loop-dropped-init : goal.loop-dropped-init

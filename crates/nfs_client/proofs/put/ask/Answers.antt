@@ -1,5 +1,5 @@
-use Rattle.nfs_client.proofs.Alongs.{along_less, along_none}
-use Rattle.nfs_client.proofs.Asking.{asks_spent, asks_exchanged}
+use Rattle.nfs_client.proofs.Alongs.{along_less}
+use Rattle.nfs_client.proofs.Asking.{asks_exchanged}
 use Rattle.nfs_client.proofs.put.ask.Goals as goal
 
 pub returns-clause-goes : goal.returns-clause-goes

@@ -1,4 +1,4 @@
-use Rattle.std.proofs.Common.{◌≡◌, ℕ, List, [], ◌∷◌, sym, ap, ◌∙◌, rules, refl}
+use Rattle.std.proofs.Common.{rules}
 use Rattle.nfs_client.proofs.put.put.Goals as goal
 
 pub returns-clause-goes : goal.returns-clause-goes

@@ -1,7 +1,6 @@
-use Rattle.std.proofs.Common.{◌≡◌, ◌≤◌, ◌<◌, ◌+◌, length, take, drop, sym, ap, ◌∙◌, arith, List, ℕ, subst}
-use Rattle.nfs_client.specs.Putting.{WritesPiece}
-use Rattle.nfs_client.proofs.Alongs.{along_then, along_less, along_none}
-use Rattle.nfs_client.proofs.Putting.{same_then, all_none, all_then, all_halt, all_whole}
+use Rattle.std.proofs.Common.{◌≡◌, ◌≤◌, ◌+◌, length, take, drop, ap, ◌∙◌, arith}
+use Rattle.nfs_client.proofs.Alongs.{along_then, along_less}
+use Rattle.nfs_client.proofs.Putting.{same_then, all_then, all_halt, all_whole}
 use Rattle.nfs_client.proofs.put.write_all.Goals as goal
 
 pub overflow_add-done : goal.overflow_add-done

@@ -1,5 +1,5 @@
-use Rattle.nfs_client.proofs.Alongs.{along_less, along_none}
-use Rattle.nfs_client.proofs.Working.{answers_lost, answers_done, answers_refused, answers_none}
+use Rattle.nfs_client.proofs.Alongs.{along_less}
+use Rattle.nfs_client.proofs.Working.{answers_done, answers_refused, answers_none}
 use Rattle.nfs_client.proofs.session.answer.Goals as goal
 
 pub returns-in-Ok-clause-goes : goal.returns-in-Ok-clause-goes

@@ -1,4 +1,4 @@
-use Rattle.std.proofs.Common.{[], Ok}
+use Rattle.std.proofs.Common.{[]}
 use Rattle.world_model.specs.declared.entry.Entry.TheVariants.{Answered}
 use Rattle.nfs_client.proofs.Alongs.{along_call, along_then, along_less}
 use Rattle.nfs_client.proofs.Working.{Notes, Quiet, Answering, notes_by, quiet_of, works_unbegun, works_unanswered, works_unnoted, works_well}
