@@ -1,7 +1,6 @@
 -- What a history shows goes on being shown as it grows.
-use Rattle.std.proofs.Common.{inl, inr, ◌⊎◌, ◌≡◌, ◌<◌, ◌≤◌, ◌+◌, ℕ, suc, List, [], ◌∷◌, ◌++◌, length, refl, arith}
+use Rattle.std.proofs.Common.{inl, inr, ◌≤◌, ℕ, List, ◌++◌, length, arith}
 use Rattle.std.proofs.lemmas.Bool.{cases_lt}
-use Rattle.std.proofs.lemmas.List.{length-append}
 use Rattle.world_model.specs.declared.entry.Entry.{Entry}
 use Rattle.world_model.specs.declared.entry.Entry.TheVariants.{Sent, Delivered}
 use Rattle.world_model.specs.declared.message.Call.{Call}
@@ -10,8 +9,6 @@ use Rattle.world_model.specs.declared.answer.Answer.{Answer}
 use Rattle.world_model.specs.declared.answer.Answer.TheVariants as answers
 use Rattle.world_model.specs.declared.answer.Fault.{Fault}
 use Rattle.world_model.specs.declared.answer.Fault.TheVariants as faults
-use Rattle.world_model.specs.Entries.{At}
-use Rattle.world_model.specs.Messages.{HasXid}
 use Rattle.world_model.specs.Waiting.{FirstSent, Waits, Drops, Answers}
 use Rattle.world_model.specs.Heard.{Heard, Asked, Refused}
 use Rattle.world_model.specs.Puts.{PutOf, Found, WrittenAt, WrittenTo, Committed, IsAsked, looks_up, writes, commits}

@@ -1,10 +1,10 @@
 -- From what a call of a link adds to what the steps of a client keep.
-use Rattle.std.proofs.Common.{◌≡◌, ◌<◌, ◌≤◌, ◌+◌, ℕ, zero, suc, List, [], ◌∷◌, ◌++◌, length, Option, Some, None, refl, sym, ap, subst, ◌∙◌, append_assoc, arith}
+use Rattle.std.proofs.Common.{◌≡◌, List, [], ◌∷◌, ◌++◌, refl, sym, ap, subst, ◌∙◌, append_assoc}
 use Rattle.std.proofs.lemmas.List.{append-nil}
 use Rattle.world_model.specs.declared.entry.Entry.{Entry}
 use Rattle.world_model.specs.declared.entry.Entry.TheVariants.{Began, Answered, Dialed, Sent, Executed, Foreign, Flushed, Reboot, Delivered, Failed, Clock}
 use Rattle.world_model.specs.Entries.{ours}
-use Rattle.world_model.specs.Told.{Told, Adds, Tells, IfTold, Relates}
+use Rattle.world_model.specs.Told.{Told, Adds}
 
 pub ours-append : (xs ys : List Entry) → ours (xs ++ ys) ≡ ours xs ++ ours ys
 ours-append [] ys = refl

@@ -1,3 +1,5 @@
 pub mod Places
 pub mod Histories
 pub mod Growth
+pub mod ServiceExamples
+pub mod HistoryExamples

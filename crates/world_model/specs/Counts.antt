@@ -1,5 +1,5 @@
 -- How many calls a session made: different xids among the records of NFS that were sent.
-use Rattle.std.specs.Prelude.{ℕ, List, [], ◌∷◌, ◌++◌, ◌==◌, ◌&&◌, Bool, true, false, codes, decimal, length, Result, Ok, Err, if◌then◌else◌}
+use Rattle.std.specs.Prelude.{ℕ, List, [], ◌∷◌, ◌++◌, ◌==◌, ◌&&◌, Bool, true, codes, decimal, length, Result, Ok, Err, if◌then◌else◌}
 use Rattle.std.specs.List.{list_any}
 use Rattle.rpc_message.specs.declared.call.CallHead.{CallHead}
 use Rattle.rpc_message.specs.declared.call.CallFault.{CallFault}

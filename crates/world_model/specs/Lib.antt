@@ -10,3 +10,17 @@ pub mod Mounts
 pub mod AskedFor
 pub mod Transcript
 pub mod Counts
+pub mod Bytes
+pub mod Server
+pub mod Steps
+pub mod FileService
+pub mod Names
+pub mod NameService
+pub mod ListService
+pub mod Service
+pub mod History
+pub mod Lawful
+pub mod Once
+pub mod Fresh
+pub mod Rising
+pub mod Leads

@@ -1,5 +1,5 @@
 -- Which records are which call and which reply (RFC 5531, section 9, and RFC 1813, sections 3 and 5).
-use Rattle.std.specs.Prelude.{◌≡◌, ◌++◌, ℕ, List, Option, Some}
+use Rattle.std.specs.Prelude.{◌≡◌, ◌++◌, ℕ, List, Some}
 use Rattle.rpc_message.specs.declared.call.CallHead.{CallHead}
 use Rattle.rpc_message.specs.declared.cred.Cred.{Cred}
 use Rattle.rpc_message.specs.Call.{xid_at, SpellsCallHead, call_head_bytes}
