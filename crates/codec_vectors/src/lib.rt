@@ -1,5 +1,5 @@
-//! Tests of the codecs by bytes from outside: records that another implementation made, and worked records. It has
-//! no items but its tests.
+//! Tests of the codecs by bytes that they didn't write: records that another implementation made, and records by hand
+//! from the RFCs. It has no items but its tests, so that the crates below aren't proved again with them.
 #![tactic(auto)]
 
 #[cfg(test)]
@@ -9,9 +9,15 @@ mod dir_replies;
 #[cfg(test)]
 mod file_calls;
 #[cfg(test)]
+mod file_records;
+#[cfg(test)]
 mod file_replies;
 #[cfg(test)]
+mod heads;
+#[cfg(test)]
 mod messages;
+#[cfg(test)]
+mod mount_records;
 #[cfg(test)]
 mod mounts;
 #[cfg(test)]
@@ -20,5 +26,7 @@ mod records;
 mod same;
 #[cfg(test)]
 mod values;
+#[cfg(test)]
+mod words;
 #[cfg(test)]
 mod worked;
