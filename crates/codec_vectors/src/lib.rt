@@ -21,6 +21,8 @@ mod mount_records;
 #[cfg(test)]
 mod mounts;
 #[cfg(test)]
+mod pages;
+#[cfg(test)]
 mod records;
 #[cfg(test)]
 mod same;
