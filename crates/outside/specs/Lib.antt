@@ -5,3 +5,5 @@ pub mod Sink
 pub mod Clock
 pub mod Link
 pub mod Hostile
+pub mod Wire
+pub mod MemWire

@@ -1,16 +1,20 @@
-//! What lies outside the client, as traits: where a script comes from, where answers go to, the clock, and the link to
-//! the server. Each trait says what a call adds to what is told, and that a failure comes only where the count of
-//! faults rose. Beside them stand forms in memory, for tests and for the simulated world.
+//! What lies outside the client, as traits: where a script comes from, where answers go to, the clock, the link to
+//! the server, and the wire that carries its bytes. Each trait says what a call adds to what is told, and that a failure
+//! comes only where the count of faults rose. Beside them stand forms in memory, for tests and for the simulated world.
 #![tactic(auto)]
 
 mod clock;
 mod hostile;
 mod link;
+mod mem_wire;
 mod sink;
 mod source;
+mod wire;
 
 pub use clock::{Clock, TickClock};
 pub use hostile::HostileLink;
 pub use link::{Link, LinkFault, Received};
+pub use mem_wire::MemWire;
 pub use sink::{MemSink, Sink};
 pub use source::{Failed, MemSource, Source};
+pub use wire::{Wire, WireEntry, WireRead};

@@ -95,7 +95,7 @@ impl Source for MemSource {
 }
 
 /// Copies as many bytes as both have, and answers how many.
-fn copy_front(from: &[u8], to: &mut [u8]) -> usize
+pub(crate) fn copy_front(from: &[u8], to: &mut [u8]) -> usize
     ensures count { result ≡ min (length from.now) (length to.old) }
     ensures front { take result to.new ≡ take result from.now }
 {

@@ -1,0 +1,4 @@
+pub mod Orders
+pub mod Learning
+pub mod Turning
+pub mod Entries

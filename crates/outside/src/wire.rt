@@ -1,0 +1,73 @@
+//! Bytes to the server and back, in pieces that may be cut anywhere.
+
+ghost use Rattle.std.specs.Prelude.{◌≤◌, ◌<◌, ℕ, List, Option, length, IfOk};
+ghost use Rattle.outside.specs.Causes.{HasCause};
+ghost use Rattle.outside.specs.Sink.{TakesSome};
+ghost use Rattle.outside.specs.Wire.{WireCall, WireTells, GetsSome, IfGot, HasCauseRead, connected_as, wrote_as, read_as, marked_as};
+
+use crate::link::LinkFault;
+use world_model::Mark;
+use xdr_codec::{Blob, Memory};
+
+/// What a call of a wire did.
+#[derive(Debug, Drop)]
+pub enum WireEntry {
+    /// A connection to the port was asked for, in place of the one before.
+    Connected { port: u16 },
+    /// These bytes were taken.
+    Wrote { bytes: Blob },
+    /// These bytes came.
+    Read { bytes: Blob },
+    /// The mark was noted.
+    Noted { mark: Mark },
+    /// A write failed, or a wait did, or no byte came in time.
+    Missed,
+}
+
+/// What came of waiting for bytes.
+#[derive(Clone, Copy, Debug, PartialEq, Eq)]
+pub enum WireRead {
+    /// So many bytes came, at least one.
+    Got(usize),
+    /// No byte came in time.
+    Silent,
+    /// The outside failed.
+    Failed,
+    /// Want of memory; no byte was taken from what came.
+    Memory,
+}
+
+/// A stream of bytes to a server and one back. Each call tells one entry of its own, and nothing after want of memory;
+/// what the server did since the call before stands before that entry.
+pub trait Wire {
+    /// The calls so far, where the wire tells them.
+    ghost told: { Self → Option (List WireCall) };
+
+    /// How often the outside failed. It never falls.
+    ghost faults: { Self → ℕ };
+
+    /// Makes a connection to that port, in place of the one before.
+    fn connect(&mut self, port: u16) -> Result<(), LinkFault>
+        ensures told { WireTells (told self.old) (told self.new) (connected_as port result) }
+        ensures cause { HasCause (faults self.old) (faults self.new) result };
+
+    /// Takes the front of the piece, and answers how many bytes: at least one of a piece that isn't empty. After a
+    /// failure or want of memory none was taken.
+    fn write(&mut self, bytes: &[u8]) -> Result<usize, LinkFault>
+        ensures takes { IfOk result (TakesSome bytes.now) }
+        ensures told { WireTells (told self.old) (told self.new) (wrote_as bytes.now result) }
+        ensures cause { HasCause (faults self.old) (faults self.new) result };
+
+    /// Waits for bytes for at most so many milliseconds, and puts them into the front of the buffer.
+    fn read(&mut self, wait_ms: u32, buf: &mut [u8]) -> WireRead
+        requires patient { 15000 ≤ wait_ms }
+        requires room { 0 < length buf.old }
+        ensures gets { IfGot result (GetsSome buf.new) }
+        ensures told { WireTells (told self.old) (told self.new) (read_as buf.new result) }
+        ensures cause { HasCauseRead (faults self.old) (faults self.new) result };
+
+    /// Notes a mark among the calls.
+    fn note(&mut self, mark: Mark) -> Result<(), Memory>
+        ensures told { WireTells (told self.old) (told self.new) (marked_as mark result) }
+        ensures cause { faults self.old ≤ faults self.new };
+}
