@@ -1,0 +1,9 @@
+pub mod Order
+pub mod Dues
+pub mod Taking
+pub mod Failing
+pub mod Records
+pub mod Lookups
+pub mod Stories
+pub mod Steps
+pub mod GivenUp

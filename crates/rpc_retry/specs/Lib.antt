@@ -1,0 +1,10 @@
+pub mod Faults
+pub mod Held
+pub mod Waiting
+pub mod Sound
+pub mod Put
+pub mod Take
+pub mod Fail
+pub mod Ends
+pub mod Records
+pub mod Runs
