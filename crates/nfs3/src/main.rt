@@ -1,10 +1,10 @@
-//! A user-space client of NFS version 3. `nfs3 replay SCHEDULE WORDS` runs the script on standard input over a simulated
-//! server, which the file SCHEDULE describes.
+//! A user-space client of NFS version 3. `nfs3 run HOST WORDS` runs the script on standard input with the server at HOST,
+//! and `nfs3 replay SCHEDULE WORDS` over a simulated server, which the file SCHEDULE describes.
 #![tactic(auto)]
 
-mod edge;
 mod ending;
 mod replay;
+mod run;
 #[cfg(test)]
 mod tests;
 
@@ -40,6 +40,10 @@ fn command(rt: &HostRuntime, mut words: Vec<String>) -> Ending {
         [name, _, ..] if name.as_str() == "replay" => {
             let path = words.remove(1);
             replay::replay(rt, path.as_str(), words.as_slice())
+        }
+        [name, _, ..] if name.as_str() == "run" => {
+            let host = words.remove(1);
+            run::run(rt, host.as_str(), words.as_slice())
         }
         _ => Ending::Usage,
     }

@@ -1,7 +1,7 @@
 //! A session over a simulated server.
 
-use crate::edge::{Input, Output};
 use crate::ending::Ending;
+use net_edge::{StandardInput, StandardOutput};
 use outside::TickClock;
 use std::alloc::Global;
 use std::fs::File;
@@ -23,9 +23,9 @@ pub fn replay(rt: &HostRuntime, path: &str, words: &[String]) -> Ending {
     };
     match parse_schedule(alloc, text.as_slice()) {
         Ok((mut world, tick)) => {
-            let mut source = Input::of(rt.stdin());
+            let mut source = StandardInput::new(rt.stdin());
             let mut clock = TickClock::new(tick);
-            let mut sink = Output::of(rt.stdout());
+            let mut sink = StandardOutput::new(rt.stdout());
             Ending::Ran(nfs_client::run(
                 alloc,
                 words,

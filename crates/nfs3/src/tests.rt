@@ -1,5 +1,7 @@
 //! Sessions over servers in memory.
 
+use crate::command;
+use crate::ending::Ending;
 use outside::{HostileLink, Link, MemSink, MemSource, TickClock};
 use std::alloc::Global;
 use std::process::Abort;
@@ -31,6 +33,15 @@ struct Case<'a> {
     text: &'a str,
 }
 
+/// The words of a line.
+fn words_of(alloc: Global, line: &str) -> Result<Vec<String>, Fail> {
+    let mut words = Vec::new(alloc);
+    for word in line.split(' ') {
+        words.push(String::from_str(alloc, word)?)?;
+    }
+    Ok(words)
+}
+
 /// The session over this link comes to what it is to come to.
 fn comes_to<R: Abort + AllocGlobal, L: Link>(
     rt: &R,
@@ -38,10 +49,7 @@ fn comes_to<R: Abort + AllocGlobal, L: Link>(
     case: &Case<'_>,
 ) -> Result<(), Fail> {
     let alloc = rt.alloc();
-    let mut words = Vec::new(alloc);
-    for word in case.words.split(' ') {
-        words.push(String::from_str(alloc, word)?)?;
-    }
+    let words = words_of(alloc, case.words)?;
     let mut source = MemSource::new(alloc, case.script.as_bytes(), case.reads)?;
     let mut sink = MemSink::new(alloc, case.writes)?;
     let mut clock = TickClock::new(0);
@@ -56,6 +64,19 @@ fn comes_to<R: Abort + AllocGlobal, L: Link>(
 fn replays<R: Abort + AllocGlobal>(rt: &R, schedule: &str, case: &Case<'_>) -> Result<(), Fail> {
     let (mut world, _) = parse_schedule(rt.alloc(), schedule.as_bytes())?;
     comes_to(rt, &mut world, case)
+}
+
+#[test]
+fn takes_run_and_replay(rt: HostRuntime) -> Result<(), Fail> {
+    for line in ["", "run", "replay", "walk 127.0.0.1 /srv"] {
+        let ending = command(&rt, words_of(rt.alloc(), line)?);
+        assert_eq!(rt; ending, Ending::Usage, "{line}");
+    }
+    let ending = command(&rt, words_of(rt.alloc(), "run 127.0.0.1")?);
+    assert_eq!(rt; ending, Ending::Ran(2));
+    let ending = command(&rt, words_of(rt.alloc(), "replay /missing /srv")?);
+    assert_eq!(rt; ending, Ending::Schedule(0));
+    Ok(())
 }
 
 /// A session in which nothing outside fails.

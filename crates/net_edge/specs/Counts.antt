@@ -1,0 +1,29 @@
+-- How a count of failures goes on: it stays where a call went well, and rises by one where it failed.
+use Rattle.std.specs.Prelude.{◌≡◌, ◌+◌, ◌-◌, ◌^◌, min, ℕ, Result, Ok, Err}
+use Rattle.outside.specs.declared.source.Failed.{Failed}
+use Rattle.outside.specs.declared.link.LinkFault.{LinkFault}
+use Rattle.outside.specs.declared.link.LinkFault.TheVariants as faults
+use Rattle.outside.specs.declared.wire.WireRead.{WireRead}
+use Rattle.outside.specs.declared.wire.WireRead.TheVariants as reads
+
+-- the count after one more failure; it stops at the end of its type
+abbrev pub next_count : ℕ → ℕ
+next_count count = min (count + 1) (2 ^ 64 - 1)
+
+-- of a source
+abbrev pub CountsFailed : {T : Type 0} → ℕ → ℕ → Result T Failed → Type 0
+CountsFailed old new (Ok x) = new ≡ old
+CountsFailed old new (Err e) = new ≡ next_count old
+
+-- of a sink, or a wire that connects or writes; memory is never wanting
+abbrev pub CountsFault : {T : Type 0} → ℕ → ℕ → Result T LinkFault → Type 0
+CountsFault old new (Ok x) = new ≡ old
+CountsFault old new (Err faults.Failed) = new ≡ next_count old
+CountsFault old new (Err faults.Memory) = ⊥
+
+-- of a wire that waits, where silence counts, too
+abbrev pub CountsRead : ℕ → ℕ → WireRead → Type 0
+CountsRead old new (reads.Got n) = new ≡ old
+CountsRead old new reads.Silent = new ≡ next_count old
+CountsRead old new reads.Failed = new ≡ next_count old
+CountsRead old new reads.Memory = ⊥

@@ -1,0 +1,61 @@
+//! Standard output.
+
+ghost use Rattle.std.specs.Prelude.{◌≡◌};
+
+use outside::{LinkFault, Sink};
+use std::io::{Stdout, Write};
+use std::marker::Model;
+
+/// Standard output as a sink. A contract sees the number of writes that failed.
+#[derive(Drop)]
+pub struct StandardOutput {
+    stdout: Stdout,
+    faults: u64,
+}
+
+impl Model for StandardOutput {
+    ghost use Rattle.std.specs.Prelude.{ℕ};
+
+    ghost Value = { ℕ };
+
+    ghost view = { λ s. s.faults };
+}
+
+impl StandardOutput {
+    /// Standard output, of which no write has failed.
+    pub fn new(stdout: Stdout) -> StandardOutput
+        ensures { result ≡ 0 }
+    {
+        StandardOutput { stdout, faults: 0 }
+    }
+}
+
+impl Sink for StandardOutput {
+    ghost use Rattle.std.specs.Prelude.{None, IfOk};
+    ghost use Rattle.outside.specs.Causes.{HasCause};
+    ghost use Rattle.outside.specs.Sink.{TakesSome, WritesTo};
+    ghost use Rattle.net_edge.specs.Counts.{CountsFault};
+
+    ghost written = { λ _. None };
+
+    ghost faults = { λ count. count };
+
+    /// Writes what the system takes; any error of it is a failure, and so is that it takes nothing.
+    fn write(&mut self, bytes: &[u8]) -> Result<usize, LinkFault>
+        ensures takes { IfOk result (TakesSome bytes.now) }
+        ensures told { WritesTo None None bytes.now result }
+        ensures cause { HasCause self.old self.new result }
+        ensures counts { CountsFault self.old self.new result }
+    {
+        if bytes.is_empty() {
+            return Ok(0);
+        }
+        match self.stdout.write(bytes) {
+            Ok(count) if count > 0 => Ok(count),
+            _ => {
+                self.faults = self.faults.saturating_add(1);
+                Err(LinkFault::Failed)
+            }
+        }
+    }
+}

@@ -1,0 +1,173 @@
+//! TCP (RFC 9293) as a wire.
+
+ghost use Rattle.std.specs.Prelude.{◌≡◌, ◌≤◌};
+ghost use Rattle.std.specs.Io.{ReadsAtMost};
+ghost use Rattle.net_edge.specs.Counts.{next_count};
+
+use outside::{LinkFault, Wire, WireRead};
+use std::io::{self, ErrorKind, Read, Write};
+use std::marker::Model;
+use std::net::{Net, OpenStream, SocketAddr, TcpStream, ToSocketAddrs};
+use std::time::Duration;
+use world_model::Mark;
+use xdr_codec::Memory;
+
+/// How many seconds a dial to one address waits, and a write: as long as a reply is waited for.
+const LIMIT_SECS: u64 = 15;
+
+/// Connections over TCP to one host, one at a time. A contract sees the number of calls that failed or were silent.
+#[derive(Drop)]
+pub struct TcpWire<'a, N: Net> {
+    net: &'a N,
+    host: &'a str,
+    stream: Option<N::Stream>,
+    faults: u64,
+}
+
+impl<'a, N: Net> Model for TcpWire<'a, N> {
+    ghost use Rattle.std.specs.Prelude.{ℕ};
+
+    ghost Value = { ℕ };
+
+    ghost view = { λ w. w.faults };
+}
+
+impl<'a, N: Net> TcpWire<'a, N> {
+    /// A wire to the host of that name or address, not connected yet. A name is looked up at each dial.
+    pub fn new(net: &'a N, host: &'a str) -> TcpWire<'a, N>
+        ensures { result ≡ 0 }
+    {
+        TcpWire {
+            net,
+            host,
+            stream: None,
+            faults: 0,
+        }
+    }
+
+    /// Counts a call that failed or was silent, and gives its answer.
+    fn missed<T>(&mut self, answer: T) -> T
+        ensures counts { self.new ≡ next_count self.old }
+        ensures later { self.old ≤ self.new }
+        ensures answer { result ≡ answer }
+    {
+        self.faults = self.faults.saturating_add(1);
+        answer
+    }
+}
+
+impl<N: Net> Wire for TcpWire<'_, N> {
+    ghost use Rattle.std.specs.Prelude.{◌≡◌, ◌≤◌, ◌<◌, None, length, IfOk, IsOk};
+    ghost use Rattle.outside.specs.Causes.{HasCause};
+    ghost use Rattle.outside.specs.Sink.{TakesSome};
+    ghost use Rattle.outside.specs.Wire.{WireTells, GetsSome, IfGot, HasCauseRead, connected_as, wrote_as, read_as, marked_as};
+    ghost use Rattle.net_edge.specs.Counts.{CountsFault, CountsRead};
+
+    ghost told = { λ _. None };
+
+    ghost faults = { λ count. count };
+
+    /// Dials the host's addresses in turn, each for at most 15 seconds. A name that can't be looked up is a failure.
+    fn connect(&mut self, port: u16) -> Result<(), LinkFault>
+        ensures told { WireTells None None (connected_as port result) }
+        ensures cause { HasCause self.old self.new result }
+        ensures counts { CountsFault self.old self.new result }
+    {
+        self.stream = dial(self.net, self.host, port);
+        if self.stream.is_some() {
+            Ok(())
+        } else {
+            self.missed(Err(LinkFault::Failed))
+        }
+    }
+
+    /// Writes what the system takes within 15 seconds. Without a connection it is a failure.
+    fn write(&mut self, bytes: &[u8]) -> Result<usize, LinkFault>
+        ensures takes { IfOk result (TakesSome bytes.now) }
+        ensures told { WireTells None None (wrote_as bytes.now result) }
+        ensures cause { HasCause self.old self.new result }
+        ensures counts { CountsFault self.old self.new result }
+    {
+        if bytes.is_empty() {
+            return Ok(0);
+        }
+        if let Some(stream) = self.stream.as_mut() {
+            match stream.write(bytes) {
+                Ok(count) if count > 0 => return Ok(count),
+                _ => {}
+            }
+        }
+        self.missed(Err(LinkFault::Failed))
+    }
+
+    /// Reads what comes within the wait. An end of the stream is a failure, and so is a wait without a connection.
+    fn read(&mut self, wait_ms: u32, buf: &mut [u8]) -> WireRead
+        requires patient { 15000 ≤ wait_ms }
+        requires room { 0 < length buf.old }
+        ensures gets { IfGot result (GetsSome buf.new) }
+        ensures told { WireTells None None (read_as buf.new result) }
+        ensures cause { HasCauseRead self.old self.new result }
+        ensures counts { CountsRead self.old self.new result }
+    {
+        let Some(stream) = self.stream.as_mut() else {
+            return self.missed(WireRead::Failed);
+        };
+        match read_within(stream, wait_ms, buf) {
+            Ok(count) if count > 0 => WireRead::Got(count),
+            Err(error) if is_silence(error.kind()) => self.missed(WireRead::Silent),
+            _ => self.missed(WireRead::Failed),
+        }
+    }
+
+    /// Keeps nothing.
+    fn note(&mut self, mark: Mark) -> Result<(), Memory>
+        ensures told { WireTells None None (marked_as mark result) }
+        ensures cause { self.old ≤ self.new }
+        ensures same { self.new ≡ self.old }
+        ensures ok { IsOk result }
+    {
+        Ok(())
+    }
+}
+
+/// A connection to the first of the host's addresses that answers, if one does.
+fn dial<N: Net>(net: &N, host: &str, port: u16) -> Option<N::Stream> {
+    let addresses = (host, port).to_socket_addrs(net).ok()?;
+    for address in addresses {
+        if let Ok(stream) = open(net, address) {
+            return Some(stream);
+        }
+    }
+    None
+}
+
+/// A connection to that address. What is written goes out at once: a call waits for its reply, so there is nothing to
+/// wait for.
+fn open<N: Net>(net: &N, address: SocketAddr) -> io::Result<N::Stream> {
+    let limit = Duration::from_secs(LIMIT_SECS);
+    let stream = TcpStream::connect_timeout(net, &address, limit)?;
+    stream.set_nodelay(true)?;
+    stream.set_write_timeout(Some(limit))?;
+    Ok(stream)
+}
+
+/// Reads what comes within so many milliseconds; 0 is the end.
+fn read_within<S: Read + OpenStream>(
+    stream: &mut S,
+    wait_ms: u32,
+    buf: &mut [u8],
+) -> io::Result<usize>
+    ensures { ReadsAtMost result buf.new }
+{
+    let wait = Duration::from_millis(u64::from(wait_ms));
+    stream.set_read_timeout(Some(wait))?;
+    stream.read(buf)
+}
+
+/// Whether a read of that error got nothing in time. A process that was stopped meanwhile is interrupted.
+fn is_silence(kind: ErrorKind) -> bool {
+    matches!(
+        kind,
+        ErrorKind::WouldBlock | ErrorKind::TimedOut | ErrorKind::Interrupted
+    )
+}

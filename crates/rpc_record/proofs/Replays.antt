@@ -1,0 +1,166 @@
+-- How what a line tells grows.
+use Rattle.std.proofs.Common.{◌≡◌, ◌≤◌, ◌+◌, ◌-◌, drop, arith, ℕ, length, slice_set, Bool, true, false, List, [], ◌∷◌, ◌++◌, Option, Some, None, refl, sym, ap, ◌∙◌}
+use Rattle.std.proofs.lemmas.List.{length-append, drop-append-le}
+use Rattle.outside.specs.declared.wire.WireEntry.{WireEntry}
+use Rattle.outside.specs.declared.wire.WireEntry.TheVariants.{Connected, Wrote, Read, Noted, Missed}
+use Rattle.rpc_record.specs.declared.kept.Kept.{Kept}
+use Rattle.rpc_record.specs.declared.kept.Adds.{Adds}
+use Rattle.rpc_record.specs.declared.kept.Adds.TheVariants as added
+use Rattle.outside.specs.Wire.{WireCall, WireTells}
+use Rattle.rpc_record.specs.Records.{◌>>=◌, nth_record}
+use Rattle.rpc_record.specs.Stream.{Stream, begun, quietly, shows, delivers, sends, places, called_of, called, replays, one_if, calls_in, latest, now_of, AllPlaced, Goes, Called}
+
+abbrev with_more : List WireCall → Stream → Stream
+with_more more s = record s { calls = s.calls ++ more }
+
+delivers_more : (more : List WireCall) (r : Option (List ℕ)) (s : Stream) → delivers r (with_more more s) ≡ with_more more (delivers r s)
+delivers_more more None s = refl
+delivers_more more (Some rec) s = refl
+
+sends_more : (more : List WireCall) (r : Option (List ℕ)) (s : Stream) → sends r (with_more more s) ≡ with_more more (sends r s)
+sends_more more None s = refl
+sends_more more (Some rec) s = refl
+
+places_more : (more : List WireCall) (t : Adds) (s : Stream) → places t (with_more more s) ≡ with_more more (places t s)
+places_more more added.Nothing s = refl
+places_more more added.Failed s = refl
+places_more more added.Whole s = sends_more more (nth_record s.sent s.went) s
+places_more more (added.Part bytes) s = refl
+places_more more added.Delivered s = delivers_more more (nth_record s.taken s.came) s
+
+shows_more : (more : List WireCall) (own : WireEntry) (s : Stream) → shows own (with_more more s) ≡ with_more more (shows own s)
+shows_more more (Connected port) s = refl
+shows_more more (Wrote bytes) s = refl
+shows_more more (Read bytes) s = refl
+shows_more more (Noted mark) s = refl
+shows_more more Missed s = refl
+
+some_is : {A : Type 0} (x y : A) → Some x ≡ Some y → x ≡ y
+some_is x y e = cc
+
+called_of_more : (more cs : List WireCall) (s t : Stream) → s.calls ≡ cs → called_of cs s ≡ Some t → called_of (cs ++ more) (with_more more s) ≡ Some (with_more more t)
+called_of_more more [] s t at e = absurd cc
+called_of_more more (c ∷ cs) s t at e =
+    let is : shows c.did (quietly c.quiet (record s { calls = cs })) ≡ t = some_is _ _ e in
+    ap (λ (u : Stream). Some u) (shows_more more c.did (quietly c.quiet (record s { calls = cs })) ∙ ap (with_more more) is)
+
+called_more : (more : List WireCall) (b : Bool) (s t : Stream) → called b s ≡ Some t → called b (with_more more s) ≡ Some (with_more more t)
+called_more more false s t e = ap (λ (u : Stream). Some (with_more more u)) (some_is s t e)
+called_more more true s t e = called_of_more more s.calls s t refl e
+
+pub bind_some : {A B : Type 0} (r : Option A) (f : A → Option B) (y : B) → (r >>= f) ≡ Some y → (x : A) × (r ≡ Some x) × (f x ≡ Some y)
+bind_some (Some x) f y e = (x, refl, e)
+bind_some None f y e = absurd cc
+
+-- what was placed stays so when calls are added
+pub replays_more : (more : List WireCall) (ks : List Kept) (s t : Stream) → replays ks s ≡ Some t → replays ks (with_more more s) ≡ Some (with_more more t)
+replays_more more [] s t e = ap (λ (u : Stream). Some (with_more more u)) (some_is s t e)
+replays_more more (k ∷ ks) s t e =
+    let o = bind_some (called k.call s) (λ u. replays ks (places k.adds u)) t e in
+    rw (called_more more k.call s o.0 o.1, places_more more k.adds o.0) (replays_more more ks (places k.adds o.0) t o.2)
+
+pub replays_append : (ks js : List Kept) (s t : Stream) → replays ks s ≡ Some t → replays (ks ++ js) s ≡ replays js t
+replays_append [] js s t e = ap (replays js) (some_is s t e)
+replays_append (k ∷ ks) js s t e =
+    let o = bind_some (called k.call s) (λ u. replays ks (places k.adds u)) t e in
+    rw (o.1) (replays_append ks js (places k.adds o.0) t o.2)
+
+-- what a line is after one more place
+pub record Now (old new : Option (List WireCall)) (ks js : List Kept) (R : Stream → Stream → Type 0) : Type 0 where
+  pub placed : AllPlaced new js
+  pub goes : Goes (now_of old ks) (now_of new js) R
+
+goes_to : (r q : Option Stream) (s t : Stream) (R : Stream → Stream → Type 0) → r ≡ Some s → q ≡ Some t → R s t → Goes r q R
+goes_to r q s t R a b h = rw (a, b) h
+
+delivers_stay : (r : Option (List ℕ)) (s : Stream) → (delivers r s).calls ≡ s.calls
+delivers_stay None s = refl
+delivers_stay (Some rec) s = refl
+
+sends_stay : (r : Option (List ℕ)) (s : Stream) → (sends r s).calls ≡ s.calls
+sends_stay None s = refl
+sends_stay (Some rec) s = refl
+
+places_stay : (adds : Adds) (s : Stream) → (places adds s).calls ≡ s.calls
+places_stay added.Nothing s = refl
+places_stay added.Failed s = refl
+places_stay added.Whole s = sends_stay (nth_record s.sent s.went) s
+places_stay (added.Part bytes) s = refl
+places_stay added.Delivered s = delivers_stay (nth_record s.taken s.came) s
+
+shows_stay : (own : WireEntry) (s : Stream) → (shows own s).calls ≡ s.calls
+shows_stay (Connected port) s = refl
+shows_stay (Wrote bytes) s = refl
+shows_stay (Read bytes) s = refl
+shows_stay (Noted mark) s = refl
+shows_stay Missed s = refl
+
+calls_in-append : (ks js : List Kept) → calls_in (ks ++ js) ≡ calls_in ks + calls_in js
+calls_in-append [] js = omega arith
+calls_in-append (k ∷ ks) js = omega (arith, calls_in-append ks js)
+
+-- a place without a call
+no_more : (ks : List Kept) (adds : Adds) → calls_in (ks ++ record { call = false; adds = adds } ∷ []) ≡ calls_in ks
+no_more ks adds = omega (arith, calls_in-append ks (record { call = false; adds = adds } ∷ []))
+
+one_more : (ks : List Kept) (adds : Adds) → calls_in (ks ++ record { call = true; adds = adds } ∷ []) ≡ calls_in ks + 1
+one_more ks adds = omega (arith, calls_in-append ks (record { call = true; adds = adds } ∷ []))
+
+latest_more : (n : ℕ) (calls : List WireCall) (c : WireCall) → n ≤ length calls → latest (n + 1) (calls ++ c ∷ []) ≡ latest n calls ++ c ∷ []
+latest_more n calls c le =
+    let k : length (calls ++ c ∷ []) - (n + 1) ≡ length calls - n = omega (arith, length-append calls (c ∷ []), le) in
+    ap (λ (i : ℕ). drop i (calls ++ c ∷ [])) k ∙ drop-append-le (length calls - n) calls (c ∷ []) (omega arith)
+
+pub place_now : (old : Option (List WireCall)) (ks : List Kept) (adds : Adds) → AllPlaced old ks
+    → Now old old ks (ks ++ record { call = false; adds = adds } ∷ []) (λ s t. t ≡ places adds s)
+place_now None ks adds w = record { placed = tt; goes = refl }
+place_now (Some calls) ks adds w =
+    let k : Kept = record { call = false; adds = adds } in
+    let is : replays (ks ++ k ∷ []) (begun (latest (calls_in (ks ++ k ∷ [])) calls)) ≡ Some (places adds w.now) =
+    ap (λ (n : ℕ). replays (ks ++ k ∷ []) (begun (latest n calls))) (no_more ks adds) ∙ replays_append ks (k ∷ []) (begun (latest (calls_in ks) calls)) w.now w.is in
+    record {
+      placed = record { enough = omega (arith, no_more ks adds, w.enough); now = places adds w.now; is = is; all = places_stay adds w.now ∙ w.all };
+      goes = goes_to _ _ w.now (places adds w.now) (λ s t. t ≡ places adds s) w.is is refl;
+    }
+
+last_call : (cs : List WireCall) (c : WireCall) (adds : Adds) (u : Stream) → cs ≡ []
+    → (called_of (cs ++ c ∷ []) u >>= λ t. Some (places adds t)) ≡ Some (places adds (shows c.did (quietly c.quiet (record u { calls = [] }))))
+last_call [] c adds u e = refl
+last_call (x ∷ xs) c adds u e = absurd cc
+
+no_calls : (s : Stream) → s.calls ≡ [] → record s { calls = [] } ≡ s
+no_calls s e = ap (λ (cs : List WireCall). record s { calls = cs }) (sym e)
+
+pub call_now : (old new : Option (List WireCall)) (ks : List Kept) (own : WireEntry) (adds : Adds) → AllPlaced old ks → WireTells old new (Some own)
+    → Now old new ks (ks ++ record { call = true; adds = adds } ∷ []) (Called own adds)
+call_now None None ks own adds w e = record { placed = tt; goes = refl }
+call_now None (Some new) ks own adds w e = absurd cc
+call_now (Some calls) None ks own adds w e = absurd e
+call_now (Some calls) (Some new) ks own adds w a =
+    let c : WireCall = record { quiet = a.quiet; did = own } in
+    let k : Kept = record { call = true; adds = adds } in
+    let n : ℕ = calls_in ks in
+    let first = replays_more (c ∷ []) ks (begun (latest n calls)) w.now w.is in
+    let s : Stream = record w.now { calls = [] } in
+    let t : Stream = places adds (shows own (quietly a.quiet s)) in
+    let more : latest (calls_in (ks ++ k ∷ [])) new ≡ latest n calls ++ c ∷ [] =
+    ap (λ (m : ℕ). latest m new) (one_more ks adds) ∙ ap (latest (n + 1)) a.grown ∙ latest_more n calls c w.enough in
+    let is : replays (ks ++ k ∷ []) (begun (latest (calls_in (ks ++ k ∷ [])) new)) ≡ Some t =
+    ap (λ (cs : List WireCall). replays (ks ++ k ∷ []) (begun cs)) more
+    ∙ replays_append ks (k ∷ []) (begun (latest n calls ++ c ∷ [])) (with_more (c ∷ []) w.now) first
+    ∙ last_call w.now.calls c adds (with_more (c ∷ []) w.now) w.all in
+    record {
+      placed = record { enough = omega (arith, one_more ks adds, w.enough, ap length a.grown, length-append calls (c ∷ [])); now = t; is = is; all = places_stay adds (shows own (quietly a.quiet s)) ∙ shows_stay own (quietly a.quiet s) };
+      goes = goes_to _ _ w.now t (Called own adds) w.is is (record { quiet = a.quiet; unseen = a.unseen; is = ap (λ (u : Stream). places adds (shows own (quietly a.quiet u))) (no_calls w.now w.all) });
+    }
+
+pub none_now : (old new : Option (List WireCall)) (ks : List Kept) → AllPlaced old ks → WireTells old new None
+    → Now old new ks (ks ++ record { call = false; adds = added.Nothing } ∷ []) (λ s t. t ≡ s)
+none_now None None ks w e = record { placed = tt; goes = refl }
+none_now None (Some new) ks w e = absurd cc
+none_now (Some calls) None ks w e = absurd e
+none_now (Some calls) (Some new) ks w e = rw e (place_now (Some calls) ks added.Nothing w)
+
+pub set_last : (ks : List Kept) (j k : Kept) → slice_set (ks ++ j ∷ []) (length ks) k ≡ ks ++ k ∷ []
+set_last [] j k = refl
+set_last (x ∷ ks) j k = ap (λ (t : List Kept). x ∷ t) (set_last ks j k)

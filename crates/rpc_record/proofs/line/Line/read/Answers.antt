@@ -1,0 +1,33 @@
+use Rattle.std.proofs.Common.{false}
+use Rattle.rpc_record.specs.declared.kept.Kept.{Kept}
+use Rattle.rpc_record.specs.declared.kept.Adds.TheVariants as added
+use Rattle.rpc_record.proofs.Replays.{call_now, none_now}
+use Rattle.rpc_record.proofs.line.Line.read.Goals as goal
+use Rattle.rpc_record.proofs.line.Line.read.Goals.{in-Got, in-Silent, in-Failed}
+
+abbrev nothing : Kept
+nothing = record { call = false; adds = added.Nothing }
+
+pub invariant_of-self-in-Memory : goal.invariant_of-self-in-Memory
+invariant_of-self-in-Memory g c = rw (c.if-not-room.ensures.yes) (none_now _ _ c.self.inside.kept.items c.self.invariant c.in-Memory.ensures.told).placed
+
+pub returns-in-Memory-clause-now : goal.returns-in-Memory-clause-now
+returns-in-Memory-clause-now g c = rw (← c.self.view_is, c.if-not-room.ensures.yes) (none_now _ _ c.self.inside.kept.items c.self.invariant c.in-Memory.ensures.told).goes
+
+pub invariant_of-self-2 : goal.invariant_of-self-2
+invariant_of-self-2 g c =
+    let is = c.put.ensures c.self.inside.kept.items nothing c.if-not-room.ensures.yes in
+    elim c.match-got.branch [
+      | in-Got w ↦ rw (is, w.adds-is) (call_now _ _ c.self.inside.kept.items _ added.Nothing c.self.invariant w.in-Got.ensures.told).placed
+      | in-Silent w ↦ rw (is, w.adds-is) (call_now _ _ c.self.inside.kept.items _ added.Failed c.self.invariant w.in-Silent.ensures.told).placed
+      | in-Failed w ↦ rw (is, w.adds-is) (call_now _ _ c.self.inside.kept.items _ added.Failed c.self.invariant w.in-Failed.ensures.told).placed
+    ]
+
+pub returns-clause-now : goal.returns-clause-now
+returns-clause-now g c =
+    let is = c.put.ensures c.self.inside.kept.items nothing c.if-not-room.ensures.yes in
+    elim c.match-got.branch [
+      | in-Got w ↦ rw (← c.self.view_is, is, w.adds-is, w.in-Got.is) (call_now _ _ c.self.inside.kept.items _ added.Nothing c.self.invariant w.in-Got.ensures.told).goes
+      | in-Silent w ↦ rw (← c.self.view_is, is, w.adds-is, w.in-Silent.is) (call_now _ _ c.self.inside.kept.items _ added.Failed c.self.invariant w.in-Silent.ensures.told).goes
+      | in-Failed w ↦ rw (← c.self.view_is, is, w.adds-is, w.in-Failed.is) (call_now _ _ c.self.inside.kept.items _ added.Failed c.self.invariant w.in-Failed.ensures.told).goes
+    ]

@@ -1,0 +1,34 @@
+use Rattle.std.proofs.Common.{false}
+use Rattle.rpc_record.specs.declared.kept.Kept.{Kept}
+use Rattle.rpc_record.specs.declared.kept.Adds.TheVariants as added
+use Rattle.rpc_record.proofs.Replays.{call_now, none_now}
+use Rattle.rpc_record.proofs.line.Line.write.Goals as goal
+
+abbrev nothing : Kept
+nothing = record { call = false; adds = added.Nothing }
+
+pub invariant_of-self-in-Ok : goal.invariant_of-self-in-Ok
+invariant_of-self-in-Ok g c =
+    let is = c.put.ensures c.self.inside.kept.items nothing c.if-not-room.ensures.yes in
+    rw (is) (call_now _ _ c.self.inside.kept.items _ c.after_write-adds.result c.self.invariant c.in-Ok.ensures.told).placed
+
+pub invariant_of-self-in-Err-Failed : goal.invariant_of-self-in-Err-Failed
+invariant_of-self-in-Err-Failed g c =
+    let is = c.put-in-Err-Failed.ensures c.self.inside.kept.items nothing c.if-not-room.ensures.yes in
+    rw (is) (call_now _ _ c.self.inside.kept.items _ (added.Part c.take_bytes.result) c.self.invariant (rw c.in-Err-Failed.field-0-is at c.in-Err-Failed.ensures.told)).placed
+
+pub invariant_of-self-in-Err-Memory : goal.invariant_of-self-in-Err-Memory
+invariant_of-self-in-Err-Memory g c = rw (c.if-not-room.ensures.yes) (none_now _ _ c.self.inside.kept.items c.self.invariant (rw c.in-Err-Memory.field-0-is at c.in-Err-Memory.ensures.told)).placed
+
+pub returns-in-Ok-clause-now : goal.returns-in-Ok-clause-now
+returns-in-Ok-clause-now g c =
+    let is = c.put.ensures c.self.inside.kept.items nothing c.if-not-room.ensures.yes in
+    rw (← c.self.view_is, is, ← c.after_write-adds.ensures) (call_now _ _ c.self.inside.kept.items _ c.after_write-adds.result c.self.invariant c.in-Ok.ensures.told).goes
+
+pub returns-in-Err-Failed-clause-now : goal.returns-in-Err-Failed-clause-now
+returns-in-Err-Failed-clause-now g c =
+    let is = c.put-in-Err-Failed.ensures c.self.inside.kept.items nothing c.if-not-room.ensures.yes in
+    rw (← c.self.view_is, is, ← c.take_bytes.ensures) (call_now _ _ c.self.inside.kept.items _ (added.Part c.take_bytes.result) c.self.invariant (rw c.in-Err-Failed.field-0-is at c.in-Err-Failed.ensures.told)).goes
+
+pub returns-in-Err-Memory-clause-now : goal.returns-in-Err-Memory-clause-now
+returns-in-Err-Memory-clause-now g c = rw (← c.self.view_is, c.if-not-room.ensures.yes) (none_now _ _ c.self.inside.kept.items c.self.invariant (rw c.in-Err-Memory.field-0-is at c.in-Err-Memory.ensures.told)).goes

@@ -1,0 +1,5 @@
+pub mod Records
+pub mod Limits
+pub mod Gather
+pub mod Stream
+pub mod Shown

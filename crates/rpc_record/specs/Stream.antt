@@ -1,0 +1,148 @@
+-- The history of a link, from the calls of its wire and what the link placed behind them.
+use Rattle.std.specs.Prelude.{◌≡◌, ◌≤◌, ◌+◌, ◌-◌, ℕ, suc, List, [], ◌∷◌, ◌++◌, drop, length, Bool, true, false, Option, Some, None, Result, Ok, Err, ◌==◌, if◌then◌else◌}
+use Rattle.world_model.specs.declared.entry.Entry.{Entry}
+use Rattle.world_model.specs.declared.entry.Entry.TheVariants as entries
+use Rattle.world_model.specs.Entries.{ours}
+use Rattle.world_model.specs.Told.{Told}
+use Rattle.outside.specs.declared.wire.WireEntry.{WireEntry}
+use Rattle.outside.specs.declared.wire.WireEntry.TheVariants.{Connected, Wrote, Read, Noted, Missed}
+use Rattle.outside.specs.declared.wire.WireRead.{WireRead}
+use Rattle.outside.specs.declared.wire.WireRead.TheVariants as reads
+use Rattle.outside.specs.declared.link.LinkFault.{LinkFault}
+use Rattle.outside.specs.declared.link.LinkFault.TheVariants as faults
+use Rattle.outside.specs.Link.{entry_of}
+use Rattle.outside.specs.Wire.{WireCall}
+use Rattle.rpc_record.specs.declared.kept.Kept.{Kept}
+use Rattle.rpc_record.specs.declared.kept.Adds.{Adds}
+use Rattle.rpc_record.specs.declared.kept.Adds.TheVariants as added
+use Rattle.rpc_record.specs.Records.{◌>>=◌, nth_record}
+
+-- What is known at a moment: the calls of the wire that have no place yet, the history so far, and since the latest
+-- connection the bytes that were read, how many of their records were delivered, the bytes that were written, and how
+-- many of their records were sent.
+pub record Stream : Type 0 where
+  pub calls : List WireCall
+  pub entries : List Entry
+  pub came : List ℕ
+  pub taken : ℕ
+  pub went : List ℕ
+  pub sent : ℕ
+
+abbrev pub begun : List WireCall → Stream
+begun calls = record { calls = calls; entries = []; came = []; taken = 0; went = []; sent = 0 }
+
+abbrev pub quietly : List Entry → Stream → Stream
+quietly quiet s = record s { entries = s.entries ++ quiet }
+
+-- what the own entry of a call of the wire shows
+abbrev pub shows : WireEntry → Stream → Stream
+shows (Connected port) s = record { calls = s.calls; entries = s.entries ++ entries.Dialed port ∷ []; came = []; taken = 0; went = []; sent = 0 }
+shows (Wrote bytes) s = record s { went = s.went ++ bytes }
+shows (Read bytes) s = record s { came = s.came ++ bytes }
+shows (Noted mark) s = record s { entries = s.entries ++ entry_of mark ∷ [] }
+shows Missed s = s
+
+abbrev pub delivers : Option (List ℕ) → Stream → Stream
+delivers None s = s
+delivers (Some rec) s = record s { entries = s.entries ++ entries.Delivered rec ∷ []; taken = suc s.taken }
+
+abbrev pub sends : Option (List ℕ) → Stream → Stream
+sends None s = s
+sends (Some rec) s = record s { entries = s.entries ++ entries.Sent rec ∷ []; sent = suc s.sent }
+
+-- What the link placed. A record that is delivered is the next one of the bytes that were read since the latest
+-- connection, and a record that was sent whole is the next one of those that were written.
+abbrev pub places : Adds → Stream → Stream
+places added.Nothing s = s
+places added.Failed s = record s { entries = s.entries ++ entries.Failed ∷ [] }
+places added.Whole s = sends (nth_record s.sent s.went) s
+places (added.Part bytes) s = record s { entries = s.entries ++ entries.Sent bytes ∷ entries.Failed ∷ [] }
+places added.Delivered s = delivers (nth_record s.taken s.came) s
+
+abbrev pub called_of : List WireCall → Stream → Option Stream
+called_of [] s = None
+called_of (c ∷ cs) s = Some (shows c.did (quietly c.quiet (record s { calls = cs })))
+
+abbrev pub called : Bool → Stream → Option Stream
+called false s = Some s
+called true s = called_of s.calls s
+
+-- the kept list, played over the calls
+abbrev pub replays : List Kept → Stream → Option Stream
+replays [] s = Some s
+replays (k ∷ ks) s = called k.call s >>= λ t. replays ks (places k.adds t)
+
+abbrev pub one_if : Bool → ℕ
+one_if true = 1
+one_if false = 0
+
+-- how many of the kept places are those of calls
+abbrev pub calls_in : List Kept → ℕ
+calls_in [] = 0
+calls_in (k ∷ ks) = one_if k.call + calls_in ks
+
+-- the latest calls of a wire, so many; what it did before it came to the link is no part of the link's history
+abbrev pub latest : ℕ → List WireCall → List WireCall
+latest n calls = drop (length calls - n) calls
+
+abbrev pub now_of : Option (List WireCall) → List Kept → Option Stream
+now_of None ks = None
+now_of (Some calls) ks = replays ks (begun (latest (calls_in ks) calls))
+
+-- each call of the wire since then has its place, and no place is without a call
+pub record Placed (calls : List WireCall) (ks : List Kept) : Type 0 where
+  pub enough : calls_in ks ≤ length calls
+  pub now : Stream
+  pub is : replays ks (begun (latest (calls_in ks) calls)) ≡ Some now
+  pub all : now.calls ≡ []
+
+abbrev pub AllPlaced : Option (List WireCall) → List Kept → Type 0
+AllPlaced None ks = Unit {0}
+AllPlaced (Some calls) ks = Placed calls ks
+
+-- what a line is: where its history stands, and the wire's count
+pub record Along : Type 0 where
+  pub now : Option Stream
+  pub faults : ℕ
+
+-- a relation of two streams, where they are told
+abbrev pub Goes : Option Stream → Option Stream → (Stream → Stream → Type 0) → Type 0
+Goes None new R = new ≡ None
+Goes (Some s) None R = ⊥
+Goes (Some s) (Some t) R = R s t
+
+-- After s comes t by a call of the wire, perhaps after entries of the server.
+pub record Called (did : WireEntry) (places_then : Adds) (s t : Stream) : Type 0 where
+  pub quiet : List Entry
+  pub unseen : ours quiet ≡ []
+  pub is : t ≡ places places_then (shows did (quietly quiet s))
+
+-- what a call of a line did, from what the wire's call did and what was then placed
+abbrev pub Did : Option WireEntry → Adds → Stream → Stream → Type 0
+Did None a s t = t ≡ s
+Did (Some did) a s t = Called did a s t
+
+-- after a write: the record where its last bytes were taken, and the part of it where the wire failed
+abbrev pub if_wrote : ℕ → List ℕ → Result ℕ LinkFault → Adds
+if_wrote len part (Ok n) = if n == len then added.Whole else added.Nothing
+if_wrote len part (Err faults.Failed) = added.Part part
+if_wrote len part (Err faults.Memory) = added.Nothing
+
+abbrev pub if_dialed : {T : Type 0} → Result T LinkFault → Adds
+if_dialed (Ok x) = added.Nothing
+if_dialed (Err faults.Failed) = added.Failed
+if_dialed (Err faults.Memory) = added.Nothing
+
+abbrev pub if_missed : WireRead → Adds
+if_missed (reads.Got n) = added.Nothing
+if_missed reads.Silent = added.Failed
+if_missed reads.Failed = added.Failed
+if_missed reads.Memory = added.Nothing
+
+abbrev pub told_of : Option Stream → Option Told
+told_of None = None
+told_of (Some s) = Some (record { entries = s.entries })
+
+abbrev pub IsBegun : Option Stream → Type 0
+IsBegun None = Unit {0}
+IsBegun (Some s) = s ≡ begun []

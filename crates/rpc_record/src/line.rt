@@ -1,0 +1,198 @@
+//! A wire, with what the link placed behind each of its calls.
+
+ghost use Rattle.std.specs.Prelude.{◌≡◌, ◌<◌, ◌≤◌, ◌∷◌, ◌++◌, [], List, ℕ, length, IfOk, false, true, ◌==◌, if◌then◌else◌};
+ghost use Rattle.std.specs.Bool.{OnTrue, OnFalse};
+ghost use Rattle.outside.specs.Causes.{HasCause};
+ghost use Rattle.outside.specs.Sink.{TakesSome};
+ghost use Rattle.outside.specs.Wire.{connected_as, wrote_as, read_as, marked_as, IfGot, GetsSome, HasCauseRead};
+ghost use Rattle.rpc_record.specs.declared.kept.Kept.{Kept};
+ghost use Rattle.rpc_record.specs.declared.kept.Adds.TheVariants as added;
+ghost use Rattle.rpc_record.specs.Stream.{Goes, Did, places, if_wrote, if_missed, if_dialed, IsBegun};
+
+use crate::kept::{Adds, Kept};
+use outside::{LinkFault, Wire, WireRead};
+use std::alloc::Global;
+use std::marker::Model;
+use std::mem;
+use world_model::Mark;
+use xdr_codec::{Blob, Memory};
+
+/// A wire, with what is placed behind its calls. Each call keeps its place before the wire is called, so that nothing
+/// that happened is left without one for want of memory.
+#[derive(Drop)]
+pub(crate) struct Line<W: Wire> {
+    alloc: Global,
+    wire: W,
+    kept: Vec<Kept>,
+}
+
+impl<W: Wire> Model for Line<W> {
+    ghost use Rattle.rpc_record.specs.Stream.{Along, now_of, AllPlaced};
+
+    ghost Value = { Along };
+
+    ghost view = { λ s. record { now = now_of (W.told s.wire) s.kept.items; faults = W.faults s.wire } };
+
+    ghost invariant = { λ s. AllPlaced (W.told s.wire) s.kept.items };
+}
+
+/// Puts k in place of the last.
+fn put(kept: &mut Vec<Kept>, k: Kept)
+    requires { 0 < length kept.old.items }
+    ensures { (ks : List Kept) (j : Kept) → kept.old.items ≡ ks ++ j ∷ [] → kept.new.items ≡ ks ++ k ∷ [] }
+{
+    let at = kept.len() - 1;
+    kept[at] = k;
+}
+
+/// Keeps a place for what comes next. After want of memory nothing is changed, and the answer is false.
+fn room(kept: &mut Vec<Kept>) -> bool
+    ensures yes { OnTrue result (kept.new.items ≡ kept.old.items ++ record { call = false; adds = added.Nothing } ∷ []) }
+    ensures no { OnFalse result (kept.new.items ≡ kept.old.items) }
+{
+    let nothing = Kept {
+        call: false,
+        adds: Adds::Nothing,
+    };
+    kept.push(nothing).is_ok()
+}
+
+/// What is placed after a write that took n bytes of len.
+fn after_write(n: usize, len: usize) -> Adds
+    ensures { result ≡ (if n == len then added.Whole else added.Nothing) }
+{
+    if n == len { Adds::Whole } else { Adds::Nothing }
+}
+
+/// Takes the bytes out, and leaves none.
+fn take_bytes(alloc: Global, from: &mut Blob) -> Blob
+    ensures { result ≡ from.old }
+{
+    mem::replace(from, Blob::of(Vec::new(alloc)))
+}
+
+impl<W: Wire + Drop> Line<W> {
+    /// A line over a wire. What the wire did before is no part of it.
+    #[tactic(auto, using(crate::proofs::Begun::fresh_placed, crate::proofs::Begun::fresh_begun))]
+    pub(crate) fn new(alloc: Global, wire: W) -> Line<W>
+        ensures begun { IsBegun result.now }
+        ensures faults { result.faults ≡ W.faults wire }
+    {
+        Line {
+            alloc,
+            wire,
+            kept: Vec::new(alloc),
+        }
+    }
+
+    /// The wire.
+    pub(crate) fn into_wire(self) -> W
+        ensures { W.faults result ≡ self.faults }
+    {
+        self.wire
+    }
+
+    /// Places an entry after all that was done. After want of memory nothing is changed, and the answer is false.
+    pub(crate) fn place(&mut self, adds: Adds) -> bool
+        ensures yes { OnTrue result (Goes self.old.now self.new.now (λ s t. t ≡ places adds s)) }
+        ensures no { OnFalse result (self.new.now ≡ self.old.now) }
+        ensures faults { self.new.faults ≡ self.old.faults }
+    {
+        if !room(&mut self.kept) {
+            return false;
+        }
+        put(&mut self.kept, Kept { call: false, adds });
+        true
+    }
+
+    /// Waits for bytes; where none came, that it failed is placed.
+    pub(crate) fn read(&mut self, wait_ms: u32, buf: &mut [u8]) -> WireRead
+        requires patient { 15000 ≤ wait_ms }
+        requires room { 0 < length buf.old }
+        ensures now { Goes self.old.now self.new.now (Did (read_as buf.new result) (if_missed result)) }
+        ensures gets { IfGot result (GetsSome buf.new) }
+        ensures cause { HasCauseRead self.old.faults self.new.faults result }
+    {
+        if !room(&mut self.kept) {
+            return WireRead::Memory;
+        }
+        let got = self.wire.read(wait_ms, buf);
+        let adds = match got {
+            WireRead::Got(_) => Adds::Nothing,
+            WireRead::Silent => Adds::Failed,
+            WireRead::Failed => Adds::Failed,
+            WireRead::Memory => return WireRead::Memory,
+        };
+        put(&mut self.kept, Kept { call: true, adds });
+        got
+    }
+
+    /// Writes bytes, the last ones of a record. Where the wire takes them all, the record is placed; where it fails, the
+    /// record is one that was not written whole, and its bytes are taken out of part.
+    pub(crate) fn write(&mut self, bytes: &[u8], part: &mut Blob) -> Result<usize, LinkFault>
+        ensures now { Goes self.old.now self.new.now (Did (wrote_as bytes.now result) (if_wrote (length bytes.now) part.old result)) }
+        ensures takes { IfOk result (TakesSome bytes.now) }
+        ensures part { IfOk result (λ n. part.new ≡ part.old) }
+        ensures cause { HasCause self.old.faults self.new.faults result }
+    {
+        if !room(&mut self.kept) {
+            return Err(LinkFault::Memory);
+        }
+        match self.wire.write(bytes) {
+            Ok(n) => {
+                let adds = after_write(n, bytes.len());
+                put(&mut self.kept, Kept { call: true, adds });
+                Ok(n)
+            }
+            Err(LinkFault::Failed) => {
+                let adds = Adds::Part {
+                    bytes: take_bytes(self.alloc, part),
+                };
+                put(&mut self.kept, Kept { call: true, adds });
+                Err(LinkFault::Failed)
+            }
+            Err(LinkFault::Memory) => Err(LinkFault::Memory),
+        }
+    }
+
+    /// Makes a connection in place of the one before; where that fails, it is placed.
+    pub(crate) fn connect(&mut self, port: u16) -> Result<(), LinkFault>
+        ensures now { Goes self.old.now self.new.now (Did (connected_as port result) (if_dialed result)) }
+        ensures cause { HasCause self.old.faults self.new.faults result }
+    {
+        if !room(&mut self.kept) {
+            return Err(LinkFault::Memory);
+        }
+        match self.wire.connect(port) {
+            Ok(()) => {
+                let adds = Adds::Nothing;
+                put(&mut self.kept, Kept { call: true, adds });
+                Ok(())
+            }
+            Err(LinkFault::Failed) => {
+                let adds = Adds::Failed;
+                put(&mut self.kept, Kept { call: true, adds });
+                Err(LinkFault::Failed)
+            }
+            Err(LinkFault::Memory) => Err(LinkFault::Memory),
+        }
+    }
+
+    /// Notes a mark.
+    pub(crate) fn note(&mut self, mark: Mark) -> Result<(), Memory>
+        ensures now { Goes self.old.now self.new.now (Did (marked_as mark result) added.Nothing) }
+        ensures cause { self.old.faults ≤ self.new.faults }
+    {
+        if !room(&mut self.kept) {
+            return Err(Memory);
+        }
+        match self.wire.note(mark) {
+            Ok(()) => {
+                let adds = Adds::Nothing;
+                put(&mut self.kept, Kept { call: true, adds });
+                Ok(())
+            }
+            Err(_) => Err(Memory),
+        }
+    }
+}

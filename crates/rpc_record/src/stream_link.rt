@@ -1,0 +1,260 @@
+//! A link over a wire.
+
+ghost use Rattle.std.specs.Prelude.{◌≡◌, ◌≤◌, ◌<◌, ◌+◌, ◌∷◌, [], ℕ, List};
+ghost use Rattle.world_model.specs.Told.{Tells};
+ghost use Rattle.outside.specs.Link.{sent_as, received_as, dialed_as, noted_as};
+ghost use Rattle.outside.specs.Causes.{HasCause, HasCauseReceived};
+ghost use Rattle.rpc_record.specs.declared.gather.Phase.TheVariants as phases;
+ghost use Rattle.rpc_record.specs.declared.sending.Sending.TheVariants as sendings;
+ghost use Rattle.rpc_record.specs.Stream.{Goes, told_of, IsBegun};
+ghost use Rattle.rpc_record.specs.Shown.{Waits, Turned, Turns, GoesOn, Sends, left_by};
+
+use crate::gather::Phase;
+use crate::inbox::Inbox;
+use crate::kept::Adds;
+use crate::line::Line;
+use crate::sending::{Sending, framed};
+use outside::{Link, LinkFault, Received, Wire, WireRead};
+use std::alloc::Global;
+use std::marker::Model;
+use world_model::Mark;
+use xdr_codec::{Blob, Memory};
+
+/// The most turns of a wait: a record within the limits has no more bytes with its headers, and each turn that goes on
+/// brings one at least.
+const MOST_TURNS: u32 = 147_461;
+
+/// A link over a wire: records on a stream of bytes, each a list of fragments. It sends a record as one fragment, and
+/// receives records of up to 131,072 bytes in up to 4,096 fragments, however the bytes are cut.
+#[derive(Drop)]
+pub struct StreamLink<W: Wire> {
+    alloc: Global,
+    line: Line<W>,
+    inbox: Inbox,
+    sending: Sending,
+    faults: u64,
+}
+
+impl<W: Wire> Model for StreamLink<W> {
+    ghost use Rattle.rpc_record.specs.Shown.{Shown, Follows, partly};
+
+    ghost Value = { Shown };
+
+    ghost view = { λ s. record { now = s.line.now; wire = s.line.faults; own = s.faults; sending = s.sending; phase = s.inbox.gather.phase } };
+
+    ghost invariant = { λ s. Follows s.line.now s.inbox (partly s.sending) };
+}
+
+/// What a connection is good for after a sending that failed, by how many bytes of the record were taken.
+fn after(at: usize, fault: LinkFault) -> Sending
+    ensures { result ≡ left_by at fault }
+{
+    if at == 0 {
+        return Sending::Fine;
+    }
+    match fault {
+        LinkFault::Failed => Sending::Broken,
+        LinkFault::Memory => Sending::Starved,
+    }
+}
+
+impl<W: Wire + Drop> StreamLink<W> {
+    /// A link over a wire, with an empty history: what the wire did before is no part of it.
+    #[tactic(auto, using(crate::proofs::Following::begun_follows))]
+    pub fn new(alloc: Global, wire: W) -> StreamLink<W>
+        ensures begun { IsBegun result.now }
+        ensures faults { result.wire + result.own ≡ W.faults wire }
+        ensures sending { result.sending ≡ sendings.Fine }
+    {
+        StreamLink {
+            alloc,
+            line: Line::new(alloc, wire),
+            inbox: Inbox::new(alloc),
+            sending: Sending::Fine,
+            faults: 0,
+        }
+    }
+
+    /// The wire.
+    pub fn into_wire(self) -> W
+        ensures { W.faults result ≡ self.wire }
+    {
+        self.line.into_wire()
+    }
+
+    /// Delivers the record that ended.
+    fn deliver(&mut self, rec: &mut Vec<u8>) -> Received
+        requires { self.old.phase ≡ phases.Whole }
+        ensures { Turned self.old self.new rec.new.items result }
+    {
+        if !self.line.place(Adds::Delivered) {
+            return Received::Memory;
+        }
+        self.inbox.hand_out(rec);
+        Received::Whole
+    }
+
+    /// Refuses a record that is past the limits.
+    fn refuse_long(&mut self) -> Received
+        requires { self.old.phase ≡ phases.Long }
+        ensures { (rec : List ℕ) → Turned self.old self.new rec result }
+    {
+        if !self.line.place(Adds::Failed) {
+            return Received::Memory;
+        }
+        self.faults = self.faults.saturating_add(1);
+        Received::Failed
+    }
+
+    /// One turn of a wait: it works what came into the record, and ends with it or waits for bytes. None where bytes came.
+    fn turn(&mut self, wait_ms: u32, rec: &mut Vec<u8>) -> Option<Received>
+        requires { 15000 ≤ wait_ms }
+        ensures { Turns self.old self.new rec.new.items result }
+    {
+        let Ok(()) = self.inbox.work() else {
+            return Some(Received::Memory);
+        };
+        match self.inbox.phase() {
+            Phase::Whole => Some(self.deliver(rec)),
+            Phase::Long => Some(self.refuse_long()),
+            Phase::Header => self.inbox.fill(&mut self.line, wait_ms),
+            Phase::Body { left: _, more: _ } => self.inbox.fill(&mut self.line, wait_ms),
+        }
+    }
+
+    /// Waits for a record.
+    #[tactic(auto, using(crate::proofs::Turning::turned_on, crate::proofs::Turning::goes_on_then, crate::proofs::Turning::goes_on_same, crate::proofs::Turning::ended_on))]
+    fn wait(&mut self, wait_ms: u32, rec: &mut Vec<u8>) -> Received
+        requires { 15000 ≤ wait_ms }
+        ensures { Turned self.old self.new rec.new.items result }
+    {
+        let mut turns = 0;
+        while turns < MOST_TURNS {
+            match self.turn(wait_ms, rec) {
+                Some(came) => return came,
+                None => turns += 1,
+            }
+        }
+        Received::Memory
+    }
+
+    /// Sends a record on a connection on which all before it went out whole or not at all.
+    fn send_fine(&mut self, rec: &[u8]) -> Result<(), LinkFault>
+        requires { self.old.sending ≡ sendings.Fine }
+        ensures told { Tells (told_of self.old.now) (told_of self.new.now) (sent_as rec.now result) }
+        ensures sends { Sends self.old self.new rec.now result }
+    {
+        let Ok(text) = framed(self.alloc, rec) else {
+            return Err(LinkFault::Memory);
+        };
+        let Ok(mut part) = Blob::copy(self.alloc, rec) else {
+            return Err(LinkFault::Memory);
+        };
+        let mut at = 0;
+        while at < text.len() {
+            let (_, rest) = text.as_slice().split_at(at);
+            match self.line.write(rest, &mut part) {
+                Ok(n) => {
+                    if n == rest.len() {
+                        return Ok(());
+                    }
+                    at += n;
+                }
+                Err(LinkFault::Failed) => {
+                    self.sending = after(at, LinkFault::Failed);
+                    return Err(LinkFault::Failed);
+                }
+                Err(LinkFault::Memory) => {
+                    self.sending = after(at, LinkFault::Memory);
+                    return Err(LinkFault::Memory);
+                }
+            }
+        }
+        unreachable!()
+    }
+
+    /// Refuses a record on a connection on which another went out in part.
+    fn refuse_send(&mut self, rec: &[u8]) -> Result<(), LinkFault>
+        requires { self.old.sending ≡ sendings.Broken }
+        ensures told { Tells (told_of self.old.now) (told_of self.new.now) (sent_as rec.now result) }
+        ensures sends { Sends self.old self.new rec.now result }
+    {
+        let Ok(bytes) = Blob::copy(self.alloc, rec) else {
+            return Err(LinkFault::Memory);
+        };
+        if !self.line.place(Adds::Part { bytes }) {
+            return Err(LinkFault::Memory);
+        }
+        self.faults = self.faults.saturating_add(1);
+        Err(LinkFault::Failed)
+    }
+
+    /// Sends a record, as the connection allows.
+    fn send_on(&mut self, rec: &[u8]) -> Result<(), LinkFault>
+        ensures told { Tells (told_of self.old.now) (told_of self.new.now) (sent_as rec.now result) }
+        ensures sends { Sends self.old self.new rec.now result }
+    {
+        match self.sending {
+            Sending::Fine => self.send_fine(rec),
+            Sending::Broken => self.refuse_send(rec),
+            Sending::Starved => Err(LinkFault::Memory),
+        }
+    }
+}
+
+impl<W: Wire + Drop> Link for StreamLink<W> {
+    ghost use Rattle.rpc_record.specs.Shown.{Dials, Hears, Notes};
+
+    ghost told = { λ s. told_of s.now };
+
+    ghost faults = { λ s. s.wire + s.own };
+
+    fn dial(&mut self, port: u16) -> Result<(), LinkFault>
+        ensures told { Tells (told_of self.old.now) (told_of self.new.now) (dialed_as port result) }
+        ensures cause { HasCause (self.old.wire + self.old.own) (self.new.wire + self.new.own) result }
+        ensures dials { Dials self.old self.new result }
+    {
+        match self.line.connect(port) {
+            Ok(()) => {
+                self.inbox.clear();
+                self.sending = Sending::Fine;
+                Ok(())
+            }
+            Err(LinkFault::Failed) => {
+                self.inbox.clear();
+                self.sending = Sending::Fine;
+                Err(LinkFault::Failed)
+            }
+            Err(LinkFault::Memory) => Err(LinkFault::Memory),
+        }
+    }
+
+    fn send(&mut self, rec: &[u8]) -> Result<(), LinkFault>
+        ensures told { Tells (told_of self.old.now) (told_of self.new.now) (sent_as rec.now result) }
+        ensures cause { HasCause (self.old.wire + self.old.own) (self.new.wire + self.new.own) result }
+        ensures sends { Sends self.old self.new rec.now result }
+    {
+        self.send_on(rec)
+    }
+
+    fn receive(&mut self, wait_ms: u32, rec: &mut Vec<u8>) -> Received
+        requires { 15000 ≤ wait_ms }
+        ensures told { Tells (told_of self.old.now) (told_of self.new.now) (received_as rec.new.items result) }
+        ensures cause { HasCauseReceived (self.old.wire + self.old.own) (self.new.wire + self.new.own) result }
+        ensures hears { Goes self.old.now self.new.now (Hears rec.new.items result) }
+        ensures waits { Waits self.old self.new result }
+    {
+        self.wait(wait_ms, rec)
+    }
+
+    fn note(&mut self, mark: Mark) -> Result<(), Memory>
+        ensures told { Tells (told_of self.old.now) (told_of self.new.now) (noted_as mark result) }
+        ensures cause { self.old.wire + self.old.own ≤ self.new.wire + self.new.own }
+        ensures notes { Notes self.old self.new }
+    {
+        match self.line.note(mark) {
+            Ok(()) => Ok(()),
+            Err(_) => Err(Memory),
+        }
+    }
+}
