@@ -2,7 +2,7 @@
 use Rattle.std.proofs.Common.{◌≡◌, ◌-◌, List, [], length, Option, Some, None, refl, ap, arith}
 use Rattle.std.proofs.lemmas.List.{drop_all}
 use Rattle.outside.specs.Wire.{WireCall}
-use Rattle.rpc_record.specs.Stream.{Stream, AllPlaced, begun, latest, now_of, IsBegun}
+use Rattle.rpc_record.specs.Stream.{AllPlaced, begun, latest, now_of, IsBegun}
 
 none_yet : (calls : List WireCall) → latest 0 calls ≡ []
 none_yet calls = drop_all (length calls - 0) calls (omega arith)

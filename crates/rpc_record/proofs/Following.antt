@@ -1,5 +1,5 @@
 -- What a link tells, and what it goes on keeping, after a step of its line.
-use Rattle.std.proofs.Common.{◌==◌, if◌then◌else◌, arith, ◌+◌, ◌≡◌, ◌≤◌, ℕ, List, [], ◌∷◌, ◌++◌, Option, Some, None, refl, sym, ap, ◌∙◌, append_assoc}
+use Rattle.std.proofs.Common.{◌==◌, if◌then◌else◌, ◌≡◌, ℕ, List, [], ◌∷◌, ◌++◌, Option, Some, None, refl, sym, ap, ◌∙◌, append_assoc}
 use Rattle.std.proofs.lemmas.Bool.{eq-eqb, ne_eqb}
 use Rattle.std.proofs.lemmas.List.{append-nil}
 use Rattle.world_model.specs.declared.entry.Entry.{Entry}
@@ -15,11 +15,11 @@ use Rattle.outside.specs.declared.wire.WireEntry.TheVariants.{Connected, Wrote, 
 use Rattle.rpc_record.specs.declared.kept.Adds.TheVariants as added
 use Rattle.rpc_record.specs.declared.gather.Phase.{Phase}
 use Rattle.rpc_record.specs.declared.gather.Phase.TheVariants as phases
-use Rattle.rpc_record.specs.Records.{record_at, left}
+use Rattle.rpc_record.specs.Records.{record_at}
 use Rattle.rpc_record.specs.Limits.{Found, found_at}
 use Rattle.rpc_record.specs.Limits as limits
-use Rattle.rpc_record.specs.Gather.{Gathered, resumes, resumes_in, unbegun}
-use Rattle.rpc_record.specs.Stream.{Stream, places, begun, Goes, Did, told_of, IsBegun}
+use Rattle.rpc_record.specs.Gather.{resumes, resumes_in, unbegun}
+use Rattle.rpc_record.specs.Stream.{Stream, places, Goes, Did, told_of, IsBegun}
 use Rattle.rpc_record.specs.Shown.{Waiting, Keeps, Follows, IfStream, HoldsLong, Hears}
 use Rattle.rpc_record.proofs.Joins.{left_grow, left_next, nth_is, found_is}
 

@@ -1,14 +1,14 @@
 -- What the bytes to come make of a record stays the same when bytes are taken.
-use Rattle.std.proofs.Common.{◌≡◌, ◌<◌, ◌≤◌, ℕ, zero, suc, ◌+◌, ◌-◌, ◌%◌, ◌^◌, Bool, true, false, cond, List, [], ◌∷◌, ◌++◌, length, take, drop, min, refl, sym, ap, ◌∙◌, arith, inl, inr, append_assoc}
+use Rattle.std.proofs.Common.{◌≡◌, ◌<◌, ◌≤◌, ℕ, zero, suc, ◌+◌, ◌-◌, Bool, true, false, cond, List, [], ◌++◌, length, take, drop, refl, sym, ap, ◌∙◌, arith, inl, inr, append_assoc}
 use Rattle.std.proofs.lemmas.Bool.{cases_lt, le-ltb, lt-ltb}
-use Rattle.std.proofs.lemmas.List.{take-append-drop, append-nil, length-append, length-take, length-drop, get_or_append_left, drop-append-le, drop_all}
+use Rattle.std.proofs.lemmas.List.{take-append-drop, append-nil, length-append, length-take, get_or_append_left, drop-append-le, drop_all}
 use Rattle.std.proofs.Math.Seq.{take-append-add, drop-append-add}
 use Rattle.byteorder.specs.Endian.{big_number}
 use Rattle.rpc_record.specs.declared.gather.Phase.{Phase}
-use Rattle.rpc_record.specs.declared.gather.Phase.TheVariants.{Header, Body, Whole, Long}
+use Rattle.rpc_record.specs.declared.gather.Phase.TheVariants.{Header, Body, Long}
 use Rattle.rpc_record.specs.Limits.{Found, found, body, opened}
 use Rattle.rpc_record.specs.Limits as limits
-use Rattle.rpc_record.specs.Gather.{Gathered, Advances, resumes, resumes_in, ended, in_body, begins}
+use Rattle.rpc_record.specs.Gather.{Gathered, Advances, resumes_in, ended, in_body, begins}
 
 -- bytes of a fragment may be taken in parts
 pub body_split : (next : List ℕ → List ℕ → Found) (front : List ℕ) (left : ℕ) (more : Bool) (a b : List ℕ) → length a ≤ left

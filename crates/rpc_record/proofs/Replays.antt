@@ -8,7 +8,7 @@ use Rattle.rpc_record.specs.declared.kept.Adds.{Adds}
 use Rattle.rpc_record.specs.declared.kept.Adds.TheVariants as added
 use Rattle.outside.specs.Wire.{WireCall, WireTells}
 use Rattle.rpc_record.specs.Records.{◌>>=◌, nth_record}
-use Rattle.rpc_record.specs.Stream.{Stream, begun, quietly, shows, delivers, sends, places, called_of, called, replays, one_if, calls_in, latest, now_of, AllPlaced, Goes, Called}
+use Rattle.rpc_record.specs.Stream.{Stream, begun, quietly, shows, delivers, sends, places, called_of, called, replays, calls_in, latest, now_of, AllPlaced, Goes, Called}
 
 abbrev with_more : List WireCall → Stream → Stream
 with_more more s = record s { calls = s.calls ++ more }

@@ -1,18 +1,16 @@
 -- What a link shows after a turn of a wait.
-use Rattle.std.proofs.Common.{◌≡◌, ◌≤◌, ◌+◌, ◌-◌, ◌^◌, min, ℕ, suc, List, [], ◌∷◌, ◌++◌, Option, Some, None, refl, sym, ap, ◌∙◌, append_assoc, arith}
+use Rattle.std.proofs.Common.{◌≡◌, ◌≤◌, ◌+◌, ℕ, suc, List, [], ◌∷◌, ◌++◌, Option, Some, None, refl, sym, ap, ◌∙◌, append_assoc, arith}
 use Rattle.std.proofs.lemmas.List.{append-nil}
 use Rattle.world_model.specs.declared.entry.Entry.{Entry}
 use Rattle.world_model.specs.declared.entry.Entry.TheVariants.{Failed}
-use Rattle.outside.specs.Causes.{Rose, HasCauseReceived}
+use Rattle.outside.specs.Causes.{HasCauseReceived}
 use Rattle.outside.specs.declared.link.Received.{Received}
 use Rattle.outside.specs.declared.link.Received.TheVariants as received
 use Rattle.outside.specs.Link.{received_as}
-use Rattle.rpc_record.specs.declared.sending.Sending.{Sending}
 use Rattle.outside.specs.declared.wire.WireEntry.TheVariants.{Read, Missed}
 use Rattle.rpc_record.specs.declared.kept.Adds.TheVariants as added
 use Rattle.rpc_record.specs.declared.gather.Phase.TheVariants as phases
 use Rattle.rpc_record.specs.Records.{nth_record}
-use Rattle.rpc_record.specs.Gather.{resumes}
 use Rattle.rpc_record.specs.Stream.{Stream, Goes, Did, places, told_of}
 use Rattle.rpc_record.specs.Shown.{Shown, Waiting, Follows, Fills, HasCauseFilled, FailedWait, Because, Stays, Shut, Waits, NextIs, Hears, Heard, Turned, Turns, GoesOn}
 use Rattle.rpc_record.proofs.Following.{After, no_step, work_step, read_step, missed_step, tells_on, tells_same}

@@ -1,22 +1,21 @@
 -- What a link shows while a record goes out, and after.
-use Rattle.std.proofs.Common.{◌≡◌, ◌≤◌, ◌<◌, ◌+◌, ◌-◌, ◌^◌, ◌==◌, min, ℕ, zero, suc, List, [], ◌∷◌, ◌++◌, length, take, drop, Option, Some, None, Result, Ok, Err, if◌then◌else◌, refl, sym, ap, ◌∙◌, append_assoc, arith}
+use Rattle.std.proofs.Common.{◌≡◌, ◌≤◌, ◌<◌, ◌+◌, ◌^◌, ◌==◌, ℕ, zero, suc, List, [], ◌∷◌, ◌++◌, length, take, drop, Option, Some, None, Result, Err, if◌then◌else◌, refl, sym, ap, ◌∙◌, append_assoc, arith}
 use Rattle.std.proofs.lemmas.List.{append-nil, take_all, take-append-drop, length-drop}
 use Rattle.world_model.specs.Told.{Tells}
-use Rattle.world_model.specs.declared.entry.Entry.TheVariants.{Sent, Failed}
-use Rattle.outside.specs.Causes.{Rose, HasCause}
+use Rattle.world_model.specs.declared.entry.Entry.TheVariants.{Sent}
+use Rattle.outside.specs.Causes.{Rose}
 use Rattle.outside.specs.Link.{sent_as}
 use Rattle.outside.specs.declared.link.LinkFault.{LinkFault}
 use Rattle.outside.specs.declared.link.LinkFault.TheVariants as faults
 use Rattle.outside.specs.declared.wire.WireEntry.TheVariants.{Wrote, Missed}
 use Rattle.rpc_record.specs.declared.kept.Adds.{Adds}
 use Rattle.rpc_record.specs.declared.kept.Adds.TheVariants as added
-use Rattle.rpc_record.specs.declared.sending.Sending.{Sending}
 use Rattle.rpc_record.specs.declared.sending.Sending.TheVariants as sendings
 use Rattle.rpc_record.specs.Records.{nth_record, one_fragment}
 use Rattle.rpc_record.specs.Stream.{Stream, Goes, Did, places, sends, delivers, told_of}
-use Rattle.rpc_record.specs.Shown.{Shown, Waiting, Follows, partly, left_by, TookPart, Writes, FailedSend, SendsIn, IfSendFailed, Sends}
+use Rattle.rpc_record.specs.Shown.{Shown, Waiting, Follows, partly, left_by, TookPart, Writes, IfSendFailed, Sends}
 use Rattle.rpc_record.proofs.Joins.{last_part, more_taken, fragment_some}
-use Rattle.rpc_record.proofs.Following.{After, write_step, whole_step, part_step, no_step, less_known, tells_same, tells_on, after_whole, after_part}
+use Rattle.rpc_record.proofs.Following.{write_step, whole_step, part_step, no_step, less_known, tells_same, tells_on, after_whole, after_part}
 
 -- the bytes that were written, behind those before
 abbrev pub WroteMore : List ℕ → Stream → Stream → Type 0

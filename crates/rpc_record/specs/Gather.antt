@@ -1,5 +1,5 @@
 -- What the bytes to come make of a record that is being put together.
-use Rattle.std.specs.Prelude.{◌≡◌, ◌≤◌, ◌<◌, ◌+◌, ◌-◌, ◌%◌, ◌^◌, ℕ, zero, suc, List, [], ◌++◌, length, drop, Bool, true, false, nat_lt, if◌then◌else◌}
+use Rattle.std.specs.Prelude.{◌≡◌, ◌≤◌, ◌<◌, ◌+◌, ◌-◌, ◌%◌, ◌^◌, ℕ, zero, suc, List, [], ◌++◌, length, drop, Bool, nat_lt, if◌then◌else◌}
 use Rattle.rpc_record.specs.declared.gather.Phase.{Phase}
 use Rattle.rpc_record.specs.declared.gather.Phase.TheVariants.{Header, Body, Whole, Long}
 use Rattle.rpc_record.specs.Limits.{Found, found, body}

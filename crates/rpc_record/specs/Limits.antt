@@ -1,5 +1,5 @@
 -- Records under the limits of this client: 131,072 bytes and 4,096 fragments.
-use Rattle.std.specs.Prelude.{◌≡◌, ℕ, zero, suc, ◌+◌, ◌%◌, ◌^◌, List, [], ◌++◌, length, take, drop, Bool, nat_lt, if◌then◌else◌}
+use Rattle.std.specs.Prelude.{ℕ, zero, suc, ◌+◌, ◌%◌, ◌^◌, List, [], ◌++◌, length, take, drop, Bool, nat_lt, if◌then◌else◌}
 use Rattle.byteorder.specs.Endian.{big_number}
 
 -- What stands at the front of bytes: no whole record yet; one that is past the limits; or a record and what follows it.

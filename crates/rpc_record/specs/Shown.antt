@@ -1,8 +1,6 @@
 -- What a link over a wire shows, and what it keeps of the bytes.
-use Rattle.std.specs.Prelude.{◌≡◌, ◌≤◌, ◌<◌, ℕ, zero, suc, List, [], ◌∷◌, ◌++◌, length, take, Option, Some, None, Result, Ok, Err}
-use Rattle.world_model.specs.declared.entry.Entry.{Entry}
-use Rattle.world_model.specs.declared.entry.Entry.TheVariants as entries
-use Rattle.world_model.specs.Told.{Told, Tells}
+use Rattle.std.specs.Prelude.{◌≡◌, ◌≤◌, ◌<◌, ℕ, zero, suc, List, [], ◌++◌, length, take, Option, Some, None, Result, Ok, Err}
+use Rattle.world_model.specs.Told.{Tells}
 use Rattle.outside.specs.declared.link.Received.{Received}
 use Rattle.outside.specs.declared.link.Received.TheVariants as received
 use Rattle.outside.specs.declared.link.LinkFault.{LinkFault}

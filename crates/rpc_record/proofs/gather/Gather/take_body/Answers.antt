@@ -1,4 +1,4 @@
-use Rattle.std.proofs.Common.{◌≡◌, ◌≤◌, ◌<◌, [], ℕ, length, take, min, arith, ap, ◌∙◌, refl}
+use Rattle.std.proofs.Common.{◌≡◌, arith, ap, ◌∙◌, refl}
 use Rattle.rpc_record.specs.declared.gather.Phase.TheVariants as phases
 use Rattle.rpc_record.proofs.Gathering.{took_body}
 use Rattle.rpc_record.specs.Gather.{Gathered, IsGathered}

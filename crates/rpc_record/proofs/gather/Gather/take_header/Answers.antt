@@ -1,4 +1,4 @@
-use Rattle.std.proofs.Common.{◌≡◌, ◌≤◌, ◌<◌, ◌-◌, ◌++◌, [], ℕ, List, length, take, min, arith, ap, ◌∙◌, refl}
+use Rattle.std.proofs.Common.{◌≡◌, ◌++◌, ℕ, List, length, take, arith, ap, ◌∙◌, refl}
 use Rattle.byteorder.specs.Endian.{big_number}
 use Rattle.rpc_record.specs.declared.gather.Phase.TheVariants as phases
 use Rattle.rpc_record.proofs.Gathering.{took_header_whole}

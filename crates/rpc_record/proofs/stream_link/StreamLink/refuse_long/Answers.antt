@@ -1,7 +1,7 @@
 use Rattle.std.proofs.Common.{◌≡◌, ap, ◌∙◌, refl, arith}
 use Rattle.rpc_record.specs.declared.gather.Phase.TheVariants as phases
 use Rattle.rpc_record.specs.Shown.{Shown, FailedWait}
-use Rattle.rpc_record.proofs.Following.{After, fault_step, holds_long}
+use Rattle.rpc_record.proofs.Following.{fault_step, holds_long}
 use Rattle.rpc_record.proofs.Turning.{fault_heard, fault_came}
 use Rattle.rpc_record.proofs.stream_link.StreamLink.refuse_long.Goals as goal
 

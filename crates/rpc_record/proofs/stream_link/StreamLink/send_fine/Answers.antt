@@ -1,8 +1,7 @@
-use Rattle.std.proofs.Common.{◌≡◌, ◌≤◌, ◌<◌, ◌+◌, List, ℕ, drop, length, ap, sym, ◌∙◌, refl, arith}
-use Rattle.outside.specs.declared.link.LinkFault.TheVariants as faults
+use Rattle.std.proofs.Common.{◌≡◌, drop, ap, ◌∙◌, refl, arith}
 use Rattle.rpc_record.specs.declared.sending.Sending.TheVariants as sendings
 use Rattle.rpc_record.specs.Shown.{Shown}
-use Rattle.rpc_record.proofs.Writing.{begins_writing, goes_on_writing, ends_writing, fails_writing, starves_writing, nothing_sent}
+use Rattle.rpc_record.proofs.Writing.{begins_writing, goes_on_writing, ends_writing, fails_writing, nothing_sent}
 use Rattle.rpc_record.proofs.stream_link.StreamLink.send_fine.Goals as goal
 
 pub returns-in_default-clause-sends : goal.returns-in_default-clause-sends

@@ -1,9 +1,7 @@
-use Rattle.std.proofs.Common.{◌≡◌, [], ap, sym, ◌∙◌, refl, arith}
-use Rattle.rpc_record.specs.declared.gather.Phase.{Phase}
+use Rattle.std.proofs.Common.{◌≡◌, sym, ◌∙◌, refl}
 use Rattle.rpc_record.specs.declared.gather.Phase.TheVariants as phases
-use Rattle.rpc_record.specs.Stream.{told_of}
-use Rattle.rpc_record.specs.Shown.{Shown, IsDone}
-use Rattle.rpc_record.proofs.Following.{work_step, tells_same}
+use Rattle.rpc_record.specs.Shown.{IsDone}
+use Rattle.rpc_record.proofs.Following.{work_step}
 use Rattle.rpc_record.proofs.Turning.{fill_step, fill_turn, turned_on, goes_on_in}
 use Rattle.rpc_record.proofs.stream_link.StreamLink.turn.Goals as goal
 
