@@ -19,7 +19,7 @@ passed=0
 failed=0
 writes=0
 started=()
-work=$(mktemp -d /tmp/nfs3-interop.XXXXXX)
+work=$(mktemp -d -t nfs3-interop.XXXXXX)
 chmod 755 "$work"
 
 # Counts a check: the status that the command before it ended with, and its name. (The status comes first: a name that
