@@ -2,7 +2,8 @@
 use Rattle.std.proofs.Common.{inl, inr, ◌≡◌, ◌≤◌, ℕ, true, List, [], ◌++◌, Option, Some, None, sym, ap, subst, ◌∙◌, append_assoc, arith}
 use Rattle.std.proofs.lemmas.List.{append-nil}
 use Rattle.world_model.specs.declared.entry.Entry.{Entry}
-use Rattle.world_model.specs.Told.{Told, Adds, Tells}
+use Rattle.world_model.specs.History.{History}
+use Rattle.world_model.specs.Told.{Adds, Tells}
 use Rattle.outside.specs.Causes.{Rose}
 use Rattle.nfs_client.specs.Session.{fails, FailsBy, Extends, Along}
 use Rattle.nfs_client.proofs.Growing.{fails_by}
@@ -18,7 +19,7 @@ pub grown : (F : List Entry → Type 0) (h k : List Entry) → ((more : List Ent
 grown F h k f p = subst F (sym p.is) (f p.more)
 
 -- one call
-pub along_call : (old new : Option Told) (before now : ℕ) (R : List Entry → List Entry → Type 0) (es : List Entry) → before ≤ now → Tells old new es → (fails es ≡ true → Rose before now) → ((a b : Told) → Adds a b es → R a.entries b.entries) → Along old new before now R
+pub along_call : (old new : Option History) (before now : ℕ) (R : List Entry → List Entry → Type 0) (es : List Entry) → before ≤ now → Tells old new es → (fails es ≡ true → Rose before now) → ((a b : History) → Adds a b es → R a.entries b.entries) → Along old new before now R
 along_call None new before now R es le t cause step = record { later = le; told = tt }
 along_call (Some a) None before now R es le t cause step = record { later = le; told = absurd t }
 along_call (Some a) (Some b) before now R es le t cause step = record { later = le; told = (record { more = t.more; is = t.grown }, step a b t, fails_by a b es before now t cause) }
@@ -37,7 +38,7 @@ fails_then h k l f g i le le' p q e =
     ]
 
 -- two in a row
-pub along_then : (a b c : Option Told) (f g i : ℕ) (R S T : List Entry → List Entry → Type 0) → ((h k l : List Entry) → Extends h k → Extends k l → R h k → S k l → T h l) → Along a b f g R → Along b c g i S → Along a c f i T
+pub along_then : (a b c : Option History) (f g i : ℕ) (R S T : List Entry → List Entry → Type 0) → ((h k l : List Entry) → Extends h k → Extends k l → R h k → S k l → T h l) → Along a b f g R → Along b c g i S → Along a c f i T
 along_then None b c f g i R S T join p q = record { later = omega (arith, p.later, q.later); told = tt }
 along_then (Some a) None c f g i R S T join p q = record { later = omega (arith, p.later, q.later); told = absurd p.told }
 along_then (Some a) (Some b) None f g i R S T join p q = record { later = omega (arith, p.later, q.later); told = absurd q.told }
@@ -51,12 +52,12 @@ along_then (Some a) (Some b) (Some c) f g i R S T join p q = record {
 }
 
 -- the same calls, with less said of them
-pub along_less : (a b : Option Told) (f g : ℕ) (R S : List Entry → List Entry → Type 0) → ((h k : List Entry) → Extends h k → R h k → S h k) → Along a b f g R → Along a b f g S
+pub along_less : (a b : Option History) (f g : ℕ) (R S : List Entry → List Entry → Type 0) → ((h k : List Entry) → Extends h k → R h k → S h k) → Along a b f g R → Along a b f g S
 along_less None b f g R S less p = record { later = p.later; told = tt }
 along_less (Some a) None f g R S less p = record { later = p.later; told = absurd p.told }
 along_less (Some a) (Some b) f g R S less p = record { later = p.later; told = (p.told.0, less a.entries b.entries p.told.0 p.told.1, p.told.2) }
 
 -- nothing was called
-pub along_none : (a : Option Told) (f : ℕ) (R : List Entry → List Entry → Type 0) → ((h : List Entry) → R h h) → Along a a f f R
+pub along_none : (a : Option History) (f : ℕ) (R : List Entry → List Entry → Type 0) → ((h : List Entry) → R h h) → Along a a f f R
 along_none None f R same = record { later = omega arith; told = tt }
 along_none (Some a) f R same = record { later = omega arith; told = (extends_same a.entries, same a.entries, λ e. inl e) }

@@ -8,7 +8,8 @@ use Rattle.world_model.specs.declared.answer.Answer.{Answer}
 use Rattle.world_model.specs.declared.answer.Answer.TheVariants as answers
 use Rattle.world_model.specs.declared.answer.Fault.TheVariants as faults
 use Rattle.world_model.specs.declared.tally.Tally.{Tally}
-use Rattle.world_model.specs.Told.{Told, Relates}
+use Rattle.world_model.specs.History.{History}
+use Rattle.world_model.specs.Told.{Relates}
 use Rattle.world_model.specs.Puts.{PutOf}
 use Rattle.world_model.specs.Rows.{Limits, LostShown, AnswerShown}
 use Rattle.world_model.specs.Counts.{tally_of, tally_text}
@@ -97,7 +98,7 @@ reported cause terms count op ended h status text f c (cut s t) = cut_ends cause
 abbrev Begun : ℕ → ℕ → Settings → Op → ℕ → List ℕ → List Entry → List Entry → Type 0
 Begun f g s op status text before h = before ≡ [] → SessionBy (Rose f g) s op h status text
 
-told_ends : (old new : Option Told) (f g : ℕ) (s : Settings) (first : ℕ) (op : Op) (ended : Ended) (status : ℕ) (text : List ℕ) → IsFirst s.xid first
+told_ends : (old new : Option History) (f g : ℕ) (s : Settings) (first : ℕ) (op : Op) (ended : Ended) (status : ℕ) (text : List ℕ) → IsFirst s.xid first
     → Along old new f g (λ h k. h ≡ [] → ConversesSo (terms_of s first) op (Ok ended) k) → Reports ended s.count status text → Relates old new (Begun f g s op status text)
 told_ends None new f g s first op ended status text is a r = tt
 told_ends (Some x) None f g s first op ended status text is a r = absurd a.told
@@ -116,7 +117,7 @@ told_ends (Some x) (Some y) f g s first op ended status text is a r = λ e.
 -- ---- what a session says
 
 -- the session came to an end, and its text was written, or a front of it
-pub came_to : (v w : Option (List ℕ)) (old new : Option Told) (f g : ℕ) (s : Settings) (first : ℕ) (op : Op) (ended : Ended) (status : ℕ) → IsFirst s.xid first
+pub came_to : (v w : Option (List ℕ)) (old new : Option History) (f g : ℕ) (s : Settings) (first : ℕ) (op : Op) (ended : Ended) (status : ℕ) → IsFirst s.xid first
     → Along old new f g (λ h k. h ≡ [] → ConversesSo (terms_of s first) op (Ok ended) k) → Says v w (Reports ended s.count status)
     → Says v w (λ text. Relates old new (λ before h. before ≡ [] → SessionBy (Rose f g) s op h status text))
 came_to v w old new f g s first op ended status is a said = record {

@@ -8,7 +8,8 @@ use Rattle.world_model.specs.declared.answer.Fault.{Fault}
 use Rattle.world_model.specs.declared.answer.Fault.TheVariants as faults
 use Rattle.world_model.specs.Entries.{At}
 use Rattle.world_model.specs.Messages.{HasXid, SpellsCallBy}
-use Rattle.world_model.specs.Told.{Told, Adds}
+use Rattle.world_model.specs.History.{History}
+use Rattle.world_model.specs.Told.{Adds}
 use Rattle.world_model.proofs.Places.{At-below}
 use Rattle.world_model.proofs.Growth.{Heard-wide}
 use Rattle.world_model.proofs.Histories.{IsQuiet, quietly, steps_on, steps_on_twice}
@@ -48,7 +49,7 @@ only_sent_once bytes (suc (suc n)) x at = absurd cc
 pub none_sent : (n : ℕ) (x : List ℕ) → At [] n (Sent x) → ⊥
 none_sent n x at = absurd cc
 
-pub sent_ok : (call : Call) (bytes : List ℕ) (c : CallsView) (a b : Told) → c.made < c.limit → Adds a b (Sent bytes ∷ []) → SendsAs call bytes c (counted c call) (Ok tt) a.entries b.entries
+pub sent_ok : (call : Call) (bytes : List ℕ) (c : CallsView) (a b : History) → c.made < c.limit → Adds a b (Sent bytes ∷ []) → SendsAs call bytes c (counted c call) (Ok tt) a.entries b.entries
 sent_ok call bytes c a b room p = record {
   same = marks_same a b (Sent bytes ∷ []) refl p;
   sends = sends_of a b (Sent bytes ∷ []) (λ x. x ≡ bytes) p (only_sent bytes);
@@ -57,7 +58,7 @@ sent_ok call bytes c a b room p = record {
       (waiting_quiet (length a.entries) (c.first + c.made) bytes (counted c call)) (λ h q. (length h, q.1, waits_first h c call bytes s.spells q.0, sent_more h c call bytes room s.spells q.0.sent)) p (idle, omega arith);
 }
 
-pub sent_failed : (call : Call) (bytes : List ℕ) (c : CallsView) (a b : Told) → c.made < c.limit → Adds a b (Sent bytes ∷ Failed ∷ []) → SendsAs call bytes c (counted c call) (Err (halts.Refused faults.Lost)) a.entries b.entries
+pub sent_failed : (call : Call) (bytes : List ℕ) (c : CallsView) (a b : History) → c.made < c.limit → Adds a b (Sent bytes ∷ Failed ∷ []) → SendsAs call bytes c (counted c call) (Err (halts.Refused faults.Lost)) a.entries b.entries
 sent_failed call bytes c a b room p = record {
   same = marks_same a b (Sent bytes ∷ Failed ∷ []) refl p;
   sends = sends_of a b (Sent bytes ∷ Failed ∷ []) (λ x. x ≡ bytes) p (only_sent_once bytes);
@@ -71,7 +72,7 @@ sent_failed call bytes c a b room p = record {
   );
 }
 
-pub sent_nothing : (call : Call) (bytes : List ℕ) (c : CallsView) (a b : Told) → Adds a b [] → SendsAs call bytes c c (Err halts.Memory) a.entries b.entries
+pub sent_nothing : (call : Call) (bytes : List ℕ) (c : CallsView) (a b : History) → Adds a b [] → SendsAs call bytes c c (Err halts.Memory) a.entries b.entries
 sent_nothing call bytes c a b p = record {
   same = marks_same a b [] refl p;
   sends = sends_of a b [] (λ x. x ≡ bytes) p (λ n x at. absurd (none_sent n x at));

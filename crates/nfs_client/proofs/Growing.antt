@@ -9,7 +9,8 @@ use Rattle.world_model.specs.declared.entry.Entry.{Entry}
 use Rattle.world_model.specs.declared.entry.Entry.TheVariants.{Began, Answered, Dialed, Sent, Executed, Foreign, Flushed, Reboot, Delivered, Failed, Clock}
 use Rattle.world_model.specs.declared.op.Op.{Op}
 use Rattle.world_model.specs.Entries.{At, ours}
-use Rattle.world_model.specs.Told.{Told, Adds}
+use Rattle.world_model.specs.History.{History}
+use Rattle.world_model.specs.Told.{Adds}
 use Rattle.world_model.specs.Transcript.{line_text, transcript}
 use Rattle.world_model.specs.Counts.{Counted, counts_head, xid_counted, xids_sent, different, calls_made}
 use Rattle.world_model.proofs.Histories.{ours_after}
@@ -91,14 +92,14 @@ fails_right (Failed ∷ h) more f = refl
 fails_right (Clock ms ∷ h) more f = fails_right h more f
 
 -- what a call adds fails only where its own entries do
-pub fails_by : (a b : Told) (es : List Entry) (before now : ℕ) → Adds a b es → (fails es ≡ true → Rose before now) → FailsBy a.entries b.entries before now
+pub fails_by : (a b : History) (es : List Entry) (before now : ℕ) → Adds a b es → (fails es ≡ true → Rose before now) → FailsBy a.entries b.entries before now
 fails_by a b es before now p cause f =
     elim (fails-parts a.entries p.more (ap fails (sym p.grown) ∙ f)) [
       | inl old ↦ inl old
       | inr new ↦ inr (cause (ap fails (sym p.seen) ∙ sym (fails-ours p.more) ∙ new))
     ]
 
-pub fails_added : (x y : Told) (es : List Entry) → Adds x y es → fails es ≡ true → fails y.entries ≡ true
+pub fails_added : (x y : History) (es : List Entry) → Adds x y es → fails es ≡ true → fails y.entries ≡ true
 fails_added x y es a f = ap fails a.grown ∙ fails_right x.entries a.more (fails-ours a.more ∙ ap fails a.seen ∙ f)
 
 -- ---- marks
@@ -133,12 +134,12 @@ marks-ours (Failed ∷ h) = marks-ours h
 marks-ours (Clock ms ∷ h) = marks-ours h
 
 -- the marks after a call that adds these entries
-pub marks_after : (a b : Told) (es : List Entry) → Adds a b es → marks b.entries ≡ marks a.entries ++ marks es
+pub marks_after : (a b : History) (es : List Entry) → Adds a b es → marks b.entries ≡ marks a.entries ++ marks es
 marks_after a b es p =
     marks-ours b.entries ∙ ap marks (ours_after a b es p) ∙ marks-append (ours a.entries) es ∙ ap (λ (t : List Entry). t ++ marks es) (sym (marks-ours a.entries))
 
 -- a call that adds no mark
-pub marks_same : (a b : Told) (es : List Entry) → marks es ≡ [] → Adds a b es → marks b.entries ≡ marks a.entries
+pub marks_same : (a b : History) (es : List Entry) → marks es ≡ [] → Adds a b es → marks b.entries ≡ marks a.entries
 marks_same a b es none p = marks_after a b es p ∙ ap (λ (t : List Entry). marks a.entries ++ t) none ∙ append-nil (marks a.entries)
 
 -- the transcript is that of the marks
@@ -229,7 +230,7 @@ at-beyond (x ∷ h) more zero e at le = absurd (omega (arith, le))
 at-beyond (x ∷ h) more (suc i) e at le = let z : suc i - suc (length h) ≡ i - length h = omega arith in subst (λ (n : ℕ). At more n e) (sym z) (at-beyond h more i e at (omega (arith, le)))
 
 -- what was sent after a call was sent before it, or is one of the records that the call sent
-pub sends_of : (a b : Told) (es : List Entry) (Q : List ℕ → Type 0) → Adds a b es → ((n : ℕ) (x : List ℕ) → At es n (Sent x) → Q x)
+pub sends_of : (a b : History) (es : List Entry) (Q : List ℕ → Type 0) → Adds a b es → ((n : ℕ) (x : List ℕ) → At es n (Sent x) → Q x)
     → (i : ℕ) (x : List ℕ) → At b.entries i (Sent x) → At a.entries i (Sent x) ⊎ ((length a.entries ≤ i) × Q x)
 sends_of a b es Q p each i x at =
     let there : At (a.entries ++ p.more) i (Sent x) = subst (λ (h : List Entry). At h i (Sent x)) p.grown at in
@@ -241,7 +242,7 @@ sends_of a b es Q p each i x at =
     ]
 
 -- a call that sends nothing
-pub sends_none : (a b : Told) (es : List Entry) → Adds a b es → ((n : ℕ) (x : List ℕ) → At es n (Sent x) → ⊥) → (i : ℕ) (x : List ℕ) → At b.entries i (Sent x) → At a.entries i (Sent x)
+pub sends_none : (a b : History) (es : List Entry) → Adds a b es → ((n : ℕ) (x : List ℕ) → At es n (Sent x) → ⊥) → (i : ℕ) (x : List ℕ) → At b.entries i (Sent x) → At a.entries i (Sent x)
 sends_none a b es p none i x at = elim (sends_of a b es (λ y. ⊥) p none i x at) [ inl old ↦ old | inr new ↦ absurd new.1 ]
 
 -- ---- counts

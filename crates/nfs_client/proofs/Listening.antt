@@ -11,7 +11,8 @@ use Rattle.world_model.specs.declared.answer.Fault.{Fault}
 use Rattle.world_model.specs.declared.answer.Fault.TheVariants as faults
 use Rattle.world_model.specs.Entries.{At}
 use Rattle.world_model.specs.Messages.{HasXid, SpellsCall}
-use Rattle.world_model.specs.Told.{Told, Adds}
+use Rattle.world_model.specs.History.{History}
+use Rattle.world_model.specs.Told.{Adds}
 use Rattle.world_model.specs.Heard.{Heard}
 use Rattle.world_model.specs.Rows.{DropRun}
 use Rattle.world_model.proofs.Growth.{Heard-grow, Heard-wide}
@@ -46,10 +47,10 @@ nothing_sent : (n : ℕ) (x : List ℕ) → At [] n (Sent x) → ⊥
 nothing_sent n x at = absurd cc
 
 -- the calls that were made stay so at a record that came
-keeps_delivered : (a b : Told) (bytes : List ℕ) → Adds a b (Delivered bytes ∷ []) → (c : CallsView) → SentTrue a.entries c → SentTrue b.entries c
+keeps_delivered : (a b : History) (bytes : List ℕ) → Adds a b (Delivered bytes ∷ []) → (c : CallsView) → SentTrue a.entries c → SentTrue b.entries c
 keeps_delivered a b bytes p c s = steps_on (λ h. SentTrue h c) (λ h. SentTrue h c) a b (Delivered bytes) (sent_quiet c) (sent_quiet c) (λ h q. sent_stays h (Delivered bytes) c (λ k is. cc) q) p s
 
-keeps_failed : (a b : Told) → Adds a b (Failed ∷ []) → (c : CallsView) → SentTrue a.entries c → SentTrue b.entries c
+keeps_failed : (a b : History) → Adds a b (Failed ∷ []) → (c : CallsView) → SentTrue a.entries c → SentTrue b.entries c
 keeps_failed a b p c s = steps_on (λ h. SentTrue h c) (λ h. SentTrue h c) a b Failed (sent_quiet c) (sent_quiet c) (λ h q. sent_stays h Failed c (λ k is. cc) q) p s
 
 -- What one record that came leads to.
@@ -64,7 +65,7 @@ pub record Comes (bytes : List ℕ) (h k : List Entry) : Type 0 where
 heard_quiet : (at x : ℕ) (b bytes : List ℕ) → IsQuiet (λ k. (call : Call) → SpellsCall x call b → Heard k at (length k) call x bytes)
 heard_quiet at x b bytes h more q f call s = Heard-wide (h ++ more) at (length h) at (length (h ++ more)) call x bytes (omega arith) (omega (arith, length-append h more)) (Heard-grow h more at (length h) call x bytes (f call s))
 
-pub comes_by : (bytes : List ℕ) (a b : Told) → Adds a b (Delivered bytes ∷ []) → Comes bytes a.entries b.entries
+pub comes_by : (bytes : List ℕ) (a b : History) → Adds a b (Delivered bytes ∷ []) → Comes bytes a.entries b.entries
 comes_by bytes a b p = record {
   same = marks_same a b (Delivered bytes ∷ []) refl p;
   sends = sends_none a b (Delivered bytes ∷ []) p (only_delivered bytes);
@@ -110,7 +111,7 @@ lost_then xid n h k low high w = record {
 abbrev pub Fails : Result (List ℕ) Halt → List Entry → List Entry → Type 0
 Fails r h k = (xid n : ℕ) (g : List Entry) → WaitsOn xid n g h → ListensAs xid r g k
 
-pub fails_lost : (f : Fault) (a b : Told) → f ≡ faults.Lost → Adds a b (Failed ∷ []) → Fails (Err (halts.Refused f)) a.entries b.entries
+pub fails_lost : (f : Fault) (a b : History) → f ≡ faults.Lost → Adds a b (Failed ∷ []) → Fails (Err (halts.Refused f)) a.entries b.entries
 fails_lost f a b e p xid n g w = record {
   same = marks_same a b (Failed ∷ []) refl p ∙ w.same;
   sends = λ i x at. w.sends i x (sends_none a b (Failed ∷ []) p only_failed i x at);
@@ -118,7 +119,7 @@ fails_lost f a b e p xid n g w = record {
   comes = λ at r q. (e, inl (fails_added a b (Failed ∷ []) p refl), (n, steps_on (λ h. WaitsTrue h at xid r n) (λ h. WaitsTrue h at xid r n) a b Failed (waits_quiet at xid r n) (waits_quiet at xid r n) (λ h z. waits_stays h Failed at xid r n (λ k is. cc) (λ k is. cc) z) p (w.waits at r q)));
 }
 
-pub fails_memory : (a b : Told) → Adds a b [] → Fails (Err halts.Memory) a.entries b.entries
+pub fails_memory : (a b : History) → Adds a b [] → Fails (Err halts.Memory) a.entries b.entries
 fails_memory a b p xid n g w = record {
   same = marks_same a b [] refl p ∙ w.same;
   sends = λ i x at. w.sends i x (sends_none a b [] p nothing_sent i x at);
@@ -128,7 +129,7 @@ fails_memory a b p xid n g w = record {
 
 -- ---- what waiting for one record came to
 
-pub fails_so : (r : Halt) (a b : Told) → OnlyLost (Err r) → Adds a b (received_so (Err r)) → Fails (Err r) a.entries b.entries
+pub fails_so : (r : Halt) (a b : History) → OnlyLost (Err r) → Adds a b (received_so (Err r)) → Fails (Err r) a.entries b.entries
 fails_so (halts.Refused f) a b only p = fails_lost f a b only p
 fails_so halts.Memory a b only p = fails_memory a b p
 

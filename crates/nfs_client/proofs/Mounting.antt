@@ -8,7 +8,8 @@ use Rattle.world_model.specs.declared.answer.Fault.{Fault}
 use Rattle.world_model.specs.declared.answer.Fault.TheVariants as faults
 use Rattle.world_model.specs.Entries.{At}
 use Rattle.world_model.specs.Messages.{HasXid, SpellsCallBy}
-use Rattle.world_model.specs.Told.{Told, Adds, Tells}
+use Rattle.world_model.specs.History.{History}
+use Rattle.world_model.specs.Told.{Adds, Tells}
 use Rattle.world_model.specs.Heard.{Heard}
 use Rattle.world_model.specs.Mounts.{Origin, Mounting, mount_call, info_call, Rooted, Sized, told, untold}
 use Rattle.std.proofs.lemmas.Bool.{cases_lt}
@@ -60,7 +61,7 @@ idle_dialed port c h s = idle_stays h (Dialed port) c (λ b is. cc) s
 idle_failed : (c : CallsView) (h : List Entry) → IdleTrue h c → IdleTrue (h ++ Failed ∷ []) c
 idle_failed c h s = idle_stays h Failed c (λ b is. cc) s
 
-pub dials : (port : ℕ) (result : Result (Unit {0}) Halt) (a b : Told) → Adds a b (dialed_so port result) → Dials result a.entries b.entries
+pub dials : (port : ℕ) (result : Result (Unit {0}) Halt) (a b : History) → Adds a b (dialed_so port result) → Dials result a.entries b.entries
 dials port (Ok u) a b p = record {
   same = marks_same a b (Dialed port ∷ []) refl p;
   sends = sends_none a b (Dialed port ∷ []) p (none_dialed port);
@@ -80,7 +81,7 @@ dials port (Err halts.Memory) a b p = record {
   lost = tt;
 }
 
-pub along_dial : (old new : Option Told) (before now port : ℕ) (result : Result (Unit {0}) Halt) → Tells old new (dialed_so port result) → IsCauseOf before now (dialed_so port result) → Along old new before now (Dials result)
+pub along_dial : (old new : Option History) (before now port : ℕ) (result : Result (Unit {0}) Halt) → Tells old new (dialed_so port result) → IsCauseOf before now (dialed_so port result) → Along old new before now (Dials result)
 along_dial old new before now port result t c = along_call old new before now (Dials result) (dialed_so port result) c.later t c.rose (λ a b p. dials port result a b p)
 
 -- ---- after dialing

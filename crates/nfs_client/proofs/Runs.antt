@@ -2,7 +2,8 @@
 use Rattle.std.proofs.Common.{◌≡◌, ℕ, List, [], ◌∷◌, take, Option, Some, None, sym, ap, subst, ◌∙◌}
 use Rattle.std.specs.Prelude.{slice_get, IfSome}
 use Rattle.world_model.specs.declared.op.Op.{Op}
-use Rattle.world_model.specs.Told.{Told, Relates}
+use Rattle.world_model.specs.History.{History}
+use Rattle.world_model.specs.Told.{Relates}
 use Rattle.nfs_script.specs.declared.script.ScriptLine.{ScriptLine}
 use Rattle.nfs_script.specs.Script.{SpellsScript, SpellsPut}
 use Rattle.session_words.specs.declared.settings.Settings.{Settings}
@@ -38,14 +39,14 @@ asks_for (Some l) lines text items first s g v t = record {
 
 -- ---- what a run says
 
-relates_run : (old new : Option Told) (cause : Type 0) (words : List (List ℕ)) (left : Option (List ℕ)) (s : Settings) (op : Op) (status : ℕ) (text : List ℕ) → IsCommand words s → AsksFor left op
+relates_run : (old new : Option History) (cause : Type 0) (words : List (List ℕ)) (left : Option (List ℕ)) (s : Settings) (op : Op) (status : ℕ) (text : List ℕ) → IsCommand words s → AsksFor left op
     → Relates old new (λ before h. before ≡ [] → SessionBy cause s op h status text) → Relates old new (λ before h. before ≡ [] → RunIs cause words left h status text)
 relates_run None new cause words left s op status text w a r = tt
 relates_run (Some x) None cause words left s op status text w a r = absurd r
 relates_run (Some x) (Some y) cause words left s op status text w a r = λ e. session s op w a (r e)
 
 -- there was a session
-pub run_says : (v w : Option (List ℕ)) (old new : Option Told) (cause : Type 0) (words : List (List ℕ)) (left : Option (List ℕ)) (s : Settings) (op : Op) (status : ℕ) → IsCommand words s → AsksFor left op
+pub run_says : (v w : Option (List ℕ)) (old new : Option History) (cause : Type 0) (words : List (List ℕ)) (left : Option (List ℕ)) (s : Settings) (op : Op) (status : ℕ) → IsCommand words s → AsksFor left op
     → Says v w (λ text. Relates old new (λ before h. before ≡ [] → SessionBy cause s op h status text)) → Says v w (λ text. Relates old new (λ before h. before ≡ [] → RunIs cause words left h status text))
 run_says v w old new cause words left s op status c a said = record {
   text = said.text;

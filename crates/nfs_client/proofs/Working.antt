@@ -12,7 +12,8 @@ use Rattle.world_model.specs.declared.answer.Fault.{Fault}
 use Rattle.world_model.specs.declared.answer.Fault.TheVariants as faults
 use Rattle.world_model.specs.declared.answer.Value.TheVariants as values
 use Rattle.world_model.specs.Entries.{At}
-use Rattle.world_model.specs.Told.{Told, Adds}
+use Rattle.world_model.specs.History.{History}
+use Rattle.world_model.specs.Told.{Adds}
 use Rattle.world_model.specs.Puts.{PutOf}
 use Rattle.world_model.specs.Rows.{AnswerShown}
 use Rattle.world_model.proofs.Places.{At-grow, At-last}
@@ -64,7 +65,7 @@ placed_quiet n e h more q p = (p.0, At-grow h more p.0 e p.1, p.2, let l = p.3 i
 long_quiet : (n : ℕ) → IsQuiet (λ h. n ≤ length h)
 long_quiet n h more q p = omega (arith, p, length-append h more)
 
-pub notes_by : (e : Entry) (a b : Told) → NoSending e → Adds a b (e ∷ []) → Notes e a.entries b.entries
+pub notes_by : (e : Entry) (a b : History) → NoSending e → Adds a b (e ∷ []) → Notes e a.entries b.entries
 notes_by e a b mute p =
     let s = steps_on (λ h. length a.entries ≤ length h) (Placed (length a.entries) e) a b e (long_quiet (length a.entries)) (placed_quiet (length a.entries) e) (λ h le. (length h, At-last h e, le, omega (arith, length-append h (e ∷ [])))) p (omega arith) in
     record {
@@ -88,7 +89,7 @@ pub record Quiet (h k : List Entry) : Type 0 where
   pub idles : (c : CallsView) → IdleTrue h c → IdleTrue k c
   pub marked : marks k ≡ marks h
 
-pub quiet_of : (a b : Told) → Adds a b [] → Quiet a.entries b.entries
+pub quiet_of : (a b : History) → Adds a b [] → Quiet a.entries b.entries
 quiet_of a b p = record {
   sends = sends_none a b [] p nothing_sent;
   keeps = λ c t. quietly (λ h. SentTrue h c) a b (sent_quiet c) p t;

@@ -2,7 +2,8 @@
 use Rattle.std.specs.Prelude.{◌≡◌, ◌≤◌, ◌⊎◌, ℕ, Bool, true, false, List, [], ◌∷◌, ◌++◌, Option}
 use Rattle.world_model.specs.declared.entry.Entry.{Entry}
 use Rattle.world_model.specs.declared.entry.Entry.TheVariants.{Began, Answered, Failed}
-use Rattle.world_model.specs.Told.{Told, Relates}
+use Rattle.world_model.specs.History.{History}
+use Rattle.world_model.specs.Told.{Relates}
 use Rattle.outside.specs.Causes.{Rose}
 
 -- a failure stands among the entries
@@ -29,6 +30,6 @@ pub record Extends (h k : List Entry) : Type 0 where
 
 -- What calls of a link lead from and to: what it tells goes on so, the count of faults never falls, and it rose where a
 -- failure was added.
-pub record Along (old new : Option Told) (before now : ℕ) (R : List Entry → List Entry → Type 0) : Type 0 where
+pub record Along (old new : Option History) (before now : ℕ) (R : List Entry → List Entry → Type 0) : Type 0 where
   pub later : before ≤ now
   pub told : Relates old new (λ h k. Extends h k × R h k × FailsBy h k before now)

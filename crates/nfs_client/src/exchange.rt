@@ -31,6 +31,7 @@ pub fn exchange<L: Link>(
     requires spellable { IsSpellable call.now }
     requires left { calls.old.made < calls.old.limit }
     ensures goes { Along (L.told link.old) (L.told link.new) (L.faults link.old) (L.faults link.new) (Exchanges call.now calls.old calls.new result) }
+    ensures honest { L.honest link.old → L.honest link.new }
     ensures same { SameCalls calls.old calls.new }
     ensures made { calls.new.made ≤ calls.old.made + 1 }
 {
@@ -48,6 +49,7 @@ pub fn exchange<L: Link>(
 fn send<L: Link>(call: &Call, bytes: &[u8], link: &mut L, calls: &mut Calls) -> Result<(), Halt>
     requires { calls.old.made < calls.old.limit }
     ensures goes { Along (L.told link.old) (L.told link.new) (L.faults link.old) (L.faults link.new) (SendsAs call.now bytes.now calls.old calls.new result) }
+    ensures honest { L.honest link.old → L.honest link.new }
     ensures same { SameCalls calls.old calls.new }
     ensures made { calls.new.made ≤ calls.old.made + 1 }
 {
@@ -67,6 +69,7 @@ fn send<L: Link>(call: &Call, bytes: &[u8], link: &mut L, calls: &mut Calls) -> 
 /// Waits for the record under the xid. Others are dropped.
 fn listen<L: Link>(alloc: Global, xid: u32, link: &mut L) -> Result<Blob, Halt>
     ensures goes { Along (L.told link.old) (L.told link.new) (L.faults link.old) (L.faults link.new) (ListensAs xid result) }
+    ensures honest { L.honest link.old → L.honest link.new }
 {
     let mut dropped = 0;
     while dropped < MOST_DROPPED {
@@ -85,6 +88,7 @@ fn listen<L: Link>(alloc: Global, xid: u32, link: &mut L) -> Result<Blob, Halt>
 /// Waits for a record.
 fn receive<L: Link>(alloc: Global, link: &mut L) -> Result<Blob, Halt>
     ensures told { Tells (L.told link.old) (L.told link.new) (received_so result) }
+    ensures honest { L.honest link.old → L.honest link.new }
     ensures only { OnlyLost result }
     ensures cause { IsCauseOf (L.faults link.old) (L.faults link.new) (received_so result) }
 {

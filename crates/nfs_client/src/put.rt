@@ -34,6 +34,7 @@ pub fn put<L: Link>(
     requires some { 1 ≤ set_up.now.wsize }
     requires most { set_up.now.wsize ≤ 65536 }
     ensures goes { Along (L.told link.old) (L.told link.new) (L.faults link.old) (L.faults link.new) (Puts set_up.now.root set_up.now.wsize op.now calls.old calls.new result) }
+    ensures honest { L.honest link.old → L.honest link.new }
     ensures same { SameCalls calls.old calls.new }
 {
     let Op::Put {
@@ -61,6 +62,7 @@ fn put_file<L: Link>(
     requires near { offset ≤ 4611686018427387904 }
     ensures goes { (op : OpOf) → op ≡ ops.Put (name ∷ []) offset bytes.now
         → Along (L.told link.old) (L.told link.new) (L.faults link.old) (L.faults link.new) (Puts set_up.now.root set_up.now.wsize op calls.old calls.new result) }
+    ensures honest { L.honest link.old → L.honest link.new }
     ensures same { SameCalls calls.old calls.new }
 {
     let file = match look_up(alloc, set_up.root, name, link, calls) {
@@ -90,6 +92,7 @@ fn look_up<L: Link>(
     calls: &mut Calls,
 ) -> Result<Handle, Halt>
     ensures goes { Along (L.told link.old) (L.told link.new) (L.faults link.old) (L.faults link.new) (LooksUp dir name calls.old calls.new result) }
+    ensures honest { L.honest link.old → L.honest link.new }
     ensures same { SameCalls calls.old calls.new }
 {
     let call = Call::Dir(DirCall::Lookup { dir, name });
@@ -117,6 +120,7 @@ fn write_all<L: Link>(
     requires most { wsize ≤ 65536 }
     requires near { offset + length bytes.now < 2 ^ 64 }
     ensures goes { Along (L.told link.old) (L.told link.new) (L.faults link.old) (L.faults link.new) (WritesAll file offset bytes.now wsize calls.old calls.new result) }
+    ensures honest { L.honest link.old → L.honest link.new }
     ensures same { SameCalls calls.old calls.new }
 {
     let mut done = 0;
@@ -142,6 +146,7 @@ fn write_piece<L: Link>(
 ) -> Result<usize, Halt>
     requires { length piece.now ≤ 65536 }
     ensures goes { Along (L.told link.old) (L.told link.new) (L.faults link.old) (L.faults link.new) (WritesPiece file offset piece.now calls.old calls.new result) }
+    ensures honest { L.honest link.old → L.honest link.new }
     ensures same { SameCalls calls.old calls.new }
     ensures some { IfOk result (λ count. 1 ≤ count) }
     ensures fits { IfOk result (λ count. count ≤ length piece.now) }
@@ -168,6 +173,7 @@ fn write_piece<L: Link>(
 /// Commits the whole file (RFC 1813, section 3.3.21).
 fn commit<L: Link>(alloc: Global, file: Handle, link: &mut L, calls: &mut Calls) -> Result<(), Halt>
     ensures goes { Along (L.told link.old) (L.told link.new) (L.faults link.old) (L.faults link.new) (Commits file calls.old calls.new result) }
+    ensures honest { L.honest link.old → L.honest link.new }
     ensures same { SameCalls calls.old calls.new }
 {
     let call = Call::File(FileCall::Commit {
@@ -189,6 +195,7 @@ fn commit<L: Link>(alloc: Global, file: Handle, link: &mut L, calls: &mut Calls)
 fn ask<L: Link>(alloc: Global, call: &Call, link: &mut L, calls: &mut Calls) -> Result<Blob, Halt>
     requires { IsSpellable call.now }
     ensures goes { Along (L.told link.old) (L.told link.new) (L.faults link.old) (L.faults link.new) (Asks call.now calls.old calls.new result) }
+    ensures honest { L.honest link.old → L.honest link.new }
     ensures same { SameCalls calls.old calls.new }
 {
     if calls.are_spent() {

@@ -45,7 +45,8 @@ pub fn converse<L: Link, C: Clock>(
     requires calls { 2 ≤ settings.now.calls }
     requires xids { first + settings.now.calls < 2 ^ 32 }
     requires built { IsBuilt op.now }
-    ensures { Along (L.told link.old) (L.told link.new) (L.faults link.old) (L.faults link.new) (λ h k. h ≡ [] → ConversesSo (terms_of settings.now first) op.now result k) }
+    ensures goes { Along (L.told link.old) (L.told link.new) (L.faults link.old) (L.faults link.new) (λ h k. h ≡ [] → ConversesSo (terms_of settings.now first) op.now result k) }
+    ensures honest { L.honest link.old → L.honest link.new }
 {
     let mut calls = Calls::new(first, settings.calls, settings.cred);
     match set_up(alloc, settings, link, &mut calls) {
@@ -70,7 +71,8 @@ fn work<L: Link, C: Clock>(
 ) -> Result<Ended, Memory>
     requires built { IsBuilt op.now }
     requires known { IsKnown set_up }
-    ensures { Along (L.told link.old) (L.told link.new) (L.faults link.old) (L.faults link.new) (WorksSo set_up op.now calls result) }
+    ensures goes { Along (L.told link.old) (L.told link.new) (L.faults link.old) (L.faults link.new) (WorksSo set_up op.now calls result) }
+    ensures honest { L.honest link.old → L.honest link.new }
 {
     let mut calls = calls;
     match begin(alloc, op, link, clock) {
@@ -102,7 +104,8 @@ fn begin<L: Link, C: Clock>(
     link: &mut L,
     clock: &mut C,
 ) -> Result<(), Memory>
-    ensures { Along (L.told link.old) (L.told link.new) (L.faults link.old) (L.faults link.new) (BeginsSo op.now result) }
+    ensures goes { Along (L.told link.old) (L.told link.new) (L.faults link.old) (L.faults link.new) (BeginsSo op.now result) }
+    ensures honest { L.honest link.old → L.honest link.new }
 {
     let ms = clock.now();
     match link.note(Mark::Clock { ms }) {
@@ -134,6 +137,7 @@ fn answer<L: Link>(
     requires built { IsBuilt op.now }
     requires known { IsKnown set_up }
     ensures goes { Along (L.told link.old) (L.told link.new) (L.faults link.old) (L.faults link.new) (AnswersSo set_up op.now calls.old calls.new result) }
+    ensures honest { L.honest link.old → L.honest link.new }
     ensures same { SameCalls calls.old calls.new }
 {
     let Some(set_up) = set_up else {

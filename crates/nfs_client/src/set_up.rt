@@ -42,6 +42,7 @@ pub fn set_up<L: Link>(
     requires options { IsOptions settings.now }
     requires left { calls.old.made + 2 ≤ calls.old.limit }
     ensures goes { Along (L.told link.old) (L.told link.new) (L.faults link.old) (L.faults link.new) (SetsUp settings.now calls.old calls.new result) }
+    ensures honest { L.honest link.old → L.honest link.new }
     ensures same { SameCalls calls.old calls.new }
     ensures some { IfOk result (λ s. 1 ≤ s.wsize) }
     ensures most { IfOk result (λ s. s.wsize ≤ 65536) }
@@ -66,6 +67,7 @@ fn inform<L: Link>(
     requires options { IsOptions settings.now }
     requires left { calls.old.made < calls.old.limit }
     ensures goes { Along (L.told link.old) (L.told link.new) (L.faults link.old) (L.faults link.new) (SizesUp root settings.now.wsize calls.old calls.new result) }
+    ensures honest { L.honest link.old → L.honest link.new }
     ensures same { SameCalls calls.old calls.new }
     ensures some { IfOk result (λ s. 1 ≤ s.wsize) }
     ensures most { IfOk result (λ s. s.wsize ≤ 65536) }
@@ -91,6 +93,7 @@ fn mount<L: Link>(
     requires mountable { length path.now ≤ 1024 }
     requires left { calls.old.made < calls.old.limit }
     ensures goes { Along (L.told link.old) (L.told link.new) (L.faults link.old) (L.faults link.new) (Mounts path.now calls.old calls.new result) }
+    ensures honest { L.honest link.old → L.honest link.new }
     ensures same { SameCalls calls.old calls.new }
     ensures made { calls.new.made ≤ calls.old.made + 1 }
 {
@@ -111,6 +114,7 @@ fn mount<L: Link>(
 /// Makes a connection to the port.
 fn dial<L: Link>(port: u16, link: &mut L) -> Result<(), Halt>
     ensures told { Tells (L.told link.old) (L.told link.new) (dialed_so port result) }
+    ensures honest { L.honest link.old → L.honest link.new }
     ensures only { OnlyDialHalts result }
     ensures cause { IsCauseOf (L.faults link.old) (L.faults link.new) (dialed_so port result) }
 {
@@ -132,6 +136,7 @@ fn write_size<L: Link>(
     requires wanted { 1 ≤ wanted }
     requires left { calls.old.made < calls.old.limit }
     ensures goes { Along (L.told link.old) (L.told link.new) (L.faults link.old) (L.faults link.new) (Informs root wanted calls.old calls.new result) }
+    ensures honest { L.honest link.old → L.honest link.new }
     ensures same { SameCalls calls.old calls.new }
     ensures some { IfOk result (λ wsize. 1 ≤ wsize) }
     ensures most { IfOk result (λ wsize. wsize ≤ wanted) }

@@ -49,6 +49,9 @@ pub fn run<S: Source, L: Link, C: Clock, K: Sink>(
     ensures source { result ≡ 4 → Rose (S.faults script.old) (S.faults script.new) }
     ensures sink { result ≡ 5 → Rose (K.faults out.old) (K.faults out.new) }
 
+    // A link that is honest stays so: what it tells is lawful.
+    ensures honest { L.honest link.old → L.honest link.new }
+
     // What was written is what the history says.
     ensures shown { Says (K.written out.old) (K.written out.new) (λ text.
         Relates (L.told link.old) (L.told link.new) (λ before h. before ≡ [] →
@@ -103,6 +106,7 @@ fn session<L: Link, C: Clock, K: Sink>(
     requires built { IsBuilt op.now }
     ensures ending { IsEnding result }
     ensures sink { result ≡ 5 → Rose (K.faults out.old) (K.faults out.new) }
+    ensures honest { L.honest link.old → L.honest link.new }
     ensures shown { Says (K.written out.old) (K.written out.new) (λ text.
         Relates (L.told link.old) (L.told link.new) (λ before h. before ≡ [] →
         SessionBy (Rose (L.faults link.old) (L.faults link.new)) settings.now op.now h result text)) }

@@ -1,3 +1,4 @@
 pub mod Readings
 pub mod Fronts
 pub mod Pieces
+pub mod ReadingExamples

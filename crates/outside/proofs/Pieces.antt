@@ -1,8 +1,11 @@
 -- What a wire in memory hands out of its pieces.
 use Rattle.std.specs.Prelude.{slice_index_or}
-use Rattle.std.proofs.Common.{◌≡◌, ◌<◌, ◌+◌, ◌-◌, ◌==◌, min, ℕ, zero, suc, List, [], ◌∷◌, length, take, drop, get_or, drop-cons, if◌then◌else◌, refl, sym, ap, ◌∙◌, arith}
+use Rattle.std.proofs.Common.{map, ◌++◌, ◌≡◌, ◌<◌, ◌+◌, ◌-◌, min, ℕ, zero, suc, List, [], ◌∷◌, length, take, drop, get_or, drop-cons, refl, sym, ap, ◌∙◌, arith}
 use Rattle.std.proofs.lemmas.Bool.{eq-eqb, ne_eqb}
-use Rattle.outside.specs.MemWire.{WireView, IsFilled, IsPartOf, HandsOutPart}
+use Rattle.outside.specs.declared.wire.WireEntry.{WireEntry}
+use Rattle.outside.specs.Wire.{WireCall, WireTold, AddsCall}
+use Rattle.world_model.specs.History.{no_server}
+use Rattle.outside.specs.MemWire.{alone, in_memory, WireView, IsFilled, IsPartOf, HandsOutPart}
 
 pub drop_here : {A : Type 0} (i : ℕ) (xs : List A) (x : A) → i < length xs → x ≡ get_or xs i x → drop i xs ≡ x ∷ drop (i + 1) xs
 drop_here i xs x lt e = drop-cons xs i x lt ∙ ap (λ t. t ∷ drop (suc i) xs) (sym e) ∙ ap (λ (k : ℕ). x ∷ drop k xs) (more i)
@@ -40,3 +43,14 @@ hands_part old new buf first others n pieces count bytes whole left at = record 
   left = rw (ne_eqb (old.at + n) (length first) whole) (left ∙ pieces);
   at = rw (ne_eqb (old.at + n) (length first) whole) at;
 }
+
+map_last : (es : List WireEntry) (e : WireEntry) → map alone (es ++ e ∷ []) ≡ map alone es ++ alone e ∷ []
+map_last [] e = refl
+map_last (x ∷ es) e = ap (λ (t : List WireCall). alone x ∷ t) (map_last es e)
+
+abbrev no_server_told : List WireCall → WireTold
+no_server_told cs = record { start = no_server; calls = cs }
+
+-- one more call is told
+pub tells_alone : (old : List WireEntry) (e : WireEntry) → AddsCall (in_memory old) (in_memory (old ++ e ∷ [])) e
+tells_alone old e = record { quiet = []; grown = ap (λ (cs : List WireCall). no_server_told cs) (map_last old e); unseen = refl }

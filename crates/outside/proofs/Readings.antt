@@ -1,7 +1,7 @@
 -- A clock that goes on by the same step tells each reading.
-use Rattle.std.proofs.Common.{◌≡◌, ◌*◌, ◌+◌, ◌-◌, ◌^◌, ◌==◌, min, ℕ, suc, Bool, true, false, cond, eqb, List, [], ◌∷◌, ◌++◌, Option, Some, None, refl, sym, ap, subst, ◌∙◌, arith}
-use Rattle.std.proofs.lemmas.Bool.{eqb-true, eqb-false}
-use Rattle.outside.specs.Clock.{ReadsClock, reading, readings, told_readings}
+use Rattle.std.proofs.Common.{◌≡◌, ◌+◌, min, ℕ, suc, true, false, cond, eqb, List, Option, Some, None, refl, ap, arith}
+use Rattle.std.proofs.lemmas.Bool.{eqb-false}
+use Rattle.outside.specs.Clock.{ReadsClock, reading, readings}
 
 abbrev told_at : ℕ → ℕ → Option (List ℕ)
 told_at tick count = cond (eqb count 18446744073709551615) None (Some (readings tick count))

@@ -6,4 +6,6 @@ pub mod Clock
 pub mod Link
 pub mod Hostile
 pub mod Wire
+pub mod Records
+pub mod Reading
 pub mod MemWire

@@ -1,16 +1,17 @@
 -- A wire in memory.
-use Rattle.std.specs.Prelude.{◌≡◌, ◌+◌, ◌-◌, ◌<◌, ◌==◌, ℕ, List, [], ◌∷◌, take, drop, length, min, Bool, true, false, Result, Ok, Err, if◌then◌else◌}
+use Rattle.std.specs.Prelude.{map, ◌≡◌, ◌+◌, ◌-◌, ◌<◌, ◌==◌, ℕ, List, [], ◌∷◌, take, drop, length, min, Bool, true, false, Result, Ok, Err, if◌then◌else◌}
 use Rattle.outside.specs.declared.link.LinkFault.{LinkFault}
 use Rattle.outside.specs.declared.link.LinkFault.TheVariants as faults
 use Rattle.outside.specs.declared.wire.WireEntry.{WireEntry}
 use Rattle.outside.specs.declared.wire.WireRead.{WireRead}
 use Rattle.outside.specs.declared.wire.WireRead.TheVariants as reads
-use Rattle.outside.specs.Wire.{WireCall}
+use Rattle.world_model.specs.History.{no_server}
+use Rattle.outside.specs.Wire.{WireCall, WireTold}
 
--- what a caller sees of it: its calls, the pieces that weren't handed out whole, how much of the first of them was
+-- what a caller sees of it: what its calls did, the pieces that weren't handed out whole, how much of the first of them was
 -- handed out, the numbers of the calls that fail, how many were made but for notes, and the faults so far
 pub record WireView : Type 0 where
-  pub told : List WireCall
+  pub told : List WireEntry
   pub pieces : List (List ℕ)
   pub at : ℕ
   pub fails : List ℕ
@@ -20,6 +21,10 @@ pub record WireView : Type 0 where
 -- a call before which the server did nothing
 abbrev pub alone : WireEntry → WireCall
 alone did = record { quiet = []; did = did }
+
+-- what such a wire tells: nothing is known of a server
+abbrev pub in_memory : List WireEntry → WireTold
+in_memory entries = record { start = no_server; calls = map alone entries }
 
 -- how much was handed out is a part of the first piece, where there is one
 abbrev pub IsPartOf : ℕ → List (List ℕ) → Type 0

@@ -1,8 +1,10 @@
--- What a wire tells: its calls in order, each with what the server did before it. (RFC 5531 section 11 has the bytes.)
+-- What a wire tells: its calls in order, each with what the server did before it, and the server at each moment. (RFC
+-- 5531 section 11 has the bytes.)
 use Rattle.std.specs.Prelude.{◌≡◌, ◌≤◌, ◌<◌, ℕ, List, [], ◌∷◌, ◌++◌, take, length, Option, Some, None, Result, Ok, Err}
 use Rattle.world_model.specs.declared.entry.Mark.{Mark}
 use Rattle.world_model.specs.declared.entry.Entry.{Entry}
 use Rattle.world_model.specs.Entries.{ours}
+use Rattle.world_model.specs.Server.{Server}
 use Rattle.outside.specs.declared.link.LinkFault.{LinkFault}
 use Rattle.outside.specs.declared.link.LinkFault.TheVariants as faults
 use Rattle.outside.specs.declared.wire.WireEntry.{WireEntry}
@@ -11,24 +13,38 @@ use Rattle.outside.specs.declared.wire.WireRead.{WireRead}
 use Rattle.outside.specs.declared.wire.WireRead.TheVariants as reads
 use Rattle.outside.specs.Causes.{Rose}
 
--- A call: the entries of the server since the call before, and then the one entry of the call's own.
+-- an entry of the server, and the server after it
+pub record Step : Type 0 where
+  pub entry : Entry
+  pub after : Server
+
+-- A call: what the server did since the call before, and then the one entry of the call's own.
 pub record WireCall : Type 0 where
-  pub quiet : List Entry
+  pub quiet : List Step
   pub did : WireEntry
 
+-- the server at the beginning, and the calls since; a call leaves the server as it is
+pub record WireTold : Type 0 where
+  pub start : Server
+  pub calls : List WireCall
+
+abbrev pub entries_in : List Step → List Entry
+entries_in [] = []
+entries_in (s ∷ steps) = s.entry ∷ entries_in steps
+
 -- One call was added; before it stand entries of the server only.
-pub record AddsCall (old new : List WireCall) (did : WireEntry) : Type 0 where
-  pub quiet : List Entry
-  pub grown : new ≡ old ++ record { quiet = quiet; did = did } ∷ []
-  pub unseen : ours quiet ≡ []
+pub record AddsCall (old new : WireTold) (did : WireEntry) : Type 0 where
+  pub quiet : List Step
+  pub grown : new ≡ record { start = old.start; calls = old.calls ++ record { quiet = quiet; did = did } ∷ [] }
+  pub unseen : ours (entries_in quiet) ≡ []
 
 -- a call that did something is told; one that found no memory isn't
-abbrev pub AddsCalls : List WireCall → List WireCall → Option WireEntry → Type 0
+abbrev pub AddsCalls : WireTold → WireTold → Option WireEntry → Type 0
 AddsCalls old new None = new ≡ old
 AddsCalls old new (Some did) = AddsCall old new did
 
 -- The same of what a wire may tell: one that tells goes on telling, and one that doesn't never begins.
-abbrev pub WireTells : Option (List WireCall) → Option (List WireCall) → Option WireEntry → Type 0
+abbrev pub WireTells : Option WireTold → Option WireTold → Option WireEntry → Type 0
 WireTells None new did = new ≡ None
 WireTells (Some old) None did = ⊥
 WireTells (Some old) (Some new) did = AddsCalls old new did

@@ -9,7 +9,7 @@ use world_model::{Entry, Mark};
 use xdr_codec::{Blob, Memory};
 
 /// A link that hands out given records, one at each wait, and is silent exactly after the last. It never fails, and
-/// tells its history.
+/// tells its history, with a server that has no objects. It isn't honest.
 #[derive(Debug, Drop)]
 pub struct HostileLink {
     alloc: Global,
@@ -61,10 +61,16 @@ impl Link for HostileLink {
     ghost use Rattle.outside.specs.Causes.{HasCauseReceived};
     ghost use Rattle.outside.specs.Link.{received_as};
     ghost use Rattle.outside.specs.Hostile.{HandsOut};
+    ghost use Rattle.world_model.specs.History.{history};
 
-    ghost told = { λ l. Some (record { entries = l.entries }) };
+    ghost told = { λ l. Some (history l.entries) };
 
     ghost faults = { λ l. l.faults };
+
+    // Any record may have been given, so nothing that it tells need be lawful.
+    ghost honest = { λ l. ⊥ };
+
+    ghost lawful = { λ l h. absurd h };
 
     fn dial(&mut self, port: u16) -> Result<(), LinkFault> {
         if self.entries.push(Entry::Dialed { port }).is_err() {
@@ -85,7 +91,7 @@ impl Link for HostileLink {
 
     fn receive(&mut self, _wait_ms: u32, rec: &mut Vec<u8>) -> Received
         requires { 15000 ≤ _wait_ms }
-        ensures told { Tells (Some (record { entries = self.old.entries })) (Some (record { entries = self.new.entries })) (received_as rec.new.items result) }
+        ensures told { Tells (Some (history self.old.entries)) (Some (history self.new.entries)) (received_as rec.new.items result) }
         ensures cause { HasCauseReceived self.old.faults self.new.faults result }
         ensures given { HandsOut self.old.left self.new.left rec.new.items result }
     {

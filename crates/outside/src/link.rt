@@ -1,7 +1,8 @@
 //! The way to the server, by what happened on it.
 
 ghost use Rattle.std.specs.Prelude.{◌≤◌, ℕ, Option};
-ghost use Rattle.world_model.specs.Told.{Told, Tells};
+ghost use Rattle.world_model.specs.History.{History};
+ghost use Rattle.world_model.specs.Told.{Tells, IsLawful};
 ghost use Rattle.outside.specs.Causes.{HasCause, HasCauseReceived};
 ghost use Rattle.outside.specs.Link.{dialed_as, sent_as, received_as, noted_as};
 
@@ -33,29 +34,39 @@ pub enum Received {
 /// A way to a server. Between the entries that a call adds, the server may add any number of its own.
 pub trait Link {
     /// The history, where the link tells it.
-    ghost told: { Self → Option Told };
+    ghost told: { Self → Option History };
 
     /// How often the outside failed. It never falls.
     ghost faults: { Self → ℕ };
 
+    /// Whether what it tells is what an honest server and network make.
+    ghost honest: { Self → Type 0 };
+
     /// Makes a connection to that port, in place of the one before.
     fn dial(&mut self, port: u16) -> Result<(), LinkFault>
         ensures told { Tells (told self.old) (told self.new) (dialed_as port result) }
+        ensures honest { honest self.old → honest self.new }
         ensures cause { HasCause (faults self.old) (faults self.new) result };
 
     /// Sends a record. After want of memory nothing was sent.
     fn send(&mut self, rec: &[u8]) -> Result<(), LinkFault>
         ensures told { Tells (told self.old) (told self.new) (sent_as rec.now result) }
+        ensures honest { honest self.old → honest self.new }
         ensures cause { HasCause (faults self.old) (faults self.new) result };
 
     /// Waits for a record for at most so many milliseconds. A whole one takes the place of what rec held.
     fn receive(&mut self, wait_ms: u32, rec: &mut Vec<u8>) -> Received
         requires { 15000 ≤ wait_ms }
         ensures told { Tells (told self.old) (told self.new) (received_as rec.new.items result) }
+        ensures honest { honest self.old → honest self.new }
         ensures cause { HasCauseReceived (faults self.old) (faults self.new) result };
 
     /// Notes a mark in the history.
     fn note(&mut self, mark: Mark) -> Result<(), Memory>
         ensures told { Tells (told self.old) (told self.new) (noted_as mark result) }
+        ensures honest { honest self.old → honest self.new }
         ensures cause { faults self.old ≤ faults self.new };
+
+    /// What an honest link tells is lawful.
+    ghost lawful: { (x : Self) → honest x → IsLawful (told x) };
 }

@@ -1,9 +1,9 @@
 //! A wire in memory.
 
-ghost use Rattle.std.specs.Prelude.{◌≡◌, ◌++◌, ◌∷◌, ◌+◌, ◌≤◌, ◌<◌, [], ℕ, List, length, min, drop, map, IfOk, OnOk, OnErr, ◌==◌, if◌then◌else◌};
+ghost use Rattle.std.specs.Prelude.{◌≡◌, ◌++◌, ◌∷◌, ◌+◌, ◌≤◌, ◌<◌, [], ℕ, List, length, min, drop, IfOk, OnOk, OnErr, ◌==◌, if◌then◌else◌};
 ghost use Rattle.std.specs.Bool.{OnTrue, OnFalse};
 ghost use Rattle.outside.specs.declared.wire.WireEntry.TheVariants as entries;
-ghost use Rattle.outside.specs.MemWire.{alone, IsFilled};
+ghost use Rattle.outside.specs.MemWire.{IsFilled};
 ghost use Rattle.outside.specs.Views.{next_call};
 
 use crate::link::LinkFault;
@@ -15,7 +15,8 @@ use world_model::Mark;
 use xdr_codec::{Blob, Memory};
 
 /// A wire that takes each piece whole, and hands out given pieces in order, at most one at a read. It is silent exactly
-/// after the last. The calls that are to fail are given, and no other call fails.
+/// after the last. The calls that are to fail are given, and no other call fails. It tells its calls, with a server that
+/// has no objects, and isn't honest.
 #[derive(Debug, Drop)]
 pub struct MemWire {
     alloc: Global,
@@ -29,12 +30,12 @@ pub struct MemWire {
 }
 
 impl Model for MemWire {
-    ghost use Rattle.std.specs.Prelude.{◌≤◌, ◌<◌, drop, length, map, All, ℕ, List};
-    ghost use Rattle.outside.specs.MemWire.{WireView, IsPartOf, IsFilled, alone};
+    ghost use Rattle.std.specs.Prelude.{◌≤◌, ◌<◌, drop, length, All, ℕ, List};
+    ghost use Rattle.outside.specs.MemWire.{WireView, IsPartOf, IsFilled};
 
     ghost Value = { WireView };
 
-    ghost view = { λ w. record { told = map alone w.entries.items; pieces = drop w.next w.pieces.items; at = w.at; fails = w.fails.items; calls = w.calls; faults = w.faults } };
+    ghost view = { λ w. record { told = w.entries.items; pieces = drop w.next w.pieces.items; at = w.at; fails = w.fails.items; calls = w.calls; faults = w.faults } };
 
     ghost invariant = { λ w. (w.next ≤ length w.pieces.items) × (All IsFilled w.pieces.items) × (IsPartOf w.at (drop w.next w.pieces.items)) };
 }
@@ -69,14 +70,14 @@ impl MemWire {
 
     /// What its calls did, in order.
     pub fn entries(&self) -> &[WireEntry]
-        ensures { map alone result.now ≡ self.now.told }
+        ensures { result.now ≡ self.now.told }
     {
         self.entries.as_slice()
     }
 
     /// Makes the next call one that missed. After want of memory nothing is changed, and the answer is false.
     fn miss(&mut self) -> bool
-        ensures yes { OnTrue result (self.new ≡ record self.old { told = self.old.told ++ alone entries.Missed ∷ []; calls = next_call self.old.calls; faults = min (self.old.faults + 1) 18446744073709551615 }) }
+        ensures yes { OnTrue result (self.new ≡ record self.old { told = self.old.told ++ entries.Missed ∷ []; calls = next_call self.old.calls; faults = min (self.old.faults + 1) 18446744073709551615 }) }
         ensures no { OnFalse result (self.new ≡ self.old) }
     {
         if !tell(&mut self.entries, WireEntry::Missed) {
@@ -94,14 +95,20 @@ impl Wire for MemWire {
     ghost use Rattle.outside.specs.Sink.{TakesSome};
     ghost use Rattle.outside.specs.Views.{is_to_fail};
     ghost use Rattle.outside.specs.Wire.{WireTells, GetsSome, IfGot, HasCauseRead, connected_as, wrote_as, read_as, marked_as};
-    ghost use Rattle.outside.specs.MemWire.{HandsOutNothing, HandsOutPiece, FailsListed, ReadFailsListed, PutsBack};
+    ghost use Rattle.outside.specs.MemWire.{in_memory, HandsOutNothing, HandsOutPiece, FailsListed, ReadFailsListed, PutsBack};
 
-    ghost told = { λ w. Some w.told };
+    ghost told = { λ w. Some (in_memory w.told) };
 
     ghost faults = { λ w. w.faults };
 
+    // Any bytes may have been given, so nothing that is read from them need be lawful.
+    ghost honest = { λ w. ⊥ };
+
+    ghost lawful = { λ w h. absurd h };
+
+    #[tactic(auto, using(crate::proofs::Pieces::tells_alone))]
     fn connect(&mut self, port: u16) -> Result<(), LinkFault>
-        ensures told { WireTells (Some self.old.told) (Some self.new.told) (connected_as port result) }
+        ensures told { WireTells (Some (in_memory self.old.told)) (Some (in_memory self.new.told)) (connected_as port result) }
         ensures cause { HasCause self.old.faults self.new.faults result }
         ensures listed { FailsListed result (is_to_fail self.old.fails self.old.calls) }
         ensures back { PutsBack self.old self.new result }
@@ -119,9 +126,10 @@ impl Wire for MemWire {
         Ok(())
     }
 
+    #[tactic(auto, using(crate::proofs::Pieces::tells_alone))]
     fn write(&mut self, bytes: &[u8]) -> Result<usize, LinkFault>
         ensures takes { IfOk result (TakesSome bytes.now) }
-        ensures told { WireTells (Some self.old.told) (Some self.new.told) (wrote_as bytes.now result) }
+        ensures told { WireTells (Some (in_memory self.old.told)) (Some (in_memory self.new.told)) (wrote_as bytes.now result) }
         ensures cause { HasCause self.old.faults self.new.faults result }
         ensures whole { IfOk result (λ n. n ≡ length bytes.now) }
         ensures listed { FailsListed result (is_to_fail self.old.fails self.old.calls) }
@@ -144,11 +152,12 @@ impl Wire for MemWire {
         Ok(bytes.len())
     }
 
+    #[tactic(auto, using(crate::proofs::Pieces::tells_alone))]
     fn read(&mut self, _wait_ms: u32, buf: &mut [u8]) -> WireRead
         requires patient { 15000 ≤ _wait_ms }
         requires room { 0 < length buf.old }
         ensures gets { IfGot result (GetsSome buf.new) }
-        ensures told { WireTells (Some self.old.told) (Some self.new.told) (read_as buf.new result) }
+        ensures told { WireTells (Some (in_memory self.old.told)) (Some (in_memory self.new.told)) (read_as buf.new result) }
         ensures cause { HasCauseRead self.old.faults self.new.faults result }
         ensures listed { ReadFailsListed result (is_to_fail self.old.fails self.old.calls) }
         ensures given { HandsOutPiece self.old self.new buf.new result }
@@ -185,8 +194,9 @@ impl Wire for MemWire {
         WireRead::Got(count)
     }
 
+    #[tactic(auto, using(crate::proofs::Pieces::tells_alone))]
     fn note(&mut self, mark: Mark) -> Result<(), Memory>
-        ensures told { WireTells (Some self.old.told) (Some self.new.told) (marked_as mark result) }
+        ensures told { WireTells (Some (in_memory self.old.told)) (Some (in_memory self.new.told)) (marked_as mark result) }
         ensures cause { self.old.faults ≤ self.new.faults }
         ensures given { HandsOutNothing self.old self.new }
     {

@@ -1,9 +1,10 @@
 //! Bytes to the server and back, in pieces that may be cut anywhere.
 
-ghost use Rattle.std.specs.Prelude.{◌≤◌, ◌<◌, ℕ, List, Option, length, IfOk};
+ghost use Rattle.std.specs.Prelude.{◌≤◌, ◌<◌, ℕ, Option, length, IfOk};
 ghost use Rattle.outside.specs.Causes.{HasCause};
 ghost use Rattle.outside.specs.Sink.{TakesSome};
-ghost use Rattle.outside.specs.Wire.{WireCall, WireTells, GetsSome, IfGot, HasCauseRead, connected_as, wrote_as, read_as, marked_as};
+ghost use Rattle.outside.specs.Reading.{IsLawfulWire};
+ghost use Rattle.outside.specs.Wire.{WireTold, WireTells, GetsSome, IfGot, HasCauseRead, connected_as, wrote_as, read_as, marked_as};
 
 use crate::link::LinkFault;
 use world_model::Mark;
@@ -40,15 +41,19 @@ pub enum WireRead {
 /// A stream of bytes to a server and one back. Each call tells one entry of its own, and nothing after want of memory;
 /// what the server did since the call before stands before that entry.
 pub trait Wire {
-    /// The calls so far, where the wire tells them.
-    ghost told: { Self → Option (List WireCall) };
+    /// The calls so far with the server at each moment, where the wire tells them.
+    ghost told: { Self → Option WireTold };
 
     /// How often the outside failed. It never falls.
     ghost faults: { Self → ℕ };
 
+    /// Whether what it tells is what an honest server and network make.
+    ghost honest: { Self → Type 0 };
+
     /// Makes a connection to that port, in place of the one before.
     fn connect(&mut self, port: u16) -> Result<(), LinkFault>
         ensures told { WireTells (told self.old) (told self.new) (connected_as port result) }
+        ensures honest { honest self.old → honest self.new }
         ensures cause { HasCause (faults self.old) (faults self.new) result };
 
     /// Takes the front of the piece, and answers how many bytes: at least one of a piece that isn't empty. After a
@@ -56,6 +61,7 @@ pub trait Wire {
     fn write(&mut self, bytes: &[u8]) -> Result<usize, LinkFault>
         ensures takes { IfOk result (TakesSome bytes.now) }
         ensures told { WireTells (told self.old) (told self.new) (wrote_as bytes.now result) }
+        ensures honest { honest self.old → honest self.new }
         ensures cause { HasCause (faults self.old) (faults self.new) result };
 
     /// Waits for bytes for at most so many milliseconds, and puts them into the front of the buffer.
@@ -64,10 +70,16 @@ pub trait Wire {
         requires room { 0 < length buf.old }
         ensures gets { IfGot result (GetsSome buf.new) }
         ensures told { WireTells (told self.old) (told self.new) (read_as buf.new result) }
+        ensures honest { honest self.old → honest self.new }
         ensures cause { HasCauseRead (faults self.old) (faults self.new) result };
 
     /// Notes a mark among the calls.
     fn note(&mut self, mark: Mark) -> Result<(), Memory>
         ensures told { WireTells (told self.old) (told self.new) (marked_as mark result) }
+        ensures honest { honest self.old → honest self.new }
         ensures cause { faults self.old ≤ faults self.new };
+
+    /// The history that is read from what an honest wire tells is lawful: a record is sent where its last byte was
+    /// written, and delivered where its last byte was read.
+    ghost lawful: { (x : Self) → honest x → IsLawfulWire (told x) };
 }

@@ -1,10 +1,11 @@
 -- From what a call of a link adds to what the steps of a client keep.
-use Rattle.std.proofs.Common.{◌≡◌, List, [], ◌∷◌, ◌++◌, refl, sym, ap, subst, ◌∙◌, append_assoc}
-use Rattle.std.proofs.lemmas.List.{append-nil}
+use Rattle.std.proofs.Common.{◌≡◌, ◌≤◌, ℕ, List, [], ◌∷◌, ◌++◌, length, arith, refl, sym, ap, subst, ◌∙◌, append_assoc}
+use Rattle.std.proofs.lemmas.List.{append-nil, length-append}
 use Rattle.world_model.specs.declared.entry.Entry.{Entry}
 use Rattle.world_model.specs.declared.entry.Entry.TheVariants.{Began, Answered, Dialed, Sent, Executed, Foreign, Flushed, Reboot, Delivered, Failed, Clock}
 use Rattle.world_model.specs.Entries.{ours}
-use Rattle.world_model.specs.Told.{Told, Adds}
+use Rattle.world_model.specs.History.{History}
+use Rattle.world_model.specs.Told.{Adds}
 
 pub ours-append : (xs ys : List Entry) → ours (xs ++ ys) ≡ ours xs ++ ours ys
 ours-append [] ys = refl
@@ -20,24 +21,32 @@ ours-append (Delivered bytes ∷ xs) ys = ap (λ t. Delivered bytes ∷ t) (ours
 ours-append (Failed ∷ xs) ys = ap (λ t. Failed ∷ t) (ours-append xs ys)
 ours-append (Clock ms ∷ xs) ys = ap (λ t. Clock ms ∷ t) (ours-append xs ys)
 
+-- the server at earlier moments is what it was
+abbrev pub IsEarlier : History → History → Type 0
+IsEarlier old new = (n : ℕ) → n ≤ length old.entries → new.at n ≡ old.at n
+
 -- a call that adds these entries and nothing of the server's
-pub adds_more : (old new : Told) (more es : List Entry) → new.entries ≡ old.entries ++ more → ours more ≡ es → Adds old new es
-adds_more old new more es grown seen = record { more = more; grown = grown; seen = seen }
+pub adds_more : (old new : History) (more es : List Entry) → new.entries ≡ old.entries ++ more → ours more ≡ es → IsEarlier old new → Adds old new es
+adds_more old new more es grown seen earlier = record { more = more; grown = grown; seen = seen; earlier = earlier }
 
 -- a call that adds nothing
-pub adds_none : (old new : Told) → new.entries ≡ old.entries → Adds old new []
-adds_none old new e = record { more = []; grown = e ∙ sym (append-nil old.entries); seen = refl }
+pub adds_none : (old new : History) → new.entries ≡ old.entries → IsEarlier old new → Adds old new []
+adds_none old new e earlier = record { more = []; grown = e ∙ sym (append-nil old.entries); seen = refl; earlier = earlier }
 
 -- two calls one after the other
-pub adds_then : (a b c : Told) (es fs : List Entry) → Adds a b es → Adds b c fs → Adds a c (es ++ fs)
+pub adds_then : (a b c : History) (es fs : List Entry) → Adds a b es → Adds b c fs → Adds a c (es ++ fs)
 adds_then a b c es fs p q = record {
   more = p.more ++ q.more;
   grown = q.grown ∙ ap (λ (t : List Entry). t ++ q.more) p.grown ∙ append_assoc a.entries p.more q.more;
   seen = rw (ours-append, p.seen, q.seen) refl;
+  earlier = λ n le. q.earlier n (no_shorter a b es n p le) ∙ p.earlier n le;
 }
+  where
+    no_shorter : (a b : History) (es : List Entry) (n : ℕ) → Adds a b es → n ≤ length a.entries → n ≤ length b.entries
+    no_shorter a b es n p le = rw (p.grown, length-append a.entries p.more) (omega (arith, le))
 
 -- the client's entries after a call
-pub ours_after : (a b : Told) (es : List Entry) → Adds a b es → ours b.entries ≡ ours a.entries ++ es
+pub ours_after : (a b : History) (es : List Entry) → Adds a b es → ours b.entries ≡ ours a.entries ++ es
 ours_after a b es p = ap ours p.grown ∙ ours-append a.entries p.more ∙ ap (λ (t : List Entry). ours a.entries ++ t) p.seen
 
 -- the entries before and after the first of the client's
@@ -99,11 +108,11 @@ quiet_by P one h (e ∷ more) q p =
     one_more (Clock ms) ds q = absurd cc
 
 -- a call that adds nothing of the client's
-pub quietly : (P : List Entry → Type 0) (old new : Told) → IsQuiet P → Adds old new [] → P old.entries → P new.entries
+pub quietly : (P : List Entry → Type 0) (old new : History) → IsQuiet P → Adds old new [] → P old.entries → P new.entries
 quietly P old new q a p = rw a.grown (q old.entries a.more a.seen p)
 
 -- a call that adds one entry, and a step of the client that goes with it
-pub steps_on : (P Q : List Entry → Type 0) (old new : Told) (e : Entry) → IsQuiet P → IsQuiet Q → ((h : List Entry) → P h → Q (h ++ e ∷ [])) → Adds old new (e ∷ []) → P old.entries → Q new.entries
+pub steps_on : (P Q : List Entry → Type 0) (old new : History) (e : Entry) → IsQuiet P → IsQuiet Q → ((h : List Entry) → P h → Q (h ++ e ∷ [])) → Adds old new (e ∷ []) → P old.entries → Q new.entries
 steps_on P Q old new e qp qq step a p =
     let s = parts a.more e [] a.seen in
     let one : Q ((old.entries ++ s.quiet) ++ e ∷ []) = step (old.entries ++ s.quiet) (qp old.entries s.quiet s.before p) in
@@ -112,12 +121,12 @@ steps_on P Q old new e qp qq step a p =
     subst Q same two
 
 -- a call that adds two entries, and two steps of the client
-pub steps_on_twice : (P Q R : List Entry → Type 0) (old new : Told) (e f : Entry) → IsQuiet P → IsQuiet Q → IsQuiet R
+pub steps_on_twice : (P Q R : List Entry → Type 0) (old new : History) (e f : Entry) → IsQuiet P → IsQuiet Q → IsQuiet R
     → ((h : List Entry) → P h → Q (h ++ e ∷ [])) → ((h : List Entry) → Q h → R (h ++ f ∷ []))
     → Adds old new (e ∷ f ∷ []) → P old.entries → R new.entries
 steps_on_twice P Q R old new e f qp qq qr first second a p =
     let s = parts a.more e (f ∷ []) a.seen in
-    let mid : Told = record { entries = (old.entries ++ s.quiet) ++ e ∷ [] } in
+    let mid : History = record { entries = (old.entries ++ s.quiet) ++ e ∷ []; at = new.at } in
     let one : Q mid.entries = first (old.entries ++ s.quiet) (qp old.entries s.quiet s.before p) in
     let same : new.entries ≡ mid.entries ++ s.rest = a.grown ∙ ap (λ t. old.entries ++ t) (s.is ∙ append_assoc s.quiet (e ∷ []) s.rest) ∙ sym (simp append_assoc refl) in
-    steps_on Q R mid new f qq qr second (record { more = s.rest; grown = same; seen = s.after }) one
+    steps_on Q R mid new f qq qr second (record { more = s.rest; grown = same; seen = s.after; earlier = λ n le. refl }) one

@@ -39,6 +39,7 @@ loop-done-preserved g c =
       same = same_then c.loop-done.invariant.same w.same;
       goes = along_then _ _ _ _ _ _ _ _ _ (λ h k q e e' a b. all_then c.args.file c.args.offset c.args.bytes.now c.args.wsize c.loop-done.done c.min.result c.in-Ok.count c.args.calls.now c.loop-done.calls c.write_piece.new.calls h k q c.loop-done.invariant.same some few inside e e' a b)
           c.loop-done.invariant.goes written;
+      honest = λ h. w.honest (c.loop-done.invariant.honest h);
     }
 
 pub returns-in-Err-clause-goes : goal.returns-in-Err-clause-goes

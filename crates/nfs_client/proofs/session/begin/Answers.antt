@@ -4,19 +4,19 @@ use Rattle.nfs_client.proofs.Alongs.{along_call, along_then, along_less}
 use Rattle.nfs_client.proofs.Working.{Notes, Quiet, notes_by, quiet_of, begins_none, begins_timed, begins_cut, begins_well}
 use Rattle.nfs_client.proofs.session.begin.Goals as goal
 
-pub returns-in-Err : goal.returns-in-Err
-returns-in-Err g c =
+pub returns-in-Err-clause-goes : goal.returns-in-Err-clause-goes
+returns-in-Err-clause-goes g c =
     let n = c.in-Err.ensures in
     along_less _ _ _ _ Quiet _ (λ h k e q. begins_none c.args.op.now c.in-Err.wanting h k q) (along_call _ _ _ _ Quiet [] n.cause n.told (λ f. absurd cc) (λ a b p. quiet_of a b p))
 
-pub returns-in_default : goal.returns-in_default
-returns-in_default g c =
+pub returns-in_default-clause-goes : goal.returns-in_default-clause-goes
+returns-in_default-clause-goes g c =
     let n = c.in-Ok.ensures in
     let ms = c.now-ms.result in
     along_less _ _ _ _ (Notes (Clock ms)) _ (λ h k e q. begins_timed c.args.op.now (record {}) ms h k q) (along_call _ _ _ _ (Notes (Clock ms)) _ n.cause n.told (λ f. absurd cc) (λ a b p. notes_by (Clock ms) a b (λ k is. cc) p))
 
-pub returns-in-Err-note : goal.returns-in-Err-note
-returns-in-Err-note g c =
+pub returns-in-Err-note-clause-goes : goal.returns-in-Err-note-clause-goes
+returns-in-Err-note-clause-goes g c =
     let n = c.in-Ok.ensures in
     let m = c.in-Err-note.ensures in
     let ms = c.now-ms.result in
@@ -24,8 +24,8 @@ returns-in-Err-note g c =
     (along_call _ _ _ _ (Notes (Clock ms)) _ n.cause n.told (λ f. absurd cc) (λ a b p. notes_by (Clock ms) a b (λ k is. cc) p))
     (along_call _ _ _ _ Quiet [] m.cause m.told (λ f. absurd cc) (λ a b p. quiet_of a b p))
 
-pub returns-in-Ok-note : goal.returns-in-Ok-note
-returns-in-Ok-note g c =
+pub returns-in-Ok-note-clause-goes : goal.returns-in-Ok-note-clause-goes
+returns-in-Ok-note-clause-goes g c =
     let n = c.in-Ok.ensures in
     let m = rw c.in-Ok-copy.ensures at c.in-Ok-note.ensures in
     let ms = c.now-ms.result in

@@ -1,4 +1,3 @@
-use Rattle.std.proofs.Common.{sym, ap}
 use Rattle.outside.proofs.Readings.{told_step}
 use Rattle.outside.proofs.clock.TickClockClock.now.Goals as goal
 

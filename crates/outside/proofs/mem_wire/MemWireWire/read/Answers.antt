@@ -1,6 +1,6 @@
-use Rattle.std.proofs.Common.{◌≡◌, ◌<◌, ◌≤◌, ◌+◌, ◌-◌, ◌∷◌, min, ℕ, List, length, take, drop, arith, ap, ◌∙◌, refl}
+use Rattle.std.proofs.Common.{◌≡◌, ◌+◌, ◌∷◌, length, drop, arith, ap, ◌∙◌, refl}
 use Rattle.std.proofs.lemmas.List.{length-drop}
-use Rattle.outside.specs.MemWire.{WireView, IsPartOf}
+use Rattle.outside.specs.MemWire.{IsPartOf}
 use Rattle.outside.proofs.Pieces.{drop_here, no_part, hands_last, hands_part}
 use Rattle.outside.proofs.mem_wire.MemWireWire.read.Goals as goal
 
