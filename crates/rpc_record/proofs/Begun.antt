@@ -1,16 +1,22 @@
 -- A line at its beginning.
 use Rattle.std.proofs.Common.{◌≡◌, ◌-◌, List, [], length, Option, Some, None, refl, ap, arith}
-use Rattle.std.proofs.lemmas.List.{drop_all}
-use Rattle.outside.specs.Wire.{WireCall}
-use Rattle.rpc_record.specs.Stream.{AllPlaced, begun, latest, now_of, IsBegun}
+use Rattle.std.proofs.lemmas.List.{drop_all, take_all}
+use Rattle.outside.specs.Wire.{WireCall, WireTold}
+use Rattle.rpc_record.specs.Stream.{AllPlaced, Stream, begun, begun_at, latest, earlier, after_calls, now_of, IsBegun}
 
 none_yet : (calls : List WireCall) → latest 0 calls ≡ []
 none_yet calls = drop_all (length calls - 0) calls (omega arith)
 
-pub fresh_placed : (told : Option (List WireCall)) → AllPlaced told []
-fresh_placed None = tt
-fresh_placed (Some calls) = record { enough = omega arith; now = begun (latest 0 calls); is = refl; all = none_yet calls }
+all_before : (calls : List WireCall) → earlier 0 calls ≡ calls
+all_before calls = take_all (length calls - 0) calls (omega arith)
 
-pub fresh_begun : (told : Option (List WireCall)) → IsBegun (now_of told [])
-fresh_begun None = tt
-fresh_begun (Some calls) = ap begun (none_yet calls)
+pub begun_is : (t : WireTold) → begun_at 0 t ≡ begun (after_calls t.start t.calls) []
+begun_is t = rw (none_yet t.calls, all_before t.calls) refl
+
+pub fresh_placed : (told : Option WireTold) → AllPlaced told []
+fresh_placed None = tt
+fresh_placed (Some t) = record { enough = omega arith; now = begun_at 0 t; is = refl; all = none_yet t.calls }
+
+pub fresh_begun : (told : Option WireTold) → IsBegun told (now_of told [])
+fresh_begun None = refl
+fresh_begun (Some t) = ap (λ (s : Stream). Some s) (begun_is t)

@@ -7,21 +7,25 @@ use Rattle.world_model.specs.declared.entry.Entry.TheVariants.{Dialed, Sent, Del
 use Rattle.world_model.specs.declared.entry.Mark.{Mark}
 use Rattle.world_model.specs.declared.entry.Mark.TheVariants as marks
 use Rattle.world_model.specs.Entries.{ours}
-use Rattle.world_model.specs.Told.{Told, Adds, Tells}
+use Rattle.world_model.specs.History.{History}
+use Rattle.world_model.specs.Told.{Adds, Tells}
 use Rattle.world_model.proofs.Histories.{ours-append, adds_then, adds_none}
+use Rattle.outside.specs.Wire.{Step, WireTold, entries_in}
+use Rattle.outside.specs.Reading.{now_at, goes_on, adds, follows}
 use Rattle.outside.specs.Link.{entry_of}
 use Rattle.outside.specs.declared.link.Received.TheVariants as received
 use Rattle.outside.specs.declared.wire.WireEntry.TheVariants.{Connected, Wrote, Read, Noted, Missed}
 use Rattle.rpc_record.specs.declared.kept.Adds.TheVariants as added
 use Rattle.rpc_record.specs.declared.gather.Phase.{Phase}
 use Rattle.rpc_record.specs.declared.gather.Phase.TheVariants as phases
-use Rattle.rpc_record.specs.Records.{record_at}
+use Rattle.outside.specs.Records.{record_at}
 use Rattle.rpc_record.specs.Limits.{Found, found_at}
 use Rattle.rpc_record.specs.Limits as limits
 use Rattle.rpc_record.specs.Gather.{resumes, resumes_in, unbegun}
 use Rattle.rpc_record.specs.Stream.{Stream, places, Goes, Did, told_of, IsBegun}
 use Rattle.rpc_record.specs.Shown.{Waiting, Keeps, Follows, IfStream, HoldsLong, Hears}
 use Rattle.rpc_record.proofs.Joins.{left_grow, left_next, nth_is, found_is}
+use Rattle.rpc_record.proofs.Lawfuls.{at_old}
 
 -- nothing came yet
 abbrev pub nothing : Waiting
@@ -36,25 +40,43 @@ pub record After (old new : Option Stream) (w : Waiting) (unsent : Option (List 
   pub follows : Follows new w unsent
   pub tells : Tells (told_of old) (told_of new) es
 
-three : (s quiet : List Entry) (d f : Entry) → ((s ++ quiet) ++ d ∷ []) ++ f ∷ [] ≡ s ++ (quiet ++ d ∷ f ∷ [])
-three s quiet d f = append_assoc (s ++ quiet) (d ∷ []) (f ∷ []) ∙ append_assoc s quiet (d ∷ f ∷ [])
-
 mark_ours : (mark : Mark) → ours (entry_of mark ∷ []) ≡ entry_of mark ∷ []
 mark_ours (marks.Began lane line op) = refl
 mark_ours (marks.Answered lane line answer) = refl
 mark_ours (marks.Clock ms) = refl
 
-adds_quiet : (s quiet es : List Entry) → ours quiet ≡ [] → ours es ≡ es → Adds (record { entries = s }) (record { entries = (s ++ quiet) ++ es }) es
-adds_quiet s quiet es u own = record { more = quiet ++ es; grown = append_assoc s quiet es; seen = rw (ours-append, u, own) refl }
+adds_here : (h : History) (e : Entry) → ours (e ∷ []) ≡ e ∷ [] → Adds h (adds h e) (e ∷ [])
+adds_here h e own = record { more = e ∷ []; grown = refl; seen = own; earlier = λ n le. at_old h (now_at h) n le }
 
-adds_only : (s quiet : List Entry) → ours quiet ≡ [] → Adds (record { entries = s }) (record { entries = s ++ quiet }) []
-adds_only s quiet u = record { more = quiet; grown = refl; seen = u }
+adds_quiet : (quiet : List Step) (h : History) → ours (entries_in quiet) ≡ [] → Adds h (follows quiet h) []
+adds_quiet [] h unseen = adds_none h h refl (λ n le. refl)
+adds_quiet (s ∷ quiet) h unseen =
+    let parted : ours (s.entry ∷ []) ++ ours (entries_in quiet) ≡ [] = sym (ours-append (s.entry ∷ []) (entries_in quiet)) ∙ unseen in
+    let one : Adds h (goes_on h s.entry s.after) [] = record { more = s.entry ∷ []; grown = refl; seen = first_nil _ _ parted; earlier = λ n le. at_old h s.after n le } in
+    adds_then h (goes_on h s.entry s.after) (follows quiet (goes_on h s.entry s.after)) [] [] one (adds_quiet quiet (goes_on h s.entry s.after) (second_nil _ _ parted))
+  where
+    first_nil : (xs ys : List Entry) → xs ++ ys ≡ [] → xs ≡ []
+    first_nil [] ys e = refl
+    first_nil (x ∷ xs) ys e = absurd cc
+
+    second_nil : (xs ys : List Entry) → xs ++ ys ≡ [] → ys ≡ []
+    second_nil [] ys e = e
+    second_nil (x ∷ xs) ys e = absurd cc
+
+-- entries of the server and then one of the client's
+adds_one : (quiet : List Step) (h : History) (e : Entry) → ours (entries_in quiet) ≡ [] → ours (e ∷ []) ≡ e ∷ [] → Adds h (adds (follows quiet h) e) (e ∷ [])
+adds_one quiet h e unseen own = adds_then h (follows quiet h) (adds (follows quiet h) e) [] (e ∷ []) (adds_quiet quiet h unseen) (adds_here (follows quiet h) e own)
+
+-- and two
+adds_two : (quiet : List Step) (h : History) (d e : Entry) → ours (entries_in quiet) ≡ [] → ours (d ∷ []) ≡ d ∷ [] → ours (e ∷ []) ≡ e ∷ [] → Adds h (adds (adds (follows quiet h) d) e) (d ∷ e ∷ [])
+adds_two quiet h d e unseen first second =
+    adds_then h (adds (follows quiet h) d) (adds (adds (follows quiet h) d) e) (d ∷ []) (e ∷ []) (adds_one quiet h d unseen first) (adds_here (adds (follows quiet h) d) e second)
 
 pub no_step : (old new : Option Stream) (w : Waiting) (q : Option (List ℕ)) → Follows old w q → Goes old new (λ s t. t ≡ s) → After old new w q []
 no_step None None w q f e = record { follows = tt; tells = tt }
 no_step None (Some t) w q f e = absurd cc
 no_step (Some s) None w q f e = absurd e
-no_step (Some s) (Some t) w q f e = rw e (record { follows = f; tells = record { more = []; grown = sym (append-nil s.entries); seen = refl } })
+no_step (Some s) (Some t) w q f e = rw e (record { follows = f; tells = adds_none s.history s.history refl (λ n le. refl) })
 
 -- bytes that came are worked into the record
 pub work_step : (now : Option Stream) (w v : Waiting) (q : Option (List ℕ)) → Follows now w q
@@ -74,7 +96,7 @@ read_step (Some s) (Some t) w bytes q f n e = rw e.is (record {
     reads = λ more. ap found_at (append_assoc f.pending bytes more) ∙ f.reads (bytes ++ more) ∙ ap (λ (u : List ℕ). resumes w.gather (u ++ (bytes ++ more))) n;
     went = f.went;
   };
-  tells = adds_only s.entries e.quiet e.unseen;
+  tells = adds_quiet e.quiet s.history e.unseen;
 })
 
 pub missed_step : (old new : Option Stream) (w : Waiting) (q : Option (List ℕ)) → Follows old w q → Goes old new (Did (Some Missed) added.Failed) → After old new w q (Failed ∷ [])
@@ -83,7 +105,7 @@ missed_step None (Some t) w q f e = absurd cc
 missed_step (Some s) None w q f e = absurd e
 missed_step (Some s) (Some t) w q f e = rw e.is (record {
   follows = record { pending = f.pending; came = f.came; reads = f.reads; went = f.went };
-  tells = adds_quiet s.entries e.quiet (Failed ∷ []) e.unseen refl;
+  tells = adds_one e.quiet s.history (Failed) e.unseen refl;
 })
 
 -- a failure of the link's own
@@ -93,7 +115,7 @@ fault_step None (Some t) w q f e = absurd cc
 fault_step (Some s) None w q f e = absurd e
 fault_step (Some s) (Some t) w q f e = rw e (record {
   follows = record { pending = f.pending; came = f.came; reads = f.reads; went = f.went };
-  tells = record { more = Failed ∷ []; grown = refl; seen = refl };
+  tells = adds_here s.history Failed refl;
 })
 
 -- the bytes after the delivered records, where the record that is put together ended
@@ -115,7 +137,7 @@ deliver_step (Some s) (Some t) w q f d e =
     let r = whole_is s w q f d in
     rw (e, nth_is s.taken s.came f.pending (w.gather.front, w.unread) f.came r) (record {
       follows = record { pending = w.unread; came = left_next s.taken s.came f.pending (w.gather.front, w.unread) f.came r; reads = from_start w.unread; went = f.went };
-      tells = record { more = Delivered w.gather.front ∷ []; grown = refl; seen = refl };
+      tells = adds_here s.history (Delivered w.gather.front) refl;
     })
 
 pub deliver_hears : (old new : Option Stream) (w : Waiting) (q : Option (List ℕ)) → Follows old w q → w.gather.phase ≡ phases.Whole
@@ -143,7 +165,7 @@ write_step None (Some t) w q bytes f e = absurd cc
 write_step (Some s) None w q bytes f e = absurd e
 write_step (Some s) (Some t) w q bytes f e = rw e.is (record {
   follows = record { pending = f.pending; came = f.came; reads = f.reads; went = left_grow s.sent s.went bytes q f.went };
-  tells = adds_only s.entries e.quiet e.unseen;
+  tells = adds_quiet e.quiet s.history e.unseen;
 })
 
 -- the last bytes of a record
@@ -156,7 +178,7 @@ whole_step (Some s) (Some t) w q bytes r f d e =
     let g = left_grow s.sent s.went bytes q f.went in
     rw (e.is, nth_is s.sent (s.went ++ bytes) (q ++ bytes) r g d) (record {
       follows = record { pending = f.pending; came = f.came; reads = f.reads; went = left_next s.sent (s.went ++ bytes) (q ++ bytes) r g d };
-      tells = adds_quiet s.entries e.quiet (Sent r.0 ∷ []) e.unseen refl;
+      tells = adds_one e.quiet s.history (Sent r.0) e.unseen refl;
     })
 
 -- the wire failed, and the record wasn't written whole
@@ -166,7 +188,7 @@ part_step None (Some t) w rec q f e = absurd cc
 part_step (Some s) None w rec q f e = absurd e
 part_step (Some s) (Some t) w rec q f e = rw e.is (record {
   follows = record { pending = f.pending; came = f.came; reads = f.reads; went = f.went };
-  tells = adds_quiet s.entries e.quiet (Sent rec ∷ Failed ∷ []) e.unseen refl;
+  tells = adds_two e.quiet s.history (Sent rec) Failed e.unseen refl refl;
 })
 
 -- nothing of the record was written, since an earlier one went out in part
@@ -176,7 +198,7 @@ unsent_step None (Some t) w rec q f e = absurd cc
 unsent_step (Some s) None w rec q f e = absurd e
 unsent_step (Some s) (Some t) w rec q f e = rw e (record {
   follows = record { pending = f.pending; came = f.came; reads = f.reads; went = f.went };
-  tells = record { more = Sent rec ∷ Failed ∷ []; grown = refl; seen = refl };
+  tells = adds_two [] s.history (Sent rec) Failed refl refl refl;
 })
 
 pub less_known : (r : Option Stream) (w : Waiting) (q : List ℕ) → Follows r w (Some q) → Follows r w None
@@ -196,7 +218,7 @@ dial_step None (Some t) w q port f e = absurd cc
 dial_step (Some s) None w q port f e = absurd e
 dial_step (Some s) (Some t) w q port f e = rw e.is (record {
   follows = record { pending = []; came = refl; reads = from_start []; went = refl };
-  tells = adds_quiet s.entries e.quiet (Dialed port ∷ []) e.unseen refl;
+  tells = adds_one e.quiet s.history (Dialed port) e.unseen refl;
 })
 
 pub dial_failed : (old new : Option Stream) (w : Waiting) (q : Option (List ℕ)) (port : ℕ) → Follows old w q → Goes old new (Did (Some (Connected port)) added.Failed) → After old new nothing (Some []) (Dialed port ∷ Failed ∷ [])
@@ -205,7 +227,7 @@ dial_failed None (Some t) w q port f e = absurd cc
 dial_failed (Some s) None w q port f e = absurd e
 dial_failed (Some s) (Some t) w q port f e = rw e.is (record {
   follows = record { pending = []; came = refl; reads = from_start []; went = refl };
-  tells = record { more = e.quiet ++ Dialed port ∷ Failed ∷ []; grown = three s.entries e.quiet (Dialed port) Failed; seen = rw (ours-append, e.unseen) refl };
+  tells = adds_two e.quiet s.history (Dialed port) Failed e.unseen refl refl;
 })
 
 pub note_step : (old new : Option Stream) (w : Waiting) (q : Option (List ℕ)) (mark : Mark) → Follows old w q → Goes old new (Did (Some (Noted mark)) added.Nothing) → After old new w q (entry_of mark ∷ [])
@@ -214,25 +236,25 @@ note_step None (Some t) w q mark f e = absurd cc
 note_step (Some s) None w q mark f e = absurd e
 note_step (Some s) (Some t) w q mark f e = rw e.is (record {
   follows = record { pending = f.pending; came = f.came; reads = f.reads; went = f.went };
-  tells = adds_quiet s.entries e.quiet (entry_of mark ∷ []) e.unseen (mark_ours mark);
+  tells = adds_one e.quiet s.history (entry_of mark) e.unseen (mark_ours mark);
 })
 
-pub begun_follows : (now : Option Stream) → IsBegun now → Follows now nothing (Some [])
-begun_follows None b = tt
-begun_follows (Some s) b = rw b (record { pending = []; came = refl; reads = from_start []; went = refl })
+pub begun_follows : (told : Option WireTold) (now : Option Stream) → IsBegun told now → Follows now nothing (Some [])
+begun_follows None now b = rw b tt
+begun_follows (Some t) now b = rw b (record { pending = []; came = refl; reads = from_start []; went = refl })
 
 -- ---- one call after another
 
-pub tells_same : (a : Option Told) → Tells a a []
+pub tells_same : (a : Option History) → Tells a a []
 tells_same None = tt
-tells_same (Some a) = adds_none a a refl
+tells_same (Some a) = adds_none a a refl (λ n le. refl)
 
-pub tells_then : (a b c : Option Told) (es fs : List Entry) → Tells a b es → Tells b c fs → Tells a c (es ++ fs)
+pub tells_then : (a b c : Option History) (es fs : List Entry) → Tells a b es → Tells b c fs → Tells a c (es ++ fs)
 tells_then None b c es fs p q = tt
 tells_then (Some a) None c es fs p q = absurd p
 tells_then (Some a) (Some b) None es fs p q = absurd q
 tells_then (Some a) (Some b) (Some c) es fs p q = adds_then a b c es fs p q
 
 -- a step after steps that added nothing
-pub tells_on : (a b c : Option Told) (es : List Entry) → Tells a b [] → Tells b c es → Tells a c es
+pub tells_on : (a b c : Option History) (es : List Entry) → Tells a b [] → Tells b c es → Tells a c es
 tells_on a b c es p q = tells_then a b c [] es p q

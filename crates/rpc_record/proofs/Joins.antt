@@ -6,26 +6,27 @@ use Rattle.std.proofs.lemmas.List.{take-append-drop, take-append-le, drop-append
 use Rattle.byteorder.specs.Endian.{big_number, big_bytes}
 use Rattle.byteorder.specs.Numbers.{big_number-reads_back}
 use Rattle.std.proofs.Math.Seq.{take-nil}
-use Rattle.rpc_record.specs.Records.{◌>>=◌, joined, record_at, left, nth_record, one_fragment}
+use Rattle.outside.specs.Records.{◌>>=◌, joined, record_at, left, nth_record}
+use Rattle.rpc_record.specs.Records.{one_fragment}
 use Rattle.rpc_record.specs.Limits.{Found, Cut, Long, Whole, found, found_at, body, opened}
 use Rattle.rpc_record.proofs.Replays.{bind_some}
 
-less_one : (n : ℕ) → suc n - 1 ≡ n
+pub less_one : (n : ℕ) → suc n - 1 ≡ n
 less_one n = omega arith
 
-joined_last : (n : ℕ) (front b : List ℕ) → 0 < n → 4 ≤ length b → big_number 4 b % 2 ^ 31 ≤ length (drop 4 b) → 2 ^ 31 ≤ big_number 4 b
+pub joined_last : (n : ℕ) (front b : List ℕ) → 0 < n → 4 ≤ length b → big_number 4 b % 2 ^ 31 ≤ length (drop 4 b) → 2 ^ 31 ≤ big_number 4 b
     → joined n front b ≡ Some (front ++ take (big_number 4 b % 2 ^ 31) (drop 4 b), drop (big_number 4 b % 2 ^ 31) (drop 4 b))
 unfolding joined
 joined_last zero front b some long whole last = absurd (omega (arith, some))
 joined_last (suc n) front b some long whole last = rw (le-ltb _ _ long, le-ltb _ _ whole, le-ltb _ _ last) refl
 
-joined_next : (n : ℕ) (front b : List ℕ) → 0 < n → 4 ≤ length b → big_number 4 b % 2 ^ 31 ≤ length (drop 4 b) → big_number 4 b < 2 ^ 31
+pub joined_next : (n : ℕ) (front b : List ℕ) → 0 < n → 4 ≤ length b → big_number 4 b % 2 ^ 31 ≤ length (drop 4 b) → big_number 4 b < 2 ^ 31
     → joined n front b ≡ joined (n - 1) (front ++ take (big_number 4 b % 2 ^ 31) (drop 4 b)) (drop (big_number 4 b % 2 ^ 31) (drop 4 b))
 unfolding joined
 joined_next zero front b some long whole more = absurd (omega (arith, some))
 joined_next (suc n) front b some long whole more = rw (le-ltb _ _ long, le-ltb _ _ whole, lt-ltb _ _ more, less_one n) refl
 
-guard_some : {A : Type 0} (b : Bool) (x : Option A) (r : A) → cond b None x ≡ Some r → (b ≡ false) × (x ≡ Some r)
+pub guard_some : {A : Type 0} (b : Bool) (x : Option A) (r : A) → cond b None x ≡ Some r → (b ≡ false) × (x ≡ Some r)
 guard_some true x r e = absurd cc
 guard_some false x r e = (refl, e)
 

@@ -5,3 +5,7 @@ pub mod Joins
 pub mod Following
 pub mod Turning
 pub mod Writing
+pub mod Lawfuls
+pub mod Splitting
+pub mod Mirroring
+pub mod Honesty

@@ -1,14 +1,14 @@
 -- How what a line tells grows.
-use Rattle.std.proofs.Common.{◌≡◌, ◌≤◌, ◌+◌, ◌-◌, drop, arith, ℕ, length, slice_set, Bool, true, false, List, [], ◌∷◌, ◌++◌, Option, Some, None, refl, sym, ap, ◌∙◌}
-use Rattle.std.proofs.lemmas.List.{length-append, drop-append-le}
+use Rattle.std.proofs.Common.{◌≡◌, ◌≤◌, ◌+◌, ◌-◌, drop, take, arith, ℕ, length, slice_set, Bool, true, false, List, [], ◌∷◌, ◌++◌, Option, Some, None, refl, sym, ap, ◌∙◌}
+use Rattle.std.proofs.lemmas.List.{length-append, drop-append-le, take-append-le}
 use Rattle.outside.specs.declared.wire.WireEntry.{WireEntry}
 use Rattle.outside.specs.declared.wire.WireEntry.TheVariants.{Connected, Wrote, Read, Noted, Missed}
 use Rattle.rpc_record.specs.declared.kept.Kept.{Kept}
 use Rattle.rpc_record.specs.declared.kept.Adds.{Adds}
 use Rattle.rpc_record.specs.declared.kept.Adds.TheVariants as added
-use Rattle.outside.specs.Wire.{WireCall, WireTells}
-use Rattle.rpc_record.specs.Records.{◌>>=◌, nth_record}
-use Rattle.rpc_record.specs.Stream.{Stream, begun, quietly, shows, delivers, sends, places, called_of, called, replays, calls_in, latest, now_of, AllPlaced, Goes, Called}
+use Rattle.outside.specs.Wire.{WireCall, WireTold, AddsCall, WireTells}
+use Rattle.outside.specs.Records.{◌>>=◌, nth_record}
+use Rattle.rpc_record.specs.Stream.{Stream, quietly, shows, delivers, sends, places, called_of, called, replays, calls_in, latest, earlier, begun_at, now_of, Placed, AllPlaced, Goes, Called}
 
 abbrev with_more : List WireCall → Stream → Stream
 with_more more s = record s { calls = s.calls ++ more }
@@ -66,7 +66,7 @@ replays_append (k ∷ ks) js s t e =
     rw (o.1) (replays_append ks js (places k.adds o.0) t o.2)
 
 -- what a line is after one more place
-pub record Now (old new : Option (List WireCall)) (ks js : List Kept) (R : Stream → Stream → Type 0) : Type 0 where
+pub record Now (old new : Option WireTold) (ks js : List Kept) (R : Stream → Stream → Type 0) : Type 0 where
   pub placed : AllPlaced new js
   pub goes : Goes (now_of old ks) (now_of new js) R
 
@@ -111,17 +111,27 @@ latest_more n calls c le =
     let k : length (calls ++ c ∷ []) - (n + 1) ≡ length calls - n = omega (arith, length-append calls (c ∷ []), le) in
     ap (λ (i : ℕ). drop i (calls ++ c ∷ [])) k ∙ drop-append-le (length calls - n) calls (c ∷ []) (omega arith)
 
-pub place_now : (old : Option (List WireCall)) (ks : List Kept) (adds : Adds) → AllPlaced old ks
+earlier_more : (n : ℕ) (calls : List WireCall) (c : WireCall) → n ≤ length calls → earlier (n + 1) (calls ++ c ∷ []) ≡ earlier n calls
+earlier_more n calls c le =
+    let k : length (calls ++ c ∷ []) - (n + 1) ≡ length calls - n = omega (arith, length-append calls (c ∷ []), le) in
+    ap (λ (i : ℕ). take i (calls ++ c ∷ [])) k ∙ take-append-le (length calls - n) calls (c ∷ []) (omega arith)
+
+begun_more : (n : ℕ) (t : WireTold) (c : WireCall) → n ≤ length t.calls → begun_at (n + 1) (record { start = t.start; calls = t.calls ++ c ∷ [] }) ≡ with_more (c ∷ []) (begun_at n t)
+begun_more n t c le = rw (earlier_more n t.calls c le, latest_more n t.calls c le) refl
+
+-- where a line is after a place without a call
+pub placed_at : (t : WireTold) (ks : List Kept) (adds : Adds) (w : Placed t ks) → now_of (Some t) (ks ++ record { call = false; adds = adds } ∷ []) ≡ Some (places adds w.now)
+placed_at t ks adds w =
+    let k : Kept = record { call = false; adds = adds } in
+    ap (λ (n : ℕ). replays (ks ++ k ∷ []) (begun_at n t)) (no_more ks adds) ∙ replays_append ks (k ∷ []) (begun_at (calls_in ks) t) w.now w.is
+
+pub place_now : (old : Option WireTold) (ks : List Kept) (adds : Adds) → AllPlaced old ks
     → Now old old ks (ks ++ record { call = false; adds = adds } ∷ []) (λ s t. t ≡ places adds s)
 place_now None ks adds w = record { placed = tt; goes = refl }
-place_now (Some calls) ks adds w =
-    let k : Kept = record { call = false; adds = adds } in
-    let is : replays (ks ++ k ∷ []) (begun (latest (calls_in (ks ++ k ∷ [])) calls)) ≡ Some (places adds w.now) =
-    ap (λ (n : ℕ). replays (ks ++ k ∷ []) (begun (latest n calls))) (no_more ks adds) ∙ replays_append ks (k ∷ []) (begun (latest (calls_in ks) calls)) w.now w.is in
-    record {
-      placed = record { enough = omega (arith, no_more ks adds, w.enough); now = places adds w.now; is = is; all = places_stay adds w.now ∙ w.all };
-      goes = goes_to _ _ w.now (places adds w.now) (λ s t. t ≡ places adds s) w.is is refl;
-    }
+place_now (Some t) ks adds w = record {
+  placed = record { enough = omega (arith, no_more ks adds, w.enough); now = places adds w.now; is = placed_at t ks adds w; all = places_stay adds w.now ∙ w.all };
+  goes = goes_to _ _ w.now (places adds w.now) (λ s t. t ≡ places adds s) w.is (placed_at t ks adds w) refl;
+}
 
 last_call : (cs : List WireCall) (c : WireCall) (adds : Adds) (u : Stream) → cs ≡ []
     → (called_of (cs ++ c ∷ []) u >>= λ t. Some (places adds t)) ≡ Some (places adds (shows c.did (quietly c.quiet (record u { calls = [] }))))
@@ -131,35 +141,44 @@ last_call (x ∷ xs) c adds u e = absurd cc
 no_calls : (s : Stream) → s.calls ≡ [] → record s { calls = [] } ≡ s
 no_calls s e = ap (λ (cs : List WireCall). record s { calls = cs }) (sym e)
 
-pub call_now : (old new : Option (List WireCall)) (ks : List Kept) (own : WireEntry) (adds : Adds) → AllPlaced old ks → WireTells old new (Some own)
-    → Now old new ks (ks ++ record { call = true; adds = adds } ∷ []) (Called own adds)
-call_now None None ks own adds w e = record { placed = tt; goes = refl }
-call_now None (Some new) ks own adds w e = absurd cc
-call_now (Some calls) None ks own adds w e = absurd e
-call_now (Some calls) (Some new) ks own adds w a =
+-- where a line is after a call
+pub called_at : (t new : WireTold) (ks : List Kept) (own : WireEntry) (adds : Adds) (w : Placed t ks) (a : AddsCall t new own)
+    → now_of (Some new) (ks ++ record { call = true; adds = adds } ∷ []) ≡ Some (places adds (shows own (quietly a.quiet w.now)))
+called_at t new ks own adds w a =
     let c : WireCall = record { quiet = a.quiet; did = own } in
     let k : Kept = record { call = true; adds = adds } in
     let n : ℕ = calls_in ks in
-    let first = replays_more (c ∷ []) ks (begun (latest n calls)) w.now w.is in
-    let s : Stream = record w.now { calls = [] } in
-    let t : Stream = places adds (shows own (quietly a.quiet s)) in
-    let more : latest (calls_in (ks ++ k ∷ [])) new ≡ latest n calls ++ c ∷ [] =
-    ap (λ (m : ℕ). latest m new) (one_more ks adds) ∙ ap (latest (n + 1)) a.grown ∙ latest_more n calls c w.enough in
-    let is : replays (ks ++ k ∷ []) (begun (latest (calls_in (ks ++ k ∷ [])) new)) ≡ Some t =
-    ap (λ (cs : List WireCall). replays (ks ++ k ∷ []) (begun cs)) more
-    ∙ replays_append ks (k ∷ []) (begun (latest n calls ++ c ∷ [])) (with_more (c ∷ []) w.now) first
-    ∙ last_call w.now.calls c adds (with_more (c ∷ []) w.now) w.all in
+    let more : begun_at (calls_in (ks ++ k ∷ [])) new ≡ with_more (c ∷ []) (begun_at n t) =
+    ap (λ (m : ℕ). begun_at m new) (one_more ks adds) ∙ ap (begun_at (n + 1)) a.grown ∙ begun_more n t c w.enough in
+    ap (replays (ks ++ k ∷ [])) more
+    ∙ replays_append ks (k ∷ []) (with_more (c ∷ []) (begun_at n t)) (with_more (c ∷ []) w.now) (replays_more (c ∷ []) ks (begun_at n t) w.now w.is)
+    ∙ last_call w.now.calls c adds (with_more (c ∷ []) w.now) w.all
+    ∙ ap (λ (u : Stream). Some (places adds (shows own (quietly a.quiet u)))) (no_calls w.now w.all)
+
+pub call_now : (old new : Option WireTold) (ks : List Kept) (own : WireEntry) (adds : Adds) → AllPlaced old ks → WireTells old new (Some own)
+    → Now old new ks (ks ++ record { call = true; adds = adds } ∷ []) (Called own adds)
+call_now None None ks own adds w e = record { placed = tt; goes = refl }
+call_now None (Some new) ks own adds w e = absurd cc
+call_now (Some t) None ks own adds w e = absurd e
+call_now (Some t) (Some new) ks own adds w a =
+    let after : Stream = places adds (shows own (quietly a.quiet w.now)) in
+    let is = called_at t new ks own adds w a in
     record {
-      placed = record { enough = omega (arith, one_more ks adds, w.enough, ap length a.grown, length-append calls (c ∷ [])); now = t; is = is; all = places_stay adds (shows own (quietly a.quiet s)) ∙ shows_stay own (quietly a.quiet s) };
-      goes = goes_to _ _ w.now t (Called own adds) w.is is (record { quiet = a.quiet; unseen = a.unseen; is = ap (λ (u : Stream). places adds (shows own (quietly a.quiet u))) (no_calls w.now w.all) });
+      placed = record {
+        enough = omega (arith, one_more ks adds, w.enough, ap (λ (u : WireTold). length u.calls) a.grown, length-append t.calls (record { quiet = a.quiet; did = own } ∷ []));
+        now = after;
+        is = is;
+        all = places_stay adds (shows own (quietly a.quiet w.now)) ∙ shows_stay own (quietly a.quiet w.now) ∙ w.all;
+      };
+      goes = goes_to _ _ w.now after (Called own adds) w.is is (record { quiet = a.quiet; unseen = a.unseen; is = refl });
     }
 
-pub none_now : (old new : Option (List WireCall)) (ks : List Kept) → AllPlaced old ks → WireTells old new None
+pub none_now : (old new : Option WireTold) (ks : List Kept) → AllPlaced old ks → WireTells old new None
     → Now old new ks (ks ++ record { call = false; adds = added.Nothing } ∷ []) (λ s t. t ≡ s)
 none_now None None ks w e = record { placed = tt; goes = refl }
 none_now None (Some new) ks w e = absurd cc
-none_now (Some calls) None ks w e = absurd e
-none_now (Some calls) (Some new) ks w e = rw e (place_now (Some calls) ks added.Nothing w)
+none_now (Some t) None ks w e = absurd e
+none_now (Some t) (Some new) ks w e = rw e (place_now (Some t) ks added.Nothing w)
 
 pub set_last : (ks : List Kept) (j k : Kept) → slice_set (ks ++ j ∷ []) (length ks) k ≡ ks ++ k ∷ []
 set_last [] j k = refl

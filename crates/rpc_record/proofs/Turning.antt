@@ -10,9 +10,9 @@ use Rattle.outside.specs.Link.{received_as}
 use Rattle.outside.specs.declared.wire.WireEntry.TheVariants.{Read, Missed}
 use Rattle.rpc_record.specs.declared.kept.Adds.TheVariants as added
 use Rattle.rpc_record.specs.declared.gather.Phase.TheVariants as phases
-use Rattle.rpc_record.specs.Records.{nth_record}
+use Rattle.outside.specs.Records.{nth_record}
 use Rattle.rpc_record.specs.Stream.{Stream, Goes, Did, places, told_of}
-use Rattle.rpc_record.specs.Shown.{Shown, Waiting, Follows, Fills, HasCauseFilled, FailedWait, Because, Stays, Shut, Waits, NextIs, Hears, Heard, Turned, Turns, GoesOn}
+use Rattle.rpc_record.specs.Shown.{Held, Shown, Waiting, Follows, Fills, HasCauseFilled, FailedWait, Because, Stays, Shut, Waits, NextIs, Hears, Heard, Turned, Turns, GoesOn}
 use Rattle.rpc_record.proofs.Following.{After, no_step, work_step, read_step, missed_step, tells_on, tells_same}
 
 -- what came of waiting for bytes
@@ -221,3 +221,9 @@ ended_on a b rec g = turned_on a b b rec received.Memory g (record {
   hears = nothing_heard rec b.now;
   waits = record { wire = omega arith; own = omega arith; sending = refl; because = tt; shut = λ l. record { phase = l; came = nothing_came b.now } };
 })
+
+pub phase_of : {W : Type 0} (a b : Held W) → a ≡ b → a.phase ≡ b.phase
+phase_of {W = W} a b e = ap (λ (s : Held W). s.phase) e
+
+pub sending_of : {W : Type 0} (a b : Held W) → a ≡ b → a.sending ≡ b.sending
+sending_of {W = W} a b e = ap (λ (s : Held W). s.sending) e

@@ -11,7 +11,8 @@ use Rattle.outside.specs.declared.wire.WireEntry.TheVariants.{Wrote, Missed}
 use Rattle.rpc_record.specs.declared.kept.Adds.{Adds}
 use Rattle.rpc_record.specs.declared.kept.Adds.TheVariants as added
 use Rattle.rpc_record.specs.declared.sending.Sending.TheVariants as sendings
-use Rattle.rpc_record.specs.Records.{nth_record, one_fragment}
+use Rattle.outside.specs.Records.{nth_record}
+use Rattle.rpc_record.specs.Records.{one_fragment}
 use Rattle.rpc_record.specs.Stream.{Stream, Goes, Did, places, sends, delivers, told_of}
 use Rattle.rpc_record.specs.Shown.{Shown, Waiting, Follows, partly, left_by, TookPart, Writes, IfSendFailed, Sends}
 use Rattle.rpc_record.proofs.Joins.{last_part, more_taken, fragment_some}

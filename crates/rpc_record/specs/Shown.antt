@@ -13,13 +13,17 @@ use Rattle.rpc_record.specs.declared.gather.Phase.{Phase}
 use Rattle.rpc_record.specs.declared.gather.Phase.TheVariants as phases
 use Rattle.rpc_record.specs.declared.sending.Sending.{Sending}
 use Rattle.rpc_record.specs.declared.sending.Sending.TheVariants as sendings
-use Rattle.rpc_record.specs.Records.{left, nth_record, one_fragment}
+use Rattle.outside.specs.Records.{left, nth_record}
+use Rattle.rpc_record.specs.Records.{one_fragment}
 use Rattle.rpc_record.specs.Limits.{found_at}
 use Rattle.rpc_record.specs.Limits as limits
 use Rattle.rpc_record.specs.Gather.{Gathered, resumes}
-use Rattle.rpc_record.specs.Stream.{Stream, Goes, Did, told_of}
+use Rattle.outside.specs.Wire.{WireTold}
+use Rattle.rpc_record.specs.declared.kept.Kept.{Kept}
+use Rattle.world_model.specs.History.{History}
+use Rattle.rpc_record.specs.Stream.{Stream, Along, now_of, Goes, Did, told_of}
 
--- what is known of its streams, the faults of its wire and its own, what became of the records that were sent since the
+-- What a caller sees: what is known of its streams, the faults of its wire and its own, what became of the records that were sent since the
 -- latest connection, and where in a record the bytes that came end
 pub record Shown : Type 0 where
   pub now : Option Stream
@@ -27,6 +31,25 @@ pub record Shown : Type 0 where
   pub own : ℕ
   pub sending : Sending
   pub phase : Phase
+
+-- what a link is: its wire and what it placed behind the wire's calls, and the rest of what it shows
+pub record Held (W : Type 0) : Type 0 where
+  pub over : W
+  pub kept : List Kept
+  pub wire : ℕ
+  pub own : ℕ
+  pub sending : Sending
+  pub phase : Phase
+
+abbrev pub shown_by : {W : Type 0} → (W → Option WireTold) → Held W → Shown
+shown_by told h = record { now = now_of (told h.over) h.kept; wire = h.wire; own = h.own; sending = h.sending; phase = h.phase }
+
+abbrev pub told_by : {W : Type 0} → (W → Option WireTold) → Held W → Option History
+told_by told h = told_of (now_of (told h.over) h.kept)
+
+-- the line that it stands on
+abbrev pub line_of : {W : Type 0} → Held W → Along W
+line_of h = record { over = h.over; kept = h.kept; faults = h.wire }
 
 -- the record that is put together, and the bytes that came and aren't in it yet
 pub record Waiting : Type 0 where

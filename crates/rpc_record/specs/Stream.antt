@@ -1,9 +1,9 @@
 -- The history of a link, from the calls of its wire and what the link placed behind them.
-use Rattle.std.specs.Prelude.{◌≡◌, ◌≤◌, ◌+◌, ◌-◌, ℕ, suc, List, [], ◌∷◌, ◌++◌, drop, length, Bool, true, false, Option, Some, None, Result, Ok, Err, ◌==◌, if◌then◌else◌}
-use Rattle.world_model.specs.declared.entry.Entry.{Entry}
+use Rattle.std.specs.Prelude.{◌≡◌, ◌≤◌, ◌+◌, ◌-◌, ℕ, suc, List, [], ◌∷◌, ◌++◌, take, drop, length, Bool, true, false, Option, Some, None, Result, Ok, Err, ◌==◌, if◌then◌else◌}
 use Rattle.world_model.specs.declared.entry.Entry.TheVariants as entries
 use Rattle.world_model.specs.Entries.{ours}
-use Rattle.world_model.specs.Told.{Told}
+use Rattle.world_model.specs.Server.{Server}
+use Rattle.world_model.specs.History.{History}
 use Rattle.outside.specs.declared.wire.WireEntry.{WireEntry}
 use Rattle.outside.specs.declared.wire.WireEntry.TheVariants.{Connected, Wrote, Read, Noted, Missed}
 use Rattle.outside.specs.declared.wire.WireRead.{WireRead}
@@ -11,52 +11,53 @@ use Rattle.outside.specs.declared.wire.WireRead.TheVariants as reads
 use Rattle.outside.specs.declared.link.LinkFault.{LinkFault}
 use Rattle.outside.specs.declared.link.LinkFault.TheVariants as faults
 use Rattle.outside.specs.Link.{entry_of}
-use Rattle.outside.specs.Wire.{WireCall}
+use Rattle.outside.specs.Wire.{Step, WireCall, WireTold, entries_in}
+use Rattle.outside.specs.Reading.{begins_at, adds, follows}
 use Rattle.rpc_record.specs.declared.kept.Kept.{Kept}
 use Rattle.rpc_record.specs.declared.kept.Adds.{Adds}
 use Rattle.rpc_record.specs.declared.kept.Adds.TheVariants as added
-use Rattle.rpc_record.specs.Records.{◌>>=◌, nth_record}
+use Rattle.outside.specs.Records.{◌>>=◌, nth_record}
 
 -- What is known at a moment: the calls of the wire that have no place yet, the history so far, and since the latest
 -- connection the bytes that were read, how many of their records were delivered, the bytes that were written, and how
 -- many of their records were sent.
 pub record Stream : Type 0 where
   pub calls : List WireCall
-  pub entries : List Entry
+  pub history : History
   pub came : List ℕ
   pub taken : ℕ
   pub went : List ℕ
   pub sent : ℕ
 
-abbrev pub begun : List WireCall → Stream
-begun calls = record { calls = calls; entries = []; came = []; taken = 0; went = []; sent = 0 }
+abbrev pub begun : Server → List WireCall → Stream
+begun start calls = record { calls = calls; history = begins_at start; came = []; taken = 0; went = []; sent = 0 }
 
-abbrev pub quietly : List Entry → Stream → Stream
-quietly quiet s = record s { entries = s.entries ++ quiet }
+abbrev pub quietly : List Step → Stream → Stream
+quietly quiet s = record s { history = follows quiet s.history }
 
 -- what the own entry of a call of the wire shows
 abbrev pub shows : WireEntry → Stream → Stream
-shows (Connected port) s = record { calls = s.calls; entries = s.entries ++ entries.Dialed port ∷ []; came = []; taken = 0; went = []; sent = 0 }
+shows (Connected port) s = record { calls = s.calls; history = adds s.history (entries.Dialed port); came = []; taken = 0; went = []; sent = 0 }
 shows (Wrote bytes) s = record s { went = s.went ++ bytes }
 shows (Read bytes) s = record s { came = s.came ++ bytes }
-shows (Noted mark) s = record s { entries = s.entries ++ entry_of mark ∷ [] }
+shows (Noted mark) s = record s { history = adds s.history (entry_of mark) }
 shows Missed s = s
 
 abbrev pub delivers : Option (List ℕ) → Stream → Stream
 delivers None s = s
-delivers (Some rec) s = record s { entries = s.entries ++ entries.Delivered rec ∷ []; taken = suc s.taken }
+delivers (Some rec) s = record s { history = adds s.history (entries.Delivered rec); taken = suc s.taken }
 
 abbrev pub sends : Option (List ℕ) → Stream → Stream
 sends None s = s
-sends (Some rec) s = record s { entries = s.entries ++ entries.Sent rec ∷ []; sent = suc s.sent }
+sends (Some rec) s = record s { history = adds s.history (entries.Sent rec); sent = suc s.sent }
 
 -- What the link placed. A record that is delivered is the next one of the bytes that were read since the latest
 -- connection, and a record that was sent whole is the next one of those that were written.
 abbrev pub places : Adds → Stream → Stream
 places added.Nothing s = s
-places added.Failed s = record s { entries = s.entries ++ entries.Failed ∷ [] }
+places added.Failed s = record s { history = adds s.history entries.Failed }
 places added.Whole s = sends (nth_record s.sent s.went) s
-places (added.Part bytes) s = record s { entries = s.entries ++ entries.Sent bytes ∷ entries.Failed ∷ [] }
+places (added.Part bytes) s = record s { history = adds (adds s.history (entries.Sent bytes)) entries.Failed }
 places added.Delivered s = delivers (nth_record s.taken s.came) s
 
 abbrev pub called_of : List WireCall → Stream → Option Stream
@@ -81,29 +82,50 @@ abbrev pub calls_in : List Kept → ℕ
 calls_in [] = 0
 calls_in (k ∷ ks) = one_if k.call + calls_in ks
 
--- the latest calls of a wire, so many; what it did before it came to the link is no part of the link's history
+-- the latest calls of a wire, so many, and those before them
 abbrev pub latest : ℕ → List WireCall → List WireCall
 latest n calls = drop (length calls - n) calls
 
-abbrev pub now_of : Option (List WireCall) → List Kept → Option Stream
+abbrev pub earlier : ℕ → List WireCall → List WireCall
+earlier n calls = take (length calls - n) calls
+
+-- the server after what it did, and after calls
+abbrev pub after_steps : Server → List Step → Server
+after_steps s [] = s
+after_steps s (x ∷ xs) = after_steps x.after xs
+
+abbrev pub after_calls : Server → List WireCall → Server
+after_calls s [] = s
+after_calls s (c ∷ cs) = after_calls (after_steps s c.quiet) cs
+
+-- What a wire did before its latest calls is no part of the link's history, which begins with the server after that.
+abbrev pub begun_at : ℕ → WireTold → Stream
+begun_at n t = begun (after_calls t.start (earlier n t.calls)) (latest n t.calls)
+
+abbrev pub now_of : Option WireTold → List Kept → Option Stream
 now_of None ks = None
-now_of (Some calls) ks = replays ks (begun (latest (calls_in ks) calls))
+now_of (Some t) ks = replays ks (begun_at (calls_in ks) t)
 
 -- each call of the wire since then has its place, and no place is without a call
-pub record Placed (calls : List WireCall) (ks : List Kept) : Type 0 where
-  pub enough : calls_in ks ≤ length calls
+pub record Placed (t : WireTold) (ks : List Kept) : Type 0 where
+  pub enough : calls_in ks ≤ length t.calls
   pub now : Stream
-  pub is : replays ks (begun (latest (calls_in ks) calls)) ≡ Some now
+  pub is : replays ks (begun_at (calls_in ks) t) ≡ Some now
   pub all : now.calls ≡ []
 
-abbrev pub AllPlaced : Option (List WireCall) → List Kept → Type 0
+abbrev pub AllPlaced : Option WireTold → List Kept → Type 0
 AllPlaced None ks = Unit {0}
-AllPlaced (Some calls) ks = Placed calls ks
+AllPlaced (Some t) ks = Placed t ks
 
--- what a line is: where its history stands, and the wire's count
-pub record Along : Type 0 where
-  pub now : Option Stream
+-- what a line is: its wire, what it placed behind the wire's calls, and the wire's count
+pub record Along (W : Type 0) : Type 0 where
+  pub over : W
+  pub kept : List Kept
   pub faults : ℕ
+
+-- where its history stands
+abbrev pub now_in : {W : Type 0} → (W → Option WireTold) → Along W → Option Stream
+now_in told a = now_of (told a.over) a.kept
 
 -- a relation of two streams, where they are told
 abbrev pub Goes : Option Stream → Option Stream → (Stream → Stream → Type 0) → Type 0
@@ -113,8 +135,8 @@ Goes (Some s) (Some t) R = R s t
 
 -- After s comes t by a call of the wire, perhaps after entries of the server.
 pub record Called (did : WireEntry) (places_then : Adds) (s t : Stream) : Type 0 where
-  pub quiet : List Entry
-  pub unseen : ours quiet ≡ []
+  pub quiet : List Step
+  pub unseen : ours (entries_in quiet) ≡ []
   pub is : t ≡ places places_then (shows did (quietly quiet s))
 
 -- what a call of a line did, from what the wire's call did and what was then placed
@@ -139,10 +161,11 @@ if_missed reads.Silent = added.Failed
 if_missed reads.Failed = added.Failed
 if_missed reads.Memory = added.Nothing
 
-abbrev pub told_of : Option Stream → Option Told
+abbrev pub told_of : Option Stream → Option History
 told_of None = None
-told_of (Some s) = Some (record { entries = s.entries })
+told_of (Some s) = Some s.history
 
-abbrev pub IsBegun : Option Stream → Type 0
-IsBegun None = Unit {0}
-IsBegun (Some s) = s ≡ begun []
+-- the history is empty, and begins with the server as the wire tells it
+abbrev pub IsBegun : Option WireTold → Option Stream → Type 0
+IsBegun None now = now ≡ None
+IsBegun (Some t) now = now ≡ Some (begun (after_calls t.start t.calls) [])

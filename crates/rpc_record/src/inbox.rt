@@ -4,6 +4,8 @@ ghost use Rattle.std.specs.Prelude.{◌≡◌, ◌≤◌, ◌<◌, ◌++◌, [],
 ghost use Rattle.std.specs.Bool.{OnTrue};
 ghost use Rattle.rpc_record.specs.declared.gather.Phase.TheVariants as phases;
 ghost use Rattle.rpc_record.specs.Gather.{resumes, unbegun};
+ghost use Rattle.rpc_record.specs.Honest.{HonestOver};
+ghost use Rattle.rpc_record.specs.Stream.{now_in};
 ghost use Rattle.rpc_record.specs.Shown.{Fills, HasCauseFilled, IsDone};
 
 use crate::gather::{Gather, Phase};
@@ -112,7 +114,8 @@ impl Inbox {
         requires patient { 15000 ≤ wait_ms }
         requires empty { self.old.unread ≡ [] }
         ensures gather { self.new.gather ≡ self.old.gather }
-        ensures got { Fills line.old.now line.new.now self.new.unread result }
+        ensures got { Fills (now_in W.told line.old) (now_in W.told line.new) self.new.unread result }
+        ensures honest { HonestOver W.told W.honest line.old → HonestOver W.told W.honest line.new }
         ensures cause { HasCauseFilled line.old.faults line.new.faults result }
     {
         self.at = 0;

@@ -7,7 +7,8 @@ ghost use Rattle.outside.specs.Sink.{TakesSome};
 ghost use Rattle.outside.specs.Wire.{connected_as, wrote_as, read_as, marked_as, IfGot, GetsSome, HasCauseRead};
 ghost use Rattle.rpc_record.specs.declared.kept.Kept.{Kept};
 ghost use Rattle.rpc_record.specs.declared.kept.Adds.TheVariants as added;
-ghost use Rattle.rpc_record.specs.Stream.{Goes, Did, places, if_wrote, if_missed, if_dialed, IsBegun};
+ghost use Rattle.rpc_record.specs.Honest.{HonestOver, EndsRecord, IsOwn, IsFresh};
+ghost use Rattle.rpc_record.specs.Stream.{Goes, Did, places, if_wrote, if_missed, if_dialed, IsBegun, now_in};
 
 use crate::kept::{Adds, Kept};
 use outside::{LinkFault, Wire, WireRead};
@@ -27,11 +28,11 @@ pub(crate) struct Line<W: Wire> {
 }
 
 impl<W: Wire> Model for Line<W> {
-    ghost use Rattle.rpc_record.specs.Stream.{Along, now_of, AllPlaced};
+    ghost use Rattle.rpc_record.specs.Stream.{Along, AllPlaced};
 
-    ghost Value = { Along };
+    ghost Value = { Along W };
 
-    ghost view = { λ s. record { now = now_of (W.told s.wire) s.kept.items; faults = W.faults s.wire } };
+    ghost view = { λ s. record { over = s.wire; kept = s.kept.items; faults = W.faults s.wire } };
 
     ghost invariant = { λ s. AllPlaced (W.told s.wire) s.kept.items };
 }
@@ -75,7 +76,8 @@ impl<W: Wire + Drop> Line<W> {
     /// A line over a wire. What the wire did before is no part of it.
     #[tactic(auto, using(crate::proofs::Begun::fresh_placed, crate::proofs::Begun::fresh_begun))]
     pub(crate) fn new(alloc: Global, wire: W) -> Line<W>
-        ensures begun { IsBegun result.now }
+        ensures begun { IsBegun (W.told wire) (now_in W.told result) }
+        ensures honest { IsFresh (W.told wire) → W.honest wire → HonestOver W.told W.honest result }
         ensures faults { result.faults ≡ W.faults wire }
     {
         Line {
@@ -94,8 +96,9 @@ impl<W: Wire + Drop> Line<W> {
 
     /// Places an entry after all that was done. After want of memory nothing is changed, and the answer is false.
     pub(crate) fn place(&mut self, adds: Adds) -> bool
-        ensures yes { OnTrue result (Goes self.old.now self.new.now (λ s t. t ≡ places adds s)) }
-        ensures no { OnFalse result (self.new.now ≡ self.old.now) }
+        ensures yes { OnTrue result (Goes (now_in W.told self.old) (now_in W.told self.new) (λ s t. t ≡ places adds s)) }
+        ensures no { OnFalse result (now_in W.told self.new ≡ now_in W.told self.old) }
+        ensures honest { IsOwn adds → HonestOver W.told W.honest self.old → HonestOver W.told W.honest self.new }
         ensures faults { self.new.faults ≡ self.old.faults }
     {
         if !room(&mut self.kept) {
@@ -109,7 +112,8 @@ impl<W: Wire + Drop> Line<W> {
     pub(crate) fn read(&mut self, wait_ms: u32, buf: &mut [u8]) -> WireRead
         requires patient { 15000 ≤ wait_ms }
         requires room { 0 < length buf.old }
-        ensures now { Goes self.old.now self.new.now (Did (read_as buf.new result) (if_missed result)) }
+        ensures now { Goes (now_in W.told self.old) (now_in W.told self.new) (Did (read_as buf.new result) (if_missed result)) }
+        ensures honest { HonestOver W.told W.honest self.old → HonestOver W.told W.honest self.new }
         ensures gets { IfGot result (GetsSome buf.new) }
         ensures cause { HasCauseRead self.old.faults self.new.faults result }
     {
@@ -130,7 +134,8 @@ impl<W: Wire + Drop> Line<W> {
     /// Writes bytes, the last ones of a record. Where the wire takes them all, the record is placed; where it fails, the
     /// record is one that was not written whole, and its bytes are taken out of part.
     pub(crate) fn write(&mut self, bytes: &[u8], part: &mut Blob) -> Result<usize, LinkFault>
-        ensures now { Goes self.old.now self.new.now (Did (wrote_as bytes.now result) (if_wrote (length bytes.now) part.old result)) }
+        ensures now { Goes (now_in W.told self.old) (now_in W.told self.new) (Did (wrote_as bytes.now result) (if_wrote (length bytes.now) part.old result)) }
+        ensures honest { EndsRecord (now_in W.told self.old) bytes.now → HonestOver W.told W.honest self.old → HonestOver W.told W.honest self.new }
         ensures takes { IfOk result (TakesSome bytes.now) }
         ensures part { IfOk result (λ n. part.new ≡ part.old) }
         ensures cause { HasCause self.old.faults self.new.faults result }
@@ -157,7 +162,8 @@ impl<W: Wire + Drop> Line<W> {
 
     /// Makes a connection in place of the one before; where that fails, it is placed.
     pub(crate) fn connect(&mut self, port: u16) -> Result<(), LinkFault>
-        ensures now { Goes self.old.now self.new.now (Did (connected_as port result) (if_dialed result)) }
+        ensures now { Goes (now_in W.told self.old) (now_in W.told self.new) (Did (connected_as port result) (if_dialed result)) }
+        ensures honest { HonestOver W.told W.honest self.old → HonestOver W.told W.honest self.new }
         ensures cause { HasCause self.old.faults self.new.faults result }
     {
         if !room(&mut self.kept) {
@@ -180,7 +186,8 @@ impl<W: Wire + Drop> Line<W> {
 
     /// Notes a mark.
     pub(crate) fn note(&mut self, mark: Mark) -> Result<(), Memory>
-        ensures now { Goes self.old.now self.new.now (Did (marked_as mark result) added.Nothing) }
+        ensures now { Goes (now_in W.told self.old) (now_in W.told self.new) (Did (marked_as mark result) added.Nothing) }
+        ensures honest { HonestOver W.told W.honest self.old → HonestOver W.told W.honest self.new }
         ensures cause { self.old.faults ≤ self.new.faults }
     {
         if !room(&mut self.kept) {

@@ -6,8 +6,9 @@ ghost use Rattle.outside.specs.Link.{sent_as, received_as, dialed_as, noted_as};
 ghost use Rattle.outside.specs.Causes.{HasCause, HasCauseReceived};
 ghost use Rattle.rpc_record.specs.declared.gather.Phase.TheVariants as phases;
 ghost use Rattle.rpc_record.specs.declared.sending.Sending.TheVariants as sendings;
-ghost use Rattle.rpc_record.specs.Stream.{Goes, told_of, IsBegun};
-ghost use Rattle.rpc_record.specs.Shown.{Waits, Turned, Turns, GoesOn, Sends, left_by};
+ghost use Rattle.rpc_record.specs.Stream.{Goes, IsBegun};
+ghost use Rattle.rpc_record.specs.Honest.{HonestOver, IsFresh};
+ghost use Rattle.rpc_record.specs.Shown.{Waits, Turned, Turns, GoesOn, Sends, left_by, shown_by, told_by, line_of};
 
 use crate::gather::Phase;
 use crate::inbox::Inbox;
@@ -36,13 +37,14 @@ pub struct StreamLink<W: Wire> {
 }
 
 impl<W: Wire> Model for StreamLink<W> {
-    ghost use Rattle.rpc_record.specs.Shown.{Shown, Follows, partly};
+    ghost use Rattle.rpc_record.specs.Stream.{now_in};
+    ghost use Rattle.rpc_record.specs.Shown.{Held, Follows, partly};
 
-    ghost Value = { Shown };
+    ghost Value = { Held W };
 
-    ghost view = { λ s. record { now = s.line.now; wire = s.line.faults; own = s.faults; sending = s.sending; phase = s.inbox.gather.phase } };
+    ghost view = { λ s. record { over = s.line.over; kept = s.line.kept; wire = s.line.faults; own = s.faults; sending = s.sending; phase = s.inbox.gather.phase } };
 
-    ghost invariant = { λ s. Follows s.line.now s.inbox (partly s.sending) };
+    ghost invariant = { λ s. Follows (now_in W.told s.line) s.inbox (partly s.sending) };
 }
 
 /// What a connection is good for after a sending that failed, by how many bytes of the record were taken.
@@ -59,10 +61,12 @@ fn after(at: usize, fault: LinkFault) -> Sending
 }
 
 impl<W: Wire + Drop> StreamLink<W> {
-    /// A link over a wire, with an empty history: what the wire did before is no part of it.
+    /// A link over a wire, with an empty history: what the wire did before is no part of it. Over an honest wire that
+    /// did nothing yet the link is honest.
     #[tactic(auto, using(crate::proofs::Following::begun_follows))]
     pub fn new(alloc: Global, wire: W) -> StreamLink<W>
-        ensures begun { IsBegun result.now }
+        ensures begun { IsBegun (W.told wire) (shown_by W.told result).now }
+        ensures honest { IsFresh (W.told wire) → W.honest wire → HonestOver W.told W.honest (line_of result) }
         ensures faults { result.wire + result.own ≡ W.faults wire }
         ensures sending { result.sending ≡ sendings.Fine }
     {
@@ -85,7 +89,8 @@ impl<W: Wire + Drop> StreamLink<W> {
     /// Delivers the record that ended.
     fn deliver(&mut self, rec: &mut Vec<u8>) -> Received
         requires { self.old.phase ≡ phases.Whole }
-        ensures { Turned self.old self.new rec.new.items result }
+        ensures turned { Turned (shown_by W.told self.old) (shown_by W.told self.new) rec.new.items result }
+        ensures honest { HonestOver W.told W.honest (line_of self.old) → HonestOver W.told W.honest (line_of self.new) }
     {
         if !self.line.place(Adds::Delivered) {
             return Received::Memory;
@@ -97,7 +102,8 @@ impl<W: Wire + Drop> StreamLink<W> {
     /// Refuses a record that is past the limits.
     fn refuse_long(&mut self) -> Received
         requires { self.old.phase ≡ phases.Long }
-        ensures { (rec : List ℕ) → Turned self.old self.new rec result }
+        ensures turned { (rec : List ℕ) → Turned (shown_by W.told self.old) (shown_by W.told self.new) rec result }
+        ensures honest { HonestOver W.told W.honest (line_of self.old) → HonestOver W.told W.honest (line_of self.new) }
     {
         if !self.line.place(Adds::Failed) {
             return Received::Memory;
@@ -109,7 +115,8 @@ impl<W: Wire + Drop> StreamLink<W> {
     /// One turn of a wait: it works what came into the record, and ends with it or waits for bytes. None where bytes came.
     fn turn(&mut self, wait_ms: u32, rec: &mut Vec<u8>) -> Option<Received>
         requires { 15000 ≤ wait_ms }
-        ensures { Turns self.old self.new rec.new.items result }
+        ensures turns { Turns (shown_by W.told self.old) (shown_by W.told self.new) rec.new.items result }
+        ensures honest { HonestOver W.told W.honest (line_of self.old) → HonestOver W.told W.honest (line_of self.new) }
     {
         let Ok(()) = self.inbox.work() else {
             return Some(Received::Memory);
@@ -126,7 +133,8 @@ impl<W: Wire + Drop> StreamLink<W> {
     #[tactic(auto, using(crate::proofs::Turning::turned_on, crate::proofs::Turning::goes_on_then, crate::proofs::Turning::goes_on_same, crate::proofs::Turning::ended_on))]
     fn wait(&mut self, wait_ms: u32, rec: &mut Vec<u8>) -> Received
         requires { 15000 ≤ wait_ms }
-        ensures { Turned self.old self.new rec.new.items result }
+        ensures turned { Turned (shown_by W.told self.old) (shown_by W.told self.new) rec.new.items result }
+        ensures honest { HonestOver W.told W.honest (line_of self.old) → HonestOver W.told W.honest (line_of self.new) }
     {
         let mut turns = 0;
         while turns < MOST_TURNS {
@@ -141,8 +149,9 @@ impl<W: Wire + Drop> StreamLink<W> {
     /// Sends a record on a connection on which all before it went out whole or not at all.
     fn send_fine(&mut self, rec: &[u8]) -> Result<(), LinkFault>
         requires { self.old.sending ≡ sendings.Fine }
-        ensures told { Tells (told_of self.old.now) (told_of self.new.now) (sent_as rec.now result) }
-        ensures sends { Sends self.old self.new rec.now result }
+        ensures told { Tells (told_by W.told self.old) (told_by W.told self.new) (sent_as rec.now result) }
+        ensures honest { HonestOver W.told W.honest (line_of self.old) → HonestOver W.told W.honest (line_of self.new) }
+        ensures sends { Sends (shown_by W.told self.old) (shown_by W.told self.new) rec.now result }
     {
         let Ok(text) = framed(self.alloc, rec) else {
             return Err(LinkFault::Memory);
@@ -176,8 +185,9 @@ impl<W: Wire + Drop> StreamLink<W> {
     /// Refuses a record on a connection on which another went out in part.
     fn refuse_send(&mut self, rec: &[u8]) -> Result<(), LinkFault>
         requires { self.old.sending ≡ sendings.Broken }
-        ensures told { Tells (told_of self.old.now) (told_of self.new.now) (sent_as rec.now result) }
-        ensures sends { Sends self.old self.new rec.now result }
+        ensures told { Tells (told_by W.told self.old) (told_by W.told self.new) (sent_as rec.now result) }
+        ensures honest { HonestOver W.told W.honest (line_of self.old) → HonestOver W.told W.honest (line_of self.new) }
+        ensures sends { Sends (shown_by W.told self.old) (shown_by W.told self.new) rec.now result }
     {
         let Ok(bytes) = Blob::copy(self.alloc, rec) else {
             return Err(LinkFault::Memory);
@@ -191,8 +201,9 @@ impl<W: Wire + Drop> StreamLink<W> {
 
     /// Sends a record, as the connection allows.
     fn send_on(&mut self, rec: &[u8]) -> Result<(), LinkFault>
-        ensures told { Tells (told_of self.old.now) (told_of self.new.now) (sent_as rec.now result) }
-        ensures sends { Sends self.old self.new rec.now result }
+        ensures told { Tells (told_by W.told self.old) (told_by W.told self.new) (sent_as rec.now result) }
+        ensures honest { HonestOver W.told W.honest (line_of self.old) → HonestOver W.told W.honest (line_of self.new) }
+        ensures sends { Sends (shown_by W.told self.old) (shown_by W.told self.new) rec.now result }
     {
         match self.sending {
             Sending::Fine => self.send_fine(rec),
@@ -205,14 +216,19 @@ impl<W: Wire + Drop> StreamLink<W> {
 impl<W: Wire + Drop> Link for StreamLink<W> {
     ghost use Rattle.rpc_record.specs.Shown.{Dials, Hears, Notes};
 
-    ghost told = { λ s. told_of s.now };
+    ghost told = { λ s. told_by W.told s };
 
     ghost faults = { λ s. s.wire + s.own };
 
+    ghost honest = { λ s. HonestOver W.told W.honest (line_of s) };
+
+    ghost lawful = { λ s h. h.lawful };
+
     fn dial(&mut self, port: u16) -> Result<(), LinkFault>
-        ensures told { Tells (told_of self.old.now) (told_of self.new.now) (dialed_as port result) }
+        ensures told { Tells (told_by W.told self.old) (told_by W.told self.new) (dialed_as port result) }
+        ensures honest { HonestOver W.told W.honest (line_of self.old) → HonestOver W.told W.honest (line_of self.new) }
         ensures cause { HasCause (self.old.wire + self.old.own) (self.new.wire + self.new.own) result }
-        ensures dials { Dials self.old self.new result }
+        ensures dials { Dials (shown_by W.told self.old) (shown_by W.told self.new) result }
     {
         match self.line.connect(port) {
             Ok(()) => {
@@ -230,27 +246,30 @@ impl<W: Wire + Drop> Link for StreamLink<W> {
     }
 
     fn send(&mut self, rec: &[u8]) -> Result<(), LinkFault>
-        ensures told { Tells (told_of self.old.now) (told_of self.new.now) (sent_as rec.now result) }
+        ensures told { Tells (told_by W.told self.old) (told_by W.told self.new) (sent_as rec.now result) }
+        ensures honest { HonestOver W.told W.honest (line_of self.old) → HonestOver W.told W.honest (line_of self.new) }
         ensures cause { HasCause (self.old.wire + self.old.own) (self.new.wire + self.new.own) result }
-        ensures sends { Sends self.old self.new rec.now result }
+        ensures sends { Sends (shown_by W.told self.old) (shown_by W.told self.new) rec.now result }
     {
         self.send_on(rec)
     }
 
     fn receive(&mut self, wait_ms: u32, rec: &mut Vec<u8>) -> Received
         requires { 15000 ≤ wait_ms }
-        ensures told { Tells (told_of self.old.now) (told_of self.new.now) (received_as rec.new.items result) }
+        ensures told { Tells (told_by W.told self.old) (told_by W.told self.new) (received_as rec.new.items result) }
+        ensures honest { HonestOver W.told W.honest (line_of self.old) → HonestOver W.told W.honest (line_of self.new) }
         ensures cause { HasCauseReceived (self.old.wire + self.old.own) (self.new.wire + self.new.own) result }
-        ensures hears { Goes self.old.now self.new.now (Hears rec.new.items result) }
-        ensures waits { Waits self.old self.new result }
+        ensures hears { Goes (shown_by W.told self.old).now (shown_by W.told self.new).now (Hears rec.new.items result) }
+        ensures waits { Waits (shown_by W.told self.old) (shown_by W.told self.new) result }
     {
         self.wait(wait_ms, rec)
     }
 
     fn note(&mut self, mark: Mark) -> Result<(), Memory>
-        ensures told { Tells (told_of self.old.now) (told_of self.new.now) (noted_as mark result) }
+        ensures told { Tells (told_by W.told self.old) (told_by W.told self.new) (noted_as mark result) }
+        ensures honest { HonestOver W.told W.honest (line_of self.old) → HonestOver W.told W.honest (line_of self.new) }
         ensures cause { self.old.wire + self.old.own ≤ self.new.wire + self.new.own }
-        ensures notes { Notes self.old self.new }
+        ensures notes { Notes (shown_by W.told self.old) (shown_by W.told self.new) }
     {
         match self.line.note(mark) {
             Ok(()) => Ok(()),

@@ -1,6 +1,7 @@
 use Rattle.std.proofs.Common.{false}
 use Rattle.rpc_record.specs.declared.kept.Kept.{Kept}
 use Rattle.rpc_record.specs.declared.kept.Adds.TheVariants as added
+use Rattle.rpc_record.proofs.Honesty.{own_honest, none_honest}
 use Rattle.rpc_record.proofs.Replays.{call_now, none_now}
 use Rattle.rpc_record.proofs.line.Line.connect.Goals as goal
 
@@ -32,3 +33,17 @@ returns-in-Err-Failed-clause-now g c =
 
 pub returns-in-Err-Memory-clause-now : goal.returns-in-Err-Memory-clause-now
 returns-in-Err-Memory-clause-now g c = rw (← c.self.view_is, c.if-not-room.ensures.yes) (none_now _ _ c.self.inside.kept.items c.self.invariant (rw c.in-Err-Memory.field-0-is at c.in-Err-Memory.ensures.told)).goes
+
+pub returns-in-Ok-clause-honest : goal.returns-in-Ok-clause-honest
+returns-in-Ok-clause-honest g c =
+    let is = c.put.ensures c.self.inside.kept.items nothing c.if-not-room.ensures.yes in
+    rw (← c.self.view_is, is) (own_honest g.W.Wire.told g.W.Wire.honest g.met.W.Wire.lawful c.self.inside.wire _ c.self.inside.kept.items _ _ _ added.Nothing c.self.invariant c.in-Ok.ensures.told c.in-Ok.ensures.honest tt tt)
+
+pub returns-in-Err-Failed-clause-honest : goal.returns-in-Err-Failed-clause-honest
+returns-in-Err-Failed-clause-honest g c =
+    let is = c.put-in-Err-Failed.ensures c.self.inside.kept.items nothing c.if-not-room.ensures.yes in
+    rw (← c.self.view_is, is) (own_honest g.W.Wire.told g.W.Wire.honest g.met.W.Wire.lawful c.self.inside.wire _ c.self.inside.kept.items _ _ _ added.Failed c.self.invariant (rw c.in-Err-Failed.field-0-is at c.in-Err-Failed.ensures.told) c.in-Err-Failed.ensures.honest tt tt)
+
+pub returns-in-Err-Memory-clause-honest : goal.returns-in-Err-Memory-clause-honest
+returns-in-Err-Memory-clause-honest g c =
+    rw (← c.self.view_is, c.if-not-room.ensures.yes) (none_honest g.W.Wire.told g.W.Wire.honest g.met.W.Wire.lawful c.self.inside.wire _ c.self.inside.kept.items _ _ c.self.invariant (rw c.in-Err-Memory.field-0-is at c.in-Err-Memory.ensures.told) c.in-Err-Memory.ensures.honest)

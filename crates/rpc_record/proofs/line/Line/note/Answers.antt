@@ -1,6 +1,7 @@
 use Rattle.std.proofs.Common.{false}
 use Rattle.rpc_record.specs.declared.kept.Kept.{Kept}
 use Rattle.rpc_record.specs.declared.kept.Adds.TheVariants as added
+use Rattle.rpc_record.proofs.Honesty.{own_honest, none_honest}
 use Rattle.rpc_record.proofs.Replays.{call_now, none_now}
 use Rattle.rpc_record.proofs.line.Line.note.Goals as goal
 
@@ -22,3 +23,12 @@ returns-in-Ok-clause-now g c =
 
 pub returns-in-Err-clause-now : goal.returns-in-Err-clause-now
 returns-in-Err-clause-now g c = rw (← c.self.view_is, c.if-not-room.ensures.yes) (none_now _ _ c.self.inside.kept.items c.self.invariant c.in-Err.ensures.told).goes
+
+pub returns-in-Ok-clause-honest : goal.returns-in-Ok-clause-honest
+returns-in-Ok-clause-honest g c =
+    let is = c.put.ensures c.self.inside.kept.items nothing c.if-not-room.ensures.yes in
+    rw (← c.self.view_is, is) (own_honest g.W.Wire.told g.W.Wire.honest g.met.W.Wire.lawful c.self.inside.wire _ c.self.inside.kept.items _ _ _ added.Nothing c.self.invariant c.in-Ok.ensures.told c.in-Ok.ensures.honest tt tt)
+
+pub returns-in-Err-clause-honest : goal.returns-in-Err-clause-honest
+returns-in-Err-clause-honest g c =
+    rw (← c.self.view_is, c.if-not-room.ensures.yes) (none_honest g.W.Wire.told g.W.Wire.honest g.met.W.Wire.lawful c.self.inside.wire _ c.self.inside.kept.items _ _ c.self.invariant c.in-Err.ensures.told c.in-Err.ensures.honest)

@@ -1,6 +1,7 @@
 use Rattle.std.proofs.Common.{false}
 use Rattle.rpc_record.specs.declared.kept.Kept.{Kept}
 use Rattle.rpc_record.specs.declared.kept.Adds.TheVariants as added
+use Rattle.rpc_record.proofs.Honesty.{own_honest, none_honest}
 use Rattle.rpc_record.proofs.Replays.{call_now, none_now}
 use Rattle.rpc_record.proofs.line.Line.read.Goals as goal
 use Rattle.rpc_record.proofs.line.Line.read.Goals.{in-Got, in-Silent, in-Failed}
@@ -30,4 +31,17 @@ returns-clause-now g c =
       | in-Got w ↦ rw (← c.self.view_is, is, w.adds-is, w.in-Got.is) (call_now _ _ c.self.inside.kept.items _ added.Nothing c.self.invariant w.in-Got.ensures.told).goes
       | in-Silent w ↦ rw (← c.self.view_is, is, w.adds-is, w.in-Silent.is) (call_now _ _ c.self.inside.kept.items _ added.Failed c.self.invariant w.in-Silent.ensures.told).goes
       | in-Failed w ↦ rw (← c.self.view_is, is, w.adds-is, w.in-Failed.is) (call_now _ _ c.self.inside.kept.items _ added.Failed c.self.invariant w.in-Failed.ensures.told).goes
+    ]
+
+pub returns-in-Memory-clause-honest : goal.returns-in-Memory-clause-honest
+returns-in-Memory-clause-honest g c =
+    rw (← c.self.view_is, c.if-not-room.ensures.yes) (none_honest g.W.Wire.told g.W.Wire.honest g.met.W.Wire.lawful c.self.inside.wire _ c.self.inside.kept.items _ _ c.self.invariant c.in-Memory.ensures.told c.in-Memory.ensures.honest)
+
+pub returns-clause-honest : goal.returns-clause-honest
+returns-clause-honest g c =
+    let is = c.put.ensures c.self.inside.kept.items nothing c.if-not-room.ensures.yes in
+    elim c.match-got.branch [
+      | in-Got w ↦ rw (← c.self.view_is, is, w.adds-is) (own_honest g.W.Wire.told g.W.Wire.honest g.met.W.Wire.lawful c.self.inside.wire _ c.self.inside.kept.items _ _ _ added.Nothing c.self.invariant w.in-Got.ensures.told w.in-Got.ensures.honest tt tt)
+      | in-Silent w ↦ rw (← c.self.view_is, is, w.adds-is) (own_honest g.W.Wire.told g.W.Wire.honest g.met.W.Wire.lawful c.self.inside.wire _ c.self.inside.kept.items _ _ _ added.Failed c.self.invariant w.in-Silent.ensures.told w.in-Silent.ensures.honest tt tt)
+      | in-Failed w ↦ rw (← c.self.view_is, is, w.adds-is) (own_honest g.W.Wire.told g.W.Wire.honest g.met.W.Wire.lawful c.self.inside.wire _ c.self.inside.kept.items _ _ _ added.Failed c.self.invariant w.in-Failed.ensures.told w.in-Failed.ensures.honest tt tt)
     ]

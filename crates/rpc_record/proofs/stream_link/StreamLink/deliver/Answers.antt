@@ -1,17 +1,17 @@
-use Rattle.std.proofs.Common.{◌≡◌, ap, sym, ◌∙◌, refl, arith}
+use Rattle.std.proofs.Common.{◌≡◌, sym, ◌∙◌, refl, arith}
 use Rattle.rpc_record.specs.declared.gather.Phase.TheVariants as phases
-use Rattle.rpc_record.specs.Shown.{Shown}
+use Rattle.rpc_record.proofs.Turning.{phase_of}
 use Rattle.rpc_record.proofs.Following.{deliver_step, deliver_hears}
 use Rattle.rpc_record.proofs.stream_link.StreamLink.deliver.Goals as goal
 
 pub invariant_of-self-2 : goal.invariant_of-self-2
 invariant_of-self-2 g c =
-    let whole : c.self.inside.inbox.gather.phase ≡ phases.Whole = ap (λ (v : Shown). v.phase) c.self.view_is ∙ c.requires in
+    let whole : c.self.inside.inbox.gather.phase ≡ phases.Whole = phase_of _ _ c.self.view_is ∙ c.requires in
     rw (c.hand_out.ensures.anew) (deliver_step _ _ _ _ c.self.invariant whole c.if-not-place.ensures.yes).follows
 
-pub returns : goal.returns
-returns g c =
-    let whole : c.self.inside.inbox.gather.phase ≡ phases.Whole = ap (λ (v : Shown). v.phase) c.self.view_is ∙ c.requires in
+pub returns-clause-turned : goal.returns-clause-turned
+returns-clause-turned g c =
+    let whole : c.self.inside.inbox.gather.phase ≡ phases.Whole = phase_of _ _ c.self.view_is ∙ c.requires in
     let closed : phases.Whole ≡ phases.Long → ⊥ = λ l. absurd cc in
     rw (← c.self.view_is, c.hand_out.ensures.rec) (record {
       tells = (deliver_step _ _ _ _ c.self.invariant whole c.if-not-place.ensures.yes).tells;

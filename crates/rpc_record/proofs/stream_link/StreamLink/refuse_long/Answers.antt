@@ -1,13 +1,13 @@
-use Rattle.std.proofs.Common.{◌≡◌, ap, ◌∙◌, refl, arith}
+use Rattle.std.proofs.Common.{◌≡◌, ◌∙◌, refl, arith}
 use Rattle.rpc_record.specs.declared.gather.Phase.TheVariants as phases
-use Rattle.rpc_record.specs.Shown.{Shown, FailedWait}
+use Rattle.rpc_record.specs.Shown.{FailedWait}
 use Rattle.rpc_record.proofs.Following.{fault_step, holds_long}
-use Rattle.rpc_record.proofs.Turning.{fault_heard, fault_came}
+use Rattle.rpc_record.proofs.Turning.{fault_heard, fault_came, phase_of}
 use Rattle.rpc_record.proofs.stream_link.StreamLink.refuse_long.Goals as goal
 
-pub returns : goal.returns
-returns g c =
-    let long : c.self.inside.inbox.gather.phase ≡ phases.Long = ap (λ (v : Shown). v.phase) c.self.view_is ∙ c.requires in
+pub returns-clause-turned : goal.returns-clause-turned
+returns-clause-turned g c =
+    let long : c.self.inside.inbox.gather.phase ≡ phases.Long = phase_of _ _ c.self.view_is ∙ c.requires in
     let step = fault_step _ _ _ _ c.self.invariant c.if-not-place.ensures.yes in
     λ rec. rw (← c.self.view_is) (record {
       tells = step.tells;
