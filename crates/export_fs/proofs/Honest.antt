@@ -1,0 +1,73 @@
+-- What the calls of the export promise, from what each makes of it.
+use Rattle.std.proofs.Common.{◌≡◌, ℕ, Bool, true, false, List, Option, Some, None, Result, Ok, Err, refl, sym, ap, subst, ◌∙◌, ⊎_elim, IfOk, OnOk, OnErr, if◌then◌else◌, unwrap_or}
+use Rattle.std.specs.Prelude.{⊤}
+use Rattle.std.proofs.lemmas.Bool.{cases_Bool, cond_both}
+use Rattle.xdr_codec.specs.Bytes.{IsBytes}
+use Rattle.xdr_codec.specs.declared.blob.Memory.{Memory}
+use Rattle.world_model.specs.declared.message.Call.{Call}
+use Rattle.world_model.specs.declared.message.Reply.{Reply}
+use Rattle.world_model.specs.Lawful.{Flushes}
+use Rattle.world_model.specs.Service.{Serves}
+use Rattle.export_fs.specs.View.{View}
+use Rattle.export_fs.specs.Parts.{kind}
+use Rattle.export_fs.specs.Executed.{executed}
+use Rattle.export_fs.specs.Placing.{placed}
+use Rattle.export_fs.specs.Restart.{may_restart, after_restart, after_flush}
+use Rattle.export_fs.specs.Later.{RestartsLater}
+use Rattle.export_fs.specs.Seen.{server_of}
+use Rattle.export_fs.specs.Sound.{Sound}
+use Rattle.export_fs.specs.Spelled.{IsSpelled}
+use Rattle.export_fs.proofs.Beginning.{new_view, begins, placed_stays}
+use Rattle.export_fs.proofs.Restarted.{restart_stays, restarts, flush_stays, flushes_file}
+use Rattle.export_fs.proofs.Serving.{serves}
+use Rattle.export_fs.proofs.StayingCalls.{stays_sound}
+
+-- ---- a call
+
+abbrev Executes : View → View → Call → Result Reply Memory → Type 0
+Executes v w call result = IfOk result (λ reply. (w ≡ (executed v call).0) × (reply ≡ (executed v call).1))
+
+pub sound_call : (v w : View) (call : Call) (result : Result Reply Memory) → Executes v w call result → OnErr result (w ≡ v) → Sound v → IsSpelled call → Sound w
+sound_call v w call (Ok reply) e k s b = subst Sound (sym e.0) (stays_sound v call s b)
+sound_call v w call (Err fault) e k s b = subst Sound (sym k) s
+
+pub serves_call : (v w : View) (call : Call) (result : Result Reply Memory) → Executes v w call result → Sound v → IsSpelled call → IfOk result (λ reply. Serves (server_of v) call reply (server_of w))
+serves_call v w call (Ok reply) e s b =
+    subst (λ (r : Reply). Serves (server_of v) call r (server_of w)) (sym e.1) (subst (λ (z : View). Serves (server_of v) call (executed v call).1 (server_of z)) (sym e.0) (serves v call s b))
+serves_call v w call (Err fault) e s b = tt
+
+-- ---- a restart
+
+abbrev Restarts : View → View → Type 0
+Restarts v w = w ≡ (if may_restart v then after_restart v else v)
+
+pub sound_restart : (v w : View) → Restarts v w → Sound v → Sound w
+sound_restart v w e s = subst Sound (sym e) (cond_both (may_restart v) (after_restart v) v Sound (λ m. restart_stays v s m) (λ m. s))
+
+pub restarts_later : (v w : View) → Restarts v w → may_restart v ≡ true → RestartsLater v w
+restarts_later v w e m = subst (RestartsLater v) (sym (e ∙ simp m)) (restarts v m)
+
+-- ---- a range that becomes stable
+
+pub sound_flush : (v w : View) (file : List ℕ) (start count : ℕ) (result : Result ⊤ Memory) → OnOk result (w ≡ after_flush v file start count) → OnErr result (w ≡ v) → Sound v → Sound w
+sound_flush v w file start count (Ok done) e k s = subst Sound (sym e) (flush_stays v s file start count)
+sound_flush v w file start count (Err fault) e k s = subst Sound (sym k) s
+
+pub flushes_range : (v w : View) (file : List ℕ) (start count : ℕ) (result : Result ⊤ Memory) → OnOk result (w ≡ after_flush v file start count) → IsBytes file → kind v.nodes file ≡ 1 → OnOk result (Flushes (server_of v) (server_of w) file start count)
+flushes_range v w file start count (Ok done) e b k = subst (λ (z : View). Flushes (server_of v) (server_of z) file start count) (sym e) (flushes_file v file start count b k)
+flushes_range v w file start count (Err fault) e b k = tt
+
+-- ---- a new export, and an object that is placed
+
+pub sound_new : (v : View) → v ≡ new_view → Sound v
+sound_new v e = subst Sound (sym e) begins
+
+placed_or_same : (v : View) (path : List (List ℕ)) (file : Option (List ℕ)) → Sound v → Sound (unwrap_or (placed v path file) v)
+placed_or_same v path file s = by_placed (placed v path file) refl where
+  by_placed : (o : Option View) → placed v path file ≡ o → Sound (unwrap_or o v)
+  by_placed None e = s
+  by_placed (Some w) e = placed_stays v w s path file e
+
+pub sound_place : (v w : View) (path : List (List ℕ)) (file : Option (List ℕ)) (result : Result Bool Memory) → OnOk result (w ≡ unwrap_or (placed v path file) v) → OnErr result (w ≡ v) → Sound v → Sound w
+sound_place v w path file (Ok done) e k s = subst Sound (sym e) (placed_or_same v path file s)
+sound_place v w path file (Err fault) e k s = subst Sound (sym k) s

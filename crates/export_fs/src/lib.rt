@@ -1,0 +1,32 @@
+//! A file system in memory that answers the calls of NFS and MOUNT version 3 (RFC 1813) exactly as specs/ says: the
+//! server of tests. It tells what a restart would leave of each file.
+#![tactic(auto)]
+
+mod dir_calls;
+mod dir_changes;
+mod dir_refusal;
+mod directory;
+mod entries;
+mod export;
+mod file_bytes;
+mod file_calls;
+mod file_refusal;
+mod finding;
+mod link_text;
+mod mounts;
+mod node;
+mod nodes;
+mod pages;
+mod places;
+mod placing;
+mod restart;
+mod row;
+#[cfg(test)]
+mod sample;
+mod status;
+#[cfg(test)]
+mod status_tests;
+#[cfg(test)]
+mod tests;
+
+pub use export::Export;

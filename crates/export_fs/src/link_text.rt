@@ -1,0 +1,42 @@
+//! The texts of symbolic links.
+
+ghost use Rattle.std.specs.Prelude.{◌≡◌, ◌≤◌, length, IfOk};
+
+use std::alloc::Global;
+use std::marker::Model;
+use xdr_codec::{Blob, Memory};
+
+/// The text of a symbolic link, at most 1,024 bytes: what a READLINK can answer (RFC 1813, section 3.3.5).
+#[derive(Drop)]
+pub(crate) struct LinkText {
+    text: Blob,
+}
+
+impl Model for LinkText {
+    ghost use Rattle.std.specs.Prelude.{List, ℕ, length, ◌≤◌};
+
+    ghost Value = { List ℕ };
+
+    ghost view = { λ t. t.text };
+
+    ghost invariant = { λ t. length t.text ≤ 1024 };
+}
+
+impl LinkText {
+    /// A copy of the bytes.
+    pub(crate) fn copy(alloc: Global, bytes: &[u8]) -> Result<LinkText, Memory>
+        requires { length bytes.now ≤ 1024 }
+        ensures { IfOk result (λ t. t ≡ bytes.now) }
+    {
+        let text = Blob::copy(alloc, bytes)?;
+        Ok(LinkText { text })
+    }
+
+    /// The bytes.
+    pub(crate) fn bytes(&self) -> &[u8]
+        ensures same { result.now ≡ self.now }
+        ensures fits { length self.now ≤ 1024 }
+    {
+        self.text.bytes()
+    }
+}
