@@ -1,0 +1,46 @@
+//! Bytes in hex digits.
+
+ghost use Rattle.std.specs.Prelude.{◌≡◌, IfOk};
+ghost use Rattle.script_text.specs.Payloads.{payload_of, contents_of, byte_of};
+
+use hex::FromHexError;
+use std::alloc::Global;
+use xdr_codec::{Blob, Memory};
+
+/// The most bytes of a payload.
+const MOST_BYTES: usize = 65_536;
+
+/// The 1 to 65,536 bytes that hex digits of either case stand for. None exactly where the word stands for none.
+pub fn payload(alloc: Global, hex: &[u8]) -> Result<Option<Blob>, Memory>
+    ensures { IfOk result (λ bytes. bytes ≡ payload_of hex.now) }
+{
+    if hex.is_empty() || hex.len() > 2 * MOST_BYTES {
+        return Ok(None);
+    }
+    match hex::decode(alloc, hex) {
+        Ok(bytes) => Ok(Some(Blob::of(bytes))),
+        Err(FromHexError::OutOfMemory) => Err(Memory),
+        Err(_) => Ok(None),
+    }
+}
+
+/// What a file holds: a payload, or no bytes where the word is `-`. None exactly where it is neither.
+pub fn contents(alloc: Global, hex: &[u8]) -> Result<Option<Blob>, Memory>
+    ensures { IfOk result (λ bytes. bytes ≡ contents_of hex.now) }
+{
+    if hex == b"-".as_slice() {
+        return Ok(Some(Blob::of(Vec::new(alloc))));
+    }
+    payload(alloc, hex)
+}
+
+/// The byte that two hex digits stand for. None exactly where the word isn't two hex digits.
+pub fn byte(hex: &[u8]) -> Option<u8>
+    ensures { result ≡ byte_of hex.now }
+{
+    let mut byte = [0];
+    match hex::decode_to_slice(hex, &mut byte) {
+        Ok(()) => Some(byte[0]),
+        Err(_) => None,
+    }
+}
