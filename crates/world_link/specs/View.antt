@@ -1,20 +1,57 @@
--- What a caller sees of the simulated world: its history, how often it was silent, the records that were sent and had
--- no turn yet, and the replies that are ready. The oldest stands first.
-use Rattle.std.specs.Prelude.{ℕ, List, Option}
+-- What a caller sees of the simulated world.
+use Rattle.std.specs.Prelude.{ℕ, Bool, List, Option, Some, None}
+use Rattle.std.specs.Ordering.{nat_cmp, ordering_then}
+use Rattle.std.specs.BTreeMap as tree
 use Rattle.world_model.specs.declared.entry.Entry.{Entry}
-use Rattle.world_link.specs.declared.failure.Failure.{Failure}
+use Rattle.export_fs.specs.View.{View}
+use Rattle.world_link.specs.declared.directive.Sending.{Sending}
+use Rattle.world_link.specs.declared.server.Server.{Server}
+use Rattle.world_link.specs.declared.waiting.Waiting.{Waiting}
+use Rattle.world_link.specs.declared.world.World.{World}
+use Rattle.world_link.specs.Holding.{HeldView}
+use Rattle.world_link.specs.Plans.{PlanView}
+use Rattle.world_link.specs.Shown.{shown}
+
+-- the server's side: the export, what is told, and the records that came and that are on their way back
+pub record ServerView : Type 0 where
+  pub export : View
+  pub entries : List Entry
+  -- the records that were sent, by their names
+  pub sent : Sending → Option (List ℕ)
+  -- replies, the first one first, and replies that wait for turns, in order of sending
+  pub ready : List (List ℕ)
+  pub held : List HeldView
 
 pub record WorldView : Type 0 where
-  pub entries : List Entry
+  pub plan : PlanView
+  -- the export when nothing had happened
+  pub start : View
+  pub server : ServerView
+  -- the records without their turns, the oldest first
+  pub waiting : List Waiting
+  -- by procedure: how many sendings there were, and how many had their turns
+  pub counts : List ℕ
+  pub turns : List ℕ
+  pub dials : ℕ
   pub faults : ℕ
-  pub waiting : List (List ℕ)
-  pub ready : List (List ℕ)
 
--- what the other parts see of the files: their names, and how many there are
-pub record FilesView : Type 0 where
-  pub names : List (List ℕ)
-  pub count : ℕ
+abbrev pub served : Server → ServerView
+served server = record {
+  export = server.export;
+  entries = server.entries.items;
+  sent = λ s. tree.get (λ a b. ordering_then (nat_cmp a.proc b.proc) (nat_cmp a.k b.k)) server.sent s;
+  ready = server.ready.items;
+  held = server.held.items;
+}
 
--- of the given statuses: the one of MNT
-pub record AnsweringView : Type 0 where
-  pub mount : Option Failure
+abbrev pub seen : World → WorldView
+seen world = record {
+  plan = shown world.plan;
+  start = world.start;
+  server = served world.server;
+  waiting = world.waiting.items;
+  counts = world.sendings.counts;
+  turns = world.turns.counts;
+  dials = world.dials;
+  faults = world.faults;
+}

@@ -1,244 +1,231 @@
-//! What the server answers to calls (RFC 1813, section 3.3 and appendix I).
+//! The server's side of the simulated world.
 
-ghost use Rattle.std.specs.Prelude.{◌≡◌, ◌≤◌, IfOk};
-ghost use Rattle.world_link.specs.Asking.{IsServed};
-ghost use Rattle.world_link.specs.Replies.{info_reply, mount_answer, taken, Wrote, IsGiven, IsGranted, IsRefusal, IsServedNfs};
+ghost use Rattle.std.specs.Prelude.{◌≡◌, ◌++◌, ◌∷◌, [], unwrap_or, take, IfOk, IfSome, OnOk, OnErr};
+ghost use Rattle.export_fs.specs.Spelling.{LinkFits, HasSpellingReply};
+ghost use Rattle.export_fs.specs.Executed.{executed};
+ghost use Rattle.export_serve.specs.Spelling.{reply_bytes};
+ghost use Rattle.world_link.specs.Refused as refusals;
+ghost use Rattle.world_link.specs.Handling as handling;
+ghost use Rattle.world_link.specs.Going.{Goes};
+ghost use Rattle.world_link.specs.Serving.{MayServe};
+ghost use Rattle.world_link.specs.View.{served};
 
-use crate::answering::Answering;
-use crate::asking::proc_of;
-use crate::failure::Failure;
-use crate::files::{Files, root};
-use mount_calls::{Flavors, MountCall, MountReply};
-use nfs_dir_calls::{DirCall, DirKept};
-use nfs_file_calls::{FileCall, FileKept};
-use nfs_types::{Time, Verf, Wcc};
+use crate::directive::Sending;
+use crate::held::Held;
+use crate::manner::{Manner, PLAIN};
+use crate::refused::refused_by;
+use export_fs::Export;
+use export_serve::{Asked, asked, spelled};
+use nfs_file_calls::FileCall;
 use std::alloc::Global;
-use world_model::{Call, Reply};
-use xdr_codec::Memory;
+use std::collections::{BTreeMap, VecDeque};
+use world_model::{Call, Entry, Reply};
+use xdr_codec::{Blob, Memory};
 
-/// The directory that is exported.
-const EXPORT: &[u8] = b"/srv";
-
-/// The status of a mount of another directory (RFC 1813, section 5.1.5, mountstat3).
-const NOENT: u32 = 2;
-
-/// The flavors of credentials that are taken: AUTH_NONE and AUTH_SYS (RFC 5531, section 8.2).
-const FLAVORS: [u32; 2] = [0, 1];
-
-/// The write verifier of a server that didn't restart.
-const VERF: Verf = Verf([0, 0, 0, 0, 0, 0, 0, 1]);
-
-/// Attributes of a file that aren't given.
-const NO_WCC: Wcc = Wcc {
-    before: None,
-    after: None,
-};
-
-/// The files, and which sendings are answered otherwise.
+/// The export, what is told of it and of the link, and the records that came and that are on their way back.
 #[derive(Drop)]
 pub(crate) struct Server {
-    pub(crate) files: Files,
-    pub(crate) answering: Answering,
+    pub(crate) alloc: Global,
+    pub(crate) export: Export,
+    pub(crate) entries: Vec<Entry>,
+    /// The records that were sent, by their names.
+    pub(crate) sent: BTreeMap<Sending, Blob>,
+    /// The replies that are ready, the first one first.
+    pub(crate) ready: VecDeque<Blob>,
+    /// The replies that wait for turns, in order of sending.
+    pub(crate) held: Vec<Held>,
 }
 
 impl Server {
-    /// What it answers to the call.
-    pub(crate) fn answer(&self, alloc: Global, call: &Call) -> Result<Reply, Memory>
-        requires { IsServed call.now }
-        ensures { IfOk result (IsGiven self.now.answering.mount call.now) }
+    /// Handles what a record asks for, and gives the record of the reply, where there is one.
+    pub(crate) fn handle(&mut self, manner: &Manner, asked: Asked) -> Result<Option<Blob>, Memory>
+        requires { MayServe asked }
+        ensures done { IfOk result (λ reply. (served self.new, reply) ≡ handling.done manner.now (served self.old) asked) }
+        ensures goes { Goes (served self.old) (served self.new) }
     {
-        match call {
-            Call::Mount(MountCall::Mnt { path }) => {
-                let reply = mounted(alloc, self.answering.mount(), path.bytes())?;
-                Ok(Reply::Mount(reply))
+        match asked {
+            Asked::NoCall => Ok(None),
+            Asked::Refuse { xid: _xid, bytes } => Ok(Some(bytes)),
+            Asked::Serve { xid, call } => {
+                if manner.lost {
+                    return Ok(None);
+                }
+                match self.serve(manner, xid, call) {
+                    Ok(bytes) => Ok(Some(bytes)),
+                    Err(memory) => Err(memory),
+                }
             }
-            _ => Ok(self.nfs_answer(call)),
         }
     }
 
-    /// What it answers to a call of NFS.
-    fn nfs_answer(&self, call: &Call) -> Reply
-        requires { IsServedNfs call.now }
-        ensures { IsGiven self.now.answering.mount call.now result }
+    /// Answers a call, and tells it. After want of memory the call may be executed and told, with its reply lost.
+    fn serve(&mut self, manner: &Manner, xid: u32, call: Call) -> Result<Blob, Memory>
+        requires { LinkFits call }
+        ensures told { OnOk result (served self.new ≡ handling.tells (served self.old) xid call (handling.answered_as manner.now self.old.export call)) }
+        ensures reply { IfOk result (λ bytes. bytes ≡ reply_bytes xid (handling.answered_as manner.now self.old.export call).1) }
+        ensures goes { Goes (served self.old) (served self.new) }
     {
-        let sending = self.answering.next(proc_of(call));
-        match self.answering.failure(&sending) {
-            Some(failure) => refused(call, failure),
-            None => match granted(&self.files, call, self.answering.limit(&sending)) {
-                Ok(reply) => reply,
-                Err(failure) => refused(call, failure),
-            },
+        self.entries.reserve(1)?;
+        let reply = answer(self.alloc, &mut self.export, manner, &call)?;
+        let bytes = spelled(self.alloc, xid, &reply);
+        self.entries
+            .push(Entry::Executed { xid, call, reply })
+            .unwrap();
+        bytes
+    }
+
+    /// A further copy of a sending is executed plainly, and its reply is ready. A sending that wasn't made has none.
+    fn copy(&mut self, sending: &Sending) -> Result<(), Memory>
+        ensures ok { OnOk result (served self.new ≡ handling.copied (served self.old) sending.now) }
+        ensures goes { Goes (served self.old) (served self.new) }
+    {
+        match self.sent.get(sending) {
+            Some(rec) => {
+                let asked = asked(self.alloc, rec.bytes())?;
+                let reply = self.handle(&PLAIN, asked)?;
+                self.make_ready(reply)
+            }
+            None => Ok(()),
         }
     }
 
-    /// Does what the call asks, where it grants it. After want of memory nothing is changed.
-    pub(crate) fn execute(&mut self, call: &Call) -> Result<(), Memory> {
-        if let Call::Mount(_) = call {
-            return Ok(());
+    /// The copies are executed in order.
+    pub(crate) fn copy_all(&mut self, sendings: &[Sending]) -> Result<(), Memory>
+        ensures ok { OnOk result (served self.new ≡ handling.all_copied (served self.old) sendings.now) }
+        ensures goes { Goes (served self.old) (served self.new) }
+    {
+        for sending in sendings {
+            self.copy(sending)?;
         }
-        let sending = self.answering.next(proc_of(call));
-        if self.answering.failure(&sending).is_none() {
-            execute(&mut self.files, call, self.answering.limit(&sending))?;
+        Ok(())
+    }
+
+    /// A reply is ready, where there is one. After want of memory nothing is changed.
+    pub(crate) fn make_ready(&mut self, reply: Option<Blob>) -> Result<(), Memory>
+        ensures ok { OnOk result (served self.new ≡ handling.readied (served self.old) reply) }
+        ensures err { OnErr result (served self.new ≡ served self.old) }
+        ensures goes { Goes (served self.old) (served self.new) }
+    {
+        if let Some(bytes) = reply {
+            self.ready.push_back(bytes)?;
         }
-        self.answering.count(&sending);
         Ok(())
     }
 }
 
-/// The reply to MNT of the path, which fails so where that is given (RFC 1813, section 5.2.1).
-fn mounted(alloc: Global, failure: Option<Failure>, path: &[u8]) -> Result<MountReply, Memory>
-    ensures { IfOk result (λ reply. reply ≡ mount_answer failure path.now) }
+/// The reply to a call: one that fails where its status is given, or else that of the export.
+fn answer(alloc: Global, export: &mut Export, manner: &Manner, call: &Call) -> Result<Reply, Memory>
+    requires { LinkFits call.now }
+    ensures after { OnOk result (export.new ≡ (handling.answered_as manner.now export.old call.now).0) }
+    ensures reply { IfOk result (λ reply. reply ≡ (handling.answered_as manner.now export.old call.now).1) }
+    ensures spelled { IfOk result HasSpellingReply }
+    ensures err { OnErr result (export.new ≡ export.old) }
 {
-    if let Some(failure) = failure {
-        return Ok(MountReply::MntFail {
-            stat: failure.status().0,
-        });
+    match given(manner, call) {
+        Some(reply) => Ok(reply),
+        None => execute(alloc, export, manner.limit, call),
     }
-    if path != EXPORT {
-        return Ok(MountReply::MntFail { stat: NOENT });
-    }
-    let flavors = Flavors::of(Vec::from_slice(alloc, &FLAVORS)?);
-    Ok(MountReply::MntOk {
-        root: root(),
-        flavors,
-    })
 }
 
-/// How many of so many bytes a WRITE takes that handles at most so many.
-fn taken(len: usize, limit: Option<u32>) -> usize
-    ensures is { result ≡ taken limit len }
-    ensures fits { result ≤ len }
+/// The reply to a call whose status is given.
+fn given(manner: &Manner, call: &Call) -> Option<Reply>
+    ensures is { result ≡ refusals.refused_by (refusals.status_for manner.now.mount manner.now.answer call.now) call.now }
+    ensures spelled { IfSome result HasSpellingReply }
+{
+    match manner.status_for(call) {
+        Some(status) => refused_by(status, call),
+        None => None,
+    }
+}
+
+/// Executes a call, a READ or WRITE with at most so many bytes.
+fn execute(
+    alloc: Global,
+    export: &mut Export,
+    limit: Option<u32>,
+    call: &Call,
+) -> Result<Reply, Memory>
+    requires { LinkFits call.now }
+    ensures after { OnOk result (export.new ≡ (executed export.old (handling.shortened limit call.now)).0) }
+    ensures reply { IfOk result (λ reply. reply ≡ (executed export.old (handling.shortened limit call.now)).1) }
+    ensures spelled { IfOk result HasSpellingReply }
+    ensures err { OnErr result (export.new ≡ export.old) }
 {
     match limit {
-        Some(most) if (most as usize) < len => most as usize,
-        _ => len,
+        Some(most) => execute_at_most(alloc, export, most, call),
+        None => export.execute(call),
     }
 }
 
-/// The reply to a call of NFS that the files allow and that handles at most so many bytes, or how it fails.
-fn granted(files: &Files, call: &Call, limit: Option<u32>) -> Result<Reply, Failure>
-    requires { IsServedNfs call.now }
-    ensures { IfOk result (IsGranted limit call.now) }
+fn execute_at_most(
+    alloc: Global,
+    export: &mut Export,
+    most: u32,
+    call: &Call,
+) -> Result<Reply, Memory>
+    requires { LinkFits call.now }
+    ensures after { OnOk result (export.new ≡ (executed export.old (handling.shortened_to most call.now)).0) }
+    ensures reply { IfOk result (λ reply. reply ≡ (executed export.old (handling.shortened_to most call.now)).1) }
+    ensures spelled { IfOk result HasSpellingReply }
+    ensures err { OnErr result (export.new ≡ export.old) }
+{
+    match shortened(alloc, most, call)? {
+        Some(cut) => export.execute(&cut),
+        None => export.execute(call),
+    }
+}
+
+/// A READ or WRITE of at most so many bytes. None where it is another call, which stays as it is.
+fn shortened(alloc: Global, most: u32, call: &Call) -> Result<Option<Call>, Memory>
+    ensures is { IfOk result (λ cut. unwrap_or cut call.now ≡ handling.shortened_to most call.now) }
+    ensures fits { IfOk result (λ cut. IfSome cut LinkFits) }
+{
+    let Call::File(call) = call else {
+        return Ok(None);
+    };
+    match shortened_file(alloc, most, call)? {
+        Some(cut) => Ok(Some(Call::File(cut))),
+        None => Ok(None),
+    }
+}
+
+fn shortened_file(alloc: Global, most: u32, call: &FileCall) -> Result<Option<FileCall>, Memory>
+    ensures { IfOk result (λ cut. unwrap_or cut call.now ≡ handling.shortened_file most call.now) }
 {
     match call {
-        Call::Dir(DirCall::Lookup { dir, name }) => {
-            let found = files.look_up(dir, name)?;
-            Ok(Reply::Dir(DirKept::Lookup {
-                found,
-                attr: None,
-                dir: None,
-            }))
-        }
-        Call::File(
-            FileCall::Write {
-                file,
-                offset,
-                how,
-                bytes,
-            },
-        ) => {
-            let bytes = bytes.bytes();
-            let _at = files.file_for(file, *offset, bytes.len())?;
-            Ok(wrote(taken(bytes.len(), limit) as u32, *how))
-        }
-        Call::File(FileCall::FsInfo { file }) => {
-            files.known(file)?;
-            Ok(Reply::File(info()))
-        }
-        Call::File(FileCall::Commit { file, .. }) => {
-            let _at = files.file(file)?;
-            Ok(Reply::File(FileKept::Commit {
-                wcc: NO_WCC,
-                verf: VERF,
-            }))
-        }
-        _ => unreachable!(),
+        FileCall::Read {
+            file,
+            offset,
+            count,
+        } => Ok(Some(FileCall::Read {
+            file: *file,
+            offset: *offset,
+            count: (*count).min(most),
+        })),
+        FileCall::Write {
+            file,
+            offset,
+            how,
+            bytes,
+        } => Ok(Some(FileCall::Write {
+            file: *file,
+            offset: *offset,
+            how: *how,
+            bytes: front(alloc, bytes.bytes(), most)?,
+        })),
+        _ => Ok(None),
     }
 }
 
-/// The reply to a WRITE that took so many bytes.
-fn wrote(count: u32, how: u32) -> Reply
-    ensures { Wrote count how result }
+/// The first of the bytes, at most so many.
+fn front(alloc: Global, bytes: &[u8], most: u32) -> Result<Blob, Memory>
+    ensures { IfOk result (λ front. front ≡ take most bytes.now) }
 {
-    Reply::File(FileKept::Write {
-        wcc: NO_WCC,
-        count,
-        committed: how,
-        verf: VERF,
-    })
-}
-
-/// The sizes that the server takes (RFC 1813, section 3.3.19).
-fn info() -> FileKept
-    ensures { result ≡ info_reply }
-{
-    FileKept::FsInfo {
-        attr: None,
-        rtmax: 65_536,
-        rtpref: 65_536,
-        rtmult: 4_096,
-        wtmax: 65_536,
-        wtpref: 65_536,
-        wtmult: 4_096,
-        dtpref: 32_768,
-        maxfilesize: 16_777_216,
-        time_delta: Time {
-            seconds: 1,
-            nanos: 0,
-        },
-        properties: 11,
-    }
-}
-
-/// Does what the call asks of the files, where they allow it, with at most so many bytes.
-fn execute(files: &mut Files, call: &Call, limit: Option<u32>) -> Result<(), Memory> {
-    match call {
-        Call::File(
-            FileCall::Write {
-                file,
-                offset,
-                how,
-                bytes,
-            },
-        ) => {
-            let bytes = bytes.bytes();
-            match files.file_for(file, *offset, bytes.len()) {
-                Ok(at) => {
-                    let (front, _) = bytes.split_at(taken(bytes.len(), limit));
-                    files.write(at, *offset as usize, *how, front)
-                }
-                Err(_) => Ok(()),
-            }
-        }
-        Call::File(FileCall::Commit { file, .. }) => match files.file(file) {
-            Ok(at) => files.commit(at),
-            Err(_) => Ok(()),
-        },
-        _ => Ok(()),
-    }
-}
-
-/// The reply to a call of NFS that fails so, without attributes.
-fn refused(call: &Call, failure: Failure) -> Reply
-    requires { IsServedNfs call.now }
-    ensures { IsRefusal failure.number call.now result }
-{
-    let status = failure.status();
-    match call {
-        Call::Dir(DirCall::Lookup { .. }) => {
-            Reply::Dir(DirKept::LookupFail { status, dir: None })
-        }
-        Call::File(FileCall::Write { .. }) => Reply::File(FileKept::WriteFail {
-            status,
-            wcc: NO_WCC,
-        }),
-        Call::File(FileCall::FsInfo { .. }) => {
-            Reply::File(FileKept::FsInfoFail { status, attr: None })
-        }
-        Call::File(FileCall::Commit { .. }) => Reply::File(FileKept::CommitFail {
-            status,
-            wcc: NO_WCC,
-        }),
-        _ => unreachable!(),
+    let most = most as usize;
+    if most < bytes.len() {
+        let (front, _) = bytes.split_at(most);
+        Blob::copy(alloc, front)
+    } else {
+        Blob::copy(alloc, bytes)
     }
 }

@@ -1,106 +1,356 @@
-//! The simulated server, by records that were written by hand.
+//! The simulated world, by calls that were written by hand.
 
 use crate::{ScheduleFault, World, parse_schedule};
-use outside::{Link, Received};
+use export_fs::Export;
+use nfs_file_calls::{FileCall, FileKept};
+use nfs_types::Handle;
+use outside::{Link, LinkFault, Received};
+use std::alloc::Global;
 use std::process::Abort;
 use std::test::Fail;
+use world_model::{Call, Reply};
 
-/// LOOKUP of `a` in the root under the xid 2.
+/// Procedures and arguments of calls of NFS: LOOKUP of `a` in the root.
 const LOOKUP: &str =
-    "000000020000000000000002000186a300000003000000030000000000000000000000000000000000000008000000000000000100000001\
-61000000";
+    "00000003000000000000000000000000000000000000000800000000000000010000000161000000";
 
-/// UNSTABLE WRITE of `6869` at 0 of the file handle 2, under the xid 4.
+/// UNSTABLE WRITE of `6869` at 0 of the file handle 2.
 const WRITE: &str =
-    "000000040000000000000002000186a300000003000000070000000000000000000000000000000000000008000000000000000200000000\
-0000000000000002000000000000000268690000";
+    "000000070000000000000000000000000000000000000008000000000000000200000000000000000000000200000000\
+0000000268690000";
 
-/// COMMIT of the whole file of the file handle 2, under the xid 3.
+/// UNSTABLE WRITE of `6f` at 0 of the file handle 2.
+const WRITE_O: &str =
+    "000000070000000000000000000000000000000000000008000000000000000200000000000000000000000100000000\
+000000016f000000";
+
+/// COMMIT of the whole file of the file handle 2.
 const COMMIT: &str =
-    "000000030000000000000002000186a300000003000000150000000000000000000000000000000000000008000000000000000200000000\
-0000000000000000";
+    "0000001500000000000000000000000000000000000000080000000000000002000000000000000000000000";
 
-/// FSINFO of the root under the xid 5.
-const FSINFO: &str =
-    "000000050000000000000002000186a3000000030000001300000000000000000000000000000000000000080000000000000001";
+/// READ of 9 bytes at 0 of the file handle 2.
+const READ: &str =
+    "0000000600000000000000000000000000000000000000080000000000000002000000000000000000000009";
 
-/// MNT of `/srv` under the xid 1.
-const MNT: &str =
-    "000000010000000000000002000186a5000000030000000100000000000000000000000000000000000000042f737276";
+/// A procedure that NFS lacks.
+const NO_PROCEDURE: &str = "0000002100000000000000000000000000000000";
 
-/// MNT of `/other` under the xid 1.
-const MNT_OTHER: &str =
-    "000000010000000000000002000186a5000000030000000100000000000000000000000000000000000000062f6f746865720000";
+/// MNT of `/srv`, from the number of the program on.
+const MNT: &str = "000186a5000000030000000100000000000000000000000000000000000000042f737276";
 
 /// What stands after the xid in the reply to a call that was executed.
 const ACCEPTED: &str = "0000000100000000000000000000000000000000";
 
-/// That the call is answered by this record.
-fn gives<R: Abort + AllocGlobal>(
-    rt: &R,
-    world: &mut World,
-    call: &str,
-    record: &str,
-) -> Result<(), Fail> {
-    let alloc = rt.alloc();
-    let rec = hex::decode(alloc, call)?;
+/// What a client does, and what comes of it.
+#[derive(Clone, Copy)]
+enum Step {
+    /// The call with this xid is sent.
+    Send(&'static str, &'static str),
+    /// A reply under this xid comes, with this status.
+    Whole(&'static str, &'static str),
+    /// No reply comes.
+    Silent,
+}
+
+/// Sends a record.
+fn sends<R: Abort + AllocGlobal>(rt: &R, world: &mut World, record: &str) -> Result<(), Fail> {
+    let rec = hex::decode(rt.alloc(), record)?;
     assert_eq!(rt; world.send(rec.as_slice()), Ok(()));
-    let mut got = Vec::new(alloc);
-    assert_eq!(rt; world.receive(15_000, &mut got), Received::Whole);
-    let got = hex::encode(alloc, got.as_slice())?;
-    assert_eq!(rt; got.as_str(), record);
     Ok(())
 }
 
-/// That the call is executed and answered by these results.
-fn answers<R: Abort + AllocGlobal>(
+/// That a record comes that begins so.
+fn comes<R: Abort + AllocGlobal>(rt: &R, world: &mut World, start: &str) -> Result<(), Fail> {
+    let mut got = Vec::new(rt.alloc());
+    assert_eq!(rt; world.receive(15_000, &mut got), Received::Whole);
+    let got = hex::encode(rt.alloc(), got.as_slice())?;
+    assert!(rt; got.as_str().starts_with(start), "{got}");
+    Ok(())
+}
+
+/// That no record comes.
+fn is_silent<R: Abort + AllocGlobal>(rt: &R, world: &mut World) -> Result<(), Fail> {
+    let mut got = Vec::new(rt.alloc());
+    assert_eq!(rt; world.receive(15_000, &mut got), Received::Silent);
+    Ok(())
+}
+
+fn takes_step<R: Abort + AllocGlobal>(rt: &R, world: &mut World, step: Step) -> Result<(), Fail> {
+    let alloc = rt.alloc();
+    match step {
+        Step::Send(xid, call) => {
+            let record = format!(in alloc; "{xid}0000000000000002000186a300000003{call}")?;
+            sends(rt, world, record.as_str())
+        }
+        Step::Whole(xid, status) => {
+            let start = format!(in alloc; "{xid}{ACCEPTED}{status}")?;
+            comes(rt, world, start.as_str())
+        }
+        Step::Silent => is_silent(rt, world),
+    }
+}
+
+/// The world of the schedule after the steps.
+fn played<R: Abort + AllocGlobal>(rt: &R, schedule: &str, steps: &[Step]) -> Result<World, Fail> {
+    let (mut world, _) = parse_schedule(rt.alloc(), schedule.as_bytes())?;
+    for step in steps {
+        takes_step(rt, &mut world, *step)?;
+    }
+    Ok(world)
+}
+
+/// The bytes of the file handle 2, as hex; a word where the read is refused.
+fn bytes_of(alloc: Global, export: &mut Export) -> Result<String, Fail> {
+    let file = Handle::make(&[0, 0, 0, 0, 0, 0, 0, 2]).ok_or("a file handle")?;
+    let call = Call::File(FileCall::Read {
+        file,
+        offset: 0,
+        count: 99,
+    });
+    match export.execute(&call)? {
+        Reply::File(FileKept::Read { bytes, .. }) => Ok(hex::encode(alloc, bytes.bytes())?),
+        _ => Ok(String::from_str(alloc, "refused")?),
+    }
+}
+
+/// That the first object made holds these bytes at the end, and those after a restart.
+fn leaves<R: Abort + AllocGlobal>(
     rt: &R,
-    world: &mut World,
-    call: &str,
-    xid: &str,
-    results: &str,
+    schedule: &str,
+    steps: &[Step],
+    now: &str,
+    stable: &str,
 ) -> Result<(), Fail> {
-    let record = format!(in rt.alloc(); "{xid}{ACCEPTED}{results}")?;
-    gives(rt, world, call, record.as_str())
+    let world = played(rt, schedule, steps)?;
+    let mut export = world.into_export();
+    let bytes = bytes_of(rt.alloc(), &mut export)?;
+    assert_eq!(rt; bytes.as_str(), now);
+    assert!(rt; export.reboot());
+    let bytes = bytes_of(rt.alloc(), &mut export)?;
+    assert_eq!(rt; bytes.as_str(), stable);
+    Ok(())
+}
+
+/// A LOOKUP and its reply.
+const LOOKS: [Step; 2] = [
+    Step::Send("00000001", LOOKUP),
+    Step::Whole("00000001", "00000000"),
+];
+
+/// A LOOKUP of a name that isn't there.
+const MISSES: [Step; 2] = [
+    Step::Send("00000001", LOOKUP),
+    Step::Whole("00000001", "00000002"),
+];
+
+/// A WRITE and its reply.
+const WRITES: [Step; 2] = [
+    Step::Send("00000001", WRITE),
+    Step::Whole("00000001", "00000000"),
+];
+
+/// A WRITE and a COMMIT, and their replies.
+const PUTS: [Step; 4] = [
+    Step::Send("00000001", WRITE),
+    Step::Whole("00000001", "00000000"),
+    Step::Send("00000002", COMMIT),
+    Step::Whole("00000002", "00000000"),
+];
+
+#[test]
+fn executes_sendings(rt: HostRuntime) -> Result<(), Fail> {
+    leaves(&rt, "file /a -", &PUTS, "6869", "6869")?;
+    leaves(&rt, "file /a 00", &WRITES, "6869", "00")?;
+    // Further WRITEs of other procedures and counts are executed as ever.
+    leaves(
+        &rt,
+        "file /a -\nlose WRITE 2\nlose READ 1",
+        &WRITES,
+        "6869",
+        "",
+    )
 }
 
 #[test]
-fn put(rt: HostRuntime) -> Result<(), Fail> {
-    let (mut world, tick) = parse_schedule(
-        rt.alloc(),
-        b"# one file\r\nfile /a -\nanswer COMMIT 2 5",
+fn loses_and_mutes(rt: HostRuntime) -> Result<(), Fail> {
+    let unanswered = [Step::Send("00000001", WRITE), Step::Silent];
+    leaves(&rt, "file /a -\nlose WRITE 1", &unanswered, "", "")?;
+    leaves(&rt, "file /a -\nmute WRITE 1", &unanswered, "6869", "")
+}
+
+#[test]
+fn holds_replies(rt: HostRuntime) -> Result<(), Fail> {
+    let held = [
+        Step::Send("00000001", LOOKUP),
+        Step::Silent,
+        Step::Send("00000002", WRITE),
+        Step::Silent,
+        Step::Send("00000003", COMMIT),
+        Step::Whole("00000003", "00000000"),
+        Step::Whole("00000001", "00000000"),
+        Step::Whole("00000002", "00000000"),
+        Step::Silent,
+    ];
+    let schedule =
+        "file /a -\nhold WRITE 1 COMMIT 1\nhold LOOKUP 1 COMMIT 1\nhold LOOKUP 1 WRITE 1";
+    leaves(&rt, schedule, &held, "6869", "6869")?;
+    // For its own turn, for one that was, and for one that never comes.
+    leaves(&rt, "file /a -\nhold LOOKUP 1 LOOKUP 1", &LOOKS, "", "")?;
+    let late = [
+        Step::Send("00000001", WRITE),
+        Step::Whole("00000001", "00000000"),
+        Step::Send("00000002", LOOKUP),
+        Step::Whole("00000002", "00000000"),
+    ];
+    leaves(&rt, "file /a -\nhold LOOKUP 1 WRITE 1", &late, "6869", "")?;
+    let never = [Step::Send("00000001", LOOKUP), Step::Silent, Step::Silent];
+    leaves(&rt, "file /a -\nhold LOOKUP 1 WRITE 1", &never, "", "")
+}
+
+#[test]
+fn executes_late_copies(rt: HostRuntime) -> Result<(), Fail> {
+    let copied = [
+        Step::Send("00000001", WRITE),
+        Step::Whole("00000001", "00000000"),
+        Step::Send("00000002", WRITE_O),
+        Step::Whole("00000002", "00000000"),
+        Step::Send("00000003", COMMIT),
+        Step::Whole("00000001", "00000000"),
+        Step::Whole("00000003", "00000000"),
+        Step::Silent,
+    ];
+    leaves(
+        &rt,
+        "file /a -\nlate WRITE 1 COMMIT 1",
+        &copied,
+        "6869",
+        "6869",
     )?;
-    assert_eq!(rt; tick, 0);
-    answers(
+    // A sending that wasn't made has no copy.
+    leaves(&rt, "file /a -\nlate WRITE 2 WRITE 1", &WRITES, "6869", "")?;
+    // One that was sent has, before its own turn too; and events come after the copies.
+    let early = [
+        Step::Send("00000001", LOOKUP),
+        Step::Send("00000002", WRITE),
+        Step::Whole("00000002", "00000000"),
+        Step::Whole("00000001", "00000000"),
+    ];
+    let schedule = "file /a -\nlate WRITE 1 LOOKUP 1\nbefore LOOKUP 1 flush /a";
+    leaves(&rt, schedule, &early, "6869", "6869")
+}
+
+#[test]
+fn answers_by_the_schedule(rt: HostRuntime) -> Result<(), Fail> {
+    let refused = [
+        Step::Send("00000001", WRITE),
+        Step::Whole("00000001", "0000000d0000000000000000"),
+        Step::Send("00000002", WRITE),
+        Step::Whole("00000002", "00000000"),
+    ];
+    leaves(&rt, "file /a -\nanswer WRITE 1 13", &refused, "6869", "")?;
+    leaves(&rt, "file /a -\nlimit WRITE 1 1", &WRITES, "68", "")?;
+    let read = [
+        Step::Send("00000001", READ),
+        Step::Whole("00000001", "00000000"),
+    ];
+    leaves(&rt, "file /a 6869\nlimit READ 1 1", &read, "6869", "6869")
+}
+
+#[test]
+fn has_events_before_and_after(rt: HostRuntime) -> Result<(), Fail> {
+    leaves(&rt, "file /a -\nbefore COMMIT 1 reboot", &PUTS, "", "")?;
+    leaves(
+        &rt,
+        "file /a -\nafter COMMIT 1 reboot",
+        &PUTS,
+        "6869",
+        "6869",
+    )?;
+    leaves(
+        &rt,
+        "file /a -\nbefore COMMIT 1 write /a 1 6f",
+        &PUTS,
+        "686f",
+        "686f",
+    )?;
+    leaves(
+        &rt,
+        "file /a -\nafter WRITE 1 flush /a",
+        &WRITES,
+        "6869",
+        "6869",
+    )?;
+    leaves(
+        &rt,
+        "file /a -\nafter WRITE 1 truncate /a 1",
+        &WRITES,
+        "68",
+        "00",
+    )?;
+    let twice = "file /a -\nafter WRITE 1 truncate /a 1\nafter WRITE 1 write /a 2 6f";
+    leaves(&rt, twice, &WRITES, "68006f", "00006f")
+}
+
+#[test]
+fn has_events_of_names(rt: HostRuntime) -> Result<(), Fail> {
+    leaves(&rt, "before LOOKUP 1 create /a 6f", &LOOKS, "6f", "6f")?;
+    leaves(
+        &rt,
+        "file /a 00\nbefore LOOKUP 1 create /a 6f",
+        &LOOKS,
+        "00",
+        "00",
+    )?;
+    leaves(
+        &rt,
+        "file /a 00\nbefore LOOKUP 1 remove /a",
+        &MISSES,
+        "refused",
+        "refused",
+    )?;
+    leaves(
+        &rt,
+        "file /b 00\nbefore LOOKUP 1 rename /b /a",
+        &LOOKS,
+        "00",
+        "00",
+    )?;
+    // Events of paths that aren't there are left out.
+    let schedule = "file /a 00\nbefore LOOKUP 1 flush /b\nbefore LOOKUP 1 write /b 0 6f\n\
+before LOOKUP 1 truncate /b 1\nbefore LOOKUP 1 remove /b\nbefore LOOKUP 1 rename /b /c\n\
+before LOOKUP 1 rename /a /b/c\nbefore LOOKUP 1 create /b/c 6f\nbefore LOOKUP 1 remove /\n\
+before LOOKUP 1 flush /";
+    leaves(&rt, schedule, &LOOKS, "00", "00")
+}
+
+#[test]
+fn has_turns_for_other_records(rt: HostRuntime) -> Result<(), Fail> {
+    let (mut world, _) = parse_schedule(rt.alloc(), b"mnt 13\nlose LOOKUP 1")?;
+    let mount = format!(in rt.alloc(); "000000010000000000000002{MNT}")?;
+    sends(&rt, &mut world, mount.as_str())?;
+    sends(&rt, &mut world, "00000002")?;
+    let call = format!(in rt.alloc(); "000000030000000000000002000186a300000003{NO_PROCEDURE}")?;
+    sends(&rt, &mut world, call.as_str())?;
+    comes(
         &rt,
         &mut world,
-        LOOKUP,
-        "00000002",
-        "000000000000000800000000000000020000000000000000",
+        "0000000100000001000000000000000000000000000000000000000d",
     )?;
-    answers(
+    comes(
         &rt,
         &mut world,
-        WRITE,
-        "00000004",
-        "00000000000000000000000000000002000000000000000000000001",
+        "000000030000000100000000000000000000000000000003",
     )?;
-    answers(
-        &rt,
-        &mut world,
-        COMMIT,
-        "00000003",
-        "0000000000000000000000000000000000000001",
-    )?;
-    answers(
-        &rt,
-        &mut world,
-        COMMIT,
-        "00000003",
-        "000000050000000000000000",
-    )?;
-    let mut rec = Vec::new(rt.alloc());
-    assert_eq!(rt; world.receive(15_000, &mut rec), Received::Silent);
+    is_silent(&rt, &mut world)
+}
+
+#[test]
+fn dials_by_the_schedule(rt: HostRuntime) -> Result<(), Fail> {
+    let (mut world, tick) = parse_schedule(rt.alloc(), b"nodial 2\ntick 40")?;
+    assert_eq!(rt; tick, 40);
+    assert_eq!(rt; world.dial(2049), Ok(()));
+    assert_eq!(rt; world.dial(2049), Err(LinkFault::Failed));
+    assert_eq!(rt; world.dial(2049), Ok(()));
     Ok(())
 }
 
@@ -108,161 +358,5 @@ fn put(rt: HostRuntime) -> Result<(), Fail> {
 fn names_the_first_faulty_line(rt: HostRuntime) -> Result<(), Fail> {
     let fault = parse_schedule(rt.alloc(), b"file /a 6869\nfiel /b -\nfile").err();
     assert_eq!(rt; fault, Some(ScheduleFault::Line(2)));
-    Ok(())
-}
-
-#[test]
-fn names_a_faulty_mount(rt: HostRuntime) -> Result<(), Fail> {
-    let fault = parse_schedule(rt.alloc(), b"mnt 13\nmnt 0").err();
-    assert_eq!(rt; fault, Some(ScheduleFault::Line(2)));
-    let fault = parse_schedule(rt.alloc(), b"answer FSINFO 1 5\nmnt 13 1").err();
-    assert_eq!(rt; fault, Some(ScheduleFault::Line(2)));
-    let fault = parse_schedule(rt.alloc(), b"answer MNT 1 5").err();
-    assert_eq!(rt; fault, Some(ScheduleFault::Line(1)));
-    Ok(())
-}
-
-#[test]
-fn mounts(rt: HostRuntime) -> Result<(), Fail> {
-    let (mut world, _) = parse_schedule(rt.alloc(), b"")?;
-    gives(
-        &rt,
-        &mut world,
-        MNT,
-        "00000001000000010000000000000000000000000000000000000000000000080000000000000001000000020000000000000001",
-    )?;
-    answers(&rt, &mut world, MNT_OTHER, "00000001", "00000002")?;
-    let (mut world, _) = parse_schedule(rt.alloc(), b"mnt 2\nmnt 13")?;
-    answers(&rt, &mut world, MNT, "00000001", "0000000d")
-}
-
-#[test]
-fn tells_its_sizes(rt: HostRuntime) -> Result<(), Fail> {
-    let (mut world, _) = parse_schedule(rt.alloc(), b"answer FSINFO 2 5")?;
-    answers(
-        &rt,
-        &mut world,
-        FSINFO,
-        "00000005",
-        "000000000000000000010000000100000000100000010000000100000000100000008000000000000100000000000001\
-000000000000000b",
-    )?;
-    answers(&rt, &mut world, FSINFO, "00000005", "0000000500000000")?;
-    let stale =
-        "000000050000000000000002000186a3000000030000001300000000000000000000000000000000000000080000000000000002";
-    answers(&rt, &mut world, stale, "00000005", "0000004600000000")
-}
-
-/// The head of a call under the xid 9, from the RPC version to the verifier.
-fn head<R: AllocGlobal>(rt: &R, rpc: u32, prog: u32, vers: u32, proc: u32) -> Result<String, Fail> {
-    let none = "00000000000000000000000000000000";
-    Ok(format!(in rt.alloc(); "0000000900000000{rpc:08x}{prog:08x}{vers:08x}{proc:08x}{none}")?)
-}
-
-#[test]
-fn refuses_calls(rt: HostRuntime) -> Result<(), Fail> {
-    let (mut world, _) = parse_schedule(rt.alloc(), b"")?;
-    let program = head(&rt, 2, 100_000, 3, 1)?;
-    gives(
-        &rt,
-        &mut world,
-        program.as_str(),
-        "000000090000000100000000000000000000000000000001",
-    )?;
-    let version = head(&rt, 2, 100_005, 1, 1)?;
-    gives(
-        &rt,
-        &mut world,
-        version.as_str(),
-        "0000000900000001000000000000000000000000000000020000000300000003",
-    )?;
-    let procedure = head(&rt, 2, 100_005, 3, 2)?;
-    gives(
-        &rt,
-        &mut world,
-        procedure.as_str(),
-        "000000090000000100000000000000000000000000000003",
-    )?;
-    let arguments = head(&rt, 2, 100_003, 3, 19)?;
-    gives(
-        &rt,
-        &mut world,
-        arguments.as_str(),
-        "000000090000000100000000000000000000000000000004",
-    )?;
-    let rpc = head(&rt, 3, 100_003, 3, 0)?;
-    gives(
-        &rt,
-        &mut world,
-        rpc.as_str(),
-        "000000090000000100000001000000000000000200000002",
-    )
-}
-
-#[test]
-fn drops_what_is_no_call(rt: HostRuntime) -> Result<(), Fail> {
-    let (mut world, _) = parse_schedule(rt.alloc(), b"")?;
-    assert_eq!(rt; world.send(&[0, 0, 0, 9, 0, 0, 0, 1]), Ok(()));
-    assert_eq!(rt; world.send(&[0, 0, 0]), Ok(()));
-    let mut rec = Vec::new(rt.alloc());
-    assert_eq!(rt; world.receive(15_000, &mut rec), Received::Silent);
-    answers(&rt, &mut world, MNT_OTHER, "00000001", "00000002")
-}
-
-#[test]
-fn holds_what_was_written(rt: HostRuntime) -> Result<(), Fail> {
-    let (mut world, _) = parse_schedule(rt.alloc(), b"file /a 303030")?;
-    answers(
-        &rt,
-        &mut world,
-        WRITE,
-        "00000004",
-        "00000000000000000000000000000002000000000000000000000001",
-    )?;
-    assert_eq!(rt;
-        world.bytes(0),
-        Some((b"hi0".as_slice(), b"000".as_slice()))
-    );
-    answers(
-        &rt,
-        &mut world,
-        COMMIT,
-        "00000003",
-        "0000000000000000000000000000000000000001",
-    )?;
-    assert_eq!(rt;
-        world.bytes(0),
-        Some((b"hi0".as_slice(), b"hi0".as_slice()))
-    );
-    assert_eq!(rt; world.bytes(1), None);
-    Ok(())
-}
-
-#[test]
-fn takes_fewer_bytes(rt: HostRuntime) -> Result<(), Fail> {
-    let (mut world, _) = parse_schedule(
-        rt.alloc(),
-        b"file /a -\nlimit WRITE 1 1\nlimit WRITE 2 9",
-    )?;
-    answers(
-        &rt,
-        &mut world,
-        WRITE,
-        "00000004",
-        "00000000000000000000000000000001000000000000000000000001",
-    )?;
-    assert_eq!(rt; world.bytes(0), Some((b"h".as_slice(), b"".as_slice())));
-    answers(
-        &rt,
-        &mut world,
-        WRITE,
-        "00000004",
-        "00000000000000000000000000000002000000000000000000000001",
-    )?;
-    assert_eq!(rt; world.bytes(0), Some((b"hi".as_slice(), b"".as_slice())));
-    let fault = parse_schedule(rt.alloc(), b"limit COMMIT 1 1").err();
-    assert_eq!(rt; fault, Some(ScheduleFault::Line(1)));
-    let fault = parse_schedule(rt.alloc(), b"limit WRITE 1 0").err();
-    assert_eq!(rt; fault, Some(ScheduleFault::Line(1)));
     Ok(())
 }

@@ -1,148 +1,144 @@
-//! The simulated server as a link.
+//! The simulated world as a link.
 
-ghost use Rattle.std.specs.Prelude.{◌≡◌, ℕ, List, [], ◌∷◌, ◌++◌, OnOk, OnErr};
-ghost use Rattle.world_model.specs.declared.entry.Entry.TheVariants.{Sent};
-ghost use Rattle.outside.specs.Causes.{HasCauseReceived};
-ghost use Rattle.outside.specs.Hostile.{HandsOut};
-ghost use Rattle.outside.specs.Link.{received_as};
-ghost use Rattle.world_model.specs.Told.{Adds};
-ghost use Rattle.world_link.specs.Asking.{IsServed};
-ghost use Rattle.world_link.specs.Turns.{Executes, Refuses, TurnsOldest, NotGiven};
+ghost use Rattle.std.specs.Prelude.{◌≡◌, ◌≤◌, ◌++◌, ◌∷◌, [], Some, OnOk, OnErr};
+ghost use Rattle.outside.specs.Causes.{HasCauseReceived, Rose};
+ghost use Rattle.world_link.specs.Going.{GoesOn};
+ghost use Rattle.world_link.specs.Steps as steps;
+ghost use Rattle.world_link.specs.Turning as turning;
+ghost use Rattle.world_link.specs.Starting.{begun};
+ghost use Rattle.world_link.specs.Shown.{shown};
+ghost use Rattle.world_link.specs.View.{seen, served};
 
-use crate::asking::{Asking, asked};
-use crate::refusal::{Refusal, refusal_record};
+use crate::directive::Sending;
+use crate::fate::Fate;
+use crate::plan::Plan;
 use crate::server::Server;
-use crate::spelling::spelled;
+use crate::tally::{NONE_YET, Tally};
+use crate::turning::{fate_of, manner_of};
+use crate::waiting::Waiting;
+use export_fs::Export;
+use export_serve::{Asked, asked};
+use nfs_dir_calls::dir_proc;
+use nfs_file_calls::file_proc;
 use outside::{Link, LinkFault, Received};
 use std::alloc::Global;
-use std::collections::VecDeque;
-use std::marker::Model;
+use std::collections::{BTreeMap, VecDeque};
 use world_model::{Call, Entry, Mark};
 use xdr_codec::{Blob, Memory};
 
-/// A link to a simulated server, which tells its history. A sending is executed when the client waits and no reply
-/// is ready. A dial and a sending never fail; waiting is silent exactly where no reply is ready and none comes of
-/// the sendings that are left.
+/// The number of the last dial that a schedule can name.
+const LAST_DIAL: u32 = 4_294_967_295;
+
+/// A link to a simulated server that does what a schedule says, and tells its history. A sending waits for its turn,
+/// which it has when the client waits and no reply is ready. A dial fails exactly where the schedule says so, a sending
+/// never, and waiting is silent exactly where no reply is ready and no sending is without its turn.
 #[derive(Drop)]
 pub struct World {
     alloc: Global,
-    entries: Vec<Entry>,
-    faults: u64,
-    /// The records that were sent and had no turn yet, the oldest first.
-    waiting: VecDeque<Blob>,
-    /// The replies that are ready, the first one first.
-    ready: VecDeque<Blob>,
+    plan: Plan,
+    /// The export as it was before the first entry: the server at each moment is worked out from it.
+    start: Export,
     server: Server,
-}
-
-impl Model for World {
-    ghost use Rattle.world_link.specs.View.{WorldView};
-
-    ghost Value = { WorldView };
-
-    ghost view = { λ w. record { entries = w.entries.items; faults = w.faults; waiting = w.waiting.items; ready = w.ready.items } };
+    /// The records that were sent and had no turn yet, the oldest first.
+    waiting: VecDeque<Waiting>,
+    /// The last sendings that were made, and the last ones that had their turns.
+    sendings: Tally,
+    turns: Tally,
+    dials: u32,
+    faults: u64,
 }
 
 impl World {
-    /// A world whose history is empty, and in which nothing was sent.
-    pub(crate) fn of(alloc: Global, server: Server) -> World
-        ensures { result ≡ record { entries = []; faults = 0; waiting = []; ready = [] } }
+    /// A world in which nothing happened yet. The two exports are equal.
+    pub(crate) fn of(alloc: Global, plan: Plan, start: Export, export: Export) -> World
+        requires { export ≡ start }
+        ensures { seen result ≡ begun (shown plan) start }
     {
         World {
             alloc,
-            entries: Vec::new(alloc),
-            faults: 0,
+            plan,
+            start,
+            server: Server {
+                alloc,
+                export,
+                entries: Vec::new(alloc),
+                sent: BTreeMap::new(alloc),
+                ready: VecDeque::new(alloc),
+                held: Vec::new(alloc),
+            },
             waiting: VecDeque::new(alloc),
-            ready: VecDeque::new(alloc),
-            server,
+            sendings: NONE_YET,
+            turns: NONE_YET,
+            dials: 0,
+            faults: 0,
         }
+    }
+
+    /// The export as it is now.
+    pub fn into_export(self) -> Export
+        ensures { result ≡ (seen self).server.export }
+    {
+        let server = self.server;
+        server.export
     }
 
     /// Puts a record after those that wait, and tells that it was sent. After want of memory nothing is changed.
     fn take(&mut self, rec: &[u8]) -> Result<(), Memory>
-        ensures ok { OnOk result (self.new ≡ record self.old { entries = self.old.entries ++ Sent rec.now ∷ []; waiting = self.old.waiting ++ rec.now ∷ [] }) }
-        ensures err { OnErr result (self.new ≡ self.old) }
+        ensures ok { OnOk result (seen self.new ≡ turning.after_send (seen self.old) rec.now) }
+        ensures err { OnErr result (seen self.new ≡ seen self.old) }
     {
-        let sending = Blob::copy(self.alloc, rec)?;
+        let name = name_of(&self.sendings, &asked(self.alloc, rec)?);
+        let waiting = Waiting {
+            name,
+            bytes: Blob::copy(self.alloc, rec)?,
+        };
         let bytes = Blob::copy(self.alloc, rec)?;
         self.waiting.reserve(1)?;
-        self.entries.push(Entry::Sent { bytes })?;
-        self.waiting.push_back_reserved(sending);
+        self.server.take(name, bytes)?;
+        self.waiting.push_back_reserved(waiting);
+        self.sendings.count_if(name);
         Ok(())
     }
 
-    /// Gives the oldest sending its turn, if there is one. After want of memory nothing is changed.
+    /// Gives the oldest sending its turn, if there is one. After want of memory the turn may be done in part.
     fn turn(&mut self) -> Result<(), Memory>
-        ensures ok { OnOk result (TurnsOldest self.old.waiting self.old self.new) }
-        ensures faults { self.new.faults ≡ self.old.faults }
-        ensures err { OnErr result (self.new ≡ self.old) }
+        ensures ok { OnOk result (steps.TurnsFirst (seen self.old) (seen self.new) (seen self.old).waiting) }
+        ensures goes { GoesOn (seen self.old) (seen self.new) }
     {
-        let Some(rec) = self.waiting.front() else {
+        let Some(next) = self.waiting.front() else {
             return Ok(());
         };
-        match asked(self.alloc, rec.bytes())? {
-            Some((xid, Asking::Call(call))) => self.execute(xid, call)?,
-            Some((xid, Asking::Refused(refusal))) => self.refuse(xid, refusal)?,
-            None => {}
-        }
+        let nothing = Fate::new(self.alloc);
+        let fate = fate_of(&self.plan, next.name, &nothing);
+        let manner = manner_of(&self.plan, fate);
+        self.server
+            .turn(fate, &manner, &self.turns, next.bytes.bytes())?;
+        let name = next.name;
         let _ = self.waiting.pop_front();
-        Ok(())
+        self.turns.count_if(name);
+        self.server.release(&self.turns)
     }
 
     /// Gives sendings their turns until a reply is ready or no sending is left.
-    fn turns(&mut self) -> Result<(), Memory>
-        ensures told { Adds (record { entries = self.old.entries }) (record { entries = self.new.entries }) [] }
-        ensures faults { self.new.faults ≡ self.old.faults }
-        ensures done { OnOk result (self.new.ready ≡ [] → self.new.waiting ≡ []) }
+    fn turn_all(&mut self) -> Result<(), Memory>
+        ensures ok { OnOk result (seen self.new ≡ turning.after_turns (seen self.old)) }
+        ensures goes { GoesOn (seen self.old) (seen self.new) }
+        ensures done { OnOk result ((seen self.new).server.ready ≡ [] → (seen self.new).waiting ≡ []) }
     {
-        while self.ready.is_empty() && !self.waiting.is_empty() {
+        while self.server.ready.is_empty() && !self.waiting.is_empty() {
             self.turn()?;
         }
         Ok(())
     }
 
-    /// Executes a call, and makes the reply to it ready. After want of memory nothing is changed.
-    fn execute(&mut self, xid: u32, call: Call) -> Result<(), Memory>
-        requires { IsServed call }
-        ensures ok { OnOk result (Executes xid call self.old self.new) }
-        ensures waiting { self.new.waiting ≡ self.old.waiting }
-        ensures faults { self.new.faults ≡ self.old.faults }
-        ensures err { OnErr result (self.new ≡ self.old) }
-    {
-        let reply = self.server.answer(self.alloc, &call)?;
-        let bytes = spelled(self.alloc, xid, &reply)?;
-        self.entries.reserve(1)?;
-        self.ready.reserve(1)?;
-        self.server.execute(&call)?;
-        self.entries
-            .push(Entry::Executed { xid, call, reply })
-            .unwrap();
-        self.ready.push_back_reserved(bytes);
-        Ok(())
-    }
-
-    /// Makes the refusal of a call ready, which isn't executed. After want of memory nothing is changed.
-    fn refuse(&mut self, xid: u32, refusal: Refusal) -> Result<(), Memory>
-        ensures ok { OnOk result (Refuses xid refusal self.old self.new) }
-        ensures waiting { self.new.waiting ≡ self.old.waiting }
-        ensures faults { self.new.faults ≡ self.old.faults }
-        ensures err { OnErr result (self.new ≡ self.old) }
-    {
-        let refused = refusal_record(self.alloc, xid, refusal)?;
-        self.ready.reserve(1)?;
-        self.ready.push_back_reserved(refused);
-        Ok(())
-    }
-
     /// Hands out the first reply that is ready, and tells it; where none is, it is silent, and tells that.
     fn hand_out(&mut self, rec: &mut Vec<u8>) -> Received
-        ensures told { Adds (record { entries = self.old.entries }) (record { entries = self.new.entries }) (received_as rec.new.items result) }
-        ensures cause { HasCauseReceived self.old.faults self.new.faults result }
-        ensures waiting { self.new.waiting ≡ self.old.waiting }
-        ensures given { HandsOut self.old.ready self.new.ready rec.new.items result }
+        ensures hands { turning.Hands (seen self.old) (seen self.new) rec.new.items result }
+        ensures cause { HasCauseReceived (seen self.old).faults (seen self.new).faults result }
+        ensures memory { steps.LeftByMemory (seen self.old) (seen self.new) result }
     {
-        let Some(bytes) = self.ready.front() else {
-            return self.silent();
+        let Some(bytes) = self.server.ready.front() else {
+            return self.be_silent();
         };
         let Ok(told) = Blob::copy(self.alloc, bytes.bytes()) else {
             return Received::Memory;
@@ -151,54 +147,163 @@ impl World {
         if rec.extend_from_slice(bytes.bytes()).is_err() {
             return Received::Memory;
         }
-        if self.entries.push(Entry::Delivered { bytes: told }).is_err() {
+        if tell(&mut self.server.entries, Entry::Delivered { bytes: told }).is_err() {
             return Received::Memory;
         }
-        let _ = self.ready.pop_front();
+        let _ = self.server.ready.pop_front();
         Received::Whole
     }
 
     /// Tells that no record came, and counts it.
-    fn silent(&mut self) -> Received
-        ensures told { (rec : List ℕ) → Adds (record { entries = self.old.entries }) (record { entries = self.new.entries }) (received_as rec result) }
-        ensures cause { HasCauseReceived self.old.faults self.new.faults result }
-        ensures waiting { self.new.waiting ≡ self.old.waiting }
-        ensures ready { self.new.ready ≡ self.old.ready }
-        ensures never { NotGiven result }
+    fn be_silent(&mut self) -> Received
+        ensures silent { steps.Silences (seen self.old) (seen self.new) result }
+        ensures cause { HasCauseReceived (seen self.old).faults (seen self.new).faults result }
+        ensures memory { steps.LeftByMemory (seen self.old) (seen self.new) result }
     {
-        if self.entries.push(Entry::Failed).is_err() {
+        if tell(&mut self.server.entries, Entry::Failed).is_err() {
             return Received::Memory;
         }
         self.faults = self.faults.saturating_add(1);
         Received::Silent
     }
 
-    /// The bytes of a file as they are now and as they are after a restart, by its place in order of making.
-    #[cfg(test)]
-    pub(crate) fn bytes(&self, at: usize) -> Option<(&[u8], &[u8])> {
-        self.server.files.bytes(at)
-    }
-}
-
-impl Link for World {
-    ghost use Rattle.std.specs.Prelude.{◌≤◌, Some};
-    ghost use Rattle.outside.specs.Causes.{HasCauseReceived};
-    ghost use Rattle.outside.specs.Link.{received_as};
-    ghost use Rattle.world_model.specs.Told.{Tells};
-    ghost use Rattle.world_link.specs.Turns.{EndsAs};
-
-    ghost told = { λ w. Some (record { entries = w.entries }) };
-
-    ghost faults = { λ w. w.faults };
-
-    fn dial(&mut self, port: u16) -> Result<(), LinkFault> {
-        if self.entries.push(Entry::Dialed { port }).is_err() {
-            return Err(LinkFault::Memory);
+    /// Whether the next dial fails.
+    fn fails_next(&self) -> bool
+        ensures { result ≡ turning.fails_next (seen self.now) }
+    {
+        if self.dials == LAST_DIAL {
+            false
+        } else {
+            self.plan.fails_dial(self.dials + 1)
         }
+    }
+
+    /// Tells a dial that succeeds. After want of memory nothing is changed.
+    fn connect(&mut self, port: u16) -> Result<(), Memory>
+        ensures ok { OnOk result (seen self.new ≡ turning.after_dial (seen self.old) port) }
+        ensures err { OnErr result (seen self.new ≡ seen self.old) }
+    {
+        tell(&mut self.server.entries, Entry::Dialed { port })?;
+        self.dials = self.dials.saturating_add(1);
         Ok(())
     }
 
-    fn send(&mut self, rec: &[u8]) -> Result<(), LinkFault> {
+    /// Tells a dial that fails, and counts it. After want of memory nothing is changed.
+    fn fail_to_connect(&mut self, port: u16) -> Result<(), Memory>
+        ensures ok { OnOk result (seen self.new ≡ turning.after_failed_dial (seen self.old) port) }
+        ensures rose { OnOk result (Rose self.old.faults self.new.faults) }
+        ensures later { self.old.faults ≤ self.new.faults }
+        ensures err { OnErr result (seen self.new ≡ seen self.old) }
+    {
+        self.server.entries.reserve(2)?;
+        self.server.entries.push(Entry::Dialed { port }).unwrap();
+        self.server.entries.push(Entry::Failed).unwrap();
+        self.dials = self.dials.saturating_add(1);
+        self.faults = self.faults.saturating_add(1);
+        Ok(())
+    }
+}
+
+impl Server {
+    /// A record was sent. After want of memory nothing is changed.
+    fn take(&mut self, name: Option<Sending>, rec: Blob) -> Result<(), Memory>
+        ensures ok { OnOk result (served self.new ≡ turning.taken (served self.old) name rec) }
+        ensures err { OnErr result (served self.new ≡ served self.old) }
+    {
+        self.entries.reserve(1)?;
+        self.keep_if(name, rec.bytes())?;
+        self.entries.push(Entry::Sent { bytes: rec }).unwrap();
+        Ok(())
+    }
+
+    /// The record has the name, where it has one. After want of memory nothing is changed.
+    fn keep_if(&mut self, name: Option<Sending>, rec: &[u8]) -> Result<(), Memory>
+        ensures ok { OnOk result (served self.new ≡ record (served self.old) { sent = turning.noted_as (served self.old).sent name rec.now }) }
+        ensures room { self.new.entries ≡ self.old.entries }
+        ensures err { OnErr result (served self.new ≡ served self.old) }
+    {
+        match name {
+            Some(name) => self.keep(name, rec),
+            None => Ok(()),
+        }
+    }
+
+    /// The record has the name. After want of memory nothing is changed.
+    fn keep(&mut self, name: Sending, rec: &[u8]) -> Result<(), Memory>
+        ensures ok { OnOk result (served self.new ≡ record (served self.old) { sent = turning.noted_as (served self.old).sent (Some name) rec.now }) }
+        ensures room { self.new.entries ≡ self.old.entries }
+        ensures err { OnErr result (served self.new ≡ served self.old) }
+    {
+        let bytes = Blob::copy(self.alloc, rec)?;
+        self.sent.insert(name, bytes)?;
+        Ok(())
+    }
+}
+
+/// Which sending a record is that asks for this.
+fn name_of(sendings: &Tally, asked: &Asked) -> Option<Sending>
+    ensures { result ≡ turning.name_of sendings.now.counts asked.now }
+{
+    match asked {
+        Asked::Serve { xid: _xid, call } => match call {
+            Call::File(call) => sendings.next(file_proc(call)),
+            Call::Dir(call) => sendings.next(dir_proc(call)),
+            Call::Mount(_) => None,
+        },
+        Asked::Refuse { .. } => None,
+        Asked::NoCall => None,
+    }
+}
+
+/// Adds an entry to those that are told. After want of memory nothing is changed.
+fn tell(entries: &mut Vec<Entry>, entry: Entry) -> Result<(), Memory>
+    ensures ok { OnOk result (entries.new.items ≡ entries.old.items ++ entry ∷ []) }
+    ensures err { OnErr result (entries.new.items ≡ entries.old.items) }
+{
+    entries.push(entry)?;
+    Ok(())
+}
+
+impl Link for World {
+    ghost use Rattle.std.specs.Prelude.{◌≡◌, ◌≤◌, Some};
+    ghost use Rattle.outside.specs.Causes.{HasCause, HasCauseReceived};
+    ghost use Rattle.outside.specs.Link.{dialed_as, sent_as, received_as, noted_as};
+    ghost use Rattle.world_model.specs.Told.{Tells};
+    ghost use Rattle.world_link.specs.Replay.{told};
+    ghost use Rattle.world_link.specs.Steps as steps;
+    ghost use Rattle.world_link.specs.View.{seen};
+
+    ghost told = { λ w. Some (told (seen w)) };
+
+    ghost faults = { λ w. w.faults };
+
+    // Nothing is said yet of what the export's steps are to a server.
+    ghost honest = { λ w. ⊥ };
+
+    ghost lawful = { λ w h. absurd h };
+
+    fn dial(&mut self, port: u16) -> Result<(), LinkFault>
+        ensures told { Tells (Some (told (seen self.old))) (Some (told (seen self.new))) (dialed_as port result) }
+        ensures cause { HasCause self.old.faults self.new.faults result }
+        ensures exact { steps.Dials (seen self.old) (seen self.new) port result }
+    {
+        if self.fails_next() {
+            return match self.fail_to_connect(port) {
+                Ok(()) => Err(LinkFault::Failed),
+                Err(_) => Err(LinkFault::Memory),
+            };
+        }
+        match self.connect(port) {
+            Ok(()) => Ok(()),
+            Err(_) => Err(LinkFault::Memory),
+        }
+    }
+
+    fn send(&mut self, rec: &[u8]) -> Result<(), LinkFault>
+        ensures told { Tells (Some (told (seen self.old))) (Some (told (seen self.new))) (sent_as rec.now result) }
+        ensures cause { HasCause self.old.faults self.new.faults result }
+        ensures exact { steps.Sends (seen self.old) (seen self.new) rec.now result }
+    {
         if self.take(rec).is_err() {
             return Err(LinkFault::Memory);
         }
@@ -207,23 +312,26 @@ impl Link for World {
 
     fn receive(&mut self, _wait_ms: u32, rec: &mut Vec<u8>) -> Received
         requires { 15000 ≤ _wait_ms }
-        ensures told { Tells (Some (record { entries = self.old.entries })) (Some (record { entries = self.new.entries })) (received_as rec.new.items result) }
+        ensures told { Tells (Some (told (seen self.old))) (Some (told (seen self.new))) (received_as rec.new.items result) }
         ensures cause { HasCauseReceived self.old.faults self.new.faults result }
-        ensures ends { EndsAs self.new result }
+        ensures exact { steps.Receives (seen self.old) (seen self.new) rec.new.items result }
     {
-        if self.turns().is_err() {
+        if self.turn_all().is_err() {
             return Received::Memory;
         }
         self.hand_out(rec)
     }
 
-    fn note(&mut self, mark: Mark) -> Result<(), Memory> {
+    fn note(&mut self, mark: Mark) -> Result<(), Memory>
+        ensures told { Tells (Some (told (seen self.old))) (Some (told (seen self.new))) (noted_as mark result) }
+        ensures cause { self.old.faults ≤ self.new.faults }
+        ensures exact { steps.Notes (seen self.old) (seen self.new) mark result }
+    {
         let entry = match mark {
             Mark::Began { lane, line, op } => Entry::Began { lane, line, op },
             Mark::Answered { lane, line, answer } => Entry::Answered { lane, line, answer },
             Mark::Clock { ms } => Entry::Clock { ms },
         };
-        self.entries.push(entry)?;
-        Ok(())
+        tell(&mut self.server.entries, entry)
     }
 }

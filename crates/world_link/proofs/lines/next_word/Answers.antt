@@ -1,6 +1,0 @@
-use Rattle.std.proofs.Common.{rules, ◌∙◌}
-use Rattle.world_link.proofs.Parting.{no_words}
-use Rattle.world_link.proofs.lines.next_word.Goals as goal
-
-pub returns : goal.returns
-returns c = c.loop-rest.invariant ∙ no_words _ (search rules)

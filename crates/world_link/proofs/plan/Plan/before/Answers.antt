@@ -1,0 +1,7 @@
+use Rattle.std.proofs.Common.{◌++◌, ◌∷◌, []}
+use Rattle.world_link.specs.Fates.{FateView}
+use Rattle.world_link.proofs.Fated.{redestined}
+use Rattle.world_link.proofs.plan.Plan.before.Goals as goal
+
+pub returns : goal.returns
+returns c = redestined _ _ _ _ c.args.sending _ _ (λ (f : FateView). record f { before = f.before ++ c.args.event ∷ [] }) c.take-fate.ensures.taken c.take-fate.ensures.left c.in_ok-add_before.ensures c.put.ensures

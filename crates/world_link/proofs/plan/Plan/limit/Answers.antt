@@ -1,0 +1,7 @@
+use Rattle.std.proofs.Common.{Some}
+use Rattle.world_link.specs.Fates.{FateView}
+use Rattle.world_link.proofs.Fated.{redestined}
+use Rattle.world_link.proofs.plan.Plan.limit.Goals as goal
+
+pub returns : goal.returns
+returns c = redestined _ _ _ _ c.args.sending _ _ (λ (f : FateView). record f { limit = Some c.args.most }) c.take-fate.ensures.taken c.take-fate.ensures.left c.set_limit.ensures c.put.ensures

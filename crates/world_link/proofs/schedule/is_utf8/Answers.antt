@@ -1,6 +1,0 @@
-use Rattle.std.proofs.Common.{◌∙◌}
-use Rattle.world_link.proofs.Utf8.{is_text}
-use Rattle.world_link.proofs.schedule.is_utf8.Goals as goal
-
-pub returns : goal.returns
-returns c = c.is_ok.ensures.value ∙ is_text c.from_utf8.result c.args.line.now _ c.from_utf8.ensures.cases

@@ -1,0 +1,11 @@
+use Rattle.std.proofs.Common.{◌≡◌, drop}
+use Rattle.world_link.specs.Going.{Goes}
+use Rattle.world_link.specs.Handling.{all_copied}
+use Rattle.world_link.specs.View.{served}
+use Rattle.world_link.proofs.server.Server.copy_all.Given as goal
+
+abbrev pub invariant-loop-sending : goal.invariant-loop-sending
+invariant-loop-sending l = record {
+  left : all_copied (served l.self) (drop l.sending-index l.sendings) ≡ all_copied (served l.initial.self) l.sendings;
+  goes : Goes (served l.initial.self) (served l.self);
+}

@@ -1,0 +1,16 @@
+use Rattle.std.proofs.Common.{rules, refl, ap, ◌∙◌, List, ℕ, ◌++◌, ◌∷◌, []}
+use Rattle.world_link.proofs.Goings.{then_goes, quiet_goes}
+use Rattle.world_link.proofs.Releases.{releases_parts, all_released}
+use Rattle.world_link.specs.View.{served}
+use Rattle.world_link.proofs.server.Server.release.Goals as goal
+
+pub loop-place-preserved : goal.loop-place-preserved
+loop-place-preserved c = record {
+  left = releases_parts c.args.turns.now.counts (served c.loop-place.self) _ c.in-Some.place c.remove-held.result c.first_due.result c.first_due.ensures (search rules) c.remove-held.ensures.value
+      (c.push_back_reserved.ensures.items ∙ ap (λ (t : List (List ℕ)). t ++ c.into_bytes.result ∷ []) c.reserve.ensures.items ∙ ap (λ (b : List ℕ). c.loop-place.self.ready.items ++ b ∷ []) c.into_bytes.ensures)
+      c.remove-held.ensures.items refl ∙ c.loop-place.invariant.left;
+  goes = then_goes _ _ _ c.loop-place.invariant.goes (quiet_goes _ _ refl refl);
+}
+
+pub returns-clause-ok : goal.returns-clause-ok
+returns-clause-ok c = all_released c.args.turns.now.counts (served c.loop-place.self) c.first_due.result c.first_due.ensures (search rules) ∙ c.loop-place.invariant.left

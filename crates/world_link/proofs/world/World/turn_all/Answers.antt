@@ -1,0 +1,17 @@
+use Rattle.std.proofs.Common.{rules, ◌∙◌}
+use Rattle.world_link.proofs.Goings.{then_goes_on}
+use Rattle.world_link.proofs.Walks.{turns_go_on, turns_done}
+use Rattle.world_link.specs.View.{seen}
+use Rattle.world_link.proofs.world.World.turn_all.Goals as goal
+
+pub loop-self-preserved : goal.loop-self-preserved
+loop-self-preserved c = record {
+  left = turns_go_on (seen c.loop-self.self) _ (search rules) c.in_ok-turn.ensures.ok ∙ c.loop-self.invariant.left;
+  goes = then_goes_on _ _ _ c.loop-self.invariant.goes c.in_ok-turn.ensures.goes;
+}
+
+pub returns-in_err-turn-clause-goes : goal.returns-in_err-turn-clause-goes
+returns-in_err-turn-clause-goes c = then_goes_on _ _ _ c.loop-self.invariant.goes c.in_err-turn.ensures.goes
+
+pub returns-after-loop-self-clause-ok : goal.returns-after-loop-self-clause-ok
+returns-after-loop-self-clause-ok c = turns_done (seen c.loop-self.self) (search rules) ∙ c.loop-self.invariant.left

@@ -1,0 +1,22 @@
+-- What a schedule makes of each sending.
+use Rattle.std.specs.Prelude.{ℕ, List, [], Bool, true, false, Option, Some, None}
+use Rattle.world_link.specs.declared.directive.Sending.{Sending}
+use Rattle.world_link.specs.declared.event.Event.{Event}
+
+-- of one sending, in the order of its turn
+pub record FateView : Type 0 where
+  -- further copies of these are executed first
+  pub late : List Sending
+  pub before : List Event
+  pub lost : Bool
+  -- a status that it is answered with, and a bound on the bytes that it handles
+  pub answer : Option ℕ
+  pub limit : Option ℕ
+  pub after : List Event
+  pub muted : Bool
+  -- its reply is ready once each of these had its turn
+  pub held : List Sending
+
+-- it is executed and answered in its turn
+abbrev pub no_fate : FateView
+no_fate = record { late = []; before = []; lost = false; answer = None; limit = None; after = []; muted = false; held = [] }

@@ -1,0 +1,35 @@
+-- Replies that wait for turns, and turns that were had.
+use Rattle.std.specs.Prelude.{ℕ, ◌+◌, ◌==◌, List, [], ◌∷◌, ◌++◌, Bool, Option, Some, None, nat_le, slice_index, slice_set, if◌then◌else◌}
+use Rattle.std.specs.List.{list_all}
+use Rattle.world_link.specs.declared.directive.Sending.{Sending}
+
+-- a reply, and the sendings before whose turns it isn't ready
+pub record HeldView : Type 0 where
+  pub bytes : List ℕ
+  pub waits : List Sending
+
+-- The next sending of a procedure, by the counts of those before it. A schedule can't name one after the last count.
+abbrev pub next_of : List ℕ → ℕ → Option Sending
+next_of counts proc = if slice_index counts proc == 4294967295 then None else Some (record { proc = proc; k = slice_index counts proc + 1 })
+
+-- that sending was the last one of its procedure
+abbrev pub counted : List ℕ → Sending → List ℕ
+counted counts s = slice_set counts s.proc s.k
+
+abbrev pub counted_if : List ℕ → Option Sending → List ℕ
+counted_if counts None = counts
+counted_if counts (Some s) = counted counts s
+
+-- turns go in order of sending, so the last one that had its turn tells of those before it
+abbrev pub is_past : List ℕ → Sending → Bool
+is_past turns s = nat_le s.k (slice_index turns s.proc)
+
+abbrev pub are_past : List ℕ → List Sending → Bool
+are_past turns sendings = list_all (λ s. is_past turns s) sendings
+
+-- what is ready and what is still held after some turns, in order
+abbrev pub released_of : List ℕ → List (List ℕ) → List HeldView → List (List ℕ) × List HeldView
+released_of turns ready [] = (ready, [])
+released_of turns ready (held ∷ more) =
+    if are_past turns held.waits then released_of turns (ready ++ held.bytes ∷ []) more
+    else ((released_of turns ready more).0, held ∷ (released_of turns ready more).1)

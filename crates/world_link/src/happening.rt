@@ -1,0 +1,238 @@
+//! Events at the server.
+
+ghost use Rattle.std.specs.Prelude.{◌≡◌, ◌++◌, ◌∷◌, [], None, Some, IfOk, OnOk, OnErr, option_map};
+ghost use Rattle.export_fs.specs.Spelling.{LinkFits};
+ghost use Rattle.export_fs.specs.Executed.{executed};
+ghost use Rattle.export_fs.specs.Finding.{found};
+ghost use Rattle.world_link.specs.declared.event.Event.TheVariants as events;
+ghost use Rattle.world_link.specs.Happening as happenings;
+ghost use Rattle.world_link.specs.Going.{Goes};
+ghost use Rattle.world_link.specs.View.{served};
+
+use crate::event::Event;
+use crate::server::Server;
+use nfs_dir_calls::{DirCall, DirKept, Making};
+use nfs_file_calls::FileCall;
+use nfs_types::{Handle, Name, SetAttr, SetTime};
+use world_model::{Call, Entry, Path, Reply};
+use xdr_codec::{Blob, Memory};
+
+/// The bytes of a WRITE are stable at once (RFC 1813, section 3.3.7, stable_how).
+const FILE_SYNC: u32 = 2;
+
+impl Server {
+    /// The events happen in order.
+    pub(crate) fn happen_all(&mut self, events: &[Event]) -> Result<(), Memory>
+        ensures ok { OnOk result (served self.new ≡ happenings.all_happened (served self.old) events.now) }
+        ensures goes { Goes (served self.old) (served self.new) }
+    {
+        for event in events {
+            self.happen(event)?;
+        }
+        Ok(())
+    }
+
+    /// An event happens. It is left out where an object that it speaks of isn't there.
+    fn happen(&mut self, event: &Event) -> Result<(), Memory>
+        ensures ok { OnOk result (served self.new ≡ happenings.happened (served self.old) event.now) }
+        ensures goes { Goes (served self.old) (served self.new) }
+    {
+        match event {
+            Event::Reboot => self.reboot(),
+            Event::Flush(path) => self.flush(path),
+            Event::Write {
+                path,
+                offset,
+                bytes,
+            } => self.write(path, *offset, bytes),
+            Event::Truncate { path, size } => self.truncate(path, *size),
+            Event::Create { path, bytes } => self.create(path, bytes),
+            Event::Remove(path) => self.remove(path),
+            Event::Rename { from, to } => self.rename(from, to),
+        }
+    }
+
+    fn reboot(&mut self) -> Result<(), Memory>
+        ensures ok { OnOk result (served self.new ≡ happenings.restarted (served self.old)) }
+        ensures goes { Goes (served self.old) (served self.new) }
+    {
+        self.entries.reserve(1)?;
+        if self.export.reboot() {
+            let verf = self.export.verifier();
+            self.entries.push(Entry::Reboot { verf }).unwrap();
+        }
+        Ok(())
+    }
+
+    fn flush(&mut self, path: &Path) -> Result<(), Memory>
+        ensures ok { OnOk result (served self.new ≡ happenings.flushed_at (served self.old) (found self.old.export path.now)) }
+        ensures goes { Goes (served self.old) (served self.new) }
+    {
+        let Some(file) = self.export.find(path.names()) else {
+            return Ok(());
+        };
+        match self.export.file_size(&file) {
+            Some(len) => self.flush_file(file, len),
+            None => Ok(()),
+        }
+    }
+
+    fn flush_file(&mut self, file: Handle, len: u64) -> Result<(), Memory>
+        ensures ok { OnOk result (served self.new ≡ happenings.flushed_of (served self.old) file (Some len)) }
+        ensures goes { Goes (served self.old) (served self.new) }
+    {
+        self.entries.reserve(1)?;
+        self.export.flush(&file, 0, len)?;
+        self.entries
+            .push(Entry::Flushed { file, from: 0, len })
+            .unwrap();
+        Ok(())
+    }
+
+    fn write(&mut self, path: &Path, offset: u64, bytes: &Blob) -> Result<(), Memory>
+        ensures ok { OnOk result (served self.new ≡ happenings.written (served self.old) path.now offset bytes.now) }
+        ensures goes { Goes (served self.old) (served self.new) }
+    {
+        let Some(file) = self.export.find(path.names()) else {
+            return Ok(());
+        };
+        let bytes = Blob::copy(self.alloc, bytes.bytes())?;
+        let _made = self.execute_foreign(Call::File(FileCall::Write {
+            file,
+            offset,
+            how: FILE_SYNC,
+            bytes,
+        }))?;
+        Ok(())
+    }
+
+    fn truncate(&mut self, path: &Path, size: u64) -> Result<(), Memory>
+        ensures ok { OnOk result (served self.new ≡ happenings.truncated_at (served self.old) size (found self.old.export path.now)) }
+        ensures goes { Goes (served self.old) (served self.new) }
+    {
+        let Some(file) = self.export.find(path.names()) else {
+            return Ok(());
+        };
+        let _made = self.execute_foreign(Call::File(FileCall::SetAttr {
+            file,
+            set: sets(Some(size)),
+            guard: None,
+        }))?;
+        Ok(())
+    }
+
+    fn create(&mut self, path: &Path, bytes: &Blob) -> Result<(), Memory>
+        ensures ok { OnOk result (served self.new ≡ happenings.created_at (served self.old) path.now bytes.now (happenings.last_in self.old.export path.now)) }
+        ensures goes { Goes (served self.old) (served self.new) }
+    {
+        let Some((dir, name)) = self.last_in(path) else {
+            return Ok(());
+        };
+        let made = self.execute_foreign(Call::Dir(DirCall::Create {
+            dir,
+            name,
+            making: Making::Guarded(sets(None)),
+        }))?;
+        if made && !bytes.bytes().is_empty() {
+            self.write(path, 0, bytes)
+        } else {
+            Ok(())
+        }
+    }
+
+    fn remove(&mut self, path: &Path) -> Result<(), Memory>
+        ensures ok { OnOk result (served self.new ≡ happenings.happened (served self.old) (events.Remove path.now)) }
+        ensures goes { Goes (served self.old) (served self.new) }
+    {
+        if self.export.find(path.names()).is_none() {
+            return Ok(());
+        }
+        let Some((dir, name)) = self.last_in(path) else {
+            return Ok(());
+        };
+        let _made = self.execute_foreign(Call::Dir(DirCall::Remove { dir, name }))?;
+        Ok(())
+    }
+
+    fn rename(&mut self, from: &Path, to: &Path) -> Result<(), Memory>
+        ensures ok { OnOk result (served self.new ≡ happenings.happened (served self.old) (events.Rename from.now to.now)) }
+        ensures goes { Goes (served self.old) (served self.new) }
+    {
+        if self.export.find(from.names()).is_none() {
+            return Ok(());
+        }
+        let Some((from_dir, from)) = self.last_in(from) else {
+            return Ok(());
+        };
+        let Some((to_dir, to)) = self.last_in(to) else {
+            return Ok(());
+        };
+        let _made = self.execute_foreign(Call::Dir(DirCall::Rename {
+            from_dir,
+            from,
+            to_dir,
+            to,
+        }))?;
+        Ok(())
+    }
+
+    /// The file handle of the directory of a path's last name, and that name. None where the path has none, or its
+    /// directory isn't there.
+    fn last_in(&self, path: &Path) -> Option<(Handle, Name)>
+        ensures { result ≡ happenings.last_in self.now.export path.now }
+    {
+        match path.names().split_last() {
+            Some((name, front)) => self.in_dir(front, name),
+            None => None,
+        }
+    }
+
+    /// The file handle of the directory of a name, and the name. None where the directory isn't there.
+    fn in_dir(&self, dir: &[Name], name: &Name) -> Option<(Handle, Name)>
+        ensures { result ≡ happenings.named_in (found self.now.export dir.now) (Some name.now) }
+    {
+        match self.export.find(dir) {
+            Some(dir) => Some((dir, *name)),
+            None => None,
+        }
+    }
+
+    /// Executes a call of another client, and tells it. It is true where the call made a file. After want of memory
+    /// nothing is changed.
+    fn execute_foreign(&mut self, call: Call) -> Result<bool, Memory>
+        requires { LinkFits call }
+        ensures ok { OnOk result (served self.new ≡ happenings.foreign (served self.old) call) }
+        ensures made { IfOk result (λ made. made ≡ happenings.is_made (executed self.old.export call).1) }
+        ensures goes { Goes (served self.old) (served self.new) }
+    {
+        self.entries.reserve(1)?;
+        let reply = self.export.execute(&call)?;
+        let made = is_made(&reply);
+        self.entries.push(Entry::Foreign { call, reply }).unwrap();
+        Ok(made)
+    }
+}
+
+/// Whether it is the reply of a CREATE that made a file.
+fn is_made(reply: &Reply) -> bool
+    ensures { result ≡ happenings.is_made reply.now }
+{
+    match reply {
+        Reply::Dir(DirKept::Create { .. }) => true,
+        _ => false,
+    }
+}
+
+/// What sets the size, or nothing.
+fn sets(size: Option<u64>) -> SetAttr
+    ensures { result ≡ happenings.sets size }
+{
+    SetAttr {
+        mode: None,
+        uid: None,
+        gid: None,
+        size,
+        atime: SetTime::Keep,
+        mtime: SetTime::Keep,
+    }
+}

@@ -1,0 +1,123 @@
+//! The turn of a sending at the server.
+
+ghost use Rattle.std.specs.Prelude.{◌≡◌, position, IfOk, OnOk};
+ghost use Rattle.world_link.specs.Holding.{are_past};
+ghost use Rattle.export_serve.specs.Asking.{asked_at};
+ghost use Rattle.world_link.specs.Fates.{no_fate};
+ghost use Rattle.world_link.specs.Handling as handling;
+ghost use Rattle.world_link.specs.Turning as turning;
+ghost use Rattle.world_link.specs.Going.{Goes};
+ghost use Rattle.world_link.specs.Shown.{shown};
+ghost use Rattle.world_link.specs.View.{served};
+
+use crate::directive::Sending;
+use crate::fate::Fate;
+use crate::held::Held;
+use crate::manner::Manner;
+use crate::plan::Plan;
+use crate::server::Server;
+use crate::tally::Tally;
+use export_serve::asked;
+use xdr_codec::{Blob, Memory};
+
+/// What becomes of a record: what the plan says of its name, and `nothing` where it has none or nothing is said.
+pub(crate) fn fate_of<'a>(plan: &'a Plan, name: Option<Sending>, nothing: &'a Fate) -> &'a Fate
+    requires { nothing.now ≡ no_fate }
+    ensures { result.now ≡ turning.fate_of (shown plan.entry.now) name }
+{
+    let Some(name) = name else {
+        return nothing;
+    };
+    match plan.fate(&name) {
+        Some(fate) => fate,
+        None => nothing,
+    }
+}
+
+/// How a record of that fate is handled in its turn.
+pub(crate) fn manner_of(plan: &Plan, fate: &Fate) -> Manner
+    ensures { result ≡ turning.manner_of (shown plan.now) fate.now }
+{
+    Manner {
+        lost: fate.is_lost(),
+        mount: plan.mount(),
+        answer: fate.answer(),
+        limit: fate.limit(),
+    }
+}
+
+impl Server {
+    /// The turn of a record, but for the replies that wait for it. After want of memory it may be done in part.
+    pub(crate) fn turn(
+        &mut self,
+        fate: &Fate,
+        manner: &Manner,
+        turns: &Tally,
+        rec: &[u8],
+    ) -> Result<(), Memory>
+        ensures ok { OnOk result (served self.new ≡ turning.own_turn manner.now fate.now turns.now.counts (served self.old) rec.now) }
+        ensures goes { Goes (served self.old) (served self.new) }
+    {
+        self.copy_all(fate.late())?;
+        self.happen_all(fate.before())?;
+        let reply = self.execute_own(manner, rec)?;
+        self.happen_all(fate.after())?;
+        self.reply(fate, turns, reply)
+    }
+
+    /// The record's own execution, which gives its reply.
+    fn execute_own(&mut self, manner: &Manner, rec: &[u8]) -> Result<Option<Blob>, Memory>
+        ensures done { IfOk result (λ reply. (served self.new, reply) ≡ handling.done manner.now (served self.old) (asked_at rec.now)) }
+        ensures goes { Goes (served self.old) (served self.new) }
+    {
+        let asked = asked(self.alloc, rec)?;
+        self.handle(manner, asked)
+    }
+
+    /// The reply is ready, or it is held, or it never comes.
+    fn reply(&mut self, fate: &Fate, turns: &Tally, reply: Option<Blob>) -> Result<(), Memory>
+        ensures ok { OnOk result (served self.new ≡ turning.replied fate.now turns.now.counts (served self.old) reply) }
+        ensures goes { Goes (served self.old) (served self.new) }
+    {
+        let Some(bytes) = reply else {
+            return Ok(());
+        };
+        if fate.is_muted() {
+            return Ok(());
+        }
+        if turns.are_past(fate.held()) {
+            return self.make_ready(Some(bytes));
+        }
+        self.hold(bytes, fate.held())
+    }
+
+    fn hold(&mut self, bytes: Blob, waits: &[Sending]) -> Result<(), Memory>
+        ensures ok { OnOk result (served self.new ≡ turning.held (served self.old) bytes waits.now) }
+        ensures goes { Goes (served self.old) (served self.new) }
+    {
+        let held = Held::new(self.alloc, bytes, waits)?;
+        self.held.push(held)?;
+        Ok(())
+    }
+
+    /// The replies that waited for these turns are ready, in order of sending. After want of memory those that aren't
+    /// ready yet are still held.
+    pub(crate) fn release(&mut self, turns: &Tally) -> Result<(), Memory>
+        ensures ok { OnOk result (served self.new ≡ turning.released turns.now.counts (served self.old)) }
+        ensures goes { Goes (served self.old) (served self.new) }
+    {
+        while let Some(place) = self.first_due(turns) {
+            self.ready.reserve(1)?;
+            let held = self.held.remove(place);
+            self.ready.push_back_reserved(held.into_bytes());
+        }
+        Ok(())
+    }
+
+    /// The place of the first reply that waits for none but these turns.
+    fn first_due(&self, turns: &Tally) -> Option<usize>
+        ensures { result ≡ position (λ held. are_past turns.now.counts held.waits) self.now.held.items }
+    {
+        self.held.iter().position(|held| held.is_due(turns))
+    }
+}
