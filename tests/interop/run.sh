@@ -227,10 +227,8 @@ start_export() {
 }
 
 try_export() {
-    if ! start_export && grep -qx 'nfs3: usage' "$work/export.log"; then
-        echo "skipped: what nfs-ls and nfs-cat read of nfs3 export: there is no such command"
-        return
-    fi
+    start_export
+    count $? "nfs3 export listens"
     nfs-ls "$(export_url '')" 2>/dev/null | grep -q ' a$'
     count $? "nfs-ls lists what nfs3 export serves"
     [ "$(nfs-cat "$(export_url /a)" 2>/dev/null)" = hi ]

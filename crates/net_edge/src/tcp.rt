@@ -15,11 +15,13 @@ use xdr_codec::Memory;
 /// How many seconds a dial to one address waits, and a write: as long as a reply is waited for.
 const LIMIT_SECS: u64 = 15;
 
-/// Connections over TCP to one host, one at a time. A contract sees the number of calls that failed or were silent.
+/// Connections over TCP to one host, one at a time; or a connection that another made, which can't be made anew. A
+/// contract sees the number of calls that failed or were silent.
 #[derive(Drop)]
 pub struct TcpWire<'a, N: Net> {
     net: &'a N,
-    host: &'a str,
+    /// The host that is dialed; None where another dialed.
+    host: Option<&'a str>,
     stream: Option<N::Stream>,
     faults: u64,
 }
@@ -39,8 +41,21 @@ impl<'a, N: Net> TcpWire<'a, N> {
     {
         TcpWire {
             net,
-            host,
+            host: Some(host),
             stream: None,
+            faults: 0,
+        }
+    }
+
+    /// A wire over a connection that another made, or over one that is lost already. A dial ends the connection, and is
+    /// a failure.
+    pub(crate) fn taken(net: &'a N, stream: Option<N::Stream>) -> TcpWire<'a, N>
+        ensures { result ≡ 0 }
+    {
+        TcpWire {
+            net,
+            host: None,
+            stream,
             faults: 0,
         }
     }
@@ -66,6 +81,11 @@ impl<N: Net> Wire for TcpWire<'_, N> {
     ghost told = { λ _. None };
 
     ghost faults = { λ count. count };
+
+    // Nothing is known of what stands at the other end.
+    ghost honest = { λ _. ⊥ };
+
+    ghost lawful = { λ _ h. absurd h };
 
     /// Dials the host's addresses in turn, each for at most 15 seconds. A name that can't be looked up is a failure.
     fn connect(&mut self, port: u16) -> Result<(), LinkFault>
@@ -130,9 +150,9 @@ impl<N: Net> Wire for TcpWire<'_, N> {
     }
 }
 
-/// A connection to the first of the host's addresses that answers, if one does.
-fn dial<N: Net>(net: &N, host: &str, port: u16) -> Option<N::Stream> {
-    let addresses = (host, port).to_socket_addrs(net).ok()?;
+/// A connection to the first of the host's addresses that answers, if there is a host and one does.
+fn dial<N: Net>(net: &N, host: Option<&str>, port: u16) -> Option<N::Stream> {
+    let addresses = (host?, port).to_socket_addrs(net).ok()?;
     for address in addresses {
         if let Ok(stream) = open(net, address) {
             return Some(stream);
@@ -141,14 +161,18 @@ fn dial<N: Net>(net: &N, host: &str, port: u16) -> Option<N::Stream> {
     None
 }
 
-/// A connection to that address. What is written goes out at once: a call waits for its reply, so there is nothing to
-/// wait for.
+/// A connection to that address.
 fn open<N: Net>(net: &N, address: SocketAddr) -> io::Result<N::Stream> {
-    let limit = Duration::from_secs(LIMIT_SECS);
-    let stream = TcpStream::connect_timeout(net, &address, limit)?;
-    stream.set_nodelay(true)?;
-    stream.set_write_timeout(Some(limit))?;
+    let stream = TcpStream::connect_timeout(net, &address, Duration::from_secs(LIMIT_SECS))?;
+    prepare(&stream)?;
     Ok(stream)
+}
+
+/// Lets what is written go out at once, since a call waits for its reply and a reply is waited for, and bounds how long
+/// a write takes.
+pub(crate) fn prepare<S: OpenStream>(stream: &S) -> io::Result<()> {
+    stream.set_nodelay(true)?;
+    stream.set_write_timeout(Some(Duration::from_secs(LIMIT_SECS)))
 }
 
 /// Reads what comes within so many milliseconds; 0 is the end.

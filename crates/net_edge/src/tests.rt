@@ -1,6 +1,6 @@
 //! The true outside, on the loopback.
 
-use crate::{StandardInput, StandardOutput, SystemClock, TcpWire};
+use crate::{LoopbackListener, StandardInput, StandardOutput, SystemClock, TcpWire};
 use outside::{Clock, LinkFault, Sink, Source, Wire, WireRead};
 use std::io::{Read, Write};
 use std::net::TcpListener;
@@ -54,6 +54,28 @@ fn fails_without_a_connection(rt: HostRuntime) -> Result<(), Fail> {
     assert_eq!(rt; wire.connect(port), Err(LinkFault::Failed));
     let mut wire = TcpWire::new(&rt, "no host has a name with spaces");
     assert_eq!(rt; wire.connect(port), Err(LinkFault::Failed));
+    Ok(())
+}
+
+#[test]
+fn takes_what_another_connects(rt: HostRuntime) -> Result<(), Fail> {
+    let free = TcpListener::bind(&rt, "127.0.0.1:0")?;
+    let port = free.local_addr()?.port();
+    assert!(rt; LoopbackListener::bind(&rt, port).is_err());
+    drop(free);
+    let mut listener = LoopbackListener::bind(&rt, port).map_err(|_| Fail::new("no listener"))?;
+    let mut client = TcpWire::new(&rt, "127.0.0.1");
+    assert_eq!(rt; client.connect(port), Ok(()));
+    let mut server = listener.accept().map_err(|_| Fail::new("no connection"))?;
+    let mut buf = [0; 8];
+    assert_eq!(rt; client.write(b"ask"), Ok(3));
+    assert_eq!(rt; server.read(15_000, &mut buf), WireRead::Got(3));
+    assert_eq!(rt; &buf[..3], b"ask".as_slice());
+    assert_eq!(rt; server.write(b"reply"), Ok(5));
+    assert_eq!(rt; client.read(15_000, &mut buf), WireRead::Got(5));
+    assert_eq!(rt; server.connect(port), Err(LinkFault::Failed));
+    assert_eq!(rt; server.write(b"reply"), Err(LinkFault::Failed));
+    assert_eq!(rt; client.read(15_000, &mut buf), WireRead::Failed);
     Ok(())
 }
 

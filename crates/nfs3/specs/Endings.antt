@@ -1,5 +1,7 @@
 -- How the program ends.
 use Rattle.std.specs.Prelude.{ℕ, List, codes, ◌==◌, if◌then◌else◌, Option, Some, None}
+use Rattle.world_link.specs.declared.schedule.ScheduleFault.{ScheduleFault}
+use Rattle.world_link.specs.declared.schedule.ScheduleFault.TheVariants as schedules
 use Rattle.nfs3.specs.declared.ending.Ending.{Ending}
 use Rattle.nfs3.specs.declared.ending.Ending.TheVariants as endings
 
@@ -9,6 +11,14 @@ status_of endings.Usage = 2
 status_of endings.Memory = 7
 status_of (endings.Schedule line) = 9
 status_of (endings.Ran status) = status
+status_of endings.Served = 0
+status_of endings.Lost = 6
+status_of endings.WriteFault = 5
+
+-- a schedule that can't be read from its text: its faulty line, or want of memory
+abbrev pub refused_as : ScheduleFault → Ending
+refused_as (schedules.Line line) = endings.Schedule line
+refused_as schedules.Memory = endings.Memory
 
 -- what standard error says of a session that ended with the status
 abbrev pub message_of : ℕ → Option (List ℕ)

@@ -9,12 +9,18 @@ ghost use Rattle.nfs3.specs.Endings.{status_of, message_of};
 pub enum Ending {
     /// The words are of no known form.
     Usage,
-    /// Want of memory before the session.
+    /// Want of memory outside a session.
     Memory,
     /// The schedule is faulty at that line; at 0 it can't be read or is too long.
     Schedule(u32),
     /// The session ended with that status.
     Ran(u8),
+    /// As many calls were answered as were asked for.
+    Served,
+    /// No more connections are taken, though calls are still to be answered.
+    Lost,
+    /// Standard output failed outside a session.
+    WriteFault,
 }
 
 impl Ending {
@@ -27,6 +33,9 @@ impl Ending {
             Ending::Memory => 7,
             Ending::Schedule(_) => 9,
             Ending::Ran(status) => status,
+            Ending::Served => 0,
+            Ending::Lost => 6,
+            Ending::WriteFault => 5,
         }
     }
 }

@@ -1,10 +1,16 @@
 //! A user-space client of NFS version 3. `nfs3 run HOST WORDS` runs the script on standard input with the server at HOST,
-//! and `nfs3 replay SCHEDULE WORDS` over a simulated server, which the file SCHEDULE describes.
+//! and `nfs3 replay SCHEDULE WORDS` over a simulated server, which the file SCHEDULE describes. `nfs3 export PORT CALLS`,
+//! with or without a SCHEDULE, serves a test export.
 #![tactic(auto)]
 
 mod ending;
+mod export;
+#[cfg(test)]
+mod export_tests;
 mod replay;
 mod run;
+mod schedule_file;
+mod serving;
 #[cfg(test)]
 mod tests;
 
@@ -45,6 +51,7 @@ fn command(rt: &HostRuntime, mut words: Vec<String>) -> Ending {
             let host = words.remove(1);
             run::run(rt, host.as_str(), words.as_slice())
         }
+        [name, words @ ..] if name.as_str() == "export" => export::export(rt, words),
         _ => Ending::Usage,
     }
 }

@@ -1,18 +1,10 @@
 //! A session over a simulated server.
 
 use crate::ending::Ending;
+use crate::schedule_file::{refused, schedule_text};
 use net_edge::{StandardInput, StandardOutput};
 use outside::TickClock;
-use std::alloc::Global;
-use std::fs::File;
-use std::io::Read;
-use world_link::{ScheduleFault, parse_schedule};
-
-/// A schedule with more bytes than this is refused unread.
-const MOST_BYTES: usize = 1_048_576;
-
-/// The bytes that are read at a time.
-const PIECE: usize = 65_536;
+use world_link::parse_schedule;
 
 /// Runs the words over the simulated server of the schedule in the file of that name.
 pub fn replay(rt: &HostRuntime, path: &str, words: &[String]) -> Ending {
@@ -35,28 +27,6 @@ pub fn replay(rt: &HostRuntime, path: &str, words: &[String]) -> Ending {
                 &mut sink,
             ))
         }
-        Err(ScheduleFault::Line(line)) => Ending::Schedule(line),
-        Err(ScheduleFault::Memory) => Ending::Memory,
+        Err(fault) => refused(fault),
     }
-}
-
-/// The bytes of the file, or of its front, which is too long for a schedule.
-fn schedule_text(rt: &HostRuntime, path: &str) -> Result<Vec<u8>, Ending> {
-    let Ok(mut file) = File::open(rt, path) else {
-        return Err(Ending::Schedule(0));
-    };
-    let mut text = Vec::new(rt.alloc());
-    let mut piece = [0; PIECE];
-    while text.len() <= MOST_BYTES {
-        match file.read(&mut piece) {
-            Ok(0) => break,
-            Ok(count) => {
-                if text.extend_from_slice(&piece[..count]).is_err() {
-                    return Err(Ending::Memory);
-                }
-            }
-            Err(_) => return Err(Ending::Schedule(0)),
-        }
-    }
-    Ok(text)
 }

@@ -1,0 +1,69 @@
+//! Connections over TCP (RFC 9293) that others make.
+
+ghost use Rattle.std.specs.Prelude.{◌≡◌, IfOk};
+ghost use Rattle.outside.specs.Causes.{HasCauseFailed};
+ghost use Rattle.net_edge.specs.Counts.{CountsFailed};
+
+use crate::tcp::{TcpWire, prepare};
+use outside::Failed;
+use std::io::ErrorKind;
+use std::marker::Model;
+use std::net::{Net, OpenListener, TcpListener};
+
+/// The address of this machine that no other reaches.
+const LOOPBACK: &str = "127.0.0.1";
+
+/// A port of the loopback at which others connect. A contract sees how often no connection could be taken.
+#[derive(Drop)]
+pub struct LoopbackListener<'a, N: Net> {
+    net: &'a N,
+    listener: N::Listener,
+    faults: u64,
+}
+
+impl<'a, N: Net> Model for LoopbackListener<'a, N> {
+    ghost use Rattle.std.specs.Prelude.{ℕ};
+
+    ghost Value = { ℕ };
+
+    ghost view = { λ l. l.faults };
+}
+
+impl<'a, N: Net> LoopbackListener<'a, N> {
+    /// Listens at that port of 127.0.0.1; at 0 the system chooses one. `Failed` where the system refuses it, as where
+    /// another program listens there.
+    pub fn bind(net: &'a N, port: u16) -> Result<LoopbackListener<'a, N>, Failed>
+        ensures { IfOk result (λ listener. listener ≡ 0) }
+    {
+        match TcpListener::bind(net, (LOOPBACK, port)) {
+            Ok(listener) => Ok(LoopbackListener {
+                net,
+                listener,
+                faults: 0,
+            }),
+            Err(_) => Err(Failed),
+        }
+    }
+
+    /// Waits for the next connection, however long that takes. One that is lost before it is taken is handed out too,
+    /// and each of its calls fails; any other error of the system is `Failed`.
+    pub fn accept(&mut self) -> Result<TcpWire<'a, N>, Failed>
+        ensures fresh { IfOk result (λ wire. wire ≡ 0) }
+        ensures cause { HasCauseFailed self.old self.new result }
+        ensures counts { CountsFailed self.old self.new result }
+    {
+        match self.listener.accept() {
+            Ok((stream, _)) => {
+                let stream = prepare(&stream).is_ok().then_some(stream);
+                Ok(TcpWire::taken(self.net, stream))
+            }
+            Err(error) if error.kind() == ErrorKind::ConnectionAborted => {
+                Ok(TcpWire::taken(self.net, None))
+            }
+            Err(_) => {
+                self.faults = self.faults.saturating_add(1);
+                Err(Failed)
+            }
+        }
+    }
+}

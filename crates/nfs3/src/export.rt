@@ -1,0 +1,70 @@
+//! An export that is served over TCP.
+
+ghost use Rattle.std.specs.Prelude.{◌≡◌};
+ghost use Rattle.script_text.specs.Numbers.{number_of};
+
+use crate::ending::Ending;
+use crate::schedule_file::{refused, schedule_text};
+use crate::serving::Serving;
+use export_fs::Export;
+use net_edge::LoopbackListener;
+use script_text::number;
+use world_link::read_schedule;
+
+/// Serves an export at a port of 127.0.0.1, which the words name, until as many calls were answered as they say. A third
+/// word names the file of a schedule: its objects are there at the start, and its other lines have no effect.
+pub fn export(rt: &HostRuntime, words: &[String]) -> Ending {
+    match words {
+        [port, calls] => serve(rt, port.as_str(), calls.as_str(), None),
+        [port, calls, path] => serve(rt, port.as_str(), calls.as_str(), Some(path.as_str())),
+        _ => Ending::Usage,
+    }
+}
+
+fn serve(rt: &HostRuntime, port: &str, calls: &str, path: Option<&str>) -> Ending {
+    let (Some(port), Some(calls)) = (port_number(port), call_count(calls)) else {
+        return Ending::Usage;
+    };
+    match export_of(rt, path) {
+        Ok(fs) => listen(rt, port, Serving::new(rt.alloc(), fs, calls)),
+        Err(ending) => ending,
+    }
+}
+
+/// The port of a word. None exactly where it isn't a number from 1 to 65,535 in decimal digits.
+fn port_number(word: &str) -> Option<u16>
+    ensures { result ≡ number_of 1 65535 word.now }
+{
+    let port = number(word.as_bytes(), 1, 65_535)?;
+    Some(port as u16)
+}
+
+/// The number of calls of a word. None exactly where it isn't a number from 1 to 4,294,967,295 in decimal digits.
+fn call_count(word: &str) -> Option<u32>
+    ensures { result ≡ number_of 1 4294967295 word.now }
+{
+    number(word.as_bytes(), 1, u32::MAX)
+}
+
+/// The export with the objects that a schedule begins with; without one it is empty.
+fn export_of(rt: &HostRuntime, path: Option<&str>) -> Result<Export, Ending> {
+    let Some(path) = path else {
+        return Export::new(rt.alloc()).map_err(|_| Ending::Memory);
+    };
+    let text = schedule_text(rt, path)?;
+    match read_schedule(rt.alloc(), text.as_slice()) {
+        Ok(schedule) => Ok(schedule.export),
+        Err(fault) => Err(refused(fault)),
+    }
+}
+
+/// Listens at the port, says so on standard output, and serves.
+fn listen(rt: &HostRuntime, port: u16, mut serving: Serving) -> Ending {
+    let Ok(mut listener) = LoopbackListener::bind(rt, port) else {
+        return Ending::Lost;
+    };
+    match println!(rt; "listening {port}") {
+        Ok(()) => serving.serve_all(&mut listener),
+        Err(_) => Ending::WriteFault,
+    }
+}

@@ -1,0 +1,107 @@
+#!/usr/bin/env bash
+# Tries `nfs3 run` with `nfs3 export`, on this machine alone: the server is waited for by the line that it writes once it
+# listens, answers the calls of one script, and ends by itself. The last line is 'N passed, M failed', and the status is 0
+# where nothing failed.
+set -u
+
+here=$(dirname -- "$(readlink -f -- "${BASH_SOURCE[0]}")")
+nfs3=$here/../../bin/nfs3
+port=20491
+
+passed=0
+failed=0
+work=$(mktemp -d -t nfs3-session.XXXXXX)
+server=
+
+# Counts a check: the status that the command before it ended with, and its name.
+count() {
+    if [ "$1" -eq 0 ]; then
+        passed=$((passed + 1))
+    else
+        failed=$((failed + 1))
+        echo "failed: $2"
+    fi
+}
+
+# Ends what is still running, and removes the files.
+end_all() {
+    [ -n "$server" ] && kill "$server" 2>/dev/null
+    rm -rf -- "$work"
+}
+
+# Serves so many calls, and waits at most 30 seconds until the server listens: CALLS, and a schedule's file or nothing.
+serve() {
+    mkfifo "$work/listening"
+    "$nfs3" export "$port" "$@" >"$work/listening" 2>"$work/warned" &
+    server=$!
+    read -r -t 30 listening <"$work/listening"
+    rm -f -- "$work/listening"
+    [ "$listening" = "listening $port" ]
+    count $? "the server listens: $listening$(cat "$work/warned")"
+}
+
+# The server has ended with this status.
+ended() {
+    wait "$server"
+    local status=$?
+    server=
+    [ "$status" -eq "$1" ]
+    count $? "the server ends with $1: $status"
+}
+
+# Runs a script with the server: its text, what it is to write, and its status.
+session() {
+    local status
+    printf '%s' "$1" | "$nfs3" run 127.0.0.1 /srv --mount-port "$port" --nfs-port "$port" >"$work/said" 2>&1
+    status=$?
+    [ "$status $(cat "$work/said")" = "$3 $2" ]
+    count $? "the script '$1' comes to: $status $(cat "$work/said")"
+}
+
+# The five calls of a put are MNT, FSINFO, LOOKUP, WRITE and COMMIT.
+try_a_put() {
+    printf 'file /a 6869\n' >"$work/schedule"
+    serve 5 "$work/schedule"
+    session '1 put /a 0 6a6b6c' '1 1 ok' 0
+    ended 0
+}
+
+# Without a schedule there is no file: MNT, FSINFO and LOOKUP.
+try_an_empty_export() {
+    serve 3
+    session '1 put /a 0 6a6b6c' '1 1 nfs 2' 1
+    ended 0
+}
+
+# What a command says on standard error, and its status.
+refused() {
+    local answer
+    answer=$("$nfs3" export "${@:2}" 2>&1 >/dev/null; echo $?)
+    [ "$answer" = "$1" ]
+    count $? "export ${*:2} comes to: $answer"
+}
+
+try_refusals() {
+    refused $'nfs3: usage\n2' 0 5
+    refused $'nfs3: usage\n2' "$port" 0
+    refused $'nfs3: schedule 0\n9' "$port" 5 "$work/missing"
+    printf 'dir /d\nfile /none/a 61\n' >"$work/faulty"
+    refused $'nfs3: schedule 2\n9' "$port" 5 "$work/faulty"
+    serve 1
+    refused $'nfs3: link lost\n6' "$port" 5
+    kill "$server"
+    wait "$server" 2>/dev/null
+    server=
+}
+
+trap end_all EXIT
+"$nfs3" >"$work/build.log" 2>&1
+[ $? -eq 2 ] || {
+    echo "session: nfs3 can't be built: $(tail -1 "$work/build.log")"
+    exit 1
+}
+try_a_put
+try_an_empty_export
+try_refusals
+echo "$passed passed, $failed failed"
+[ "$failed" -eq 0 ]
