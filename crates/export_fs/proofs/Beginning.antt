@@ -1,24 +1,24 @@
 -- A new export is sound, and stays so where objects are placed in it.
-use Rattle.std.proofs.Common.{◌≡◌, ◌<◌, ◌≤◌, ◌-◌, ◌&&◌, not, ℕ, zero, suc, Bool, true, false, List, [], ◌∷◌, length, take, Option, Some, None, refl, sym, ap, subst, ◌∙◌, arith, ⊎_elim, ◌==◌, slice_get}
+use Rattle.std.proofs.Common.{◌≡◌, ◌<◌, ◌-◌, not, ℕ, zero, suc, true, false, List, [], ◌∷◌, length, take, Option, Some, None, refl, sym, ap, subst, ◌∙◌, arith, ⊎_elim, ◌==◌, slice_get}
 use Rattle.std.specs.Prelude.{is_none}
 use Rattle.std.proofs.lemmas.Bool.{cases_Bool, and_parts, not-true}
 use Rattle.world_model.specs.NameService.{keeps_all}
 use Rattle.export_fs.specs.declared.node.Node.{Node}
 use Rattle.export_fs.specs.View.{View}
-use Rattle.export_fs.specs.Parts.{last_number, handle_of, place_of, kind_at, kind_in, live, not_gone}
-use Rattle.export_fs.specs.Names.{is_own_name, named_at, find_row}
+use Rattle.export_fs.specs.Parts.{last_number, handle_of, kind_at}
+use Rattle.export_fs.specs.Names.{is_own_name, named_at}
 use Rattle.export_fs.specs.Refusals.{is_full}
 use Rattle.export_fs.specs.Changes.{new_dir}
-use Rattle.export_fs.specs.After.{next, after_making, after_making_at}
+use Rattle.export_fs.specs.After.{next, after_making_at}
 use Rattle.export_fs.specs.Placing.{walked, new_object, after_placing, may_place, placed_in, placed_last, placed}
-use Rattle.export_fs.specs.Sound.{Sound, IsHeld, IsCounted, names_of}
+use Rattle.export_fs.specs.Sound.{Sound, IsHeld, IsCounted}
 use Rattle.export_fs.proofs.Handles.{place_is}
 use Rattle.export_fs.proofs.Objects.{get_within}
 use Rattle.export_fs.proofs.Seeing.{Found}
-use Rattle.export_fs.proofs.Entering.{DirFound, dir_at, dir_found, named_is, no_row, numbers_left}
+use Rattle.export_fs.proofs.Entering.{dir_at, dir_found, named_is, no_row, numbers_left}
 use Rattle.export_fs.proofs.Making.{NewName}
 use Rattle.export_fs.proofs.Staying.{IsNew, made_stays}
-use Rattle.export_fs.proofs.StayingCalls.{file_new, dir_new}
+use Rattle.export_fs.proofs.StayingCalls.{dir_new}
 
 -- ---- a new export
 

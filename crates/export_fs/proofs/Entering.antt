@@ -1,24 +1,23 @@
 -- Directories that are there, the names in them, and the lists that the server shows of them.
-use Rattle.std.proofs.Common.{◌≡◌, ◌<◌, ◌≤◌, ◌+◌, ◌||◌, ℕ, zero, suc, Bool, true, false, List, [], ◌∷◌, ◌++◌, map, length, Option, Some, None, refl, sym, ap, subst, ◌∙◌, arith, ⊎_elim, ◌==◌, slice_get, option_map, append-nil, if◌then◌else◌}
-use Rattle.std.specs.Prelude.{is_none, is_some}
-use Rattle.std.specs.Str.{bytes_eq}
-use Rattle.std.proofs.lemmas.Bool.{cases_Bool, eq-eqb, eqb-true, ltb-true, not-false}
+use Rattle.std.proofs.Common.{◌≡◌, ◌<◌, ◌≤◌, ◌+◌, ℕ, zero, suc, true, false, List, [], ◌∷◌, ◌++◌, map, length, Option, Some, None, refl, sym, ap, subst, ◌∙◌, arith, ⊎_elim, ◌==◌, slice_get, option_map, append-nil}
+use Rattle.std.specs.Prelude.{is_none}
+use Rattle.std.proofs.lemmas.Bool.{cases_Bool, eqb-true, ltb-true, not-false}
 use Rattle.std.proofs.lemmas.Slice.Eq.{bytes_eq-Decides}
-use Rattle.world_model.specs.Server.{Listed, Entries, Lists, HasName}
+use Rattle.world_model.specs.Server.{Listed, Lists, HasName}
 use Rattle.world_model.specs.Names.{Lacks, Enters, Leaves}
 use Rattle.export_fs.specs.declared.node.Holds.{Holds}
 use Rattle.export_fs.specs.declared.node.Holds.TheVariants.{File, Directory, Link}
 use Rattle.export_fs.specs.declared.node.Node.{Node}
 use Rattle.export_fs.specs.Held.{Row, Listing}
 use Rattle.export_fs.specs.View.{View}
-use Rattle.export_fs.specs.Parts.{last_number, handle_of, place_of, at_place, kind, kind_of, rows_in, rows_of}
+use Rattle.export_fs.specs.Parts.{last_number, handle_of, place_of, at_place, kind_of, rows_in, rows_of}
 use Rattle.export_fs.specs.Names.{find_row, without, named, named_at, with_row}
 use Rattle.export_fs.specs.Refusals.{is_dir, is_full}
 use Rattle.export_fs.specs.Seen.{server_of, object_of, entry_of, held_of}
 use Rattle.export_fs.specs.Sound.{Sound, IsEntry, IsListing, IsHeld, IsCounted, names_of, names_in}
 use Rattle.export_fs.proofs.Rows.{without-none, find-more-none}
-use Rattle.export_fs.proofs.Objects.{get_within, get_last, names_among}
-use Rattle.export_fs.proofs.Named.{Stands, stands, not_found, names_at}
+use Rattle.export_fs.proofs.Objects.{names_among}
+use Rattle.export_fs.proofs.Named.{stands, not_found, names_at}
 use Rattle.export_fs.proofs.Seeing.{Found, live_is, seen_here}
 use Rattle.export_fs.proofs.Transfers.{kind_found}
 

@@ -1,19 +1,21 @@
 -- What the calls of the export keep of stamps and cookies, from what each makes of it.
-use Rattle.std.proofs.Common.{◌≡◌, ℕ, Bool, List, Option, Some, None, Result, Ok, Err, refl, sym, subst, IfOk, OnOk, OnErr, if◌then◌else◌, unwrap_or}
+use Rattle.std.proofs.Common.{◌≡◌, ℕ, Bool, List, [], ◌∷◌, Option, Some, None, Result, Ok, Err, refl, sym, subst, IfOk, OnOk, OnErr, if◌then◌else◌, unwrap_or}
 use Rattle.std.specs.Prelude.{⊤}
 use Rattle.std.proofs.lemmas.Bool.{cond_both}
 use Rattle.xdr_codec.specs.declared.blob.Memory.{Memory}
 use Rattle.world_model.specs.declared.message.Call.{Call}
 use Rattle.world_model.specs.declared.message.Reply.{Reply}
 use Rattle.world_model.specs.Rising.{RisesAt}
+use Rattle.world_model.specs.NameService.{keeps_all}
 use Rattle.export_fs.specs.View.{View}
+use Rattle.export_fs.specs.Changes.{new_dir}
 use Rattle.export_fs.specs.Executed.{executed}
 use Rattle.export_fs.specs.Placing.{placed}
 use Rattle.export_fs.specs.Restart.{may_restart, after_restart, after_flush}
 use Rattle.export_fs.specs.Seen.{server_of}
 use Rattle.export_fs.specs.Stamped.{Stamped, Proceeds}
 use Rattle.export_fs.specs.Risen.{TakesNew}
-use Rattle.export_fs.proofs.Proceeding.{stays, executed_proceeds, restart_proceeds, flush_proceeds, placed_proceeds, stamped_after}
+use Rattle.export_fs.proofs.Proceeding.{stays, executed_proceeds, restart_proceeds, flush_proceeds, placed_proceeds, stamped_after, stamped_new}
 use Rattle.export_fs.proofs.Fresh.{changed_above}
 use Rattle.export_fs.proofs.Rises.{rises_executed}
 
@@ -59,7 +61,13 @@ proceeds_flush v w file start count (Err fault) e k = subst (Proceeds v) (sym k)
 pub stamped_flushed : (v w : View) (file : List ℕ) (start count : ℕ) (result : Result ⊤ Memory) → OnOk result (w ≡ after_flush v file start count) → OnErr result (w ≡ v) → Stamped v → Stamped w
 stamped_flushed v w file start count result e k s = stamped_after v w s (proceeds_flush v w file start count result e k)
 
--- ---- an object that is placed
+pub fresh_flush : (v w : View) (file : List ℕ) (start count : ℕ) (result : Result ⊤ Memory) → OnOk result (w ≡ after_flush v file start count) → OnErr result (w ≡ v) → TakesNew v w
+fresh_flush v w file start count result e k = changed_above v w (proceeds_flush v w file start count result e k)
+
+-- ---- a new export, and an object that is placed
+
+pub stamped_first : (v : View) → v ≡ record { nodes = new_dir 0 1 keeps_all ∷ []; counter = 1; reboots = 0 } → Stamped v
+stamped_first v e = subst Stamped (sym e) stamped_new
 
 placed_or : (v w : View) (path : List (List ℕ)) (file : Option (List ℕ)) (o : Option View) → placed v path file ≡ o → w ≡ unwrap_or o v → Proceeds v w
 placed_or v w path file None p e = subst (Proceeds v) (sym e) (stays v)

@@ -1,5 +1,5 @@
 -- File handles name places, each its own.
-use Rattle.std.proofs.Common.{◌≡◌, ◌<◌, ◌+◌, ◌-◌, ◌||◌, ℕ, true, false, List, length, Option, Some, None, refl, sym, ap, subst, ◌∙◌, arith, nat_lt, ◌==◌, if◌then◌else◌, ⊎_elim, append-nil, [], ◌++◌}
+use Rattle.std.proofs.Common.{◌≡◌, ◌<◌, ◌+◌, ◌-◌, ◌||◌, ℕ, true, false, List, length, Some, sym, ap, ◌∙◌, arith, nat_lt, ◌==◌, ⊎_elim, append-nil, []}
 use Rattle.std.proofs.lemmas.Bool.{cases_Bool, or_parts, ltb-false, le-ltb, ne_eqb, eqb-true, eqb-false}
 use Rattle.std.proofs.lemmas.Nat.{be_bytes_8}
 use Rattle.std.proofs.lemmas.List.{take_all}

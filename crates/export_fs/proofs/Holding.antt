@@ -1,21 +1,21 @@
 -- What the objects hold stays sound, step by step.
-use Rattle.std.proofs.Common.{◌≡◌, ◌<◌, ◌≤◌, ◌+◌, ◌-◌, ◌⊎◌, min, max, ℕ, zero, suc, Bool, true, false, List, [], ◌∷◌, ◌++◌, length, take, drop, replicate, Option, Some, None, refl, sym, ap, subst, ◌∙◌, arith, inl, inr, ⊎_elim, ◌==◌, slice_get, length-append, length-take, length-drop}
-use Rattle.std.proofs.lemmas.Bool.{cases_Bool, cases_lt, cases_eq}
+use Rattle.std.proofs.Common.{◌≡◌, ◌<◌, ◌≤◌, ◌+◌, ◌-◌, max, ℕ, true, false, List, [], ◌∷◌, ◌++◌, length, drop, replicate, Option, Some, None, refl, sym, ap, subst, ◌∙◌, arith, ⊎_elim, ◌==◌, slice_get, length-append, length-take, length-drop}
+use Rattle.std.proofs.lemmas.Bool.{cases_Bool}
 use Rattle.std.proofs.lemmas.List.{length-replicate}
 use Rattle.world_model.specs.Bytes.{filled, resized, put_at, part, committed_part}
 use Rattle.world_model.specs.FileService.{steady_after}
 use Rattle.export_fs.specs.declared.node.Holds.{Holds}
 use Rattle.export_fs.specs.declared.node.Holds.TheVariants.{File, Directory, Link}
 use Rattle.export_fs.specs.declared.node.Node.{Node}
-use Rattle.export_fs.specs.Held.{Row, Listing, Content}
+use Rattle.export_fs.specs.Held.{Row}
 use Rattle.export_fs.specs.Parts.{kind_of}
-use Rattle.export_fs.specs.Names.{is_own_name, find_row, without, with_row, without_row}
+use Rattle.export_fs.specs.Names.{is_own_name, without}
 use Rattle.export_fs.specs.Changes.{changed, with_name, without_name, with_parent, with_size, with_bytes, with_stable, unnamed, with_ctime, removed}
 use Rattle.export_fs.specs.After.{changed_at}
 use Rattle.export_fs.specs.Restart.{with_part, steady}
-use Rattle.export_fs.specs.Sound.{IsEntry, IsListing, IsHeld, Each, IsOnce}
+use Rattle.export_fs.specs.Sound.{IsEntry, IsHeld}
 use Rattle.export_fs.proofs.Rows.{once-without, once-more}
-use Rattle.export_fs.proofs.Objects.{WasAt, changed_there, other, was_at, get_within, get_last, get_front_other}
+use Rattle.export_fs.proofs.Objects.{changed_there, other, was_at}
 use Rattle.export_fs.proofs.Named.{each_without, at_more}
 
 abbrev pub AllHeld : ℕ → List Node → Type 0

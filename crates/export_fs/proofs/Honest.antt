@@ -1,10 +1,13 @@
 -- What the calls of the export promise, from what each makes of it.
-use Rattle.std.proofs.Common.{◌≡◌, ℕ, Bool, true, false, List, Option, Some, None, Result, Ok, Err, refl, sym, ap, subst, ◌∙◌, ⊎_elim, IfOk, OnOk, OnErr, if◌then◌else◌, unwrap_or}
+use Rattle.std.proofs.Common.{◌≡◌, ℕ, Bool, true, List, Option, Some, None, Result, Ok, Err, refl, sym, subst, ◌∙◌, IfOk, OnOk, OnErr, if◌then◌else◌, unwrap_or}
 use Rattle.std.specs.Prelude.{⊤}
-use Rattle.std.proofs.lemmas.Bool.{cases_Bool, cond_both}
+use Rattle.std.proofs.lemmas.Bool.{cond_both}
 use Rattle.xdr_codec.specs.Bytes.{IsBytes}
 use Rattle.xdr_codec.specs.declared.blob.Memory.{Memory}
+use Rattle.nfs_file_calls.specs.declared.call.FileCall.{FileCall}
+use Rattle.nfs_file_calls.specs.declared.call.FileCall.TheVariants as files
 use Rattle.world_model.specs.declared.message.Call.{Call}
+use Rattle.world_model.specs.declared.message.Call.TheVariants as calls
 use Rattle.world_model.specs.declared.message.Reply.{Reply}
 use Rattle.world_model.specs.Lawful.{Flushes}
 use Rattle.world_model.specs.Service.{Serves}
@@ -16,7 +19,8 @@ use Rattle.export_fs.specs.Restart.{may_restart, after_restart, after_flush}
 use Rattle.export_fs.specs.Later.{RestartsLater}
 use Rattle.export_fs.specs.Seen.{server_of}
 use Rattle.export_fs.specs.Sound.{Sound}
-use Rattle.export_fs.specs.Spelled.{IsSpelled}
+use Rattle.export_fs.specs.Spelled.{HandlesAreBytes, IsFileSpelled, IsSpelled}
+use Rattle.export_fs.specs.Spelling.{HasSpellingCall}
 use Rattle.export_fs.proofs.Beginning.{new_view, begins, placed_stays}
 use Rattle.export_fs.proofs.Restarted.{restart_stays, restarts, flush_stays, flushes_file}
 use Rattle.export_fs.proofs.Serving.{serves}
@@ -24,17 +28,34 @@ use Rattle.export_fs.proofs.StayingCalls.{stays_sound}
 
 -- ---- a call
 
+is_file_spelled : (call : FileCall) → HandlesAreBytes (calls.File call) → HasSpellingCall (calls.File call) → IsFileSpelled call
+is_file_spelled files.Null b k = tt
+is_file_spelled (files.GetAttr file) b k = b
+is_file_spelled (files.SetAttr file set guard) b k = b
+is_file_spelled (files.Access file bits) b k = b
+is_file_spelled (files.Read file offset count) b k = b
+is_file_spelled (files.Write file offset how bytes) b k = (b, k.0)
+is_file_spelled (files.FsStat file) b k = b
+is_file_spelled (files.FsInfo file) b k = b
+is_file_spelled (files.PathConf file) b k = b
+is_file_spelled (files.Commit file offset count) b k = b
+
+is_spelled : (call : Call) → HandlesAreBytes call → HasSpellingCall call → IsSpelled call
+is_spelled (calls.File call) b k = is_file_spelled call b k
+is_spelled (calls.Dir call) b k = b
+is_spelled (calls.Mount call) b k = tt
+
 abbrev Executes : View → View → Call → Result Reply Memory → Type 0
 Executes v w call result = IfOk result (λ reply. (w ≡ (executed v call).0) × (reply ≡ (executed v call).1))
 
-pub sound_call : (v w : View) (call : Call) (result : Result Reply Memory) → Executes v w call result → OnErr result (w ≡ v) → Sound v → IsSpelled call → Sound w
-sound_call v w call (Ok reply) e k s b = subst Sound (sym e.0) (stays_sound v call s b)
-sound_call v w call (Err fault) e k s b = subst Sound (sym k) s
+pub sound_call : (v w : View) (call : Call) (result : Result Reply Memory) → Executes v w call result → OnErr result (w ≡ v) → HandlesAreBytes call → Sound v → Sound w
+sound_call v w call (Ok reply) e k b s = subst Sound (sym e.0) (stays_sound v call s b)
+sound_call v w call (Err fault) e k b s = subst Sound (sym k) s
 
-pub serves_call : (v w : View) (call : Call) (result : Result Reply Memory) → Executes v w call result → Sound v → IsSpelled call → IfOk result (λ reply. Serves (server_of v) call reply (server_of w))
-serves_call v w call (Ok reply) e s b =
-    subst (λ (r : Reply). Serves (server_of v) call r (server_of w)) (sym e.1) (subst (λ (z : View). Serves (server_of v) call (executed v call).1 (server_of z)) (sym e.0) (serves v call s b))
-serves_call v w call (Err fault) e s b = tt
+pub serves_call : (v w : View) (call : Call) (result : Result Reply Memory) → Executes v w call result → HandlesAreBytes call → Sound v → HasSpellingCall call → IfOk result (λ reply. Serves (server_of v) call reply (server_of w))
+serves_call v w call (Ok reply) e b s k =
+    subst (λ (r : Reply). Serves (server_of v) call r (server_of w)) (sym e.1) (subst (λ (z : View). Serves (server_of v) call (executed v call).1 (server_of z)) (sym e.0) (serves v call s (is_spelled call b k)))
+serves_call v w call (Err fault) e b s k = tt
 
 -- ---- a restart
 

@@ -36,3 +36,4 @@ pub mod Climbing
 pub mod Replaying
 pub mod Numbers
 pub mod FreshCalls
+pub mod Reboots

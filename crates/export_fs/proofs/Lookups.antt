@@ -1,23 +1,20 @@
 -- LOOKUP, READLINK and READDIRPLUS are what a server may do (RFC 1813, sections 3.3.3, 3.3.5 and 3.3.17).
-use Rattle.std.proofs.Common.{◌≡◌, ◌<◌, ◌≤◌, ◌+◌, ◌⊎◌, ◌||◌, not, ℕ, zero, suc, Bool, true, false, List, [], ◌∷◌, map, length, Option, Some, None, refl, sym, ap, subst, ◌∙◌, arith, inl, inr, ⊎_elim, ◌==◌, nat_le, nat_lt, slice_get, slice_index_or, option_map, All}
+use Rattle.std.proofs.Common.{◌≡◌, ◌≤◌, ◌+◌, ◌⊎◌, ℕ, zero, suc, true, false, List, [], ◌∷◌, map, length, Option, Some, refl, sym, ap, subst, ◌∙◌, arith, inl, inr, ⊎_elim, ◌==◌, nat_le, nat_lt, slice_get, option_map, All}
 use Rattle.std.specs.Prelude.{is_none}
 use Rattle.std.proofs.lemmas.Bool.{cases_Bool, or_parts, not-false}
 use Rattle.nfs_types.specs.declared.attr.Attr.{Attr}
 use Rattle.nfs_types.specs.declared.verf.Verf.{Verf}
-use Rattle.nfs_dir_calls.specs.declared.call.DirCall.{DirCall}
 use Rattle.nfs_dir_calls.specs.declared.call.DirCall.TheVariants as dirs
 use Rattle.nfs_dir_calls.specs.declared.plus_page.PlusRow.{PlusRow}
-use Rattle.world_model.specs.Server.{Entries, Text}
-use Rattle.world_model.specs.Steps.{TrueOf, Only}
-use Rattle.world_model.specs.NameService.{LooksUp, ReadsLink}
+use Rattle.world_model.specs.Steps.{TrueOf}
 use Rattle.world_model.specs.ListService.{IsPlusRowOf, ListsObjects}
 use Rattle.world_model.specs.Service.{DoesDir}
 use Rattle.export_fs.specs.declared.node.Holds.{Holds}
 use Rattle.export_fs.specs.declared.node.Holds.TheVariants.{File, Directory, Link}
 use Rattle.export_fs.specs.declared.node.Node.{Node}
-use Rattle.export_fs.specs.Held.{Row, Listing}
+use Rattle.export_fs.specs.Held.{Row}
 use Rattle.export_fs.specs.View.{View}
-use Rattle.export_fs.specs.Parts.{handle_of, attr, attr_at, kind_of, text_in, text_of, object, rows_in, at_place}
+use Rattle.export_fs.specs.Parts.{handle_of, attr, kind_of, text_in, text_of, object, rows_in, at_place}
 use Rattle.export_fs.specs.Names.{named}
 use Rattle.export_fs.specs.Pages.{rows_after, listed, spelled_size, fitting, page_of, most_page}
 use Rattle.export_fs.specs.Answer.{lookup_answer, read_link_answer, list_answer, dir_answer}
@@ -27,7 +24,7 @@ use Rattle.export_fs.specs.Spelled.{IsDirSpelled}
 use Rattle.export_fs.specs.Sound.{Sound}
 use Rattle.export_fs.proofs.Passing.{dir_passes}
 use Rattle.export_fs.proofs.Named.{stands}
-use Rattle.export_fs.proofs.Seeing.{Found, found, object_is, has_found, looks, true_of, true_here, seen_here}
+use Rattle.export_fs.proofs.Seeing.{found, object_is, looks, true_of, true_here, seen_here}
 use Rattle.export_fs.proofs.Transfers.{kind_found}
 use Rattle.export_fs.proofs.Entering.{DirFound, dir_found, dir_at, rows_at, named_is, some_row, row_named, has_name, map_get, is_held}
 

@@ -1,15 +1,13 @@
 -- CREATE, MKDIR, SYMLINK and LINK are what a server may do (RFC 1813, sections 3.3.8 to 3.3.10 and 3.3.15).
-use Rattle.std.proofs.Common.{◌≡◌, ◌<◌, ◌≤◌, ◌+◌, ◌⊎◌, ◌||◌, ◌&&◌, not, ℕ, Bool, true, false, List, [], ◌∷◌, ◌++◌, map, length, Option, Some, None, refl, sym, ap, subst, ◌∙◌, arith, inl, inr, ⊎_elim, ◌==◌, slice_get, option_map, cond}
+use Rattle.std.proofs.Common.{◌≡◌, ◌<◌, ◌+◌, ◌⊎◌, ◌||◌, ◌&&◌, not, ℕ, true, false, List, [], ◌∷◌, ◌++◌, map, length, Option, Some, None, refl, sym, ap, subst, ◌∙◌, arith, inl, inr, ◌==◌, slice_get, option_map}
 use Rattle.std.specs.Prelude.{is_none, is_some}
-use Rattle.std.proofs.lemmas.Bool.{cases_Bool, or_parts, and_parts, not-false, not-true, cond_both}
+use Rattle.std.proofs.lemmas.Bool.{or_parts, and_parts, not-false, cond_both}
 use Rattle.nfs_types.specs.declared.set_attr.SetAttr.{SetAttr}
-use Rattle.nfs_dir_calls.specs.declared.call.DirCall.{DirCall}
 use Rattle.nfs_dir_calls.specs.declared.call.DirCall.TheVariants as dirs
 use Rattle.nfs_dir_calls.specs.declared.create.Making.{Making}
 use Rattle.nfs_dir_calls.specs.declared.create.Making.TheVariants as makings
-use Rattle.world_model.specs.Server.{Listed, Bytes, Entries, Text, Server, HasName}
-use Rattle.world_model.specs.Server.{Holds as Held}
-use Rattle.world_model.specs.Steps.{Only, Reads}
+use Rattle.world_model.specs.Server.{HasName}
+use Rattle.world_model.specs.Steps.{Reads}
 use Rattle.world_model.specs.FileService.{HasSet, HoldsSized, IsSet}
 use Rattle.world_model.specs.NameService.{Relists, Shown, Makes, Meets, Links}
 use Rattle.world_model.specs.NameService.{new_file as file_held}
@@ -33,9 +31,9 @@ use Rattle.export_fs.proofs.Passing.{dir_passes}
 use Rattle.export_fs.proofs.Handles.{place_is}
 use Rattle.export_fs.proofs.Objects.{changed_same, changed_other, get_last, get_front, get_front_other, get_within, get_past}
 use Rattle.export_fs.proofs.Named.{stands}
-use Rattle.export_fs.proofs.Seeing.{Found, found, seen_here, seen_place, only_at, true_here, true_of, true_wcc, live_is, kept_turns, OneChanged, one_turns, one_only}
+use Rattle.export_fs.proofs.Seeing.{Found, found, seen_here, seen_place, only_at, true_here, true_of, true_wcc, live_is, OneChanged, one_turns, one_only}
 use Rattle.export_fs.proofs.Transfers.{kind_found, is_set, holds_sized, sized_kind}
-use Rattle.export_fs.proofs.Entering.{DirFound, dir_found, DirAt, dir_at, named_is, no_row, some_row, NamedRow, row_named, has_name, enters_last, found_last, is_held, numbers_left}
+use Rattle.export_fs.proofs.Entering.{DirFound, dir_found, DirAt, dir_at, named_is, no_row, NamedRow, row_named, has_name, enters_last, found_last, is_held, numbers_left}
 
 -- ---- a list that becomes another one, and an object that is read
 

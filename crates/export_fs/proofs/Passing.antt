@@ -1,11 +1,13 @@
 -- A call that isn't refused passes each line.
-use Rattle.std.proofs.Common.{◌≡◌, ◌&&◌, ◌||◌, not, ℕ, suc, Bool, true, false, List, refl, arith, cond, ◌==◌, ⊎_elim}
-use Rattle.std.proofs.lemmas.Bool.{cases_Bool}
+use Rattle.std.proofs.Common.{◌≡◌, ◌&&◌, ◌||◌, ℕ, suc, Bool, true, false, List, length, refl, sym, ◌∙◌, arith, cond, ◌==◌}
+use Rattle.std.proofs.lemmas.Bool.{ltb-false}
 use Rattle.nfs_file_calls.specs.declared.call.FileCall.{FileCall}
 use Rattle.nfs_dir_calls.specs.declared.call.DirCall.{DirCall}
+use Rattle.nfs_dir_calls.specs.declared.call.DirCall.TheVariants as dirs
 use Rattle.export_fs.specs.View.{View}
 use Rattle.export_fs.specs.Parts.{kind}
 use Rattle.export_fs.specs.Refusals
+use Rattle.export_fs.specs.Spelling.{TargetFits}
 
 nonzero : (n : ℕ) → suc n ≡ 0 → ⊥
 nonzero n e = omega arith
@@ -47,6 +49,21 @@ pub record DirPasses (view : View) (call : DirCall) : Type 0 where
   pub big : Refusals.is_made_too_big call ≡ false
   pub cookie : Refusals.is_bad_cookie view.nodes call ≡ false
   pub full : (Refusals.changes view.nodes call && Refusals.is_full view) ≡ false
+  pub text : Refusals.is_text_too_long call ≡ false
+
+short : (call : DirCall) → Refusals.is_text_too_long call ≡ false → TargetFits call
+short (dirs.SymLink dir name set target) e = ltb-false 1024 (length target) e
+short (dirs.Lookup dir name) e = tt
+short (dirs.ReadLink file) e = tt
+short (dirs.Create dir name making) e = tt
+short (dirs.MkDir dir name set) e = tt
+short (dirs.MkNod dir name node) e = tt
+short (dirs.Remove dir name) e = tt
+short (dirs.RmDir dir name) e = tt
+short (dirs.Rename dir name to_dir to) e = tt
+short (dirs.Link file dir name) e = tt
+short (dirs.ReadDir dir cookie verf count) e = tt
+short (dirs.ReadDirPlus dir cookie verf dircount maxcount) e = tt
 
 pub dir_passes : (view : View) (call : DirCall) → Refusals.dir_refusal view call ≡ 0 → DirPasses view call
 dir_passes view call e =
@@ -62,4 +79,9 @@ dir_passes view call e =
     let k = line _ 27 _ (λ q. absurd (nonzero 26 q)) j.1 in
     let l = line _ 10003 _ (λ q. absurd (nonzero 10002 q)) k.1 in
     let m = line _ 28 _ (λ q. absurd (nonzero 27 q)) l.1 in
-    record { bad = a.0; stale = b.0; no_dir = c.0; a_dir = d.0; invalid = f.0; unsupported = g.0; missing = h.0; there = i.0; filled = j.0; big = k.0; cookie = l.0; full = m.0 }
+    let n = line _ 63 _ (λ q. absurd (nonzero 62 q)) m.1 in
+    record { bad = a.0; stale = b.0; no_dir = c.0; a_dir = d.0; invalid = f.0; unsupported = g.0; missing = h.0; there = i.0; filled = j.0; big = k.0; cookie = l.0; full = m.0; text = n.0 }
+
+-- the text of a new link that isn't refused has at most 1,024 bytes
+pub target_fits : (view : View) (call : DirCall) (number : ℕ) → number ≡ Refusals.dir_refusal view call → number ≡ 0 → TargetFits call
+target_fits view call number is zero = short call (dir_passes view call (sym is ∙ zero)).text

@@ -1,13 +1,11 @@
 -- REMOVE and RMDIR are what a server may do (RFC 1813, sections 3.3.12 and 3.3.13): an object is gone with its last name.
-use Rattle.std.proofs.Common.{◌≡◌, ◌≢◌, ◌<◌, ◌≤◌, ◌+◌, ◌-◌, ◌⊎◌, ◌||◌, ℕ, zero, suc, Bool, true, false, List, [], ◌∷◌, ◌++◌, map, length, Option, Some, None, refl, sym, ap, subst, ◌∙◌, arith, inl, inr, ⊎_elim, ◌==◌, slice_get, option_map, if◌then◌else◌, nat_le}
+use Rattle.std.proofs.Common.{◌≡◌, ◌≢◌, ◌<◌, ◌≤◌, ◌+◌, ◌⊎◌, ◌||◌, ℕ, zero, suc, Bool, true, false, List, map, length, Option, Some, refl, sym, ap, subst, ◌∙◌, arith, inl, inr, ⊎_elim, ◌==◌, slice_get, option_map, if◌then◌else◌, nat_le}
 use Rattle.std.specs.Prelude.{is_none}
 use Rattle.std.specs.Str.{bytes_eq}
 use Rattle.std.proofs.lemmas.Bool.{cases_Bool, cases_eq, or_parts, not-false, eq-eqb, le-leb, lt-leb}
 use Rattle.std.proofs.lemmas.Slice.Eq.{bytes_eq-Decides}
-use Rattle.nfs_dir_calls.specs.declared.call.DirCall.{DirCall}
 use Rattle.nfs_dir_calls.specs.declared.call.DirCall.TheVariants as dirs
 use Rattle.world_model.specs.Server.{Listed, Entries, Object}
-use Rattle.world_model.specs.Server.{Holds as Held}
 use Rattle.world_model.specs.Names.{own_name, parent_name, IsNamed, Loses}
 use Rattle.world_model.specs.NameService.{Removes}
 use Rattle.world_model.specs.Service.{DoesDir}
@@ -17,20 +15,20 @@ use Rattle.export_fs.specs.declared.node.Node.{Node}
 use Rattle.export_fs.specs.Held.{Row, Listing}
 use Rattle.export_fs.specs.View.{View}
 use Rattle.export_fs.specs.Parts.{last_number, handle_of, kind_of, rows_of}
-use Rattle.export_fs.specs.Names.{named, find_row, without, without_row, is_own_name}
+use Rattle.export_fs.specs.Names.{named, without, without_row}
 use Rattle.export_fs.specs.Changes.{changed, left, without_name, removed, unnamed, with_ctime, with_fewer}
 use Rattle.export_fs.specs.After.{next, takes, changed_at, leaves, after_remove}
 use Rattle.export_fs.specs.Answer.{dir_answer}
-use Rattle.export_fs.specs.Refusals.{dir_refusal, is_stale, is_dir, is_named_no_dir}
+use Rattle.export_fs.specs.Refusals.{dir_refusal, is_stale, is_named_no_dir}
 use Rattle.export_fs.specs.Seen.{server_of, object_of, entry_of, held_of}
 use Rattle.export_fs.specs.Spelled.{IsDirSpelled}
 use Rattle.export_fs.specs.Sound.{Sound, IsEntry, IsHeld, IsCounted, names_of, names_in, one_if}
 use Rattle.export_fs.proofs.Passing.{dir_passes}
-use Rattle.export_fs.proofs.Objects.{changed_same, changed_other, changed_length, get_within, names_among, names_changed, names_kept, NamedIn, named_in}
-use Rattle.export_fs.proofs.Named.{stands, names_at, names_without, EntryFor, entry_for}
-use Rattle.export_fs.proofs.Seeing.{found, SeenAt, seen_by_place, handle_apart, seen_here, only_at, true_wcc}
+use Rattle.export_fs.proofs.Objects.{changed_same, changed_other, changed_length, get_within, names_among, names_changed, names_kept, named_in}
+use Rattle.export_fs.proofs.Named.{names_at, names_without, entry_for}
+use Rattle.export_fs.proofs.Seeing.{found, seen_by_place, handle_apart, seen_here, only_at, true_wcc}
 use Rattle.export_fs.proofs.Entering.{DirFound, dir_found, DirAt, dir_at, named_is, some_row, NamedRow, row_named, listed_row, map_get, leaves_list}
-use Rattle.export_fs.proofs.Holding.{AllHeld, held_changed, held_left, removed_holds, unnamed_holds}
+use Rattle.export_fs.proofs.Holding.{AllHeld, held_changed, held_left, removed_holds}
 use Rattle.export_fs.proofs.Making.{relists}
 
 -- ---- an object has a name where one is counted

@@ -1,15 +1,13 @@
 -- RENAME is what a server may do (RFC 1813, section 3.3.14).
-use Rattle.std.proofs.Common.{◌≡◌, ◌≢◌, ◌<◌, ◌≤◌, ◌+◌, ◌-◌, ◌⊎◌, ◌||◌, ◌&&◌, not, ℕ, zero, suc, Bool, true, false, List, [], ◌∷◌, ◌++◌, map, length, Option, Some, None, refl, sym, ap, subst, ◌∙◌, arith, inl, inr, ⊎_elim, ◌==◌, slice_get, option_map, append-nil, if◌then◌else◌}
+use Rattle.std.proofs.Common.{◌≡◌, ◌+◌, ◌⊎◌, ◌&&◌, not, ℕ, zero, suc, Bool, true, false, List, [], ◌∷◌, ◌++◌, map, length, Option, Some, None, refl, sym, ap, subst, ◌∙◌, arith, inl, inr, ⊎_elim, ◌==◌, slice_get, option_map, append-nil, if◌then◌else◌}
 use Rattle.std.specs.Prelude.{is_none}
 use Rattle.std.specs.Str.{bytes_eq}
-use Rattle.std.proofs.lemmas.Bool.{cases_Bool, cases_eq, or_parts, and_cases, not-false, eq-eqb, ne_eqb, eqb-true, eqb-false, cond-true, cond-false}
+use Rattle.std.proofs.lemmas.Bool.{cases_Bool, cases_eq, or_parts, and_cases, not-false, eq-eqb, eqb-true, eqb-false, cond-true, cond-false}
 use Rattle.std.proofs.lemmas.Slice.Eq.{bytes_eq-Decides}
-use Rattle.nfs_dir_calls.specs.declared.call.DirCall.{DirCall}
 use Rattle.nfs_dir_calls.specs.declared.call.DirCall.TheVariants as dirs
-use Rattle.world_model.specs.Server.{Listed, Bytes, Entries, Text, Lists, HasName}
-use Rattle.world_model.specs.Server.{Holds as Held}
-use Rattle.world_model.specs.Steps.{Only, Turns}
-use Rattle.world_model.specs.Names.{Enters, Leaves, Clears, left, absent, Loses}
+use Rattle.world_model.specs.Server.{Listed, Lists, HasName}
+use Rattle.world_model.specs.Steps.{Only}
+use Rattle.world_model.specs.Names.{Enters, Clears, left, absent, Loses}
 use Rattle.world_model.specs.NameService.{HoldsMoved, Relists, Replaced, Moves, within, across, Renames, KeepsNames}
 use Rattle.world_model.specs.Service.{DoesDir}
 use Rattle.export_fs.specs.declared.node.Holds.{Holds}
@@ -17,26 +15,25 @@ use Rattle.export_fs.specs.declared.node.Holds.TheVariants.{File, Directory, Lin
 use Rattle.export_fs.specs.declared.node.Node.{Node}
 use Rattle.export_fs.specs.Held.{Row, Listing}
 use Rattle.export_fs.specs.View.{View}
-use Rattle.export_fs.specs.Parts.{last_number, handle_of, kind_of, kind_at, kind_in, rows_of, rows_in, at_place, place_of, live}
+use Rattle.export_fs.specs.Parts.{handle_of, kind_of, kind_at, kind_in, rows_of, place_of}
 use Rattle.export_fs.specs.Names.{named, find_row, without, without_row, with_row, is_own_name, is_below}
 use Rattle.export_fs.specs.Changes as changes
 use Rattle.export_fs.specs.Changes.{changed, entered, moved, unnamed, with_name, without_name, with_parent}
-use Rattle.export_fs.specs.After.{next, takes, changed_at, leaves, enters, place_or_root, after_moving, after_rename_of, after_rename}
+use Rattle.export_fs.specs.After.{next, changed_at, place_or_root, after_moving, after_rename_of, after_rename}
 use Rattle.export_fs.specs.Answer.{dir_answer}
-use Rattle.export_fs.specs.Refusals.{dir_refusal, is_stale, is_dir, is_filled, is_filled_at, same_place, goes_below, is_one_a_dir}
+use Rattle.export_fs.specs.Refusals.{dir_refusal, is_stale, is_filled, is_filled_at, same_place, goes_below}
 use Rattle.export_fs.specs.Seen.{server_of, object_of, entry_of, held_of}
 use Rattle.export_fs.specs.Spelled.{IsDirSpelled}
-use Rattle.export_fs.specs.Sound.{Sound, IsHeld, IsEntry, names_of, names_in, one_if}
-use Rattle.export_fs.proofs.Rows.{find-other, find-more-other, without-both, without-none, without-more-some, once-without, other_name}
+use Rattle.export_fs.specs.Sound.{Sound, IsHeld, names_of, names_in, one_if}
+use Rattle.export_fs.proofs.Rows.{find-other, find-more-other, without-both, without-none, without-more-some, once-without}
 use Rattle.export_fs.proofs.Passing.{dir_passes}
 use Rattle.export_fs.proofs.Objects.{changed_same, changed_other, changed_length, names_changed, names_kept}
 use Rattle.export_fs.proofs.Named.{stands, names_without, names_in_more, found_by}
-use Rattle.export_fs.proofs.Seeing.{Found, found, seen_here, only_at, true_wcc, live_is, handle_apart}
-use Rattle.export_fs.proofs.Transfers.{kind_found}
+use Rattle.export_fs.proofs.Seeing.{found, seen_here, only_at, true_wcc, live_is, handle_apart}
 use Rattle.export_fs.proofs.Entering.{DirFound, dir_found, DirAt, dir_at, named_is, some_row, NamedRow, row_named, has_name, listed_row, lists_row, leaves_list, lacks, map_append, rows_at, is_held}
 use Rattle.export_fs.proofs.Holding.{AllHeld, held_changed, held_changed_at, held_named, held_left, held_moved, unnamed_holds}
 use Rattle.export_fs.proofs.Making.{relists, reads_at}
-use Rattle.export_fs.proofs.Removing.{Fits, loses, LostName}
+use Rattle.export_fs.proofs.Removing.{Fits, loses}
 
 -- ---- what moves, and what it replaces
 

@@ -1,5 +1,5 @@
 -- A restart, and a range that becomes stable, are what a server may do (RFC 1813, section 4.8).
-use Rattle.std.proofs.Common.{◌≡◌, ◌≢◌, ◌<◌, ◌≤◌, ◌+◌, not, ℕ, zero, suc, Bool, true, false, List, [], ◌∷◌, length, Option, Some, None, refl, sym, ap, subst, ◌∙◌, arith, ⊎_elim, ◌==◌, slice_get, option_map, nat_lt, nat_le, count_by, if◌then◌else◌, append-nil}
+use Rattle.std.proofs.Common.{◌≡◌, ◌≢◌, ◌<◌, ◌≤◌, ◌+◌, not, ℕ, zero, suc, true, false, List, [], ◌∷◌, length, Option, Some, None, refl, sym, ap, subst, ◌∙◌, arith, ⊎_elim, ◌==◌, slice_get, option_map, nat_lt, nat_le, if◌then◌else◌, append-nil}
 use Rattle.std.specs.Prelude.{is_none}
 use Rattle.std.specs.Str.{bytes_eq}
 use Rattle.std.proofs.lemmas.Bool.{cases_Bool, and_parts, ltb-true, leb-true, not-true, not-false}
@@ -10,8 +10,7 @@ use Rattle.xdr_codec.specs.Spelling.{u64_bytes}
 use Rattle.byteorder.specs.Endian.{big_number}
 use Rattle.byteorder.specs.Numbers.{big_number-reads_back}
 use Rattle.world_model.specs.Bytes.{put_at, part}
-use Rattle.world_model.specs.Server.{Bytes, Object, Server}
-use Rattle.world_model.specs.Steps.{Only, Becomes}
+use Rattle.world_model.specs.Server.{Bytes, Object}
 use Rattle.world_model.specs.Lawful.{Flushes, IsLeft, same, lost, IsSteady}
 use Rattle.export_fs.specs.declared.node.Holds.{Holds}
 use Rattle.export_fs.specs.declared.node.Holds.TheVariants.{File, Directory, Link}
@@ -22,13 +21,12 @@ use Rattle.export_fs.specs.Parts.{last_number, handle_of, place_of, kind, kind_i
 use Rattle.export_fs.specs.Refusals.{is_stale}
 use Rattle.export_fs.specs.Later.{RestartsLater}
 use Rattle.export_fs.specs.Restart.{is_unsteady, steady, restarted, all_restarted, numbers_taken, may_restart, after_restart, with_part, flushed, after_flush}
-use Rattle.export_fs.specs.After.{changed_at}
-use Rattle.export_fs.specs.Seen.{server_of, object_of, held_of, seen_at}
+use Rattle.export_fs.specs.Seen.{server_of, object_of, held_of}
 use Rattle.export_fs.specs.Sound.{Sound, IsHeld, IsCounted, names_of, names_in}
-use Rattle.export_fs.proofs.Seeing.{Found, found, Sees, nothing, a_place, sees, seen_place, seen_here, SeenAt, seen_by_place, has_found, OneChanged, one_seen, one_only}
+use Rattle.export_fs.proofs.Seeing.{Found, found, nothing, a_place, sees, seen_place, seen_here, seen_by_place, has_found, OneChanged, one_seen, one_only}
 use Rattle.export_fs.proofs.Transfers.{kind_found, file_by_kind}
-use Rattle.export_fs.proofs.Holding.{AllHeld, held_part, held_steady}
-use Rattle.export_fs.proofs.Staying.{CountsSame, counted_same, same_counts, root_same, Before, OneStays, one_stays}
+use Rattle.export_fs.proofs.Holding.{held_part, held_steady}
+use Rattle.export_fs.proofs.Staying.{CountsSame, counted_same, same_counts, root_same, one_stays}
 
 -- ---- the objects after a restart
 

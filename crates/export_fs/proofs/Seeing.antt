@@ -1,14 +1,12 @@
 -- What the server that the export is holds under a file handle, and what stays of it.
-use Rattle.std.proofs.Common.{◌≡◌, ◌<◌, ℕ, true, false, List, [], Option, Some, None, refl, sym, ap, subst, ◌∙◌, ⊎_elim, slice_get, option_map, if◌then◌else◌}
+use Rattle.std.proofs.Common.{◌≡◌, ◌<◌, ℕ, true, false, List, Option, Some, None, refl, sym, ap, subst, ◌∙◌, ⊎_elim, slice_get, option_map}
 use Rattle.std.specs.Str.{bytes_eq}
-use Rattle.std.specs.Prelude.{is_none}
 use Rattle.std.proofs.lemmas.Bool.{cases_Bool}
 use Rattle.std.proofs.lemmas.Slice.Eq.{bytes_eq-Decides}
 use Rattle.nfs_types.specs.declared.attr.Attr.{Attr}
 use Rattle.xdr_codec.specs.Bytes.{IsBytes}
 use Rattle.world_model.specs.Server.{Object, Server, Has}
-use Rattle.world_model.specs.Server.{Holds as Held}
-use Rattle.world_model.specs.Steps.{Same, Only, Becomes, Turns, Looks, TrueOf, TrueStamp, TrueWcc, stamp_of}
+use Rattle.world_model.specs.Steps.{Same, Only, Turns, Looks, TrueOf, TrueStamp, TrueWcc, stamp_of}
 use Rattle.export_fs.specs.declared.node.Node.{Node}
 use Rattle.export_fs.specs.View.{View}
 use Rattle.export_fs.specs.Parts.{last_number, handle_of, place_of, attr, attr_at, attr_of, not_gone, live, at_place, object, kind_of, wcc}

@@ -1,6 +1,6 @@
 -- What the export makes of a call is what a server may make of it, and at each moment it is a server (RFC 1813, sections
 -- 3.3 and 5.2).
-use Rattle.std.proofs.Common.{◌≡◌, ◌≢◌, ◌<◌, ◌≤◌, ℕ, zero, suc, Bool, true, false, List, [], ◌∷◌, map, length, Option, Some, None, refl, sym, ap, subst, ◌∙◌, arith, ◌==◌, slice_get, slice_index_or, All, cond}
+use Rattle.std.proofs.Common.{◌≡◌, ◌≤◌, ℕ, zero, suc, List, [], ◌∷◌, map, length, Some, refl, sym, ap, subst, arith, ◌==◌, slice_get, All}
 use Rattle.std.specs.Str.{bytes_eq}
 use Rattle.std.proofs.lemmas.Bool.{cond_both, eqb-true, eqb-false}
 use Rattle.mount_calls.specs.declared.call.MountCall.{MountCall}
@@ -14,9 +14,8 @@ use Rattle.nfs_dir_calls.specs.declared.call.DirCall.TheVariants as dirs
 use Rattle.nfs_dir_calls.specs.declared.keeping.DirKept.{DirKept}
 use Rattle.world_model.specs.declared.message.Call.{Call}
 use Rattle.world_model.specs.declared.message.Call.TheVariants as calls
-use Rattle.world_model.specs.declared.message.Reply.{Reply}
 use Rattle.world_model.specs.declared.message.Reply.TheVariants as replies
-use Rattle.world_model.specs.Server.{Listed, Object, IsServer, file, directory, other}
+use Rattle.world_model.specs.Server.{Listed, IsServer, file, directory, other}
 use Rattle.world_model.specs.Server.{IsSound as IsSoundObject}
 use Rattle.world_model.specs.Service.{Serves, refused, done, DoesDir}
 use Rattle.export_fs.specs.declared.node.Holds.{Holds}

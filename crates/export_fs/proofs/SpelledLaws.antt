@@ -1,6 +1,6 @@
 -- The reply to a call can be spelled (RFC 1813, section 3.3): a refusal has a status other than 0, and data are within
 -- their bounds.
-use Rattle.std.proofs.Common.{arith, ◌≡◌, ◌<◌, ◌≤◌, ℕ, zero, suc, Bool, true, false, cond, ◌==◌, List, [], ◌∷◌, length, min, take, drop, replicate, Option, Some, None, IfSome, Result, Ok, Err, IfOk, All, refl, subst, sym}
+use Rattle.std.proofs.Common.{arith, ◌≡◌, ◌<◌, ◌≤◌, ℕ, zero, suc, Bool, true, false, cond, ◌==◌, List, [], ◌∷◌, length, min, drop, Option, Some, None, IfSome, Result, Ok, Err, IfOk, refl, subst, sym}
 use Rattle.std.specs.Str.{bytes_eq}
 use Rattle.std.proofs.lemmas.List.{length-take}
 use Rattle.std.proofs.lemmas.List.Elements.{All-cons, All-nil}

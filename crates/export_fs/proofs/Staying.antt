@@ -1,23 +1,21 @@
 -- Every call leaves the export sound: one object changed, a new one, a name more, and a name less.
-use Rattle.std.proofs.Common.{◌≡◌, ◌≢◌, ◌<◌, ◌≤◌, ◌+◌, ◌-◌, ◌⊎◌, ◌||◌, ◌&&◌, min, ℕ, zero, suc, Bool, true, false, List, [], ◌∷◌, ◌++◌, length, Option, Some, None, refl, sym, ap, subst, ◌∙◌, arith, inl, inr, ⊎_elim, ◌==◌, slice_get, if◌then◌else◌, length-append, nat_le}
-use Rattle.std.proofs.lemmas.Bool.{cases_Bool, cases_eq, eq-eqb, ne_eqb, eqb-true, le-leb, lt-leb}
+use Rattle.std.proofs.Common.{◌≡◌, ◌<◌, ◌≤◌, ◌+◌, ◌||◌, ℕ, zero, suc, Bool, true, false, List, [], ◌∷◌, ◌++◌, length, Option, Some, None, refl, sym, ap, subst, ◌∙◌, arith, ⊎_elim, ◌==◌, slice_get, if◌then◌else◌, length-append}
+use Rattle.std.proofs.lemmas.Bool.{cases_eq, eq-eqb, ne_eqb}
 use Rattle.export_fs.specs.declared.node.Holds.{Holds}
 use Rattle.export_fs.specs.declared.node.Holds.TheVariants.{File, Directory, Link}
 use Rattle.export_fs.specs.declared.node.Node.{Node}
-use Rattle.export_fs.specs.Held.{Row, Listing, Content}
+use Rattle.export_fs.specs.Held.{Row}
 use Rattle.export_fs.specs.View.{View}
 use Rattle.export_fs.specs.Parts.{last_number, place_of, kind_of, rows_of}
-use Rattle.export_fs.specs.Names.{find_row, without, with_row, is_own_name}
-use Rattle.export_fs.specs.Changes.{changed, entered, linked, with_name, removed, unnamed, with_ctime, with_fewer}
-use Rattle.export_fs.specs.After.{next, changed_at, after_making, after_linking_at}
+use Rattle.export_fs.specs.Names.{without, with_row, is_own_name}
+use Rattle.export_fs.specs.Changes.{changed, entered, with_name}
+use Rattle.export_fs.specs.After.{next, changed_at, after_making}
 use Rattle.export_fs.specs.Sound.{Sound, IsHeld, IsCounted, IsRoot, names_of, names_in, one_if}
 use Rattle.export_fs.proofs.Rows.{without-none}
-use Rattle.export_fs.proofs.Objects.{WasAt, changed_there, other, was_at, changed_same, changed_other, changed_length, get_within, get_last, get_front_other, names_changed, names_kept, names_more, named_in}
+use Rattle.export_fs.proofs.Objects.{changed_there, other, was_at, changed_same, changed_other, changed_length, get_within, get_last, get_front_other, names_changed, names_kept, names_more, named_in}
 use Rattle.export_fs.proofs.Named.{names_in_more, entry_for}
-use Rattle.export_fs.proofs.Seeing.{Found}
 use Rattle.export_fs.proofs.Holding.{AllHeld, held_changed, held_changed_at, held_wider, held_named}
 use Rattle.export_fs.proofs.Making.{NewName, made_dir, made_new, made_others}
-use Rattle.export_fs.proofs.Removing.{Removal, after_removing, removed_dir, removed_object, removed_others, removed_names, removed_length, removed_held, removed_gone}
 
 -- ---- an object that counts its names as before
 

@@ -1,7 +1,7 @@
 -- Each call leaves the export sound.
-use Rattle.std.proofs.Common.{◌≡◌, ◌<◌, ◌≤◌, ◌+◌, ◌||◌, ◌&&◌, not, ℕ, zero, suc, Bool, true, false, List, [], ◌∷◌, length, Option, Some, None, refl, sym, ap, subst, ◌∙◌, arith, ⊎_elim, ◌==◌, slice_get, cond}
+use Rattle.std.proofs.Common.{◌≡◌, ◌<◌, ◌||◌, ◌&&◌, not, ℕ, Bool, false, List, length, Option, Some, None, refl, sym, ap, subst, ◌∙◌, arith, ◌==◌}
 use Rattle.std.specs.Prelude.{is_some, is_none}
-use Rattle.std.proofs.lemmas.Bool.{cases_Bool, cond_both, eqb-true, or_parts, not-true, not-false}
+use Rattle.std.proofs.lemmas.Bool.{cond_both, eqb-true, or_parts}
 use Rattle.nfs_types.specs.declared.set_attr.SetAttr.{SetAttr}
 use Rattle.nfs_file_calls.specs.declared.call.FileCall.{FileCall}
 use Rattle.nfs_file_calls.specs.declared.call.FileCall.TheVariants as files
@@ -15,25 +15,24 @@ use Rattle.world_model.specs.declared.message.Call.{Call}
 use Rattle.world_model.specs.declared.message.Call.TheVariants as calls
 use Rattle.export_fs.specs.declared.node.Holds.{Holds}
 use Rattle.export_fs.specs.declared.node.Holds.TheVariants.{File, Directory, Link}
-use Rattle.export_fs.specs.declared.node.Node.{Node}
 use Rattle.export_fs.specs.View.{View}
-use Rattle.export_fs.specs.Parts.{last_number, place_of, kind_of, rows_of}
+use Rattle.export_fs.specs.Parts.{last_number, place_of, rows_of}
 use Rattle.export_fs.specs.Names.{named, is_own_name}
-use Rattle.export_fs.specs.Refusals.{file_refusal, dir_refusal, sets_nothing, is_full, is_making, same_place}
+use Rattle.export_fs.specs.Refusals.{file_refusal, dir_refusal, sets_nothing, is_full, is_making}
 use Rattle.export_fs.specs.Changes.{new_file, new_dir, new_link, with_set, with_size, written, with_bytes, committed, with_stable}
-use Rattle.export_fs.specs.After.{next, after_file, after_dir, after_set_attr, after_making, after_meeting, after_unchecked, after_remove, after_linking, after_linking_at, after_moving, after_rename, place_or_root}
+use Rattle.export_fs.specs.After.{next, after_file, after_dir, after_set_attr, after_unchecked, after_linking, after_rename, place_or_root}
 use Rattle.export_fs.specs.Answer.{file_answer, file_refused, dir_answer, dir_refused}
-use Rattle.export_fs.specs.Executed.{executed, file_executed, dir_executed}
+use Rattle.export_fs.specs.Executed.{executed}
 use Rattle.export_fs.specs.Sound.{Sound}
-use Rattle.export_fs.specs.Spelled.{IsDirSpelled, IsSpelled}
+use Rattle.export_fs.specs.Spelled.{IsDirSpelled, HandlesAreBytes}
 use Rattle.export_fs.proofs.Passing.{file_passes, dir_passes}
 use Rattle.export_fs.proofs.Transfers.{sized_kind, written_kind, stable_kind}
 use Rattle.export_fs.proofs.Entering.{numbers_left}
 use Rattle.export_fs.proofs.Holding.{held_sized, held_written, held_committed}
-use Rattle.export_fs.proofs.Making.{Met, Unchecked, fresh, meets, unchecked, guarded_name, mkdir_name, symlink_name, Linking, linking}
-use Rattle.export_fs.proofs.Removing.{Removal, after_removing, removal_is, remove_call, rmdir_call}
+use Rattle.export_fs.proofs.Making.{Unchecked, fresh, meets, unchecked, guarded_name, mkdir_name, symlink_name, linking}
+use Rattle.export_fs.proofs.Removing.{removal_is, remove_call, rmdir_call}
 use Rattle.export_fs.proofs.Renaming.{moving, keeping, renaming}
-use Rattle.export_fs.proofs.Staying.{OneStays, one_stays, IsNew, made_stays}
+use Rattle.export_fs.proofs.Staying.{one_stays, IsNew, made_stays}
 use Rattle.export_fs.proofs.StayingNames.{removed_stays, linked_stays, moved_stays}
 
 -- ---- calls on files
@@ -176,7 +175,7 @@ stays_dir v (dirs.Link link dir name) s b e =
 stays_dir v (dirs.ReadDir dir cookie verf count) s b e = s
 stays_dir v (dirs.ReadDirPlus dir cookie verf dircount maxcount) s b e = s
 
-pub stays_sound : (v : View) (call : Call) → Sound v → IsSpelled call → Sound (executed v call).0
+pub stays_sound : (v : View) (call : Call) → Sound v → HandlesAreBytes call → Sound (executed v call).0
 stays_sound v (calls.File call) s b =
     cond_both (file_refusal v call == 0) (after_file v call, file_answer v (after_file v call) call) (v, file_refused v.nodes (file_refusal v call) call) (λ (z : View × FileKept). Sound z.0) (λ e. stays_file v call s (eqb-true (file_refusal v call) 0 e)) (λ e. s)
 stays_sound v (calls.Dir call) s b =

@@ -1,16 +1,15 @@
 -- A name more, a name less and a name that moves leave the export sound.
-use Rattle.std.proofs.Common.{◌≡◌, ◌<◌, ◌≤◌, ◌+◌, ◌-◌, ◌⊎◌, ◌||◌, min, ℕ, zero, suc, Bool, true, false, List, [], ◌∷◌, length, Option, Some, None, refl, sym, ap, subst, ◌∙◌, arith, ⊎_elim, ◌==◌, slice_get, if◌then◌else◌, nat_le}
-use Rattle.std.proofs.lemmas.Bool.{cases_Bool, cases_eq, eq-eqb, ne_eqb, le-leb, lt-leb}
+use Rattle.std.proofs.Common.{◌≡◌, ◌<◌, ◌≤◌, ◌+◌, ◌-◌, ◌||◌, min, ℕ, zero, suc, Bool, true, false, List, length, Option, Some, refl, sym, ap, subst, ◌∙◌, arith, ⊎_elim, ◌==◌, slice_get, if◌then◌else◌, nat_le}
+use Rattle.std.proofs.lemmas.Bool.{cases_Bool, cases_eq, eq-eqb, ne_eqb, lt-leb}
 use Rattle.export_fs.specs.declared.node.Holds.{Holds}
 use Rattle.export_fs.specs.declared.node.Holds.TheVariants.{File, Directory, Link}
 use Rattle.export_fs.specs.declared.node.Node.{Node}
-use Rattle.export_fs.specs.Held.{Row, Listing}
 use Rattle.export_fs.specs.View.{View}
-use Rattle.export_fs.specs.Parts.{last_number, place_of, kind_of, rows_of}
-use Rattle.export_fs.specs.Names.{find_row, without, with_row}
-use Rattle.export_fs.specs.Changes.{changed, entered, left, linked, moved, with_name, without_name, with_parent, removed, unnamed, with_ctime, with_fewer}
+use Rattle.export_fs.specs.Parts.{last_number, kind_of, rows_of}
+use Rattle.export_fs.specs.Names.{without, with_row}
+use Rattle.export_fs.specs.Changes.{changed, entered, left, linked, moved, with_name, without_name, removed, unnamed, with_ctime, with_fewer}
 use Rattle.export_fs.specs.After.{next, changed_at, after_linking_at, after_moving, place_or_root}
-use Rattle.export_fs.specs.Sound.{Sound, IsHeld, IsCounted, IsRoot, names_of, names_in, one_if}
+use Rattle.export_fs.specs.Sound.{Sound, IsCounted, names_of, names_in, one_if}
 use Rattle.export_fs.proofs.Rows.{without-none}
 use Rattle.export_fs.proofs.Objects.{changed_same, changed_other, changed_length, get_within, names_changed, names_kept}
 use Rattle.export_fs.proofs.Named.{names_in_more, names_without}
@@ -19,7 +18,7 @@ use Rattle.export_fs.proofs.Entering.{NamedRow}
 use Rattle.export_fs.proofs.Making.{Linking}
 use Rattle.export_fs.proofs.Removing.{Removal, after_removing, removed_dir, removed_object, removed_others, removed_names, removed_length, removed_held, removed_gone}
 use Rattle.export_fs.proofs.Renaming.{Move, moved_kind, nothing, an_object, nodes_one, nodes_two, nodes_four, moving_nodes, moving_names, moving_length, moving_held, named_only, moved_there, target_there, target_apart}
-use Rattle.export_fs.proofs.Staying.{CountsSame, counted_same, same_counts, root_same, entered_counts, one_at_most, Before, before_at, after_at}
+use Rattle.export_fs.proofs.Staying.{CountsSame, counted_same, root_same, entered_counts, one_at_most, Before, before_at, after_at}
 
 then_counts : (a b c : Node) → CountsSame a b → CountsSame b c → CountsSame a c
 then_counts a b c s t = record { kind = t.kind ∙ s.kind; gone = t.gone ∙ s.gone; nlink = t.nlink ∙ s.nlink }

@@ -1,7 +1,7 @@
 -- Calls on files are what a server may do (RFC 1813, sections 3.3.1 to 3.3.7 and 3.3.18 to 3.3.21).
-use Rattle.std.proofs.Common.{◌≡◌, ◌≤◌, ◌+◌, ◌⊎◌, ◌&&◌, ℕ, zero, suc, Bool, true, false, min, List, [], ◌∷◌, length, take, drop, Option, Some, None, refl, sym, ap, subst, ◌∙◌, arith, inl, inr, ⊎_elim, ◌==◌, nat_le, length-take, length-drop, take_all, unwrap_or}
+use Rattle.std.proofs.Common.{◌≡◌, ◌+◌, ◌⊎◌, ◌&&◌, ℕ, zero, suc, Bool, true, false, min, List, [], ◌∷◌, length, take, drop, Option, Some, None, refl, sym, ap, subst, ◌∙◌, arith, inl, inr, ⊎_elim, ◌==◌, nat_le, length-take, length-drop, take_all, unwrap_or}
 use Rattle.std.specs.Prelude.{is_some}
-use Rattle.std.proofs.lemmas.Bool.{cases_eq, and_cases, leb-true, le-leb}
+use Rattle.std.proofs.lemmas.Bool.{cases_eq, leb-true, le-leb}
 use Rattle.nfs_types.specs.declared.attr.Attr.{Attr}
 use Rattle.nfs_types.specs.declared.set_attr.SetAttr.{SetAttr}
 use Rattle.nfs_file_calls.specs.declared.call.FileCall.{FileCall}
@@ -9,7 +9,7 @@ use Rattle.nfs_file_calls.specs.declared.call.FileCall.TheVariants as files
 use Rattle.world_model.specs.Bytes.{part, put_at}
 use Rattle.world_model.specs.Server.{Bytes}
 use Rattle.world_model.specs.Steps.{TrueOf}
-use Rattle.world_model.specs.FileService.{Puts, HoldsSized, HasSet, IsSet, SetsAttr, ReadsBytes, Writes, Commits, steady_after}
+use Rattle.world_model.specs.FileService.{Puts, HoldsSized, IsSet, ReadsBytes, steady_after}
 use Rattle.world_model.specs.Service.{DoesFile}
 use Rattle.export_fs.specs.declared.node.Holds.{Holds}
 use Rattle.export_fs.specs.declared.node.Holds.TheVariants.{File, Directory, Link}
@@ -17,10 +17,10 @@ use Rattle.export_fs.specs.declared.node.Node.{Node}
 use Rattle.export_fs.specs.Held.{Content}
 use Rattle.export_fs.specs.View.{View}
 use Rattle.export_fs.specs.Parts.{place_of, kind, kind_of, kind_in, attr, bytes_in, bytes_of, object}
-use Rattle.export_fs.specs.Refusals.{needs_file, refusal_on, file_refusal}
+use Rattle.export_fs.specs.Refusals.{needs_file, file_refusal}
 use Rattle.export_fs.specs.Changes.{with_size, with_set, with_bytes, written, with_stable, committed}
 use Rattle.export_fs.specs.After.{next, after_file, after_set_attr}
-use Rattle.export_fs.specs.Answer.{file_answer, get_attr_answer, read_answer}
+use Rattle.export_fs.specs.Answer.{file_answer, get_attr_answer}
 use Rattle.export_fs.specs.Seen.{server_of, object_of, held_of}
 use Rattle.export_fs.specs.Spelled.{IsFileSpelled}
 use Rattle.export_fs.proofs.Passing.{FilePasses, file_passes}

@@ -242,6 +242,12 @@ changes nodes (dirs.Rename dir name to_dir to) = not (same_place (named nodes di
 changes nodes (dirs.Link file dir name) = true
 changes nodes call = false
 
+-- 63, NAMETOOLONG: the text of a new link has more than 1,024 bytes, which no record spells (RFC 1813, section 3.3.10).
+-- Each other line comes before it.
+abbrev pub is_text_too_long : DirCall → Bool
+is_text_too_long (dirs.SymLink dir name set target) = nat_lt 1024 (length target)
+is_text_too_long call = false
+
 abbrev pub dir_refusal : View → DirCall → ℕ
 dir_refusal view call =
     if is_bad (dir_of call) || is_bad (other_of call) then 10001 else
@@ -255,4 +261,5 @@ dir_refusal view call =
     if is_not_empty view.nodes call then 66 else
     if is_made_too_big call then 27 else
     if is_bad_cookie view.nodes call then 10003 else
-    if changes view.nodes call && is_full view then 28 else 0
+    if changes view.nodes call && is_full view then 28 else
+    if is_text_too_long call then 63 else 0

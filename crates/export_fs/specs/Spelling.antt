@@ -32,10 +32,6 @@ abbrev pub TargetFits : DirCall → Type 0
 TargetFits (dirs.SymLink dir name set target) = length target ≤ 1024
 TargetFits call = Unit {0}
 
-abbrev pub LinkFits : Call → Type 0
-LinkFits (calls.Dir call) = TargetFits call
-LinkFits call = Unit {0}
-
 -- the text that a READLINK answers is one that can be spelled: at most 1,024 bytes
 abbrev pub TextFits : View → Call → Type 0
 TextFits view (calls.Dir (dirs.ReadLink file)) = IfSome (text_in (object view.nodes file)) (λ text. length text ≤ 1024)

@@ -12,9 +12,9 @@ ghost use Rattle.export_fs.specs.Answer.{lookup_answer, read_link_answer, found_
 ghost use Rattle.export_fs.specs.Executed.{dir_executed};
 
 use crate::dir_refusal::dir_of;
-use crate::export::Export;
 use crate::places::handle_of;
 use crate::status::{INVAL, NOENT, NOTSUPP, OK};
+use crate::tree::Tree;
 use nfs_dir_calls::{DirCall, DirKept, Making};
 use nfs_types::{Handle, Name, SetAttr, Stamp, Status, Verf, Wcc};
 use xdr_codec::{Blob, Memory};
@@ -32,7 +32,7 @@ fn found_handle(place: Option<u32>) -> Option<Handle>
     }
 }
 
-impl Export {
+impl Tree {
     /// What a reply shows of an object before and after a change.
     fn changed(&self, before: Option<Stamp>, handle: &Handle) -> Wcc
         ensures { result ≡ record { before = before; after = attr self.now.nodes handle.now } }
@@ -260,8 +260,8 @@ impl Export {
     }
 
     /// Executes a call on a directory. After want of memory nothing is changed.
+    #[tactic(auto, using(crate::proofs::Passing::target_fits))]
     pub(crate) fn execute_dir(&mut self, call: &DirCall) -> Result<DirKept, Memory>
-        requires { TargetFits call.now }
         ensures ok { IfOk result (λ reply. (self.new ≡ (dir_executed self.old call.now).0) × (reply ≡ (dir_executed self.old call.now).1)) }
         ensures err { OnErr result (self.new ≡ self.old) }
     {

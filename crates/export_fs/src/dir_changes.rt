@@ -5,10 +5,10 @@ ghost use Rattle.export_fs.specs.Parts.{place_of};
 ghost use Rattle.export_fs.specs.After as after;
 
 use crate::dir_refusal::{same_place, sets_nothing};
-use crate::export::Export;
 use crate::link_text::LinkText;
 use crate::node::Node;
 use crate::places::{ROOT, place_of};
+use crate::tree::Tree;
 use nfs_dir_calls::Making;
 use nfs_types::{Handle, Name, SetAttr};
 use xdr_codec::Memory;
@@ -23,7 +23,7 @@ fn place_or_root(dir: &Handle) -> u32
     }
 }
 
-impl Export {
+impl Tree {
     /// A new object gets a name in the directory at a place. After want of memory nothing is changed.
     pub(crate) fn make_at(
         &mut self,

@@ -3,15 +3,16 @@
 ghost use Rattle.std.specs.Prelude.{◌≡◌};
 ghost use Rattle.export_fs.specs.Refusals as refusals;
 
-use crate::export::Export;
 use crate::file_refusal::MOST_SIZE;
+use crate::link_text::MOST_TEXT;
 use crate::node::{DIRECTORY, FILE, LINK};
 use crate::nodes::Nodes;
 use crate::places::{is_bad, is_own_name, place_of};
 use crate::status::{
-    BAD_COOKIE, BADHANDLE, EXIST, FBIG, INVAL, ISDIR, NOENT, NOSPC, NOTDIR, NOTEMPTY, NOTSUPP, OK,
-    STALE,
+    BAD_COOKIE, BADHANDLE, EXIST, FBIG, INVAL, ISDIR, NAMETOOLONG, NOENT, NOSPC, NOTDIR, NOTEMPTY,
+    NOTSUPP, OK, STALE,
 };
+use crate::tree::Tree;
 use nfs_dir_calls::{DirCall, Making};
 use nfs_types::{Handle, Name, SetAttr, SetTime};
 
@@ -36,7 +37,7 @@ pub(crate) fn dir_of(call: &DirCall) -> &Handle
 }
 
 /// The second file handle of a call, or its only one.
-fn other_of(call: &DirCall) -> &Handle
+pub(crate) fn other_of(call: &DirCall) -> &Handle
     ensures { result.now ≡ refusals.other_of call.entry.now }
 {
     match call {
@@ -81,6 +82,16 @@ fn is_unsupported(call: &DirCall) -> bool
         },
         DirCall::MkNod { .. } => true,
         DirCall::ReadDir { .. } => true,
+        _ => false,
+    }
+}
+
+/// Whether the text of a new link has more bytes than a READLINK can answer.
+fn is_text_too_long(call: &DirCall) -> bool
+    ensures { result ≡ refusals.is_text_too_long call.now }
+{
+    match call {
+        DirCall::SymLink { target, .. } => target.bytes().len() > MOST_TEXT,
         _ => false,
     }
 }
@@ -347,7 +358,7 @@ impl Nodes {
     }
 }
 
-impl Export {
+impl Tree {
     /// The status of a call on a directory that is refused, and 0 of another one: the first of these that holds.
     pub(crate) fn dir_refusal(&self, call: &DirCall) -> u32
         ensures { result ≡ refusals.dir_refusal self.now call.now }
@@ -377,6 +388,8 @@ impl Export {
             BAD_COOKIE
         } else if nodes.changes(call) && self.is_full() {
             NOSPC
+        } else if is_text_too_long(call) {
+            NAMETOOLONG
         } else {
             OK
         }

@@ -1,93 +1,135 @@
 //! The export.
 
-ghost use Rattle.std.specs.Prelude.{◌≡◌, IfOk, ◌∷◌, []};
+ghost use Rattle.std.specs.Prelude.{◌≡◌, ◌∷◌, [], true, if◌then◌else◌, is_some, unwrap_or, option_copied, IfOk, OnOk, OnErr};
+ghost use Rattle.world_model.specs.Lawful.{Flushes};
 ghost use Rattle.world_model.specs.NameService.{keeps_all};
-ghost use Rattle.export_fs.specs.Parts.{verifier};
+ghost use Rattle.world_model.specs.Rising.{RisesAt};
+ghost use Rattle.world_model.specs.Service.{Serves};
 ghost use Rattle.export_fs.specs.Changes.{new_dir};
-ghost use Rattle.export_fs.specs.Refusals.{is_full};
-ghost use Rattle.export_fs.specs.After.{next};
+ghost use Rattle.export_fs.specs.Executed.{executed};
+ghost use Rattle.export_fs.specs.Finding as findings;
+ghost use Rattle.export_fs.specs.Later.{RestartsLater};
+ghost use Rattle.export_fs.specs.Parts.{kind, verifier};
+ghost use Rattle.export_fs.specs.Placing.{placed};
+ghost use Rattle.export_fs.specs.Restart.{may_restart, after_restart, after_flush};
+ghost use Rattle.export_fs.specs.Risen.{TakesNew};
+ghost use Rattle.export_fs.specs.Seen.{server_of};
 ghost use Rattle.export_fs.specs.Sound.{Sound};
+ghost use Rattle.export_fs.specs.Spelling.{HasSpellingCall, HasSpellingReply};
+ghost use Rattle.export_fs.specs.Stamped.{Stamped};
 
-use crate::node::Node;
-use crate::nodes::Nodes;
-use crate::places::ROOT;
-use byteorder::{BigEndian, ByteOrder};
-use nfs_types::{SetAttr, SetTime, Verf};
+use crate::tree::Tree;
+use nfs_types::{Handle, Name, Verf};
 use std::alloc::Global;
 use std::marker::Model;
+use world_model::{Call, Path, Reply};
 use xdr_codec::Memory;
 
-/// The last number that a change can have, and the last count of restarts.
-pub(crate) const LAST_NUMBER: u32 = 4_294_967_295;
-
-/// Nothing is set.
-pub(crate) const KEEPS_ALL: SetAttr = SetAttr {
-    mode: None,
-    uid: None,
-    gid: None,
-    size: None,
-    atime: SetTime::Keep,
-    mtime: SetTime::Keep,
-};
-
-/// A file system in memory, whose name is `/srv`.
+/// A file system in memory, whose name is `/srv`. Whatever is done with it, each of its names is of an object that is
+/// there, and no time that it gave is above the number of its last change.
 #[derive(Drop)]
 pub struct Export {
-    pub(crate) alloc: Global,
-    pub(crate) nodes: Nodes,
-    pub(crate) counter: u32,
-    pub(crate) reboots: u32,
+    tree: Tree,
 }
 
 impl Model for Export {
     ghost use Rattle.export_fs.specs.View.{View};
+    ghost use Rattle.export_fs.specs.Sound.{Sound};
+    ghost use Rattle.export_fs.specs.Stamped.{Stamped};
 
     ghost Value = { View };
 
-    ghost view = { λ e. record { nodes = e.nodes; counter = e.counter; reboots = e.reboots } };
+    ghost view = { λ e. e.tree };
+
+    ghost invariant = { λ e. Sound e.tree × Stamped e.tree };
 }
 
 impl Export {
     /// An export with an empty root directory, which was made as change 1. Memory is want of memory.
     pub fn new(alloc: Global) -> Result<Export, Memory>
         ensures empty { IfOk result (λ e. e ≡ record { nodes = new_dir 0 1 keeps_all ∷ []; counter = 1; reboots = 0 }) }
-        ensures sound { IfOk result Sound }
     {
-        let mut nodes = Nodes::new(alloc);
-        nodes.push(Node::new_dir(alloc, ROOT, 1, &KEEPS_ALL))?;
-        Ok(Export {
-            alloc,
-            nodes,
-            counter: 1,
-            reboots: 0,
-        })
-    }
-
-    /// The number of the next change. It is Memory where none is left, which no call meets: one that takes a number is
-    /// refused before.
-    pub(crate) fn next_number(&self) -> Result<u32, Memory>
-        ensures { IfOk result (λ number. number ≡ next self.now) }
-    {
-        match self.counter.checked_add(1) {
-            Some(number) => Ok(number),
-            None => Err(Memory),
+        match Tree::new(alloc) {
+            Ok(tree) => Ok(Export { tree }),
+            Err(memory) => Err(memory),
         }
     }
 
-    /// Whether no change has a number left.
-    pub(crate) fn is_full(&self) -> bool
-        ensures { result ≡ is_full self.now }
+    /// What holds of every export. A fact for proofs: it does nothing.
+    pub fn is_kept(&self)
+        ensures sound { Sound self.now }
+        ensures stamped { Stamped self.now }
     {
-        self.counter >= LAST_NUMBER
+        let _tree = &self.tree;
+    }
+
+    /// Executes a call: the export is then as the call leaves it, and the reply tells of it (RFC 1813, section 3.3).
+    /// A call that is refused changes nothing. Memory is want of memory, and then nothing is changed.
+    ///
+    /// Each call that has a spelling is what a server may do. What changes takes a stamp that was never given, and cookies
+    /// rise. The reply has a spelling.
+    pub fn execute(&mut self, call: &Call) -> Result<Reply, Memory>
+        ensures ok { IfOk result (λ reply. (self.new ≡ (executed self.old call.now).0) × (reply ≡ (executed self.old call.now).1)) }
+        ensures spelled { IfOk result HasSpellingReply }
+        ensures err { OnErr result (self.new ≡ self.old) }
+        ensures serves { HasSpellingCall call.now → IfOk result (λ reply. Serves (server_of self.old) call.now reply (server_of self.new)) }
+        ensures fresh { TakesNew self.old self.new }
+        ensures rises { IfOk result (λ reply. RisesAt (server_of self.old) call.now reply) }
+    {
+        self.tree.execute(call)
+    }
+
+    /// Restarts: each file is left with its stable bytes, and the write verifier is new. It is false, and nothing is
+    /// changed, exactly where a file that changes has no number left, or where 4,294,967,295 restarts were made.
+    pub fn reboot(&mut self) -> bool
+        ensures done { result ≡ may_restart self.old }
+        ensures after { self.new ≡ (if may_restart self.old then after_restart self.old else self.old) }
+        ensures fresh { TakesNew self.old self.new }
+        ensures restarts { result ≡ true → RestartsLater self.old self.new }
+    {
+        self.tree.reboot()
+    }
+
+    /// So many bytes of a file from an offset become stable, as far as they are there, also those of a file that lost its
+    /// last name. A handle of no file changes nothing. Memory is want of memory, and then nothing is changed.
+    pub fn flush(&mut self, file: &Handle, from: u64, len: u64) -> Result<(), Memory>
+        ensures ok { OnOk result (self.new ≡ after_flush self.old file.now from len) }
+        ensures err { OnErr result (self.new ≡ self.old) }
+        ensures fresh { TakesNew self.old self.new }
+        ensures flushes { kind self.old.nodes file.now ≡ 1 → OnOk result (Flushes (server_of self.old) (server_of self.new) file.now from len) }
+    {
+        self.tree.flush(file, from, len)
+    }
+
+    /// Places a file with these bytes, all of them stable, or a directory at the end of the path, as one change. It is
+    /// false, and nothing is changed, exactly where the path is the root, its directory isn't there, the name is there
+    /// or is `.` or `..`, or no change has a number left. Memory is want of memory, and then nothing is changed.
+    pub fn place(&mut self, path: &Path, file: Option<&[u8]>) -> Result<bool, Memory>
+        ensures made { IfOk result (λ made. made ≡ is_some (placed self.old path.now (option_copied file.entry))) }
+        ensures after { OnOk result (self.new ≡ unwrap_or (placed self.old path.now (option_copied file.entry)) self.old) }
+        ensures err { OnErr result (self.new ≡ self.old) }
+    {
+        self.tree.place(path, file)
+    }
+
+    /// The file handle of the object to which a path leads from the root. None exactly where it leads to none.
+    pub fn find(&self, path: &[Name]) -> Option<Handle>
+        ensures { result ≡ findings.found self.now path.now }
+    {
+        self.tree.find(path)
+    }
+
+    /// How many bytes a file has. None exactly where the handle is that of no file, or of one that is gone.
+    pub fn file_size(&self, file: &Handle) -> Option<u64>
+        ensures { result ≡ findings.file_size self.now file.now }
+    {
+        self.tree.file_size(file)
     }
 
     /// The write verifier (RFC 1813, section 4.8).
-    #[tactic(auto, unfolding(xdr_codec::specs::Spelling::u64_bytes))]
     pub fn verifier(&self) -> Verf
         ensures { result ≡ verifier self.now }
     {
-        let mut bytes = [0; 8];
-        BigEndian::write_u64(&mut bytes, self.reboots as u64 + 1);
-        Verf(bytes)
+        self.tree.verifier()
     }
 }

@@ -7,12 +7,12 @@ ghost use Rattle.export_fs.specs.Answer.{get_attr_answer, read_answer, read_byte
 ghost use Rattle.export_fs.specs.Executed.{file_executed};
 ghost use Rattle.nfs_file_calls.specs.declared.owned.FileKept.TheVariants as kept;
 
-use crate::export::Export;
 use crate::file_bytes::part;
 use crate::file_refusal::MOST_SIZE;
 use crate::node::second;
 use crate::places::place_of;
 use crate::status::{OK, STALE};
+use crate::tree::Tree;
 use nfs_file_calls::{FileCall, FileKept};
 use nfs_types::{Attr, Handle, SetAttr, Status, Wcc};
 use xdr_codec::{Blob, Memory};
@@ -92,7 +92,7 @@ fn path_conf(attr: Option<Attr>) -> FileKept
     }
 }
 
-impl Export {
+impl Tree {
     /// What a reply shows of an object that a call leaves as it is.
     pub(crate) fn unchanged(&self, handle: &Handle) -> Wcc
         ensures { result ≡ wcc self.now.nodes self.now.nodes handle.now }

@@ -4,11 +4,11 @@ ghost use Rattle.std.specs.Prelude.{◌≡◌, option_copied};
 ghost use Rattle.export_fs.specs.Parts.{object};
 ghost use Rattle.export_fs.specs.Refusals as refusals;
 
-use crate::export::Export;
 use crate::node::{DIRECTORY, LINK};
 use crate::nodes::Nodes;
 use crate::places::is_bad;
 use crate::status::{BADHANDLE, FBIG, INVAL, ISDIR, NOSPC, NOT_SYNC, OK, STALE};
+use crate::tree::Tree;
 use nfs_file_calls::FileCall;
 use nfs_types::{Handle, Time};
 
@@ -16,7 +16,7 @@ use nfs_types::{Handle, Time};
 pub(crate) const MOST_SIZE: u64 = 16_777_216;
 
 /// The file handle of a call; NULL has none.
-fn file_of(call: &FileCall) -> Option<&Handle>
+pub(crate) fn file_of(call: &FileCall) -> Option<&Handle>
     ensures { option_copied result ≡ refusals.file_of call.entry.now }
 {
     match call {
@@ -97,7 +97,7 @@ fn changes_file(call: &FileCall) -> bool
     }
 }
 
-impl Export {
+impl Tree {
     /// The status of a call on a file that is refused, and 0 of another one: the first of these that holds.
     pub(crate) fn file_refusal(&self, call: &FileCall) -> u32
         ensures { result ≡ refusals.file_refusal self.now call.now }

@@ -3,14 +3,14 @@
 ghost use Rattle.std.specs.Prelude.{◌≡◌};
 ghost use Rattle.export_fs.specs.Finding.{found, file_size};
 
-use crate::export::Export;
 use crate::node::FILE;
 use crate::places::handle_of;
+use crate::tree::Tree;
 use nfs_types::{Handle, Name};
 
-impl Export {
+impl Tree {
     /// The file handle of the object to which a path leads from the root. None exactly where it leads to none.
-    pub fn find(&self, path: &[Name]) -> Option<Handle>
+    pub(crate) fn find(&self, path: &[Name]) -> Option<Handle>
         ensures { result ≡ found self.now path.now }
     {
         match self.nodes.walk(path) {
@@ -20,7 +20,7 @@ impl Export {
     }
 
     /// How many bytes a file has. None exactly where the handle is that of no file, or of one that is gone.
-    pub fn file_size(&self, file: &Handle) -> Option<u64>
+    pub(crate) fn file_size(&self, file: &Handle) -> Option<u64>
         ensures { result ≡ file_size self.now file.now }
     {
         if self.nodes.kind(file) == FILE {

@@ -8,6 +8,8 @@ mod dir_refusal;
 mod directory;
 mod entries;
 mod export;
+#[cfg(test)]
+mod export_tests;
 mod file_bytes;
 mod file_calls;
 mod file_refusal;
@@ -28,5 +30,7 @@ mod status;
 mod status_tests;
 #[cfg(test)]
 mod tests;
+mod tree;
 
 pub use export::Export;
+pub use mounts::handles_fit;

@@ -6,6 +6,9 @@ use std::alloc::Global;
 use std::marker::Model;
 use xdr_codec::{Blob, Memory};
 
+/// The most bytes of the text of a symbolic link.
+pub(crate) const MOST_TEXT: usize = 1024;
+
 /// The text of a symbolic link, at most 1,024 bytes: what a READLINK can answer (RFC 1813, section 3.3.5).
 #[derive(Drop)]
 pub(crate) struct LinkText {

@@ -2,16 +2,21 @@
 
 ghost use Rattle.std.specs.Prelude.{◌≡◌, IfOk, OnErr};
 ghost use Rattle.export_fs.specs.Answer.{mnt_answer, export_answer, mount_answer};
-ghost use Rattle.export_fs.specs.Spelling.{LinkFits, TextFits, HasSpellingReply};
+ghost use Rattle.export_fs.specs.Spelling.{HasSpellingCall, TextFits, HasSpellingReply};
 ghost use Rattle.export_fs.specs.Executed.{executed};
+ghost use Rattle.world_model.specs.Rising.{RisesAt};
 ghost use Rattle.world_model.specs.Service.{Serves};
 ghost use Rattle.export_fs.specs.Seen.{server_of};
 ghost use Rattle.export_fs.specs.Sound.{Sound};
-ghost use Rattle.export_fs.specs.Spelled.{IsSpelled};
+ghost use Rattle.export_fs.specs.Stamped.{Stamped};
+ghost use Rattle.export_fs.specs.Risen.{TakesNew};
+ghost use Rattle.export_fs.specs.Spelled.{HandlesAreBytes};
 
-use crate::export::Export;
-use crate::places::{ROOT, handle_of};
+use crate::dir_refusal::{dir_of, other_of};
+use crate::file_refusal::file_of;
+use crate::places::{ROOT, handle_of, holds_bytes};
 use crate::status::NOENT;
+use crate::tree::Tree;
 use mount_calls::{ExportList, ExportRow, Flavors, Groups, MountCall, MountReply};
 use nfs_dir_calls::DirCall;
 use std::alloc::Global;
@@ -63,20 +68,41 @@ fn execute_mount(alloc: Global, call: &MountCall) -> Result<MountReply, Memory>
     }
 }
 
-impl Export {
+/// That the file handles of a call are bytes. A fact for proofs: it does nothing.
+pub fn handles_fit(call: &Call)
+    ensures { HandlesAreBytes call.now }
+{
+    match call {
+        Call::File(call) => {
+            if let Some(file) = file_of(call) {
+                holds_bytes(file);
+            }
+        }
+        Call::Dir(call) => {
+            holds_bytes(dir_of(call));
+            holds_bytes(other_of(call));
+        }
+        Call::Mount(_) => {}
+    }
+}
+
+impl Tree {
     /// Executes a call: the export is then as the call leaves it, and the reply tells of it (RFC 1813, section 3.3).
     /// A call that is refused changes nothing. Memory is want of memory, and then nothing is changed.
     ///
-    /// The condition is that the text of a SYMLINK has at most 1,024 bytes; the reply then has a spelling. A sound export
-    /// stays sound, and does what a server may do, at each call that a record can spell.
-    pub fn execute(&mut self, call: &Call) -> Result<Reply, Memory>
-        requires { LinkFits call.now }
+    /// The reply has a spelling. A sound export stays sound, and does what a server may do at each call that has a
+    /// spelling. What changes takes a stamp that was never given, and cookies rise.
+    pub(crate) fn execute(&mut self, call: &Call) -> Result<Reply, Memory>
         ensures ok { IfOk result (λ reply. (self.new ≡ (executed self.old call.now).0) × (reply ≡ (executed self.old call.now).1)) }
         ensures spelled { IfOk result HasSpellingReply }
         ensures err { OnErr result (self.new ≡ self.old) }
-        ensures sound { Sound self.old → IsSpelled call.now → Sound self.new }
-        ensures serves { Sound self.old → IsSpelled call.now → IfOk result (λ reply. Serves (server_of self.old) call.now reply (server_of self.new)) }
+        ensures sound { Sound self.old → Sound self.new }
+        ensures serves { Sound self.old → HasSpellingCall call.now → IfOk result (λ reply. Serves (server_of self.old) call.now reply (server_of self.new)) }
+        ensures stamped { Stamped self.old → Stamped self.new }
+        ensures fresh { TakesNew self.old self.new }
+        ensures rises { Stamped self.old → IfOk result (λ reply. RisesAt (server_of self.old) call.now reply) }
     {
+        handles_fit(call);
         self.texts_fit(call);
         self.execute_call(call)
     }
@@ -91,7 +117,6 @@ impl Export {
     }
 
     fn execute_call(&mut self, call: &Call) -> Result<Reply, Memory>
-        requires { LinkFits call.now }
         ensures ok { IfOk result (λ reply. (self.new ≡ (executed self.old call.now).0) × (reply ≡ (executed self.old call.now).1)) }
         ensures err { OnErr result (self.new ≡ self.old) }
     {

@@ -1,6 +1,7 @@
 //! File handles, and the places of objects in order of making.
 
 ghost use Rattle.std.specs.Prelude.{◌≡◌};
+ghost use Rattle.xdr_codec.specs.Bytes.{IsBytes};
 ghost use Rattle.export_fs.specs.Parts.{handle_of, place_of};
 ghost use Rattle.export_fs.specs.Names.{is_own_name};
 ghost use Rattle.export_fs.specs.Refusals.{is_bad};
@@ -22,6 +23,19 @@ pub(crate) fn is_bad(handle: &Handle) -> bool
     ensures { result ≡ is_bad handle.now }
 {
     handle.bytes().len() != HANDLE_BYTES
+}
+
+fn are_bytes(bytes: &[u8])
+    ensures { IsBytes bytes.now }
+{
+    let _len = bytes.len();
+}
+
+/// That a file handle is of bytes. A fact for proofs: it does nothing.
+pub(crate) fn holds_bytes(handle: &Handle)
+    ensures { IsBytes handle.now }
+{
+    are_bytes(handle.bytes());
 }
 
 /// The place that a file handle names: its number less 1.

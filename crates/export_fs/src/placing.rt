@@ -3,12 +3,13 @@
 ghost use Rattle.std.specs.Prelude.{◌≡◌, Some, option_copied, is_some, unwrap_or, IfOk, OnOk, OnErr};
 ghost use Rattle.export_fs.specs.Placing as placings;
 ghost use Rattle.export_fs.specs.Sound.{Sound};
+ghost use Rattle.export_fs.specs.Stamped.{Stamped};
 
-use crate::export::{Export, KEEPS_ALL};
 use crate::file_bytes::FileBytes;
 use crate::node::{DIRECTORY, Node};
 use crate::nodes::Nodes;
 use crate::places::{ROOT, is_own_name};
+use crate::tree::{KEEPS_ALL, Tree};
 use nfs_types::Name;
 use world_model::Path;
 use xdr_codec::Memory;
@@ -26,7 +27,7 @@ impl Nodes {
     }
 }
 
-impl Export {
+impl Tree {
     /// A file that is there with these bytes, all of them stable, or a directory.
     fn new_object(&self, parent: u32, number: u32, file: Option<&[u8]>) -> Result<Node, Memory>
         ensures { IfOk result (λ node. node ≡ placings.new_object parent number (option_copied file.entry)) }
@@ -53,11 +54,12 @@ impl Export {
     /// Places a file with these bytes, all of them stable, or a directory at the end of the path, as one change. It is
     /// false, and nothing is changed, exactly where the path is the root, its directory isn't there, the name is there
     /// or is `.` or `..`, or no change has a number left. Memory is want of memory, and then nothing is changed.
-    pub fn place(&mut self, path: &Path, file: Option<&[u8]>) -> Result<bool, Memory>
+    pub(crate) fn place(&mut self, path: &Path, file: Option<&[u8]>) -> Result<bool, Memory>
         ensures made { IfOk result (λ made. made ≡ is_some (placings.placed self.old path.now (option_copied file.entry))) }
         ensures after { OnOk result (self.new ≡ unwrap_or (placings.placed self.old path.now (option_copied file.entry)) self.old) }
         ensures err { OnErr result (self.new ≡ self.old) }
         ensures sound { Sound self.old → Sound self.new }
+        ensures stamped { Stamped self.old → Stamped self.new }
     {
         match path.names().split_last() {
             Some((name, front)) => {

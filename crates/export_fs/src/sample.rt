@@ -1,9 +1,6 @@
 //! Calls and objects that the tests share.
 
-ghost use Rattle.std.specs.Prelude.{IfOk};
-ghost use Rattle.export_fs.specs.Spelling.{LinkFits};
-
-use crate::Export;
+use crate::tree::Tree;
 use mount_calls::{MountCall, MountReply};
 use nfs_dir_calls::{DirCall, DirKept, Making, Node};
 use nfs_file_calls::{FileCall, FileKept};
@@ -54,16 +51,12 @@ pub(crate) fn sized(size: u64) -> SetAttr {
 }
 
 /// GETATTR.
-pub(crate) fn get_attr(file: Handle) -> Call
-    ensures { LinkFits result }
-{
+pub(crate) fn get_attr(file: Handle) -> Call {
     Call::File(FileCall::GetAttr { file })
 }
 
 /// SETATTR without a guard.
-pub(crate) fn set_attr(file: Handle, set: SetAttr) -> Call
-    ensures { LinkFits result }
-{
+pub(crate) fn set_attr(file: Handle, set: SetAttr) -> Call {
     Call::File(FileCall::SetAttr {
         file,
         set,
@@ -72,9 +65,7 @@ pub(crate) fn set_attr(file: Handle, set: SetAttr) -> Call
 }
 
 /// READ.
-pub(crate) fn read(file: Handle, offset: u64, count: u32) -> Call
-    ensures { LinkFits result }
-{
+pub(crate) fn read(file: Handle, offset: u64, count: u32) -> Call {
     Call::File(FileCall::Read {
         file,
         offset,
@@ -89,9 +80,7 @@ pub(crate) fn write(
     offset: u64,
     how: u32,
     bytes: &[u8],
-) -> Result<Call, Memory>
-    ensures { IfOk result LinkFits }
-{
+) -> Result<Call, Memory> {
     Ok(Call::File(FileCall::Write {
         file,
         offset,
@@ -101,9 +90,7 @@ pub(crate) fn write(
 }
 
 /// SETATTR of nothing with a guard.
-pub(crate) fn guarded(file: Handle, seconds: u32, nanos: u32) -> Call
-    ensures { LinkFits result }
-{
+pub(crate) fn guarded(file: Handle, seconds: u32, nanos: u32) -> Call {
     Call::File(FileCall::SetAttr {
         file,
         set: NOTHING,
@@ -112,37 +99,27 @@ pub(crate) fn guarded(file: Handle, seconds: u32, nanos: u32) -> Call
 }
 
 /// ACCESS of all rights.
-pub(crate) fn access(file: Handle) -> Call
-    ensures { LinkFits result }
-{
+pub(crate) fn access(file: Handle) -> Call {
     Call::File(FileCall::Access { file, bits: 63 })
 }
 
 /// FSSTAT.
-pub(crate) fn fs_stat(file: Handle) -> Call
-    ensures { LinkFits result }
-{
+pub(crate) fn fs_stat(file: Handle) -> Call {
     Call::File(FileCall::FsStat { file })
 }
 
 /// FSINFO.
-pub(crate) fn fs_info(file: Handle) -> Call
-    ensures { LinkFits result }
-{
+pub(crate) fn fs_info(file: Handle) -> Call {
     Call::File(FileCall::FsInfo { file })
 }
 
 /// PATHCONF.
-pub(crate) fn path_conf(file: Handle) -> Call
-    ensures { LinkFits result }
-{
+pub(crate) fn path_conf(file: Handle) -> Call {
     Call::File(FileCall::PathConf { file })
 }
 
 /// COMMIT.
-pub(crate) fn commit(file: Handle, offset: u64, count: u32) -> Call
-    ensures { LinkFits result }
-{
+pub(crate) fn commit(file: Handle, offset: u64, count: u32) -> Call {
     Call::File(FileCall::Commit {
         file,
         offset,
@@ -151,23 +128,17 @@ pub(crate) fn commit(file: Handle, offset: u64, count: u32) -> Call
 }
 
 /// LOOKUP.
-pub(crate) fn look_up(dir: Handle, name: Name) -> Call
-    ensures { LinkFits result }
-{
+pub(crate) fn look_up(dir: Handle, name: Name) -> Call {
     Call::Dir(DirCall::Lookup { dir, name })
 }
 
 /// READLINK.
-pub(crate) fn read_link(file: Handle) -> Call
-    ensures { LinkFits result }
-{
+pub(crate) fn read_link(file: Handle) -> Call {
     Call::Dir(DirCall::ReadLink { file })
 }
 
 /// MKNOD of a device that nothing more is said of.
-pub(crate) fn mknod(dir: Handle, name: Name) -> Call
-    ensures { LinkFits result }
-{
+pub(crate) fn mknod(dir: Handle, name: Name) -> Call {
     Call::Dir(DirCall::MkNod {
         dir,
         name,
@@ -176,9 +147,7 @@ pub(crate) fn mknod(dir: Handle, name: Name) -> Call
 }
 
 /// READDIR from the start.
-pub(crate) fn read_dir(dir: Handle) -> Call
-    ensures { LinkFits result }
-{
+pub(crate) fn read_dir(dir: Handle) -> Call {
     Call::Dir(DirCall::ReadDir {
         dir,
         cookie: 0,
@@ -188,9 +157,7 @@ pub(crate) fn read_dir(dir: Handle) -> Call
 }
 
 /// READDIRPLUS after a cookie.
-pub(crate) fn read_dir_plus(dir: Handle, cookie: u64) -> Call
-    ensures { LinkFits result }
-{
+pub(crate) fn read_dir_plus(dir: Handle, cookie: u64) -> Call {
     Call::Dir(DirCall::ReadDirPlus {
         dir,
         cookie,
@@ -201,16 +168,12 @@ pub(crate) fn read_dir_plus(dir: Handle, cookie: u64) -> Call
 }
 
 /// CREATE.
-pub(crate) fn create(dir: Handle, name: Name, making: Making) -> Call
-    ensures { LinkFits result }
-{
+pub(crate) fn create(dir: Handle, name: Name, making: Making) -> Call {
     Call::Dir(DirCall::Create { dir, name, making })
 }
 
 /// MKDIR.
-pub(crate) fn mkdir(dir: Handle, name: Name) -> Call
-    ensures { LinkFits result }
-{
+pub(crate) fn mkdir(dir: Handle, name: Name) -> Call {
     Call::Dir(DirCall::MkDir {
         dir,
         name,
@@ -218,36 +181,38 @@ pub(crate) fn mkdir(dir: Handle, name: Name) -> Call
     })
 }
 
-/// SYMLINK of the text `t`.
-pub(crate) fn symlink(alloc: Global, dir: Handle, name: Name) -> Result<Call, Memory>
-    ensures { IfOk result LinkFits }
-{
+/// SYMLINK of a text.
+pub(crate) fn symlink_of(
+    alloc: Global,
+    dir: Handle,
+    name: Name,
+    text: &[u8],
+) -> Result<Call, Memory> {
     Ok(Call::Dir(DirCall::SymLink {
         dir,
         name,
         set: NOTHING,
-        target: Blob::copy(alloc, b"t")?,
+        target: Blob::copy(alloc, text)?,
     }))
 }
 
+/// SYMLINK of the text `t`.
+pub(crate) fn symlink(alloc: Global, dir: Handle, name: Name) -> Result<Call, Memory> {
+    symlink_of(alloc, dir, name, b"t")
+}
+
 /// REMOVE.
-pub(crate) fn remove(dir: Handle, name: Name) -> Call
-    ensures { LinkFits result }
-{
+pub(crate) fn remove(dir: Handle, name: Name) -> Call {
     Call::Dir(DirCall::Remove { dir, name })
 }
 
 /// RMDIR.
-pub(crate) fn rmdir(dir: Handle, name: Name) -> Call
-    ensures { LinkFits result }
-{
+pub(crate) fn rmdir(dir: Handle, name: Name) -> Call {
     Call::Dir(DirCall::RmDir { dir, name })
 }
 
 /// RENAME.
-pub(crate) fn rename(from_dir: Handle, from: Name, to_dir: Handle, to: Name) -> Call
-    ensures { LinkFits result }
-{
+pub(crate) fn rename(from_dir: Handle, from: Name, to_dir: Handle, to: Name) -> Call {
     Call::Dir(DirCall::Rename {
         from_dir,
         from,
@@ -257,9 +222,7 @@ pub(crate) fn rename(from_dir: Handle, from: Name, to_dir: Handle, to: Name) -> 
 }
 
 /// LINK.
-pub(crate) fn link(file: Handle, dir: Handle, name: Name) -> Call
-    ensures { LinkFits result }
-{
+pub(crate) fn link(file: Handle, dir: Handle, name: Name) -> Call {
     Call::Dir(DirCall::Link { file, dir, name })
 }
 
@@ -310,21 +273,17 @@ pub(crate) fn status(reply: &Reply) -> u32 {
 /// That the call is answered with that status.
 pub(crate) fn gives<R: Abort>(
     rt: &R,
-    export: &mut Export,
+    export: &mut Tree,
     call: &Call,
     wanted: u32,
-) -> Result<(), Fail>
-    requires { LinkFits call.now }
-{
+) -> Result<(), Fail> {
     let reply = export.execute(call)?;
     assert_eq!(rt; status(&reply), wanted, "in {reply:?}");
     Ok(())
 }
 
 /// MNT.
-pub(crate) fn mount(alloc: Global, path: &[u8]) -> Result<Call, Memory>
-    ensures { IfOk result LinkFits }
-{
+pub(crate) fn mount(alloc: Global, path: &[u8]) -> Result<Call, Memory> {
     Ok(Call::Mount(MountCall::Mnt {
         path: Blob::copy(alloc, path)?,
     }))
@@ -332,8 +291,8 @@ pub(crate) fn mount(alloc: Global, path: &[u8]) -> Result<Call, Memory>
 
 /// An export with the file `f` of five bytes as number 2, the directory `d` as 3, the empty directory `e` as 4, the link
 /// `l` as 5 and the file `x` in `d` as 6.
-pub(crate) fn sample(alloc: Global) -> Result<Export, Fail> {
-    let mut export = Export::new(alloc)?;
+pub(crate) fn sample(alloc: Global) -> Result<Tree, Fail> {
+    let mut export = Tree::new(alloc)?;
     export.place(&path(alloc, b"f")?, Some(b"hello"))?;
     export.place(&path(alloc, b"d")?, None)?;
     export.place(&path(alloc, b"e")?, None)?;

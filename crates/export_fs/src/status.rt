@@ -16,6 +16,8 @@ pub(crate) const FBIG: u32 = 27;
 
 pub(crate) const NOSPC: u32 = 28;
 
+pub(crate) const NAMETOOLONG: u32 = 63;
+
 pub(crate) const NOTEMPTY: u32 = 66;
 
 pub(crate) const STALE: u32 = 70;

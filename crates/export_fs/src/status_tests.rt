@@ -1,12 +1,8 @@
 //! The statuses of calls that are refused, each by every call that can give it, and calls that just aren't refused
 //! (RFC 1813, sections 2.6 and 3.3).
 
-ghost use Rattle.std.specs.Prelude.{IfOk};
-ghost use Rattle.export_fs.specs.Spelling.{LinkFits};
-
-use crate::Export;
-use crate::export::LAST_NUMBER;
 use crate::sample::*;
+use crate::tree::{LAST_NUMBER, Tree};
 use nfs_dir_calls::Making;
 use nfs_types::{Handle, SetAttr, Verf};
 use std::alloc::Global;
@@ -81,9 +77,7 @@ fn set_of(size: Option<u64>) -> SetAttr {
 }
 
 /// The call of a row.
-fn on_file(alloc: Global, row: &OnFile) -> Result<Call, Fail>
-    ensures { IfOk result LinkFits }
-{
+fn on_file(alloc: Global, row: &OnFile) -> Result<Call, Fail> {
     let call = match row {
         OnFile::GetAttr(number) => get_attr(object(*number)?),
         OnFile::Keep(number) => set_attr(object(*number)?, NOTHING),
@@ -101,9 +95,7 @@ fn on_file(alloc: Global, row: &OnFile) -> Result<Call, Fail>
 }
 
 /// The call that makes an object.
-fn making(alloc: Global, new: &New, dir: Handle, text: &[u8]) -> Result<Call, Fail>
-    ensures { IfOk result LinkFits }
-{
+fn making(alloc: Global, new: &New, dir: Handle, text: &[u8]) -> Result<Call, Fail> {
     let name = name(text)?;
     let call = match new {
         New::Unchecked(size) => create(dir, name, Making::Unchecked(set_of(*size))),
@@ -117,9 +109,7 @@ fn making(alloc: Global, new: &New, dir: Handle, text: &[u8]) -> Result<Call, Fa
 }
 
 /// The call of a row.
-fn on_name(alloc: Global, row: &OnName) -> Result<Call, Fail>
-    ensures { IfOk result LinkFits }
-{
+fn on_name(alloc: Global, row: &OnName) -> Result<Call, Fail> {
     let call = match row {
         OnName::LookUp(dir, text) => look_up(object(*dir)?, name(text)?),
         OnName::ReadLink(file) => read_link(object(*file)?),
@@ -140,7 +130,7 @@ fn on_name(alloc: Global, row: &OnName) -> Result<Call, Fail>
 fn files_give<R: Abort>(
     rt: &R,
     alloc: Global,
-    export: &mut Export,
+    export: &mut Tree,
     wanted: u32,
     rows: &[OnFile],
 ) -> Result<(), Fail> {
@@ -154,7 +144,7 @@ fn files_give<R: Abort>(
 fn names_give<R: Abort>(
     rt: &R,
     alloc: Global,
-    export: &mut Export,
+    export: &mut Tree,
     wanted: u32,
     rows: &[OnName],
 ) -> Result<(), Fail> {
@@ -166,7 +156,7 @@ fn names_give<R: Abort>(
 
 /// The sample, with the empty directory `y` in `d` as number 7 and with number 8, which is removed. The last cookie of
 /// the root is 5.
-fn worn(alloc: Global) -> Result<Export, Fail> {
+fn worn(alloc: Global) -> Result<Tree, Fail> {
     let mut export = sample(alloc)?;
     export.execute(&mkdir(handle(3)?, name(b"y")?))?;
     export.execute(&mkdir(handle(1)?, name(b"g")?))?;

@@ -2,9 +2,8 @@
 
 ghost use Rattle.std.specs.Prelude.{◌<◌};
 
-use crate::Export;
-use crate::export::LAST_NUMBER;
 use crate::sample::*;
+use crate::tree::{LAST_NUMBER, Tree};
 use mount_calls::{MountCall, MountReply};
 use nfs_dir_calls::{DirCall, DirKept, Making};
 use nfs_file_calls::{FileCall, FileKept};
@@ -59,7 +58,7 @@ fn file_at(size: u64, number: u32) -> Attr {
 }
 
 /// What GETATTR shows.
-fn attr_of(export: &mut Export, number: u8) -> Result<Attr, Fail> {
+fn attr_of(export: &mut Tree, number: u8) -> Result<Attr, Fail> {
     match export.execute(&get_attr(handle(number)?))? {
         Reply::File(FileKept::GetAttr { attr }) => Ok(attr),
         _ => Err("no attributes")?,
@@ -69,7 +68,7 @@ fn attr_of(export: &mut Export, number: u8) -> Result<Attr, Fail> {
 /// That a READ of up to so many bytes from an offset gives these, and whether they reach the end.
 fn reads<R: Abort>(
     rt: &R,
-    export: &mut Export,
+    export: &mut Tree,
     number: u8,
     range: (u64, u32),
     wanted: &[u8],
@@ -95,7 +94,7 @@ fn reads<R: Abort>(
 
 #[test]
 fn new_export(rt: HostRuntime) -> Result<(), Fail> {
-    let mut export = Export::new(rt.alloc())?;
+    let mut export = Tree::new(rt.alloc())?;
     assert_eq!(rt; attr_of(&mut export, 1)?, root_at(1));
     Ok(())
 }
@@ -103,7 +102,7 @@ fn new_export(rt: HostRuntime) -> Result<(), Fail> {
 #[test]
 fn mounts(rt: HostRuntime) -> Result<(), Fail> {
     let alloc = rt.alloc();
-    let mut export = Export::new(alloc)?;
+    let mut export = Tree::new(alloc)?;
     let wanted = handle(1)?;
     let reply = export.execute(&mount(alloc, b"/srv")?)?;
     match &reply {
@@ -130,7 +129,7 @@ fn mounts(rt: HostRuntime) -> Result<(), Fail> {
 
 #[test]
 fn rights_and_sizes(rt: HostRuntime) -> Result<(), Fail> {
-    let mut export = Export::new(rt.alloc())?;
+    let mut export = Tree::new(rt.alloc())?;
     let file = handle(1)?;
     match export.execute(&Call::File(FileCall::Access { file, bits: 45 }))? {
         Reply::File(FileKept::Access { attr, bits }) => {
@@ -166,7 +165,7 @@ fn rights_and_sizes(rt: HostRuntime) -> Result<(), Fail> {
 
 #[test]
 fn information(rt: HostRuntime) -> Result<(), Fail> {
-    let mut export = Export::new(rt.alloc())?;
+    let mut export = Tree::new(rt.alloc())?;
     let file = handle(1)?;
     match export.execute(&Call::File(FileCall::FsInfo { file }))? {
         Reply::File(
@@ -196,7 +195,7 @@ fn information(rt: HostRuntime) -> Result<(), Fail> {
 
 #[test]
 fn limits(rt: HostRuntime) -> Result<(), Fail> {
-    let mut export = Export::new(rt.alloc())?;
+    let mut export = Tree::new(rt.alloc())?;
     let file = handle(1)?;
     match export.execute(&Call::File(FileCall::PathConf { file }))? {
         Reply::File(
@@ -221,7 +220,7 @@ fn limits(rt: HostRuntime) -> Result<(), Fail> {
 
 #[test]
 fn a_file_made(rt: HostRuntime) -> Result<(), Fail> {
-    let mut export = Export::new(rt.alloc())?;
+    let mut export = Tree::new(rt.alloc())?;
     let call = create(handle(1)?, name(b"a")?, Making::Guarded(sized(3)));
     let wanted = handle(2)?;
     let reply = export.execute(&call)?;
@@ -250,7 +249,7 @@ fn a_file_made(rt: HostRuntime) -> Result<(), Fail> {
 #[test]
 fn bytes_written(rt: HostRuntime) -> Result<(), Fail> {
     let alloc = rt.alloc();
-    let mut export = Export::new(alloc)?;
+    let mut export = Tree::new(alloc)?;
     export.place(&path(alloc, b"a")?, Some(b"hello"))?;
     match export.execute(&write(alloc, handle(2)?, 7, 2, b"you")?)? {
         Reply::File(
@@ -288,7 +287,7 @@ fn bytes_written(rt: HostRuntime) -> Result<(), Fail> {
 #[test]
 fn bytes_lost(rt: HostRuntime) -> Result<(), Fail> {
     let alloc = rt.alloc();
-    let mut export = Export::new(alloc)?;
+    let mut export = Tree::new(alloc)?;
     export.place(&path(alloc, b"a")?, Some(b"hello"))?;
     gives(
         &rt,
@@ -315,7 +314,7 @@ fn bytes_lost(rt: HostRuntime) -> Result<(), Fail> {
 #[test]
 fn bytes_kept(rt: HostRuntime) -> Result<(), Fail> {
     let alloc = rt.alloc();
-    let mut export = Export::new(alloc)?;
+    let mut export = Tree::new(alloc)?;
     export.place(&path(alloc, b"a")?, Some(b"hello"))?;
     gives(
         &rt,
@@ -336,7 +335,7 @@ fn bytes_kept(rt: HostRuntime) -> Result<(), Fail> {
 #[test]
 fn names_of_a_file(rt: HostRuntime) -> Result<(), Fail> {
     let alloc = rt.alloc();
-    let mut export = Export::new(alloc)?;
+    let mut export = Tree::new(alloc)?;
     let root = handle(1)?;
     export.place(&path(alloc, b"a")?, Some(b""))?;
     gives(&rt, &mut export, &link(handle(2)?, root, name(b"b")?), 0)?;
@@ -365,7 +364,7 @@ fn names_of_a_file(rt: HostRuntime) -> Result<(), Fail> {
 
 /// A page of the root after a cookie, of at most so many bytes: the first name, the last cookie, the count and whether
 /// it is the last page.
-fn page(export: &mut Export, cookie: u64, maxcount: u32) -> Result<(Name, u64, usize, bool), Fail> {
+fn page(export: &mut Tree, cookie: u64, maxcount: u32) -> Result<(Name, u64, usize, bool), Fail> {
     let call = Call::Dir(DirCall::ReadDirPlus {
         dir: handle(1)?,
         cookie,
@@ -408,7 +407,7 @@ fn pages(rt: HostRuntime) -> Result<(), Fail> {
 #[test]
 fn placing(rt: HostRuntime) -> Result<(), Fail> {
     let alloc = rt.alloc();
-    let mut export = Export::new(alloc)?;
+    let mut export = Tree::new(alloc)?;
     assert_eq!(rt; export.place(&Path::of(Vec::new(alloc)), None), Ok(false));
     assert_eq!(rt; export.place(&path(alloc, b"d")?, None), Ok(true));
     assert_eq!(rt; export.place(&path(alloc, b"d")?, Some(b"a")), Ok(false));
@@ -438,7 +437,7 @@ fn digits(number: u32) -> Result<Name, &'static str>
 
 #[test]
 fn many_names(rt: HostRuntime) -> Result<(), Fail> {
-    let mut export = Export::new(rt.alloc())?;
+    let mut export = Tree::new(rt.alloc())?;
     let root = handle(1)?;
     for number in 0..10_000 {
         let call = create(root, digits(number)?, Making::Guarded(NOTHING));
@@ -475,4 +474,25 @@ fn a_text_read(rt: HostRuntime) -> Result<(), Fail> {
         _ => Err("no text")?,
     }
     Ok(())
+}
+
+#[test]
+fn a_text_too_long(rt: HostRuntime) -> Result<(), Fail> {
+    let alloc = rt.alloc();
+    let mut export = Tree::new(alloc)?;
+    let root = handle(1)?;
+    let longest = [b't'; 1024];
+    let longer = [b't'; 1025];
+    let refused = symlink_of(alloc, root, name(b"l")?, &longer)?;
+    gives(&rt, &mut export, &refused, 63)?;
+    assert_eq!(rt; attr_of(&mut export, 1)?, root_at(1));
+    gives(&rt, &mut export, &look_up(root, name(b"l")?), 2)?;
+    let done = symlink_of(alloc, root, name(b"l")?, &longest)?;
+    gives(&rt, &mut export, &done, 0)?;
+    assert_eq!(rt; attr_of(&mut export, 1)?, root_at(2));
+    assert_eq!(rt; attr_of(&mut export, 2)?.size, 1024);
+    gives(&rt, &mut export, &refused, 17)?;
+    export.counter = LAST_NUMBER;
+    let full = symlink_of(alloc, root, name(b"m")?, &longer)?;
+    gives(&rt, &mut export, &full, 28)
 }

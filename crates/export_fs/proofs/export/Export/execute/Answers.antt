@@ -1,12 +1,11 @@
-use Rattle.export_fs.proofs.Honest.{sound_call, serves_call}
-use Rattle.export_fs.proofs.SpelledLaws.{replies_spelled}
+-- The tree stays sound and stamped; what is new is that of the tree.
+use Rattle.std.proofs.Common.{◌≡◌, subst}
+use Rattle.export_fs.specs.View.{View}
+use Rattle.export_fs.specs.Risen.{TakesNew}
 use Rattle.export_fs.proofs.export.Export.execute.Goals as goal
 
-pub returns-clause-spelled : goal.returns-clause-spelled
-returns-clause-spelled c = replies_spelled _ _ c.args.call.now c.execute_call.result c.texts_fit.ensures c.execute_call.ensures.ok
+pub invariant_of-self : goal.invariant_of-self
+invariant_of-self c = (c.execute.ensures.sound c.self.invariant.0, c.execute.ensures.stamped c.self.invariant.1)
 
-pub returns-clause-sound : goal.returns-clause-sound
-returns-clause-sound c = sound_call _ _ c.args.call.now c.execute_call.result c.execute_call.ensures.ok c.execute_call.ensures.err
-
-pub returns-clause-serves : goal.returns-clause-serves
-returns-clause-serves c = serves_call _ _ c.args.call.now c.execute_call.result c.execute_call.ensures.ok
+pub returns-clause-fresh : goal.returns-clause-fresh
+returns-clause-fresh c = subst (λ (v : View). TakesNew v c.execute.new.self) c.self.view_is c.execute.ensures.fresh

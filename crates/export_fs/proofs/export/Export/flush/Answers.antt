@@ -1,15 +1,11 @@
-use Rattle.std.proofs.Common.{rules, ◌≡◌, OnOk, OnErr}
-use Rattle.export_fs.proofs.Honest.{sound_flush, flushes_range}
+-- The tree stays sound and stamped; what is new is that of the tree.
+use Rattle.std.proofs.Common.{◌≡◌, subst}
+use Rattle.export_fs.specs.View.{View}
+use Rattle.export_fs.specs.Risen.{TakesNew}
 use Rattle.export_fs.proofs.export.Export.flush.Goals as goal
 
-pub returns-clause-ok : goal.returns-clause-ok
-returns-clause-ok c = search rules
+pub invariant_of-self : goal.invariant_of-self
+invariant_of-self c = (c.flush.ensures.sound c.self.invariant.0, c.flush.ensures.stamped c.self.invariant.1)
 
-pub returns-clause-err : goal.returns-clause-err
-returns-clause-err c = search rules
-
-pub returns-clause-sound : goal.returns-clause-sound
-returns-clause-sound c = sound_flush c.args.self.now _ c.args.file.now c.args.from c.args.len c.flush.result (returns-clause-ok c) (returns-clause-err c)
-
-pub returns-clause-flushes : goal.returns-clause-flushes
-returns-clause-flushes c = flushes_range c.args.self.now _ c.args.file.now c.args.from c.args.len c.flush.result (returns-clause-ok c)
+pub returns-clause-fresh : goal.returns-clause-fresh
+returns-clause-fresh c = subst (λ (v : View). TakesNew v c.flush.new.self) c.self.view_is c.flush.ensures.fresh

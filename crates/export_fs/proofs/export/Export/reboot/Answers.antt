@@ -1,16 +1,11 @@
--- What a restart makes of the export is what the clause `after` says.
-use Rattle.std.proofs.Common.{rules, ◌≡◌, true, if◌then◌else◌, sym}
-use Rattle.export_fs.proofs.Honest.{sound_restart, restarts_later}
+-- The tree stays sound and stamped; what is new is that of the tree.
+use Rattle.std.proofs.Common.{◌≡◌, subst}
+use Rattle.export_fs.specs.View.{View}
+use Rattle.export_fs.specs.Risen.{TakesNew}
 use Rattle.export_fs.proofs.export.Export.reboot.Goals as goal
 
-pub returns-clause-done : goal.returns-clause-done
-returns-clause-done c = search rules
+pub invariant_of-self : goal.invariant_of-self
+invariant_of-self c = (c.reboot.ensures.sound c.self.invariant.0, c.reboot.ensures.stamped c.self.invariant.1)
 
-pub returns-clause-after : goal.returns-clause-after
-returns-clause-after c = search rules
-
-pub returns-clause-sound : goal.returns-clause-sound
-returns-clause-sound c = sound_restart c.args.self.now _ (returns-clause-after c)
-
-pub returns-clause-restarts : goal.returns-clause-restarts
-returns-clause-restarts c = λ e. restarts_later c.args.self.now _ (returns-clause-after c) (sym (returns-clause-done c))
+pub returns-clause-fresh : goal.returns-clause-fresh
+returns-clause-fresh c = subst (λ (v : View). TakesNew v c.reboot.new.self) c.self.view_is c.reboot.ensures.fresh
