@@ -2,4 +2,6 @@ pub mod AskedLaws
 pub mod Replies
 pub mod KeptLaws
 pub mod RowsLaws
-pub mod LinkLaws
+pub mod Executing
+pub mod Refused
+pub mod Stepping

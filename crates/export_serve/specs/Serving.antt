@@ -1,8 +1,10 @@
 -- A service: an export, and the replies that it kept; and what it makes of a record.
 use Rattle.std.specs.Prelude.{◌≡◌, ◌⊎◌, ℕ, List, Option, Some, None}
 use Rattle.world_model.specs.declared.message.Call.{Call}
+use Rattle.world_model.specs.Service.{Serves}
 use Rattle.export_fs.specs.View.{View}
 use Rattle.export_fs.specs.Executed.{executed}
+use Rattle.export_fs.specs.Seen.{server_of}
 use Rattle.export_serve.specs.declared.request.Asked.{Asked}
 use Rattle.export_serve.specs.declared.request.Asked.TheVariants as askings
 use Rattle.export_serve.specs.declared.kept_replies.KeptReply.{KeptReply}
@@ -55,3 +57,9 @@ pub record Stepped (rec : List ℕ) (old new : ServiceView) : Type 0 where
 -- What want of memory leaves: all as it was, or that step.
 abbrev pub LeftByMemory : List ℕ → ServiceView → ServiceView → Type 0
 LeftByMemory rec old new = (new ≡ old) ⊎ Stepped rec old new
+
+-- A call that no reply is kept of is one step of a server, with the reply of the export.
+abbrev pub StepsOnce : List ℕ → ServiceView → ServiceView → Type 0
+StepsOnce rec old new =
+    (xid : ℕ) (call : Call) → asked_at rec ≡ askings.Serve xid call → reply_kept rec old.kept ≡ None
+    → Serves (server_of old.export) call (executed old.export call).1 (server_of new.export)

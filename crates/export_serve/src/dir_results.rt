@@ -39,96 +39,32 @@ fn plain_reply<'a>(reply: &'a DirKept) -> DirReply<'a>
     requires { IsPlain reply.now }
     ensures { kept_of result ≡ reply.entry.now }
 {
-    match reply {
-        DirKept::Lookup { found, attr, dir } => DirReply::Lookup {
-            found: *found,
-            attr: *attr,
-            dir: *dir,
-        },
-        DirKept::LookupFail { status, dir } => DirReply::LookupFail {
-            status: *status,
-            dir: *dir,
-        },
-        DirKept::ReadLink { attr, text } => DirReply::ReadLink {
-            attr: *attr,
+    match *reply {
+        DirKept::Lookup { found, attr, dir } => DirReply::Lookup { found, attr, dir },
+        DirKept::LookupFail { status, dir } => DirReply::LookupFail { status, dir },
+        DirKept::ReadLink { attr, ref text } => DirReply::ReadLink {
+            attr,
             text: text.bytes(),
         },
-        DirKept::ReadLinkFail { status, attr } => DirReply::ReadLinkFail {
-            status: *status,
-            attr: *attr,
-        },
-        DirKept::Create { found, attr, wcc } => DirReply::Create {
-            found: *found,
-            attr: *attr,
-            wcc: *wcc,
-        },
-        DirKept::CreateFail { status, wcc } => DirReply::CreateFail {
-            status: *status,
-            wcc: *wcc,
-        },
-        DirKept::MkDir { found, attr, wcc } => DirReply::MkDir {
-            found: *found,
-            attr: *attr,
-            wcc: *wcc,
-        },
-        DirKept::MkDirFail { status, wcc } => DirReply::MkDirFail {
-            status: *status,
-            wcc: *wcc,
-        },
-        DirKept::SymLink { found, attr, wcc } => DirReply::SymLink {
-            found: *found,
-            attr: *attr,
-            wcc: *wcc,
-        },
-        DirKept::SymLinkFail { status, wcc } => DirReply::SymLinkFail {
-            status: *status,
-            wcc: *wcc,
-        },
-        DirKept::MkNod { found, attr, wcc } => DirReply::MkNod {
-            found: *found,
-            attr: *attr,
-            wcc: *wcc,
-        },
-        DirKept::MkNodFail { status, wcc } => DirReply::MkNodFail {
-            status: *status,
-            wcc: *wcc,
-        },
-        DirKept::Remove { wcc } => DirReply::Remove { wcc: *wcc },
-        DirKept::RemoveFail { status, wcc } => DirReply::RemoveFail {
-            status: *status,
-            wcc: *wcc,
-        },
-        DirKept::RmDir { wcc } => DirReply::RmDir { wcc: *wcc },
-        DirKept::RmDirFail { status, wcc } => DirReply::RmDirFail {
-            status: *status,
-            wcc: *wcc,
-        },
-        DirKept::Rename { from, to } => DirReply::Rename {
-            from: *from,
-            to: *to,
-        },
-        DirKept::RenameFail { status, from, to } => DirReply::RenameFail {
-            status: *status,
-            from: *from,
-            to: *to,
-        },
-        DirKept::Link { attr, wcc } => DirReply::Link {
-            attr: *attr,
-            wcc: *wcc,
-        },
-        DirKept::LinkFail { status, attr, wcc } => DirReply::LinkFail {
-            status: *status,
-            attr: *attr,
-            wcc: *wcc,
-        },
-        DirKept::ReadDirFail { status, attr } => DirReply::ReadDirFail {
-            status: *status,
-            attr: *attr,
-        },
-        DirKept::ReadDirPlusFail { status, attr } => DirReply::ReadDirPlusFail {
-            status: *status,
-            attr: *attr,
-        },
+        DirKept::ReadLinkFail { status, attr } => DirReply::ReadLinkFail { status, attr },
+        DirKept::Create { found, attr, wcc } => DirReply::Create { found, attr, wcc },
+        DirKept::CreateFail { status, wcc } => DirReply::CreateFail { status, wcc },
+        DirKept::MkDir { found, attr, wcc } => DirReply::MkDir { found, attr, wcc },
+        DirKept::MkDirFail { status, wcc } => DirReply::MkDirFail { status, wcc },
+        DirKept::SymLink { found, attr, wcc } => DirReply::SymLink { found, attr, wcc },
+        DirKept::SymLinkFail { status, wcc } => DirReply::SymLinkFail { status, wcc },
+        DirKept::MkNod { found, attr, wcc } => DirReply::MkNod { found, attr, wcc },
+        DirKept::MkNodFail { status, wcc } => DirReply::MkNodFail { status, wcc },
+        DirKept::Remove { wcc } => DirReply::Remove { wcc },
+        DirKept::RemoveFail { status, wcc } => DirReply::RemoveFail { status, wcc },
+        DirKept::RmDir { wcc } => DirReply::RmDir { wcc },
+        DirKept::RmDirFail { status, wcc } => DirReply::RmDirFail { status, wcc },
+        DirKept::Rename { from, to } => DirReply::Rename { from, to },
+        DirKept::RenameFail { status, from, to } => DirReply::RenameFail { status, from, to },
+        DirKept::Link { attr, wcc } => DirReply::Link { attr, wcc },
+        DirKept::LinkFail { status, attr, wcc } => DirReply::LinkFail { status, attr, wcc },
+        DirKept::ReadDirFail { status, attr } => DirReply::ReadDirFail { status, attr },
+        DirKept::ReadDirPlusFail { status, attr } => DirReply::ReadDirPlusFail { status, attr },
         DirKept::ReadDir { .. } | DirKept::ReadDirPlus { .. } => unreachable!(),
     }
 }

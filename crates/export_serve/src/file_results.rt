@@ -2,7 +2,7 @@
 
 ghost use Rattle.std.specs.Prelude.{◌≡◌, ◌++◌, OnOk};
 ghost use Rattle.xdr_codec.specs.Spells.{Wrote};
-ghost use Rattle.nfs_file_calls.specs.Replies.{kept_of, HasSpellingReply, SpellsFileResults, file_reply_bytes};
+ghost use Rattle.nfs_file_calls.specs.Replies.{kept_of, reply_proc, HasSpellingReply, SpellsFileResults, file_reply_bytes};
 
 use nfs_file_calls::{FileKept, FileReply, write_file_reply};
 use xdr_codec::{Memory, Writer};
@@ -21,53 +21,52 @@ pub(crate) fn write_file_results(w: &mut Writer, reply: &FileKept) -> Result<(),
 fn file_reply<'a>(reply: &'a FileKept) -> FileReply<'a>
     ensures { kept_of result ≡ reply.entry.now }
 {
-    match reply {
+    match *reply {
         FileKept::Null => FileReply::Null,
-        FileKept::GetAttr { attr } => FileReply::GetAttr { attr: *attr },
-        FileKept::GetAttrFail { status } => FileReply::GetAttrFail { status: *status },
-        FileKept::SetAttr { wcc } => FileReply::SetAttr { wcc: *wcc },
-        FileKept::SetAttrFail { status, wcc } => FileReply::SetAttrFail {
-            status: *status,
-            wcc: *wcc,
-        },
-        FileKept::Access { attr, bits } => FileReply::Access {
-            attr: *attr,
-            bits: *bits,
-        },
-        FileKept::AccessFail { status, attr } => FileReply::AccessFail {
-            status: *status,
-            attr: *attr,
-        },
+        FileKept::GetAttr { attr } => FileReply::GetAttr { attr },
+        FileKept::GetAttrFail { status } => FileReply::GetAttrFail { status },
+        FileKept::SetAttr { wcc } => FileReply::SetAttr { wcc },
+        FileKept::SetAttrFail { status, wcc } => FileReply::SetAttrFail { status, wcc },
+        FileKept::Access { attr, bits } => FileReply::Access { attr, bits },
+        FileKept::AccessFail { status, attr } => FileReply::AccessFail { status, attr },
         FileKept::Read {
             attr,
             count,
             eof,
-            bytes,
+            ref bytes,
         } => FileReply::Read {
-            attr: *attr,
-            count: *count,
-            eof: *eof,
+            attr,
+            count,
+            eof,
             bytes: bytes.bytes(),
         },
-        FileKept::ReadFail { status, attr } => FileReply::ReadFail {
-            status: *status,
-            attr: *attr,
-        },
+        FileKept::ReadFail { status, attr } => FileReply::ReadFail { status, attr },
         FileKept::Write {
             wcc,
             count,
             committed,
             verf,
         } => FileReply::Write {
-            wcc: *wcc,
-            count: *count,
-            committed: *committed,
-            verf: *verf,
+            wcc,
+            count,
+            committed,
+            verf,
         },
-        FileKept::WriteFail { status, wcc } => FileReply::WriteFail {
-            status: *status,
-            wcc: *wcc,
-        },
+        FileKept::WriteFail { status, wcc } => FileReply::WriteFail { status, wcc },
+        FileKept::FsStat { .. } | FileKept::FsStatFail { .. } => fs_stat_reply(reply),
+        FileKept::FsInfo { .. } | FileKept::FsInfoFail { .. } => fs_info_reply(reply),
+        FileKept::PathConf { .. } | FileKept::PathConfFail { .. } => path_conf_reply(reply),
+        FileKept::Commit { wcc, verf } => FileReply::Commit { wcc, verf },
+        FileKept::CommitFail { status, wcc } => FileReply::CommitFail { status, wcc },
+    }
+}
+
+/// A reply to FSSTAT (RFC 1813, section 3.3.18).
+fn fs_stat_reply<'a>(reply: &'a FileKept) -> FileReply<'a>
+    requires { reply_proc reply.now ≡ 18 }
+    ensures { kept_of result ≡ reply.entry.now }
+{
+    match *reply {
         FileKept::FsStat {
             attr,
             tbytes,
@@ -78,19 +77,26 @@ fn file_reply<'a>(reply: &'a FileKept) -> FileReply<'a>
             afiles,
             invarsec,
         } => FileReply::FsStat {
-            attr: *attr,
-            tbytes: *tbytes,
-            fbytes: *fbytes,
-            abytes: *abytes,
-            tfiles: *tfiles,
-            ffiles: *ffiles,
-            afiles: *afiles,
-            invarsec: *invarsec,
+            attr,
+            tbytes,
+            fbytes,
+            abytes,
+            tfiles,
+            ffiles,
+            afiles,
+            invarsec,
         },
-        FileKept::FsStatFail { status, attr } => FileReply::FsStatFail {
-            status: *status,
-            attr: *attr,
-        },
+        FileKept::FsStatFail { status, attr } => FileReply::FsStatFail { status, attr },
+        _ => unreachable!(),
+    }
+}
+
+/// A reply to FSINFO (RFC 1813, section 3.3.19).
+fn fs_info_reply<'a>(reply: &'a FileKept) -> FileReply<'a>
+    requires { reply_proc reply.now ≡ 19 }
+    ensures { kept_of result ≡ reply.entry.now }
+{
+    match *reply {
         FileKept::FsInfo {
             attr,
             rtmax,
@@ -104,22 +110,29 @@ fn file_reply<'a>(reply: &'a FileKept) -> FileReply<'a>
             time_delta,
             properties,
         } => FileReply::FsInfo {
-            attr: *attr,
-            rtmax: *rtmax,
-            rtpref: *rtpref,
-            rtmult: *rtmult,
-            wtmax: *wtmax,
-            wtpref: *wtpref,
-            wtmult: *wtmult,
-            dtpref: *dtpref,
-            maxfilesize: *maxfilesize,
-            time_delta: *time_delta,
-            properties: *properties,
+            attr,
+            rtmax,
+            rtpref,
+            rtmult,
+            wtmax,
+            wtpref,
+            wtmult,
+            dtpref,
+            maxfilesize,
+            time_delta,
+            properties,
         },
-        FileKept::FsInfoFail { status, attr } => FileReply::FsInfoFail {
-            status: *status,
-            attr: *attr,
-        },
+        FileKept::FsInfoFail { status, attr } => FileReply::FsInfoFail { status, attr },
+        _ => unreachable!(),
+    }
+}
+
+/// A reply to PATHCONF (RFC 1813, section 3.3.20).
+fn path_conf_reply<'a>(reply: &'a FileKept) -> FileReply<'a>
+    requires { reply_proc reply.now ≡ 20 }
+    ensures { kept_of result ≡ reply.entry.now }
+{
+    match *reply {
         FileKept::PathConf {
             attr,
             linkmax,
@@ -129,25 +142,15 @@ fn file_reply<'a>(reply: &'a FileKept) -> FileReply<'a>
             case_insensitive,
             case_preserving,
         } => FileReply::PathConf {
-            attr: *attr,
-            linkmax: *linkmax,
-            name_max: *name_max,
-            no_trunc: *no_trunc,
-            chown_restricted: *chown_restricted,
-            case_insensitive: *case_insensitive,
-            case_preserving: *case_preserving,
+            attr,
+            linkmax,
+            name_max,
+            no_trunc,
+            chown_restricted,
+            case_insensitive,
+            case_preserving,
         },
-        FileKept::PathConfFail { status, attr } => FileReply::PathConfFail {
-            status: *status,
-            attr: *attr,
-        },
-        FileKept::Commit { wcc, verf } => FileReply::Commit {
-            wcc: *wcc,
-            verf: *verf,
-        },
-        FileKept::CommitFail { status, wcc } => FileReply::CommitFail {
-            status: *status,
-            wcc: *wcc,
-        },
+        FileKept::PathConfFail { status, attr } => FileReply::PathConfFail { status, attr },
+        _ => unreachable!(),
     }
 }

@@ -5,7 +5,10 @@ ghost use Rattle.export_fs.specs.Spelling.{HasSpellingCall};
 ghost use Rattle.export_serve.specs.declared.request.Asked.TheVariants.{NoCall, Serve};
 ghost use Rattle.export_serve.specs.Asking.{asked_at};
 ghost use Rattle.export_serve.specs.Kept.{reply_kept};
-ghost use Rattle.export_serve.specs.Serving.{after, reply_of, executes, served, LeftByMemory};
+ghost use Rattle.export_serve.specs.Serving.{after, reply_of, executes, served, LeftByMemory, StepsOnce};
+ghost use Rattle.export_fs.specs.Executed.{executed};
+ghost use Rattle.export_fs.specs.Seen.{server_of};
+ghost use Rattle.world_model.specs.Service.{Serves};
 
 use crate::asking::asked;
 use crate::kept_replies::{KeptReplies, KeptReply};
@@ -47,8 +50,8 @@ impl Service {
     }
 
     /// Answers a record; None exactly where it is no call. A record equal to one whose reply is kept executes nothing,
-    /// and that reply is the answer. Any other call is refused exactly where `asked` says so, or else executed, and its
-    /// reply is kept.
+    /// and that reply is the answer. Any other call is refused exactly where `asked` says so, or else executed, as one step
+    /// of a server, and its reply is kept.
     ///
     /// After want of memory on a record whose reply wasn't kept, the export may have taken the step of that call, and
     /// no reply to it is kept; all else is as it was.
@@ -57,6 +60,7 @@ impl Service {
         ensures answered { IfOk result (λ answer. answer ≡ (served rec.now self.old).1) }
         ensures repeated { (reply : List ℕ) → reply_kept rec.now self.old.kept ≡ Some reply → (self.new ≡ self.old) × IfOk result (λ answer. answer ≡ Some reply) }
         ensures none { IfOk result (λ answer. MatchOption answer (asked_at rec.now ≡ NoCall) (λ bytes. asked_at rec.now ≢ NoCall)) }
+        ensures steps { IfOk result (λ answer. StepsOnce rec.now self.old self.new) }
         ensures memory { OnErr result (LeftByMemory rec.now self.old self.new) }
     {
         if let Some(reply) = self.kept.reply_to(rec) {
@@ -71,12 +75,12 @@ impl Service {
 
     /// Executes the call that the record asks for, and keeps the reply. After want of memory the call may be executed, and
     /// its reply isn't kept.
-    #[tactic(auto, using(crate::proofs::LinkLaws::link_fits))]
     fn execute(&mut self, rec: &[u8], xid: u32, call: &Call) -> Result<Blob, Memory>
         requires spelled { HasSpellingCall call.now }
         requires asks { asked_at rec.now ≡ Serve xid call.now }
         ensures ok { OnOk result (self.new ≡ executes rec.now xid call.now self.old) }
         ensures reply { IfOk result (λ bytes. bytes ≡ reply_of self.old.export xid call.now) }
+        ensures serves { IfOk result (λ bytes. Serves (server_of self.old.export) call.now (executed self.old.export call.now).1 (server_of self.new.export)) }
         ensures err { OnErr result ((self.new ≡ self.old) ⊎ (self.new ≡ record self.old { export = after self.old.export call.now })) }
     {
         let record = Blob::copy(self.alloc, rec)?;
