@@ -1,5 +1,5 @@
 -- What is said of each sending after a change of the map.
-use Rattle.std.proofs.Common.{◌≡◌, ℕ, List, Bool, true, false, cond, Option, Some, None, Result, Ok, Err, ◌&&◌, ◌==◌, refl, sym, ◌∙◌, ap, arith, rules, Ordering, if◌then◌else◌}
+use Rattle.std.proofs.Common.{◌≡◌, ℕ, Bool, true, false, cond, Option, Result, Ok, Err, ◌&&◌, ◌==◌, refl, ap, rules, Ordering, if◌then◌else◌}
 use Rattle.std.specs.Prelude.{unwrap_or, OnOk}
 use Rattle.std.specs.Ordering.{nat_cmp, is_eq, ordering_then}
 use Rattle.std.specs.declared.cmp.Ordering.TheVariants.{Less, Equal, Greater}
@@ -67,23 +67,3 @@ failing old new dial u = λ i k. at k i
   where
     at : (k : ℕ) → sorted.contains nat_cmp new k ≡ (if dial == k then true else sorted.contains nat_cmp old k)
     at k = rw (u.0 k, is_eq-nat dial k) refl
-
-abbrev pub records : tree.BTreeMap Sending (List ℕ) → Sending → Option (List ℕ)
-records m s = tree.get order m s
-
-abbrev pub records_with : (Sending → Option (List ℕ)) → Sending → Option (List ℕ) → Sending → Option (List ℕ)
-records_with old s w other = if is_same s other then w else old other
-
--- the records by their names, with one more
-pub noted : (m n : tree.BTreeMap Sending (List ℕ)) (s : Sending) (w : Option (List ℕ)) → tree.UpdatesBy order (order s) m n w → records n ≡ records_with (records m) s w
-noted m n s w u = λ i other. at other i
-  where
-    at : (other : Sending) → tree.get order n other ≡ cond (is_same s other) w (tree.get order m other)
-    at other = rw (u.0 other, ← same_by_order s other) refl
-
--- the same entries have the same records
-pub unnoted : (m n : tree.BTreeMap Sending (List ℕ)) → n.entries ≡ m.entries → records n ≡ records m
-unnoted m n e = λ i other. at other i
-  where
-    at : (other : Sending) → tree.get order n other ≡ tree.get order m other
-    at other = rw e refl

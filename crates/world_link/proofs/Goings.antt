@@ -1,13 +1,11 @@
 -- What the server tells goes on.
-use Rattle.std.proofs.Common.{◌≡◌, ◌≤◌, ℕ, List, [], ◌∷◌, ◌++◌, length, take, Bool, true, false, if◌then◌else◌, Option, Some, None, Result, Ok, Err, refl, sym, ap, subst, ◌∙◌, append_assoc}
-use Rattle.std.proofs.lemmas.List.{append-nil, length-append, take-append-le}
-use Rattle.std.specs.Prelude.{OnOk, OnErr}
+use Rattle.std.proofs.Common.{◌≡◌, ◌≤◌, ℕ, List, [], ◌∷◌, ◌++◌, length, Bool, true, false, if◌then◌else◌, refl, sym, ap, ◌∙◌, append_assoc}
+use Rattle.std.proofs.lemmas.List.{append-nil, take-append-le}
 use Rattle.world_model.specs.declared.entry.Entry.{Entry}
-use Rattle.world_model.specs.declared.entry.Entry.TheVariants.{Executed, Foreign, Flushed, Reboot}
+use Rattle.world_model.specs.declared.entry.Entry.TheVariants.{Executed, Foreign, Reboot}
 use Rattle.world_model.specs.declared.message.Call.{Call}
 use Rattle.world_model.specs.declared.message.Reply.{Reply}
 use Rattle.world_model.specs.Entries.{ours}
-use Rattle.world_model.specs.History.{History}
 use Rattle.world_model.specs.Told.{Adds}
 use Rattle.world_model.proofs.Histories.{ours-append}
 use Rattle.export_fs.specs.View.{View}
@@ -18,7 +16,7 @@ use Rattle.export_fs.specs.Restart.{may_restart, after_restart}
 use Rattle.export_fs.specs.Executed.{executed}
 use Rattle.world_link.specs.declared.manner.Manner.{Manner}
 use Rattle.world_link.specs.Handling.{answered_as}
-use Rattle.world_link.specs.Replay.{replayed, stepped, stepped_by, at_of, told_of, told}
+use Rattle.world_link.specs.Replay.{replayed, stepped, stepped_by, at_of, told}
 use Rattle.world_link.specs.View.{ServerView, WorldView}
 use Rattle.world_link.proofs.Replays.{replayed-append, executed_stepped, answered_stepped}
 
@@ -30,9 +28,6 @@ quiet_goes old new e f = record {
   seen = refl;
   follows = λ start h. f ∙ h ∙ ap (replayed start) (sym e);
 }
-
-pub same_goes : (old new : ServerView) → new ≡ old → Goes old new
-same_goes old new e = quiet_goes old new (ap (λ (v : ServerView). v.entries) e) (ap (λ (v : ServerView). v.export) e)
 
 -- an entry was told, and the export took its step
 pub one_goes : (old new : ServerView) (entry : Entry) → new.entries ≡ old.entries ++ entry ∷ [] → ours (entry ∷ []) ≡ [] → new.export ≡ stepped old.export entry → Goes old new
@@ -59,18 +54,13 @@ told_goes old new manner xid call reply r e f = one_goes old new (Executed xid c
 pub foreign_goes : (old new : ServerView) (call : Call) (reply : Reply) → reply ≡ (executed old.export call).1 → new.entries ≡ old.entries ++ Foreign call reply ∷ [] → new.export ≡ (executed old.export call).0 → Goes old new
 foreign_goes old new call reply r e f = one_goes old new (Foreign call reply) e refl (f ∙ sym (executed_stepped old.export call) ∙ ap (stepped_by old.export call) (sym r))
 
-first_of_two : (b : Bool) (x y : View) → b ≡ true → (if b then x else y) ≡ x
+pub first_of_two : (b : Bool) (x y : View) → b ≡ true → (if b then x else y) ≡ x
 first_of_two true x y e = refl
 first_of_two false x y e = absurd cc
 
 -- a restart that was made, and it was told
 pub restart_goes : (old new : ServerView) (made : Bool) (verf : Verf) → made ≡ may_restart old.export → new.export ≡ (if may_restart old.export then after_restart old.export else old.export) → made ≡ true → new.entries ≡ old.entries ++ Reboot verf ∷ [] → Goes old new
 restart_goes old new made verf d f t e = one_goes old new (Reboot verf) e refl (f ∙ first_of_two (may_restart old.export) (after_restart old.export) old.export (sym d ∙ t))
-
--- what was answered is what was done, whatever the result
-pub ok_goes : {T E : Type 0} (result : Result T E) (old new last : ServerView) → Goes old last → OnOk result (new ≡ last) → OnErr result (new ≡ old) → Goes old new
-ok_goes (Ok x) old new last g h k = subst (λ (v : ServerView). Goes old v) (sym h) g
-ok_goes (Err e) old new last g h k = same_goes old new k
 
 -- the same of the world
 pub on_goes : (old new : WorldView) → Goes old.server new.server → new.start ≡ old.start → new.faults ≡ old.faults → GoesOn old new

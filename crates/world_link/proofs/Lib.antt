@@ -5,7 +5,15 @@ pub mod Replays
 pub mod Goings
 pub mod Walks
 pub mod Releases
-pub mod Served
 pub mod Linked
 pub mod Turns
 pub mod Lasts
+pub mod Rising
+pub mod Lawfully
+pub mod Answering
+pub mod Standing
+pub mod Replying
+pub mod Honestly
+pub mod Bounds
+pub mod Beginnings
+pub mod Worldly

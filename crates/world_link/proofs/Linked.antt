@@ -1,10 +1,9 @@
 -- What the calls of the world add to what it tells.
-use Rattle.std.proofs.Common.{◌≡◌, ℕ, List, [], ◌∷◌, ◌++◌, Result, Ok, Err, refl, sym, ap, ◌∙◌, append_assoc}
+use Rattle.std.proofs.Common.{◌≡◌, ℕ, List, [], ◌∷◌, ◌++◌, Result, Ok, Err, refl, ap, ◌∙◌, append_assoc}
 use Rattle.outside.specs.declared.link.LinkFault.{LinkFault}
 use Rattle.outside.specs.declared.link.LinkFault.TheVariants as faults
 use Rattle.outside.specs.declared.link.Received.{Received}
 use Rattle.outside.specs.declared.link.Received.TheVariants as received
-use Rattle.outside.specs.Causes.{HasCauseReceived}
 use Rattle.outside.specs.Link.{dialed_as, sent_as, received_as, noted_as, entry_of}
 use Rattle.world_model.specs.declared.entry.Entry.{Entry}
 use Rattle.world_model.specs.declared.entry.Entry.TheVariants.{Sent, Dialed, Delivered, Failed}
@@ -15,8 +14,8 @@ use Rattle.world_model.specs.Told.{Adds}
 use Rattle.world_model.proofs.Histories.{adds_then}
 use Rattle.world_link.specs.Going.{GoesOn}
 use Rattle.world_link.specs.Replay.{told}
-use Rattle.world_link.specs.Steps.{Dials, Sends, Receives, Notes, LeftByMemory}
-use Rattle.world_link.specs.Turning.{Hands, after_turns}
+use Rattle.world_link.specs.Steps.{Dials, Sends, Notes, LeftByMemory}
+use Rattle.world_link.specs.Turning.{Hands}
 use Rattle.world_link.specs.View.{WorldView}
 use Rattle.world_link.proofs.Goings.{adds, goes_adds, quiet_goes, on_goes}
 
@@ -56,13 +55,3 @@ hands_adds old new rec received.Memory h m = same_adds old new m
 -- turns, and then the first reply that is ready
 pub receives_adds : (old mid new : WorldView) (rec : List ℕ) (result : Received) → GoesOn old mid → Hands mid new rec result → LeftByMemory mid new result → Adds (told old) (told new) (received_as rec result)
 receives_adds old mid new rec result g h m = adds_then _ _ _ [] _ (goes_adds old mid g) (hands_adds mid new rec result h m)
-
-pub receives : (old mid new : WorldView) (rec : List ℕ) (result : Received) → mid ≡ after_turns old → GoesOn old mid → (mid.server.ready ≡ [] → mid.waiting ≡ []) → Hands mid new rec result → LeftByMemory mid new result → Receives old new rec result
-receives old mid new rec received.Whole e g d h m = rw (← e) h
-receives old mid new rec received.Silent e g d h m = (rw (← e) h, ap (λ (w : WorldView). w.waiting) h.1 ∙ d h.0)
-receives old mid new rec received.Failed e g d h m = h
-receives old mid new rec received.Memory e g d h m = rw m g
-
--- the count of faults stays in the turns
-pub has_cause : (old mid new : WorldView) (result : Received) → GoesOn old mid → HasCauseReceived mid.faults new.faults result → HasCauseReceived old.faults new.faults result
-has_cause old mid new result g h = rw (← g.faults) h

@@ -1,10 +1,10 @@
 -- The place of a name in the table of procedures.
-use Rattle.std.proofs.Common.{◌≡◌, ℕ, List, [], ◌∷◌, length, map, Bool, position, refl, sym}
+use Rattle.std.proofs.Common.{◌≡◌, ℕ, List, [], ◌∷◌, map, Bool, position, refl, sym}
 use Rattle.std.specs.List.{position_or_len}
 use Rattle.std.specs.Str.{bytes_eq}
 use Rattle.std.proofs.lemmas.List.{length-map}
 use Rattle.world_link.specs.declared.procedures.TheConstants.{PROCEDURES}
-use Rattle.world_link.specs.Procedures.{procedures, proc_of}
+use Rattle.world_link.specs.Procedures.{proc_of}
 
 -- the place of the first that passes, seen through a function
 position_or_len-map : {A B : Type 0} (f : A → B) (test : B → Bool) (xs : List A) → position_or_len test (map f xs) ≡ position_or_len (λ x. test (f x)) xs

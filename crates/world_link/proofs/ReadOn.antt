@@ -1,5 +1,5 @@
 -- From one line of a schedule to the next.
-use Rattle.std.proofs.Common.{◌≡◌, ◌+◌, ℕ, suc, List, [], ◌∷◌, length, Bool, true, false, Option, Some, None, Result, Ok, Err, refl, sym, ◌∙◌, ap, add-one, arith}
+use Rattle.std.proofs.Common.{◌≡◌, ◌+◌, ℕ, suc, List, [], ◌∷◌, length, Bool, true, false, Option, Some, None, Result, Ok, Err, refl, add-one, arith}
 use Rattle.std.specs.Option.{option_map_or}
 use Rattle.script_text.specs.Lines.{lines}
 use Rattle.world_link.specs.Readings.{ReadView, after_line, after_lines, Reads}

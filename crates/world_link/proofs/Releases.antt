@@ -1,5 +1,5 @@
 -- Replies that are released one at a time.
-use Rattle.std.proofs.Common.{◌≡◌, ◌<◌, ◌≤◌, ◌+◌, ℕ, zero, suc, List, [], ◌∷◌, ◌++◌, length, get_or, Bool, true, false, cond, Option, Some, None, position, nat_lt, refl, sym, ap, ◌∙◌, arith}
+use Rattle.std.proofs.Common.{◌≡◌, ◌<◌, ◌≤◌, ◌+◌, ℕ, suc, List, [], ◌∷◌, ◌++◌, length, get_or, Bool, true, false, cond, Option, Some, None, position, nat_lt, refl, sym, ap, ◌∙◌, arith}
 use Rattle.std.specs.List.{remove, position_or_len}
 use Rattle.world_link.specs.Holding.{HeldView, are_past, released_of}
 use Rattle.world_link.specs.Turning.{released}
@@ -38,7 +38,7 @@ none_released turns ready [] l = refl
 none_released turns ready (h ∷ more) l = none_step turns ready h more (is_due turns h) refl (none_released turns ready more) l
 
 -- what `position` says
-found : (n m place : ℕ) (b : Bool) → nat_lt n m ≡ b → cond b (Some n) None ≡ Some place → (n < m) × (n ≡ place)
+pub found : (n m place : ℕ) (b : Bool) → nat_lt n m ≡ b → cond b (Some n) None ≡ Some place → (n < m) × (n ≡ place)
 found n m place true t e = (search (arith, t), cc)
 found n m place false t e = absurd cc
 
@@ -68,3 +68,9 @@ releases_parts turns v w place h due p d is r k e =
 
 pub all_released : (turns : List ℕ) (v : ServerView) (due : Option ℕ) → due ≡ position (λ (held : HeldView). are_past turns held.waits) v.held → due ≡ None → v ≡ released turns v
 all_released turns v due p d = is_released turns v (sym p ∙ d)
+
+-- the reply that is due is one of those that are held
+pub due_there : (turns : List ℕ) (held : List HeldView) (due : Option ℕ) (place : ℕ) → due ≡ position (λ (x : HeldView). are_past turns x.waits) held → due ≡ Some place → place < length held
+due_there turns held due place p d =
+    let f : (first turns held < length held) × (first turns held ≡ place) = found (first turns held) (length held) place (nat_lt (first turns held) (length held)) refl (sym p ∙ d) in
+    omega (arith, f.0, f.1)

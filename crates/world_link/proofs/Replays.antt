@@ -1,13 +1,11 @@
 -- What a call made of the export is what its entry tells.
-use Rattle.std.proofs.Common.{◌≡◌, ℕ, List, [], ◌∷◌, ◌++◌, length, take, min, Bool, true, false, ◌==◌, if◌then◌else◌, Option, Some, None, refl, sym, ap, ◌∙◌, arith}
+use Rattle.std.proofs.Common.{◌≡◌, ℕ, List, [], ◌∷◌, ◌++◌, length, take, min, Bool, true, false, ◌==◌, if◌then◌else◌, Option, Some, None, refl, sym, arith}
 use Rattle.std.proofs.lemmas.List.{length-take, take_min, take_all}
 use Rattle.nfs_dir_calls.specs.declared.call.DirCall.{DirCall}
 use Rattle.nfs_dir_calls.specs.declared.call.DirCall.TheVariants as dirs
-use Rattle.nfs_dir_calls.specs.declared.keeping.DirKept.{DirKept}
 use Rattle.nfs_file_calls.specs.declared.call.FileCall.{FileCall}
 use Rattle.nfs_file_calls.specs.declared.call.FileCall.TheVariants as files
 use Rattle.nfs_file_calls.specs.declared.owned.FileKept.{FileKept}
-use Rattle.nfs_file_calls.specs.declared.owned.FileKept.TheVariants as owned
 use Rattle.mount_calls.specs.declared.call.MountCall.{MountCall}
 use Rattle.mount_calls.specs.declared.call.MountCall.TheVariants as mounts
 use Rattle.world_model.specs.declared.entry.Entry.{Entry}
@@ -16,7 +14,6 @@ use Rattle.world_model.specs.declared.message.Call.TheVariants as calls
 use Rattle.world_model.specs.declared.message.Reply.{Reply}
 use Rattle.world_model.specs.declared.message.Reply.TheVariants as replies
 use Rattle.export_fs.specs.View.{View}
-use Rattle.export_fs.specs.Parts.{verifier}
 use Rattle.export_fs.specs.Refusals.{file_refusal, dir_refusal}
 use Rattle.export_fs.specs.After.{after_file, after_dir}
 use Rattle.export_fs.specs.Answer.{file_answer, dir_answer}
@@ -25,7 +22,7 @@ use Rattle.export_fs.specs.Executed.{executed, file_executed, dir_executed}
 use Rattle.world_link.specs.declared.manner.Manner.{Manner}
 use Rattle.world_link.specs.Refused.{refused_by, refused_with, status_for}
 use Rattle.world_link.specs.Handling.{shortened, shortened_to, answered, answered_as}
-use Rattle.world_link.specs.Replay.{file_granted, dir_granted, is_granted, stepped_by, replayed, stepped}
+use Rattle.world_link.specs.Replay.{file_granted, dir_granted, stepped_by, replayed, stepped}
 
 abbrev chosen : {R : Type 0} → Bool → View → View → R → R → View × R
 chosen b after view done refused = if b then (after, done) else (view, refused)

@@ -1,5 +1,5 @@
 -- Lists of copies, of events and of turns, one after the other.
-use Rattle.std.proofs.Common.{◌≡◌, ◌<◌, ◌≤◌, ◌+◌, ℕ, suc, List, [], ◌∷◌, ◌++◌, length, drop, get_or, Bool, true, false, if◌then◌else◌, Option, Some, None, position, refl, sym, ap, ◌∙◌, add-one, add-zero, arith}
+use Rattle.std.proofs.Common.{◌≡◌, ◌<◌, ◌+◌, ℕ, List, [], ◌∷◌, length, drop, get_or, refl, sym, ap, ◌∙◌, add-one}
 use Rattle.std.proofs.Math.Seq.{drop-cons}
 use Rattle.world_link.specs.declared.directive.Sending.{Sending}
 use Rattle.world_link.specs.declared.event.Event.{Event}
@@ -10,8 +10,8 @@ use Rattle.world_link.specs.Happening.{happened, all_happened}
 use Rattle.world_link.specs.Steps.{TurnsFirst}
 use Rattle.world_link.specs.Turning.{turned, turned_all, after_turns}
 
-pub copied_on : (v w : ServerView) (sendings : List Sending) (i : ℕ) (s : Sending) → i < length sendings → s ≡ get_or sendings i s → w ≡ copied v s → all_copied w (drop (i + 1) sendings) ≡ all_copied v (drop i sendings)
-copied_on v w sendings i s l is e =
+pub copied_next : (v w : ServerView) (sendings : List Sending) (i : ℕ) (s : Sending) → w ≡ copied v s → i < length sendings → s ≡ get_or sendings i s → all_copied w (drop (i + 1) sendings) ≡ all_copied v (drop i sendings)
+copied_next v w sendings i s e l is =
     ap (λ (u : ServerView). all_copied u (drop (i + 1) sendings)) e
     ∙ ap (λ (n : Sending). all_copied (copied v n) (drop (i + 1) sendings)) is
     ∙ ap (λ (k : ℕ). all_copied (copied v (get_or sendings i s)) (drop k sendings)) (add-one i)
@@ -39,33 +39,6 @@ turns_on old new (next ∷ more) w e t = rw t (sym (none_ready old.server.ready 
 pub turns_go_on : (old new : WorldView) → old.server.ready ≡ [] → TurnsFirst old new old.waiting → after_turns new ≡ after_turns old
 turns_go_on old new e t = turns_on old new old.waiting refl e t
 
-one_less : (old new : WorldView) (waiting : List Waiting) → 0 < length waiting → TurnsFirst old new waiting → length new.waiting < length waiting
-one_less old new [] p t = absurd (omega (arith, p))
-one_less old new (next ∷ more) p t = rw t (omega arith)
-
--- fewer wait after a turn
-pub fewer_wait : (old new : WorldView) → 0 < length old.waiting → TurnsFirst old new old.waiting → length new.waiting < length old.waiting
-fewer_wait old new p t = one_less old new old.waiting p t
-
--- no turn is given where a reply is ready, or none waits
-pub turns_with_ready : (w : WorldView) → 0 < length w.server.ready → after_turns w ≡ w
-turns_with_ready w p = at w.waiting
-  where
-    some_ready : (ready : List (List ℕ)) (more : WorldView) → 0 < length ready → ready_as ready more w ≡ w
-    some_ready [] more p = absurd (omega (arith, p))
-    some_ready (first ∷ rest) more p = refl
-
-    at : (waiting : List Waiting) → turned_all w waiting ≡ w
-    at [] = refl
-    at (next ∷ more) = some_ready w.server.ready (turned_all (turned w next more) more) p
-
-pub turns_without_waiting : (w : WorldView) → length w.waiting ≡ 0 → after_turns w ≡ w
-turns_without_waiting w p = at w.waiting p
-  where
-    at : (waiting : List Waiting) → length waiting ≡ 0 → turned_all w waiting ≡ w
-    at [] p = refl
-    at (next ∷ more) p = absurd (omega (arith, p))
-
 filled : (ready : List (List ℕ)) (more w : WorldView) (first : List ℕ) (rest : List (List ℕ)) → ready ≡ first ∷ rest → ready_as ready more w ≡ w
 filled [] more w first rest e = absurd cc
 filled (x ∷ xs) more w first rest e = refl
@@ -78,6 +51,3 @@ done_with w (first ∷ rest) (next ∷ more) e h = filled w.server.ready (turned
 -- no turn is given where a reply is ready or none waits
 pub turns_done : (w : WorldView) → (w.server.ready ≡ [] → w.waiting ≡ []) → w ≡ after_turns w
 turns_done w h = sym (done_with w w.server.ready w.waiting refl h)
-
-pub copied_next : (v w : ServerView) (sendings : List Sending) (i : ℕ) (s : Sending) → w ≡ copied v s → i < length sendings → s ≡ get_or sendings i s → all_copied w (drop (i + 1) sendings) ≡ all_copied v (drop i sendings)
-copied_next v w sendings i s e l is = copied_on v w sendings i s l is e

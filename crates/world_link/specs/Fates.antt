@@ -1,5 +1,5 @@
 -- What a schedule makes of each sending.
-use Rattle.std.specs.Prelude.{ℕ, List, [], Bool, true, false, Option, Some, None}
+use Rattle.std.specs.Prelude.{ℕ, List, [], Bool, false, Option, None}
 use Rattle.world_link.specs.declared.directive.Sending.{Sending}
 use Rattle.world_link.specs.declared.event.Event.{Event}
 

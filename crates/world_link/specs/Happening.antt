@@ -4,7 +4,6 @@ use Rattle.nfs_types.specs.declared.set_attr.SetAttr.{SetAttr}
 use Rattle.nfs_types.specs.declared.set_attr.SetTime.TheVariants.{Keep}
 use Rattle.nfs_dir_calls.specs.declared.call.DirCall.TheVariants as dirs
 use Rattle.nfs_dir_calls.specs.declared.create.Making.TheVariants.{Guarded}
-use Rattle.nfs_dir_calls.specs.declared.keeping.DirKept.{DirKept}
 use Rattle.nfs_dir_calls.specs.declared.keeping.DirKept.TheVariants as kept
 use Rattle.nfs_file_calls.specs.declared.call.FileCall.TheVariants as files
 use Rattle.world_model.specs.declared.entry.Entry.TheVariants.{Foreign, Flushed, Reboot}

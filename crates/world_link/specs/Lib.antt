@@ -16,4 +16,4 @@ pub mod Going
 pub mod Starting
 pub mod Begins
 pub mod Steps
-pub mod Serving
+pub mod Honest

@@ -1,5 +1,5 @@
 -- A schedule as data: what its lines ask for, by what they speak of.
-use Rattle.std.specs.Prelude.{ℕ, List, [], ◌∷◌, ◌++◌, ◌==◌, ◌&&◌, Bool, true, false, Option, Some, None, if◌then◌else◌}
+use Rattle.std.specs.Prelude.{ℕ, [], ◌∷◌, ◌++◌, ◌==◌, ◌&&◌, Bool, true, false, Option, Some, None, if◌then◌else◌}
 use Rattle.world_link.specs.declared.directive.Sending.{Sending}
 use Rattle.world_link.specs.declared.directive.Directive.{Directive}
 use Rattle.world_link.specs.declared.directive.Directive.TheVariants.{Tick, Place, Mount, NoDial, Before, After, Lose, Mute, Hold, Late, Answer, Limit}

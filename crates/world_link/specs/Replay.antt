@@ -1,6 +1,5 @@
 -- The server at each moment, worked out from the start and from what is told.
-use Rattle.std.specs.Prelude.{◌≡◌, ℕ, List, [], ◌∷◌, take, Bool, true, false, if◌then◌else◌}
-use Rattle.mount_calls.specs.declared.reply.MountReply.{MountReply}
+use Rattle.std.specs.Prelude.{ℕ, List, [], ◌∷◌, take, Bool, true, false, if◌then◌else◌}
 use Rattle.nfs_dir_calls.specs.declared.keeping.DirKept.{DirKept}
 use Rattle.nfs_dir_calls.specs.declared.keeping.DirKept.TheVariants as kept
 use Rattle.nfs_file_calls.specs.declared.call.FileCall.{FileCall}
@@ -89,7 +88,3 @@ told_of start entries = record { entries = entries; at = at_of start entries }
 -- what a world tells
 abbrev pub told : WorldView → History
 told w = told_of w.start w.server.entries
-
--- the export is what the entries make of the start
-abbrev pub IsReplayed : WorldView → Type 0
-IsReplayed w = w.server.export ≡ replayed w.start w.server.entries

@@ -1,5 +1,5 @@
 -- A world in which nothing happened yet.
-use Rattle.std.specs.Prelude.{ℕ, [], None, replicate, Ok, Err, Result}
+use Rattle.std.specs.Prelude.{[], None, replicate}
 use Rattle.export_fs.specs.View.{View}
 use Rattle.world_link.specs.Plans.{PlanView}
 use Rattle.world_link.specs.Readings.{ReadView}

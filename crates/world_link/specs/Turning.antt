@@ -1,9 +1,8 @@
 -- The turn of a sending, and what waiting for a record gives.
-use Rattle.std.specs.Prelude.{◌≡◌, ◌+◌, ◌-◌, ◌^◌, ◌==◌, ℕ, List, [], ◌∷◌, ◌++◌, Bool, true, false, Option, Some, None, min, if◌then◌else◌}
+use Rattle.std.specs.Prelude.{◌≡◌, ◌+◌, ◌-◌, ◌^◌, ◌==◌, ℕ, List, [], ◌∷◌, ◌++◌, Bool, false, Option, Some, None, min, if◌then◌else◌}
 use Rattle.outside.specs.declared.link.Received.{Received}
 use Rattle.outside.specs.declared.link.Received.TheVariants as received
 use Rattle.world_model.specs.declared.entry.Entry.TheVariants.{Sent, Delivered, Dialed, Failed}
-use Rattle.world_model.specs.declared.message.Call.{Call}
 use Rattle.world_model.specs.declared.message.Call.TheVariants as calls
 use Rattle.nfs_file_calls.specs.Calls.{file_proc}
 use Rattle.nfs_dir_calls.specs.Calls.{dir_proc}
@@ -15,7 +14,7 @@ use Rattle.world_link.specs.declared.manner.Manner.{Manner}
 use Rattle.world_link.specs.declared.waiting.Waiting.{Waiting}
 use Rattle.world_link.specs.Fates.{FateView, no_fate}
 use Rattle.world_link.specs.Plans.{PlanView, is_same}
-use Rattle.world_link.specs.Holding.{HeldView, next_of, counted_if, are_past, released_of}
+use Rattle.world_link.specs.Holding.{next_of, counted_if, are_past, released_of}
 use Rattle.world_link.specs.View.{ServerView, WorldView}
 use Rattle.world_link.specs.Handling.{done, readied, all_copied}
 use Rattle.world_link.specs.Happening.{all_happened}

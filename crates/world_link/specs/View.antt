@@ -1,5 +1,5 @@
 -- What a caller sees of the simulated world.
-use Rattle.std.specs.Prelude.{ℕ, Bool, List, Option, Some, None}
+use Rattle.std.specs.Prelude.{ℕ, List, Option}
 use Rattle.std.specs.Ordering.{nat_cmp, ordering_then}
 use Rattle.std.specs.BTreeMap as tree
 use Rattle.world_model.specs.declared.entry.Entry.{Entry}

@@ -1,16 +1,19 @@
 //! Events at the server.
 
 ghost use Rattle.std.specs.Prelude.{◌≡◌, ◌++◌, ◌∷◌, [], None, Some, IfOk, OnOk, OnErr, option_map};
-ghost use Rattle.export_fs.specs.Spelling.{LinkFits};
 ghost use Rattle.export_fs.specs.Executed.{executed};
-ghost use Rattle.export_fs.specs.Finding.{found};
+ghost use Rattle.export_fs.specs.Finding.{found, file_size};
+ghost use Rattle.export_fs.specs.Spelled.{HandlesAreBytes, IsSpelled};
+ghost use Rattle.xdr_codec.specs.Bytes.{IsBytes};
 ghost use Rattle.world_link.specs.declared.event.Event.TheVariants as events;
 ghost use Rattle.world_link.specs.Happening as happenings;
 ghost use Rattle.world_link.specs.Going.{Goes};
+ghost use Rattle.world_link.specs.Honest.{StaysHonest};
 ghost use Rattle.world_link.specs.View.{served};
 
 use crate::event::Event;
 use crate::server::Server;
+use export_fs::handles_fit;
 use nfs_dir_calls::{DirCall, DirKept, Making};
 use nfs_file_calls::FileCall;
 use nfs_types::{Handle, Name, SetAttr, SetTime};
@@ -25,6 +28,7 @@ impl Server {
     pub(crate) fn happen_all(&mut self, events: &[Event]) -> Result<(), Memory>
         ensures ok { OnOk result (served self.new ≡ happenings.all_happened (served self.old) events.now) }
         ensures goes { Goes (served self.old) (served self.new) }
+        ensures stays { StaysHonest (served self.old) (served self.new) }
     {
         for event in events {
             self.happen(event)?;
@@ -36,6 +40,7 @@ impl Server {
     fn happen(&mut self, event: &Event) -> Result<(), Memory>
         ensures ok { OnOk result (served self.new ≡ happenings.happened (served self.old) event.now) }
         ensures goes { Goes (served self.old) (served self.new) }
+        ensures stays { StaysHonest (served self.old) (served self.new) }
     {
         match event {
             Event::Reboot => self.reboot(),
@@ -55,6 +60,7 @@ impl Server {
     fn reboot(&mut self) -> Result<(), Memory>
         ensures ok { OnOk result (served self.new ≡ happenings.restarted (served self.old)) }
         ensures goes { Goes (served self.old) (served self.new) }
+        ensures stays { StaysHonest (served self.old) (served self.new) }
     {
         self.entries.reserve(1)?;
         if self.export.reboot() {
@@ -67,6 +73,7 @@ impl Server {
     fn flush(&mut self, path: &Path) -> Result<(), Memory>
         ensures ok { OnOk result (served self.new ≡ happenings.flushed_at (served self.old) (found self.old.export path.now)) }
         ensures goes { Goes (served self.old) (served self.new) }
+        ensures stays { StaysHonest (served self.old) (served self.new) }
     {
         let Some(file) = self.export.find(path.names()) else {
             return Ok(());
@@ -78,9 +85,12 @@ impl Server {
     }
 
     fn flush_file(&mut self, file: Handle, len: u64) -> Result<(), Memory>
+        requires { file_size self.old.export file ≡ Some len }
         ensures ok { OnOk result (served self.new ≡ happenings.flushed_of (served self.old) file (Some len)) }
         ensures goes { Goes (served self.old) (served self.new) }
+        ensures stays { StaysHonest (served self.old) (served self.new) }
     {
+        holds_bytes(&file);
         self.entries.reserve(1)?;
         self.export.flush(&file, 0, len)?;
         self.entries
@@ -92,6 +102,7 @@ impl Server {
     fn write(&mut self, path: &Path, offset: u64, bytes: &Blob) -> Result<(), Memory>
         ensures ok { OnOk result (served self.new ≡ happenings.written (served self.old) path.now offset bytes.now) }
         ensures goes { Goes (served self.old) (served self.new) }
+        ensures stays { StaysHonest (served self.old) (served self.new) }
     {
         let Some(file) = self.export.find(path.names()) else {
             return Ok(());
@@ -109,6 +120,7 @@ impl Server {
     fn truncate(&mut self, path: &Path, size: u64) -> Result<(), Memory>
         ensures ok { OnOk result (served self.new ≡ happenings.truncated_at (served self.old) size (found self.old.export path.now)) }
         ensures goes { Goes (served self.old) (served self.new) }
+        ensures stays { StaysHonest (served self.old) (served self.new) }
     {
         let Some(file) = self.export.find(path.names()) else {
             return Ok(());
@@ -124,6 +136,7 @@ impl Server {
     fn create(&mut self, path: &Path, bytes: &Blob) -> Result<(), Memory>
         ensures ok { OnOk result (served self.new ≡ happenings.created_at (served self.old) path.now bytes.now (happenings.last_in self.old.export path.now)) }
         ensures goes { Goes (served self.old) (served self.new) }
+        ensures stays { StaysHonest (served self.old) (served self.new) }
     {
         let Some((dir, name)) = self.last_in(path) else {
             return Ok(());
@@ -143,6 +156,7 @@ impl Server {
     fn remove(&mut self, path: &Path) -> Result<(), Memory>
         ensures ok { OnOk result (served self.new ≡ happenings.happened (served self.old) (events.Remove path.now)) }
         ensures goes { Goes (served self.old) (served self.new) }
+        ensures stays { StaysHonest (served self.old) (served self.new) }
     {
         if self.export.find(path.names()).is_none() {
             return Ok(());
@@ -157,6 +171,7 @@ impl Server {
     fn rename(&mut self, from: &Path, to: &Path) -> Result<(), Memory>
         ensures ok { OnOk result (served self.new ≡ happenings.happened (served self.old) (events.Rename from.now to.now)) }
         ensures goes { Goes (served self.old) (served self.new) }
+        ensures stays { StaysHonest (served self.old) (served self.new) }
     {
         if self.export.find(from.names()).is_none() {
             return Ok(());
@@ -200,17 +215,32 @@ impl Server {
     /// Executes a call of another client, and tells it. It is true where the call made a file. After want of memory
     /// nothing is changed.
     fn execute_foreign(&mut self, call: Call) -> Result<bool, Memory>
-        requires { LinkFits call }
+        requires { HandlesAreBytes call → IsSpelled call }
         ensures ok { OnOk result (served self.new ≡ happenings.foreign (served self.old) call) }
         ensures made { IfOk result (λ made. made ≡ happenings.is_made (executed self.old.export call).1) }
         ensures goes { Goes (served self.old) (served self.new) }
+        ensures stays { StaysHonest (served self.old) (served self.new) }
     {
         self.entries.reserve(1)?;
+        handles_fit(&call);
         let reply = self.export.execute(&call)?;
         let made = is_made(&reply);
         self.entries.push(Entry::Foreign { call, reply }).unwrap();
         Ok(made)
     }
+}
+
+fn are_bytes(bytes: &[u8])
+    ensures { IsBytes bytes.now }
+{
+    let _len = bytes.len();
+}
+
+/// That a file handle is of bytes. A fact for proofs: it does nothing.
+fn holds_bytes(handle: &Handle)
+    ensures { IsBytes handle.now }
+{
+    are_bytes(handle.bytes());
 }
 
 /// Whether it is the reply of a CREATE that made a file.

@@ -1,6 +1,9 @@
 //! Schedules: what a simulated world begins with, as text.
 
+ghost use Rattle.std.specs.Prelude.{IfOk};
 ghost use Rattle.world_link.specs.Begins.{Begins};
+ghost use Rattle.world_link.specs.Honest.{IsHonestWorld};
+ghost use Rattle.world_link.specs.View.{seen};
 ghost use Rattle.world_link.specs.Readings.{read_of};
 
 use crate::reading::read_schedule;
@@ -32,8 +35,15 @@ impl From<Memory> for ScheduleFault {
 }
 
 /// Reads a schedule of at most 1,048,576 bytes: the world that it begins, and the milliseconds from one reading of its
-/// clock to the next. The faults are those of `read_schedule`.
+/// clock to the next. The world is honest. The faults are those of `read_schedule`.
 pub fn parse_schedule(alloc: Global, text: &[u8]) -> Result<(World, u64), ScheduleFault>
+    ensures begins { Begins (read_of text.now) result }
+    ensures honest { IfOk result (λ begun. IsHonestWorld (seen begun.0)) }
+{
+    begin_world(alloc, text)
+}
+
+fn begin_world(alloc: Global, text: &[u8]) -> Result<(World, u64), ScheduleFault>
     ensures { Begins (read_of text.now) result }
 {
     // The world keeps the export of the start beside the one that it changes, so the text is read twice.

@@ -1,26 +1,33 @@
 //! The server's side of the simulated world.
 
-ghost use Rattle.std.specs.Prelude.{◌≡◌, ◌++◌, ◌∷◌, [], unwrap_or, take, IfOk, IfSome, OnOk, OnErr};
-ghost use Rattle.export_fs.specs.Spelling.{LinkFits, HasSpellingReply};
+ghost use Rattle.std.specs.Prelude.{◌≡◌, ◌≤◌, ◌++◌, ◌∷◌, [], unwrap_or, length, take, IfOk, IfSome, OnOk, OnErr};
+ghost use Rattle.export_fs.specs.Spelling.{HasSpellingReply};
 ghost use Rattle.export_fs.specs.Executed.{executed};
-ghost use Rattle.export_serve.specs.Spelling.{reply_bytes};
+ghost use Rattle.export_serve.specs.Spelling.{RepliesTo, reply_bytes};
+ghost use Rattle.export_serve.specs.declared.request.Asked.TheVariants as askings;
+ghost use Rattle.world_model.specs.declared.message.Call.{Call};
+ghost use Rattle.world_model.specs.Messages.{SpellsReply};
+ghost use Rattle.world_model.specs.Rules.{most_bytes};
 ghost use Rattle.world_link.specs.Refused as refusals;
 ghost use Rattle.world_link.specs.Handling as handling;
 ghost use Rattle.world_link.specs.Going.{Goes};
-ghost use Rattle.world_link.specs.Serving.{MayServe};
+ghost use Rattle.world_link.specs.Honest.{IsAsked, IsBound, IsAnswer, MayAnswer, StaysHonest};
 ghost use Rattle.world_link.specs.View.{served};
 
 use crate::directive::Sending;
 use crate::held::Held;
 use crate::manner::{Manner, PLAIN};
 use crate::refused::refused_by;
-use export_fs::Export;
+use export_fs::{Export, handles_fit};
 use export_serve::{Asked, asked, spelled};
 use nfs_file_calls::FileCall;
 use std::alloc::Global;
 use std::collections::{BTreeMap, VecDeque};
 use world_model::{Call, Entry, Reply};
 use xdr_codec::{Blob, Memory};
+
+/// The most bytes of a record.
+const MOST_BYTES: usize = 131_072;
 
 /// The export, what is told of it and of the link, and the records that came and that are on their way back.
 #[derive(Drop)]
@@ -38,14 +45,19 @@ pub(crate) struct Server {
 
 impl Server {
     /// Handles what a record asks for, and gives the record of the reply, where there is one.
+    #[tactic(auto, using(crate::proofs::Honestly::asked_serve))]
     pub(crate) fn handle(&mut self, manner: &Manner, asked: Asked) -> Result<Option<Blob>, Memory>
-        requires { MayServe asked }
         ensures done { IfOk result (λ reply. (served self.new, reply) ≡ handling.done manner.now (served self.old) asked) }
         ensures goes { Goes (served self.old) (served self.new) }
+        ensures stays { IsBound manner.now.limit → IsAsked (served self.old).entries asked → StaysHonest (served self.old) (served self.new) }
+        ensures answers { IsAsked (served self.old).entries asked → IfOk result (MayAnswer (served self.new).entries) }
     {
         match asked {
             Asked::NoCall => Ok(None),
-            Asked::Refuse { xid: _xid, bytes } => Ok(Some(bytes)),
+            Asked::Refuse { xid: _xid, bytes } => match short_enough(bytes) {
+                Ok(bytes) => Ok(Some(bytes)),
+                Err(memory) => Err(memory),
+            },
             Asked::Serve { xid, call } => {
                 if manner.lost {
                     return Ok(None);
@@ -60,14 +72,16 @@ impl Server {
 
     /// Answers a call, and tells it. After want of memory the call may be executed and told, with its reply lost.
     fn serve(&mut self, manner: &Manner, xid: u32, call: Call) -> Result<Blob, Memory>
-        requires { LinkFits call }
         ensures told { OnOk result (served self.new ≡ handling.tells (served self.old) xid call (handling.answered_as manner.now self.old.export call)) }
         ensures reply { IfOk result (λ bytes. bytes ≡ reply_bytes xid (handling.answered_as manner.now self.old.export call).1) }
         ensures goes { Goes (served self.old) (served self.new) }
+        ensures stays { IsBound manner.now.limit → IsAsked (served self.old).entries (askings.Serve xid call) → StaysHonest (served self.old) (served self.new) }
+        ensures answers { IfOk result (IsAnswer (served self.new).entries) }
     {
+        handles_fit(&call);
         self.entries.reserve(1)?;
         let reply = answer(self.alloc, &mut self.export, manner, &call)?;
-        let bytes = spelled(self.alloc, xid, &reply);
+        let bytes = reply_record(self.alloc, xid, &reply);
         self.entries
             .push(Entry::Executed { xid, call, reply })
             .unwrap();
@@ -78,6 +92,7 @@ impl Server {
     fn copy(&mut self, sending: &Sending) -> Result<(), Memory>
         ensures ok { OnOk result (served self.new ≡ handling.copied (served self.old) sending.now) }
         ensures goes { Goes (served self.old) (served self.new) }
+        ensures stays { StaysHonest (served self.old) (served self.new) }
     {
         match self.sent.get(sending) {
             Some(rec) => {
@@ -93,6 +108,7 @@ impl Server {
     pub(crate) fn copy_all(&mut self, sendings: &[Sending]) -> Result<(), Memory>
         ensures ok { OnOk result (served self.new ≡ handling.all_copied (served self.old) sendings.now) }
         ensures goes { Goes (served self.old) (served self.new) }
+        ensures stays { StaysHonest (served self.old) (served self.new) }
     {
         for sending in sendings {
             self.copy(sending)?;
@@ -113,9 +129,33 @@ impl Server {
     }
 }
 
+/// The record of a reply.
+fn reply_record(alloc: Global, xid: u32, reply: &Reply) -> Result<Blob, Memory>
+    requires { HasSpellingReply reply.now }
+    ensures exact { IfOk result (λ bytes. bytes ≡ reply_bytes xid reply.now) }
+    ensures spells { IfOk result (λ bytes. (call : Call) → RepliesTo call reply.now → SpellsReply xid call reply.now bytes) }
+    ensures short { IfOk result (λ bytes. length bytes ≤ most_bytes) }
+{
+    match spelled(alloc, xid, reply) {
+        Ok(bytes) => short_enough(bytes),
+        Err(memory) => Err(memory),
+    }
+}
+
+/// The record. It is Memory where it has more than 131,072 bytes, which no reply has: the client would take no such
+/// record.
+fn short_enough(bytes: Blob) -> Result<Blob, Memory>
+    ensures same { IfOk result (λ short. short ≡ bytes) }
+    ensures short { IfOk result (λ short. length short ≤ most_bytes) }
+{
+    if bytes.bytes().len() > MOST_BYTES {
+        return Err(Memory);
+    }
+    Ok(bytes)
+}
+
 /// The reply to a call: one that fails where its status is given, or else that of the export.
 fn answer(alloc: Global, export: &mut Export, manner: &Manner, call: &Call) -> Result<Reply, Memory>
-    requires { LinkFits call.now }
     ensures after { OnOk result (export.new ≡ (handling.answered_as manner.now export.old call.now).0) }
     ensures reply { IfOk result (λ reply. reply ≡ (handling.answered_as manner.now export.old call.now).1) }
     ensures spelled { IfOk result HasSpellingReply }
@@ -145,7 +185,6 @@ fn execute(
     limit: Option<u32>,
     call: &Call,
 ) -> Result<Reply, Memory>
-    requires { LinkFits call.now }
     ensures after { OnOk result (export.new ≡ (executed export.old (handling.shortened limit call.now)).0) }
     ensures reply { IfOk result (λ reply. reply ≡ (executed export.old (handling.shortened limit call.now)).1) }
     ensures spelled { IfOk result HasSpellingReply }
@@ -163,7 +202,6 @@ fn execute_at_most(
     most: u32,
     call: &Call,
 ) -> Result<Reply, Memory>
-    requires { LinkFits call.now }
     ensures after { OnOk result (export.new ≡ (executed export.old (handling.shortened_to most call.now)).0) }
     ensures reply { IfOk result (λ reply. reply ≡ (executed export.old (handling.shortened_to most call.now)).1) }
     ensures spelled { IfOk result HasSpellingReply }
@@ -177,8 +215,7 @@ fn execute_at_most(
 
 /// A READ or WRITE of at most so many bytes. None where it is another call, which stays as it is.
 fn shortened(alloc: Global, most: u32, call: &Call) -> Result<Option<Call>, Memory>
-    ensures is { IfOk result (λ cut. unwrap_or cut call.now ≡ handling.shortened_to most call.now) }
-    ensures fits { IfOk result (λ cut. IfSome cut LinkFits) }
+    ensures { IfOk result (λ cut. unwrap_or cut call.now ≡ handling.shortened_to most call.now) }
 {
     let Call::File(call) = call else {
         return Ok(None);

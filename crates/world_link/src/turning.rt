@@ -1,12 +1,13 @@
 //! The turn of a sending at the server.
 
-ghost use Rattle.std.specs.Prelude.{◌≡◌, position, IfOk, OnOk};
+ghost use Rattle.std.specs.Prelude.{◌≡◌, position, IfOk, OnOk, OnErr};
 ghost use Rattle.world_link.specs.Holding.{are_past};
 ghost use Rattle.export_serve.specs.Asking.{asked_at};
 ghost use Rattle.world_link.specs.Fates.{no_fate};
 ghost use Rattle.world_link.specs.Handling as handling;
 ghost use Rattle.world_link.specs.Turning as turning;
 ghost use Rattle.world_link.specs.Going.{Goes};
+ghost use Rattle.world_link.specs.Honest.{IsBound, IsSent, MayAnswer, StaysHonest};
 ghost use Rattle.world_link.specs.Shown.{shown};
 ghost use Rattle.world_link.specs.View.{served};
 
@@ -57,6 +58,7 @@ impl Server {
     ) -> Result<(), Memory>
         ensures ok { OnOk result (served self.new ≡ turning.own_turn manner.now fate.now turns.now.counts (served self.old) rec.now) }
         ensures goes { Goes (served self.old) (served self.new) }
+        ensures stays { IsBound manner.now.limit → IsSent (served self.old).entries rec.now → StaysHonest (served self.old) (served self.new) }
     {
         self.copy_all(fate.late())?;
         self.happen_all(fate.before())?;
@@ -69,6 +71,8 @@ impl Server {
     fn execute_own(&mut self, manner: &Manner, rec: &[u8]) -> Result<Option<Blob>, Memory>
         ensures done { IfOk result (λ reply. (served self.new, reply) ≡ handling.done manner.now (served self.old) (asked_at rec.now)) }
         ensures goes { Goes (served self.old) (served self.new) }
+        ensures stays { IsBound manner.now.limit → IsSent (served self.old).entries rec.now → StaysHonest (served self.old) (served self.new) }
+        ensures answers { IsSent (served self.old).entries rec.now → IfOk result (MayAnswer (served self.new).entries) }
     {
         let asked = asked(self.alloc, rec)?;
         self.handle(manner, asked)
@@ -78,6 +82,7 @@ impl Server {
     fn reply(&mut self, fate: &Fate, turns: &Tally, reply: Option<Blob>) -> Result<(), Memory>
         ensures ok { OnOk result (served self.new ≡ turning.replied fate.now turns.now.counts (served self.old) reply) }
         ensures goes { Goes (served self.old) (served self.new) }
+        ensures stays { MayAnswer (served self.old).entries reply → StaysHonest (served self.old) (served self.new) }
     {
         let Some(bytes) = reply else {
             return Ok(());
@@ -94,6 +99,7 @@ impl Server {
     fn hold(&mut self, bytes: Blob, waits: &[Sending]) -> Result<(), Memory>
         ensures ok { OnOk result (served self.new ≡ turning.held (served self.old) bytes waits.now) }
         ensures goes { Goes (served self.old) (served self.new) }
+        ensures err { OnErr result (served self.new ≡ served self.old) }
     {
         let held = Held::new(self.alloc, bytes, waits)?;
         self.held.push(held)?;
@@ -105,6 +111,7 @@ impl Server {
     pub(crate) fn release(&mut self, turns: &Tally) -> Result<(), Memory>
         ensures ok { OnOk result (served self.new ≡ turning.released turns.now.counts (served self.old)) }
         ensures goes { Goes (served self.old) (served self.new) }
+        ensures stays { StaysHonest (served self.old) (served self.new) }
     {
         while let Some(place) = self.first_due(turns) {
             self.ready.reserve(1)?;

@@ -1,8 +1,9 @@
 //! The simulated world as a link.
 
 ghost use Rattle.std.specs.Prelude.{◌≡◌, ◌≤◌, ◌++◌, ◌∷◌, [], Some, OnOk, OnErr};
-ghost use Rattle.outside.specs.Causes.{HasCauseReceived, Rose};
+ghost use Rattle.outside.specs.Causes.{HasCause, HasCauseReceived, Rose};
 ghost use Rattle.world_link.specs.Going.{GoesOn};
+ghost use Rattle.world_link.specs.Honest.{IsHonestWorld};
 ghost use Rattle.world_link.specs.Steps as steps;
 ghost use Rattle.world_link.specs.Turning as turning;
 ghost use Rattle.world_link.specs.Starting.{begun};
@@ -104,6 +105,7 @@ impl World {
     fn turn(&mut self) -> Result<(), Memory>
         ensures ok { OnOk result (steps.TurnsFirst (seen self.old) (seen self.new) (seen self.old).waiting) }
         ensures goes { GoesOn (seen self.old) (seen self.new) }
+        ensures stays { IsHonestWorld (seen self.old) → IsHonestWorld (seen self.new) }
     {
         let Some(next) = self.waiting.front() else {
             return Ok(());
@@ -123,6 +125,7 @@ impl World {
     fn turn_all(&mut self) -> Result<(), Memory>
         ensures ok { OnOk result (seen self.new ≡ turning.after_turns (seen self.old)) }
         ensures goes { GoesOn (seen self.old) (seen self.new) }
+        ensures stays { IsHonestWorld (seen self.old) → IsHonestWorld (seen self.new) }
         ensures done { OnOk result ((seen self.new).server.ready ≡ [] → (seen self.new).waiting ≡ []) }
     {
         while self.server.ready.is_empty() && !self.waiting.is_empty() {
@@ -176,6 +179,47 @@ impl World {
         } else {
             self.plan.fails_dial(self.dials + 1)
         }
+    }
+
+    /// Makes a connection, unless the schedule says that this dial fails.
+    fn dial_port(&mut self, port: u16) -> Result<(), LinkFault>
+        ensures cause { HasCause self.old.faults self.new.faults result }
+        ensures exact { steps.Dials (seen self.old) (seen self.new) port result }
+    {
+        if self.fails_next() {
+            return match self.fail_to_connect(port) {
+                Ok(()) => Err(LinkFault::Failed),
+                Err(_) => Err(LinkFault::Memory),
+            };
+        }
+        match self.connect(port) {
+            Ok(()) => Ok(()),
+            Err(_) => Err(LinkFault::Memory),
+        }
+    }
+
+    /// Sends a record.
+    fn send_record(&mut self, rec: &[u8]) -> Result<(), LinkFault>
+        ensures cause { HasCause self.old.faults self.new.faults result }
+        ensures exact { steps.Sends (seen self.old) (seen self.new) rec.now result }
+    {
+        if self.take(rec).is_err() {
+            return Err(LinkFault::Memory);
+        }
+        Ok(())
+    }
+
+    /// Notes a mark.
+    fn note_mark(&mut self, mark: Mark) -> Result<(), Memory>
+        ensures cause { self.old.faults ≤ self.new.faults }
+        ensures exact { steps.Notes (seen self.old) (seen self.new) mark result }
+    {
+        let entry = match mark {
+            Mark::Began { lane, line, op } => Entry::Began { lane, line, op },
+            Mark::Answered { lane, line, answer } => Entry::Answered { lane, line, answer },
+            Mark::Clock { ms } => Entry::Clock { ms },
+        };
+        tell(&mut self.server.entries, entry)
     }
 
     /// Tells a dial that succeeds. After want of memory nothing is changed.
@@ -269,6 +313,7 @@ impl Link for World {
     ghost use Rattle.outside.specs.Causes.{HasCause, HasCauseReceived};
     ghost use Rattle.outside.specs.Link.{dialed_as, sent_as, received_as, noted_as};
     ghost use Rattle.world_model.specs.Told.{Tells};
+    ghost use Rattle.world_link.specs.Honest.{IsHonestWorld};
     ghost use Rattle.world_link.specs.Replay.{told};
     ghost use Rattle.world_link.specs.Steps as steps;
     ghost use Rattle.world_link.specs.View.{seen};
@@ -277,42 +322,32 @@ impl Link for World {
 
     ghost faults = { λ w. w.faults };
 
-    // Nothing is said yet of what the export's steps are to a server.
-    ghost honest = { λ w. ⊥ };
+    ghost honest = { λ w. IsHonestWorld (seen w) };
 
-    ghost lawful = { λ w h. absurd h };
+    ghost lawful = { λ w h. h.server.lawful };
 
     fn dial(&mut self, port: u16) -> Result<(), LinkFault>
         ensures told { Tells (Some (told (seen self.old))) (Some (told (seen self.new))) (dialed_as port result) }
+        ensures honest { IsHonestWorld (seen self.old) → IsHonestWorld (seen self.new) }
         ensures cause { HasCause self.old.faults self.new.faults result }
         ensures exact { steps.Dials (seen self.old) (seen self.new) port result }
     {
-        if self.fails_next() {
-            return match self.fail_to_connect(port) {
-                Ok(()) => Err(LinkFault::Failed),
-                Err(_) => Err(LinkFault::Memory),
-            };
-        }
-        match self.connect(port) {
-            Ok(()) => Ok(()),
-            Err(_) => Err(LinkFault::Memory),
-        }
+        self.dial_port(port)
     }
 
     fn send(&mut self, rec: &[u8]) -> Result<(), LinkFault>
         ensures told { Tells (Some (told (seen self.old))) (Some (told (seen self.new))) (sent_as rec.now result) }
+        ensures honest { IsHonestWorld (seen self.old) → IsHonestWorld (seen self.new) }
         ensures cause { HasCause self.old.faults self.new.faults result }
         ensures exact { steps.Sends (seen self.old) (seen self.new) rec.now result }
     {
-        if self.take(rec).is_err() {
-            return Err(LinkFault::Memory);
-        }
-        Ok(())
+        self.send_record(rec)
     }
 
     fn receive(&mut self, _wait_ms: u32, rec: &mut Vec<u8>) -> Received
         requires { 15000 ≤ _wait_ms }
         ensures told { Tells (Some (told (seen self.old))) (Some (told (seen self.new))) (received_as rec.new.items result) }
+        ensures honest { IsHonestWorld (seen self.old) → IsHonestWorld (seen self.new) }
         ensures cause { HasCauseReceived self.old.faults self.new.faults result }
         ensures exact { steps.Receives (seen self.old) (seen self.new) rec.new.items result }
     {
@@ -324,14 +359,10 @@ impl Link for World {
 
     fn note(&mut self, mark: Mark) -> Result<(), Memory>
         ensures told { Tells (Some (told (seen self.old))) (Some (told (seen self.new))) (noted_as mark result) }
+        ensures honest { IsHonestWorld (seen self.old) → IsHonestWorld (seen self.new) }
         ensures cause { self.old.faults ≤ self.new.faults }
         ensures exact { steps.Notes (seen self.old) (seen self.new) mark result }
     {
-        let entry = match mark {
-            Mark::Began { lane, line, op } => Entry::Began { lane, line, op },
-            Mark::Answered { lane, line, answer } => Entry::Answered { lane, line, answer },
-            Mark::Clock { ms } => Entry::Clock { ms },
-        };
-        tell(&mut self.server.entries, entry)
+        self.note_mark(mark)
     }
 }

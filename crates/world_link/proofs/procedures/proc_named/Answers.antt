@@ -1,4 +1,4 @@
-use Rattle.std.proofs.Common.{◌≡◌, position, Some, None, sym, ◌∙◌, rules, tests, bytes_eq}
+use Rattle.std.proofs.Common.{◌≡◌, sym, ◌∙◌, rules, tests, bytes_eq}
 use Rattle.std.proofs.lemmas.Iterator.{YieldsList-from_slice}
 use Rattle.std.proofs.lemmas.Iterator.Search.{position_from_yields_List}
 use Rattle.world_link.specs.Procedures.{proc_of}

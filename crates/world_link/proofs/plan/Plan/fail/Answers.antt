@@ -1,4 +1,4 @@
-use Rattle.std.proofs.Common.{◌≡◌, ℕ, Bool, ap}
+use Rattle.std.proofs.Common.{ℕ, Bool, ap}
 use Rattle.world_link.specs.Shown.{shown}
 use Rattle.world_link.proofs.Fated.{failing}
 use Rattle.world_link.proofs.plan.Plan.fail.Goals as goal

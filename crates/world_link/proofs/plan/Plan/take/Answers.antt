@@ -1,4 +1,4 @@
-use Rattle.std.proofs.Common.{ap, sym, Some, None}
+use Rattle.std.proofs.Common.{ap, None}
 use Rattle.world_link.specs.declared.directive.Sending.{Sending}
 use Rattle.world_link.specs.Fates.{FateView}
 use Rattle.world_link.specs.Shown.{shown}

@@ -1,5 +1,9 @@
 use Rattle.world_link.proofs.Goings.{then_goes}
+use Rattle.world_link.proofs.Honestly.{then_stays}
 use Rattle.world_link.proofs.server.Server.create.Goals as goal
 
 pub returns-then-not-is_empty-clause-goes : goal.returns-then-not-is_empty-clause-goes
 returns-then-not-is_empty-clause-goes c = then_goes _ _ _ c.in_ok-made.ensures.goes c.write.ensures.goes
+
+pub returns-then-not-is_empty-clause-stays : goal.returns-then-not-is_empty-clause-stays
+returns-then-not-is_empty-clause-stays c = then_stays _ _ _ c.in_ok-made.ensures.stays c.write.ensures.stays

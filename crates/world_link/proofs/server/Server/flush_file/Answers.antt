@@ -1,7 +1,17 @@
 use Rattle.std.proofs.Common.{rules, refl}
 use Rattle.world_model.specs.declared.entry.Entry.TheVariants.{Flushed}
+use Rattle.world_link.proofs.Honestly.{flushed_stays, left_stays}
 use Rattle.world_link.proofs.Goings.{one_goes}
 use Rattle.world_link.proofs.server.Server.flush_file.Goals as goal
 
 pub returns-clause-goes : goal.returns-clause-goes
 returns-clause-goes c = one_goes _ _ (Flushed c.args.file 0 c.args.len) (search rules) refl c.in_ok-flush.ensures.ok
+
+pub returns-clause-stays : goal.returns-clause-stays
+returns-clause-stays c = flushed_stays _ _ c.args.file c.args.len refl (search rules) c.in_ok-flush.ensures.ok c.holds_bytes.ensures c.requires
+
+pub returns-in_err-reserve-clause-stays : goal.returns-in_err-reserve-clause-stays
+returns-in_err-reserve-clause-stays c = left_stays _ _ refl refl (search rules)
+
+pub returns-in_err-flush-clause-stays : goal.returns-in_err-flush-clause-stays
+returns-in_err-flush-clause-stays c = left_stays _ _ refl c.in_err-flush.ensures.err (search rules)

@@ -1,6 +1,16 @@
-use Rattle.std.proofs.Common.{rules}
+use Rattle.std.proofs.Common.{rules, refl}
+use Rattle.world_link.proofs.Honestly.{left_stays, restarted_stays, unstarted_stays}
 use Rattle.world_link.proofs.Goings.{restart_goes}
 use Rattle.world_link.proofs.server.Server.reboot.Goals as goal
 
 pub returns-then-reboot-clause-goes : goal.returns-then-reboot-clause-goes
 returns-then-reboot-clause-goes c = restart_goes _ _ c.reboot.result c.verifier-verf.result c.reboot.ensures.done c.reboot.ensures.after c.if-reboot.true (search rules)
+
+pub returns-then-reboot-clause-stays : goal.returns-then-reboot-clause-stays
+returns-then-reboot-clause-stays c = restarted_stays _ _ c.reboot.result c.verifier-verf.result c.reboot.ensures.done c.reboot.ensures.after c.if-reboot.true refl (search rules) c.verifier-verf.ensures
+
+pub returns-in_err-reserve-clause-stays : goal.returns-in_err-reserve-clause-stays
+returns-in_err-reserve-clause-stays c = left_stays _ _ refl refl (search rules)
+
+pub returns-else-reboot-clause-stays : goal.returns-else-reboot-clause-stays
+returns-else-reboot-clause-stays c = unstarted_stays _ _ c.reboot.result c.reboot.ensures.done c.reboot.ensures.after c.if-reboot.false refl (search rules)

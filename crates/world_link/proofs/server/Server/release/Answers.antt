@@ -1,5 +1,6 @@
 use Rattle.std.proofs.Common.{rules, refl, ap, ◌∙◌, List, ℕ, ◌++◌, ◌∷◌, []}
 use Rattle.world_link.proofs.Goings.{then_goes, quiet_goes}
+use Rattle.world_link.proofs.Honestly.{then_stays, moved_stays}
 use Rattle.world_link.proofs.Releases.{releases_parts, all_released}
 use Rattle.world_link.specs.View.{served}
 use Rattle.world_link.proofs.server.Server.release.Goals as goal
@@ -10,6 +11,9 @@ loop-place-preserved c = record {
       (c.push_back_reserved.ensures.items ∙ ap (λ (t : List (List ℕ)). t ++ c.into_bytes.result ∷ []) c.reserve.ensures.items ∙ ap (λ (b : List ℕ). c.loop-place.self.ready.items ++ b ∷ []) c.into_bytes.ensures)
       c.remove-held.ensures.items refl ∙ c.loop-place.invariant.left;
   goes = then_goes _ _ _ c.loop-place.invariant.goes (quiet_goes _ _ refl refl);
+  stays = then_stays _ _ _ c.loop-place.invariant.stays (moved_stays c.args.turns.now.counts (served c.loop-place.self) _ c.in-Some.place c.remove-held.result c.first_due.result c.first_due.ensures (search rules) c.remove-held.ensures.value
+      (c.push_back_reserved.ensures.items ∙ ap (λ (t : List (List ℕ)). t ++ c.into_bytes.result ∷ []) c.reserve.ensures.items ∙ ap (λ (b : List ℕ). c.loop-place.self.ready.items ++ b ∷ []) c.into_bytes.ensures)
+      c.remove-held.ensures.items refl);
 }
 
 pub returns-clause-ok : goal.returns-clause-ok

@@ -1,4 +1,5 @@
 use Rattle.world_link.proofs.Goings.{then_goes}
+use Rattle.world_link.proofs.Honestly.{then_stays, sent_goes, answer_goes}
 use Rattle.world_link.proofs.server.Server.turn.Goals as goal
 
 pub returns-in_err-happen_all-clause-goes : goal.returns-in_err-happen_all-clause-goes
@@ -14,3 +15,23 @@ returns-in_err-happen_all-2-clause-goes c =
 pub returns-clause-goes : goal.returns-clause-goes
 returns-clause-goes c =
     then_goes _ _ _ (then_goes _ _ _ (then_goes _ _ _ (then_goes _ _ _ c.in_ok-copy_all.ensures.goes c.in_ok-happen_all.ensures.goes) c.in_ok-reply.ensures.goes) c.in_ok-happen_all-2.ensures.goes) c.reply.ensures.goes
+
+pub returns-in_err-happen_all-clause-stays : goal.returns-in_err-happen_all-clause-stays
+returns-in_err-happen_all-clause-stays c m s = then_stays _ _ _ c.in_ok-copy_all.ensures.stays c.in_err-happen_all.ensures.stays
+
+pub returns-in_err-reply-clause-stays : goal.returns-in_err-reply-clause-stays
+returns-in_err-reply-clause-stays c m s =
+    let two = then_goes _ _ _ c.in_ok-copy_all.ensures.goes c.in_ok-happen_all.ensures.goes in
+    then_stays _ _ _ (then_stays _ _ _ c.in_ok-copy_all.ensures.stays c.in_ok-happen_all.ensures.stays) (c.in_err-reply.ensures.stays m (sent_goes _ _ c.args.rec.now two s))
+
+pub returns-in_err-happen_all-2-clause-stays : goal.returns-in_err-happen_all-2-clause-stays
+returns-in_err-happen_all-2-clause-stays c m s =
+    let two = then_goes _ _ _ c.in_ok-copy_all.ensures.goes c.in_ok-happen_all.ensures.goes in
+    then_stays _ _ _ (then_stays _ _ _ (then_stays _ _ _ c.in_ok-copy_all.ensures.stays c.in_ok-happen_all.ensures.stays) (c.in_ok-reply.ensures.stays m (sent_goes _ _ c.args.rec.now two s))) c.in_err-happen_all-2.ensures.stays
+
+pub returns-clause-stays : goal.returns-clause-stays
+returns-clause-stays c m s =
+    let two = then_goes _ _ _ c.in_ok-copy_all.ensures.goes c.in_ok-happen_all.ensures.goes in
+    let sent = sent_goes _ _ c.args.rec.now two s in
+    then_stays _ _ _ (then_stays _ _ _ (then_stays _ _ _ (then_stays _ _ _ c.in_ok-copy_all.ensures.stays c.in_ok-happen_all.ensures.stays) (c.in_ok-reply.ensures.stays m sent)) c.in_ok-happen_all-2.ensures.stays)
+    (c.reply.ensures.stays (answer_goes _ _ c.in_ok-reply.reply c.in_ok-happen_all-2.ensures.goes (c.in_ok-reply.ensures.answers sent)))

@@ -8,10 +8,14 @@ pub loop-self-preserved : goal.loop-self-preserved
 loop-self-preserved c = record {
   left = turns_go_on (seen c.loop-self.self) _ (search rules) c.in_ok-turn.ensures.ok ∙ c.loop-self.invariant.left;
   goes = then_goes_on _ _ _ c.loop-self.invariant.goes c.in_ok-turn.ensures.goes;
+  stays = λ h. c.in_ok-turn.ensures.stays (c.loop-self.invariant.stays h);
 }
 
 pub returns-in_err-turn-clause-goes : goal.returns-in_err-turn-clause-goes
 returns-in_err-turn-clause-goes c = then_goes_on _ _ _ c.loop-self.invariant.goes c.in_err-turn.ensures.goes
+
+pub returns-in_err-turn-clause-stays : goal.returns-in_err-turn-clause-stays
+returns-in_err-turn-clause-stays c h = c.in_err-turn.ensures.stays (c.loop-self.invariant.stays h)
 
 pub returns-after-loop-self-clause-ok : goal.returns-after-loop-self-clause-ok
 returns-after-loop-self-clause-ok c = turns_done (seen c.loop-self.self) (search rules) ∙ c.loop-self.invariant.left

@@ -1,5 +1,9 @@
 use Rattle.world_link.proofs.Linked.{receives_adds}
+use Rattle.world_link.proofs.Worldly.{hands_honest}
 use Rattle.world_link.proofs.world.WorldLink.receive.Goals as goal
 
 pub returns-clause-told : goal.returns-clause-told
 returns-clause-told c = receives_adds _ _ _ _ _ c.turn_all.ensures.goes c.hand_out.ensures.hands c.hand_out.ensures.memory
+
+pub returns-clause-honest : goal.returns-clause-honest
+returns-clause-honest c h = hands_honest _ _ _ c.hand_out.result c.hand_out.ensures.hands c.hand_out.ensures.memory (c.turn_all.ensures.stays h)

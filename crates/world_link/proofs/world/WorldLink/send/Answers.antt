@@ -1,0 +1,9 @@
+use Rattle.world_link.proofs.Linked.{sends_adds}
+use Rattle.world_link.proofs.Worldly.{sends_honest}
+use Rattle.world_link.proofs.world.WorldLink.send.Goals as goal
+
+pub returns-clause-told : goal.returns-clause-told
+returns-clause-told c = sends_adds _ _ c.args.rec.now c.send_record.result c.send_record.ensures.exact
+
+pub returns-clause-honest : goal.returns-clause-honest
+returns-clause-honest c = sends_honest _ _ c.args.rec.now c.send_record.result c.send_record.ensures.exact
