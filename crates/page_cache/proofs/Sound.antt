@@ -1,0 +1,288 @@
+-- What holds of the slots goes on holding, and what they show, after each thing that is done to them.
+use Rattle.std.proofs.Common.{◌≡◌, ◌≢◌, ◌<◌, ◌≤◌, ℕ, ◌+◌, ◌-◌, suc, Bool, true, false, nat_eq, inl, inr, List, [], ◌∷◌, ◌++◌, length, take, map, set, get_or, Option, Some, None, is_some, if◌then◌else◌, refl, sym, ap, ◌∙◌, subst, arith, length-append, append-nil}
+use Rattle.std.proofs.lemmas.List.{get_or-set_other, get_or-set_same, take_all, length-set, set-get_or}
+use Rattle.std.proofs.lemmas.Bool.{cases_eq}
+use Rattle.std.specs.Option.{option_map_or}
+use Rattle.std.specs.Map.{lookup_entry, remove_entry}
+use Rattle.lru.specs.LruCache.{promoted, demoted, last_entry}
+use Rattle.page_cache.specs.declared.place.PagePlace.{PagePlace}
+use Rattle.page_cache.specs.Pages.{is_place, without_file, changed_page, fronted}
+use Rattle.page_cache.specs.Slots.{shown, changed_bytes, holds_page, index_in, Lacks, AreApart, IsSlotFor, IsSound}
+use Rattle.page_cache.proofs.Orders.{rest_of, lookup-slot, lookup-none, length-rest, last-more, lacks-whole, lacks-parts, apart-lacks, apart-rest, apart-back, last-rest, last-set, last-back}
+use Rattle.page_cache.proofs.Shown.{held-place, holds-same, shown-held, shown-bytes, most-shown, shown-append, shown-rest, shown-last, shown-none, others-rest, others-all, shown-changed}
+
+module _ {V : Type 0} (count : ℕ) (order : List (ℕ × V)) (held : List (Option PagePlace)) (pages : List (List ℕ)) (sound : IsSound count order held pages) where
+  -- a slot stands in the order
+  abbrev Stands : ℕ → Type 0
+  Stands slot = (e : ℕ × V) × (lookup_entry (nat_eq slot) order ≡ Some e) × (e.0 ≡ slot)
+
+  pub stands : (slot : ℕ) → slot < count → Stands slot
+  stands slot low = by (lookup_entry (nat_eq slot) order) refl
+    where
+      by : (o : Option (ℕ × V)) → lookup_entry (nat_eq slot) order ≡ o → Stands slot
+      by None none = absurd (sound.every slot low (lookup-none slot order none))
+      by (Some e) some = (e, some, lookup-slot slot order e some)
+
+  module _ (slot : ℕ) (low : slot < count) where
+    abbrev rest : List (ℕ × V)
+    rest = rest_of slot order
+
+    abbrev it : ℕ × V
+    it = (stands slot low).0
+
+    at-slot : it.0 ≡ slot
+    at-slot = (stands slot low).2
+
+    promoted-is : promoted (nat_eq slot) order ≡ it ∷ rest
+    promoted-is = rw (stands slot low).1 refl
+
+    demoted-is : demoted (nat_eq slot) order ≡ rest ++ it ∷ []
+    demoted-is = rw (stands slot low).1 refl
+
+    lacks : Lacks slot rest
+    lacks = apart-lacks count slot order sound.apart
+
+    lacks-it : Lacks it.0 rest
+    lacks-it = subst (λ s. Lacks s rest) (sym at-slot) lacks
+
+    fewer : length rest + 1 ≡ count
+    fewer = length-rest slot order it (stands slot low).1 ∙ sound.all
+
+    every-front : (t : ℕ) → t < count → Lacks t (it ∷ rest) → ⊥
+    every-front t within l = sound.every t within (lacks-whole slot t order (λ same. l.0 (at-slot ∙ same)) l.1)
+
+    every-back : (t : ℕ) → t < count → Lacks t (rest ++ it ∷ []) → ⊥
+    every-back t within l = let parts = lacks-parts t rest (it ∷ []) l in every-front t within (parts.1.0, parts.0)
+
+    -- A page is put into the slot, which goes to the front; no other slot holds the page.
+    module _ (place : PagePlace) (bytes : List ℕ) (alone : (t : ℕ) → t < count → get_or held t None ≡ Some place → t ≡ slot) where
+      abbrev holders : List (Option PagePlace)
+      holders = set held slot (Some place)
+
+      here : get_or holders slot None ≡ Some place
+      here = get_or-set_same held slot (Some place) None (rw sound.holders low)
+
+      elsewhere : (t : ℕ) → t ≢ slot → get_or holders t None ≡ get_or held t None
+      elsewhere t other = get_or-set_other held slot t (Some place) None other
+
+      once-after : (s t : ℕ) (p : PagePlace) → s < count → t < count → get_or holders s None ≡ Some p → get_or holders t None ≡ Some p → s ≡ t
+      once-after s t p ls lt hs ht = elim (cases_eq s slot) [
+        | inl es ↦ elim (cases_eq t slot) [
+          | inl et ↦ es ∙ sym et
+          | inr nt ↦
+              let same : Some place ≡ Some p = sym here ∙ ap (λ k. get_or holders k None) (sym es) ∙ hs in
+              es ∙ sym (alone t lt (sym (elsewhere t nt) ∙ ht ∙ sym same))
+        ]
+        | inr ns ↦ elim (cases_eq t slot) [
+          | inl et ↦
+              let same : Some place ≡ Some p = sym here ∙ ap (λ k. get_or holders k None) (sym et) ∙ ht in
+              alone s ls (sym (elsewhere s ns) ∙ hs ∙ sym same) ∙ sym et
+          | inr nt ↦ sound.once s t p ls lt (sym (elsewhere s ns) ∙ hs) (sym (elsewhere t nt) ∙ ht)
+        ]
+      ]
+
+      pub sound-front : IsSound count (promoted (nat_eq slot) order) holders (set pages slot bytes)
+      sound-front = rw promoted-is (record {
+        apart = (rw at-slot low, lacks-it, apart-rest count slot order sound.apart);
+        every = every-front;
+        all = omega (arith, fewer);
+        holders = length-set held slot (Some place) ∙ sound.holders;
+        bytes = length-set pages slot bytes ∙ sound.bytes;
+        once = once-after;
+        free_last = rw (at-slot, here) (last-set slot rest held (Some place) lacks (last-rest slot order held sound.free_last));
+      })
+
+      pub shown-front : shown (promoted (nat_eq slot) order) holders (set pages slot bytes) ≡ (place, bytes) ∷ shown rest held pages
+      shown-front = rw promoted-is (rw (at-slot, here, get_or-set_same pages slot bytes [] (rw sound.bytes low))
+          (ap (λ l. (place, bytes) ∷ l) (shown-bytes slot rest holders pages bytes lacks ∙ shown-held slot rest held pages (Some place) lacks)))
+
+    -- The slot is freed, and goes to the end.
+    module _ where
+      abbrev freed : List (Option PagePlace)
+      freed = set held slot None
+
+      free-here : get_or freed slot None ≡ None
+      free-here = get_or-set_same held slot None None (rw sound.holders low)
+
+      once-freed : (s t : ℕ) (p : PagePlace) → s < count → t < count → get_or freed s None ≡ Some p → get_or freed t None ≡ Some p → s ≡ t
+      once-freed s t p ls lt hs ht = sound.once s t p ls lt (held-still s p hs) (held-still t p ht)
+        where
+          held-still : (k : ℕ) (q : PagePlace) → get_or freed k None ≡ Some q → get_or held k None ≡ Some q
+          held-still k q h = elim (cases_eq k slot) [
+            | inl e ↦ absurd (let none : get_or freed k None ≡ None = ap (λ j. get_or freed j None) e ∙ free-here in cc)
+            | inr n ↦ sym (get_or-set_other held slot k None None n) ∙ h
+          ]
+
+      sound-back : IsSound count (demoted (nat_eq slot) order) freed pages
+      sound-back = rw demoted-is (record {
+        apart = apart-back count it rest (rw at-slot low) (apart-rest count slot order sound.apart) lacks-it;
+        every = every-back;
+        all = omega (arith, length-append rest (it ∷ []), fewer);
+        holders = length-set held slot None ∙ sound.holders;
+        bytes = sound.bytes;
+        once = once-freed;
+        free_last = last-back it rest freed (rw at-slot free-here) (last-set slot rest held None lacks (last-rest slot order held sound.free_last));
+      })
+
+      shown-back : shown (demoted (nat_eq slot) order) freed pages ≡ shown rest held pages
+      shown-back = rw demoted-is (shown-append freed pages rest (it ∷ []) ∙ rw (at-slot, free-here) (append-nil (shown rest freed pages)) ∙ shown-held slot rest held pages None lacks)
+
+    -- the slot of the page itself
+    module _ (place : PagePlace) (bytes : List ℕ) (is : get_or held slot None ≡ Some place) where
+      pub alone-found : (t : ℕ) → t < count → get_or held t None ≡ Some place → t ≡ slot
+      alone-found t lt h = sound.once t slot place lt low h is
+
+      pub front-found : shown (promoted (nat_eq slot) order) (set held slot (Some place)) (set pages slot bytes)
+          ≡ take count ((place, bytes) ∷ remove_entry (is_place place.file place.index) (shown order held pages))
+      front-found =
+          let whole : shown rest held pages ≡ remove_entry (is_place place.file place.index) (shown order held pages) = shown-rest held pages count slot place order sound.apart low is sound.once in
+          let room : length ((place, bytes) ∷ shown rest held pages) ≤ count = omega (arith, most-shown held pages rest, fewer) in
+          shown-front place bytes alone-found ∙ sym (take_all count ((place, bytes) ∷ shown rest held pages) room) ∙ ap (λ l. take count ((place, bytes) ∷ l)) whole
+
+-- the last slot, where no slot holds the page
+module _ {V : Type 0} (n : ℕ) (order : List (ℕ × V)) (held : List (Option PagePlace)) (pages : List (List ℕ)) (sound : IsSound (suc n) order held pages)
+    (place : PagePlace) (bytes : List ℕ) (slot : ℕ) (value : V) (last : last_entry order ≡ Some (slot, value))
+    (none : (t : ℕ) → t < suc n → holds_page place.file place.index (get_or held t None) ≡ false) where
+  pub last-low : (order : List (ℕ × V)) (e : ℕ × V) → AreApart (suc n) order → last_entry order ≡ Some e → e.0 < suc n
+  last-low [] e a h = cc
+  last-low (f ∷ []) e a h = let is : f ≡ e = cc in subst (λ p. p.0 < suc n) is a.0
+  last-low (f ∷ g ∷ order) e a h = last-low (g ∷ order) e a.2 (sym (last-more f g order) ∙ h)
+
+  pub low-last : slot < suc n
+  low-last = last-low order (slot, value) sound.apart last
+
+  pub alone-last : (t : ℕ) → t < suc n → get_or held t None ≡ Some place → t ≡ slot
+  alone-last t lt h = absurd (let held_here : holds_page place.file place.index (get_or held t None) ≡ true = holds-same place (get_or held t None) h in let not_here = none t lt in cc)
+
+  pub front-last : shown (promoted (nat_eq slot) order) (set held slot (Some place)) (set pages slot bytes)
+      ≡ take (suc n) ((place, bytes) ∷ remove_entry (is_place place.file place.index) (shown order held pages))
+  front-last =
+      let fewer : length order - 1 ≡ n = omega (arith, sound.all) in
+      let whole : shown (rest_of slot order) held pages ≡ take n (shown order held pages) =
+      shown-last held pages (suc n) order (slot, value) sound.apart sound.free_last last ∙ ap (λ k. take k (shown order held pages)) fewer in
+      shown-front (suc n) order held pages sound slot low-last place bytes alone-last
+      ∙ ap (λ l. (place, bytes) ∷ l) whole
+      ∙ ap (λ l. take (suc n) ((place, bytes) ∷ l)) (sym (shown-none held pages (suc n) place order sound.apart none))
+
+-- a page is put in front
+module _ {V : Type 0} (order : List (ℕ × V)) (held : List (Option PagePlace)) (pages : List (List ℕ)) (sound : IsSound 1024 order held pages)
+    (place : PagePlace) (bytes : List ℕ) (slot : ℕ) (chosen : IsSlotFor order held place slot) where
+  pub chosen-low : slot < 1024
+  chosen-low = elim chosen [
+    | inl found ↦ found.0
+    | inr new ↦ low-last 1023 order held pages sound place bytes slot new.1.0 new.1.1 new.0
+  ]
+
+  pub sound-put : IsSound 1024 (promoted (nat_eq slot) order) (set held slot (Some place)) (set pages slot bytes)
+  sound-put = elim chosen [
+    | inl found ↦ sound-front 1024 order held pages sound slot found.0 place bytes
+        (alone-found 1024 order held pages sound slot found.0 place bytes (held-place place (get_or held slot None) found.1))
+    | inr new ↦ sound-front 1024 order held pages sound slot (low-last 1023 order held pages sound place bytes slot new.1.0 new.1.1 new.0) place bytes
+        (alone-last 1023 order held pages sound place bytes slot new.1.0 new.1.1 new.0)
+  ]
+
+  pub shown-put : shown (promoted (nat_eq slot) order) (set held slot (Some place)) (set pages slot bytes) ≡ fronted place bytes (shown order held pages)
+  shown-put = elim chosen [
+    | inl found ↦ front-found 1024 order held pages sound slot found.0 place bytes (held-place place (get_or held slot None) found.1)
+    | inr new ↦ front-last 1023 order held pages sound place bytes slot new.1.0 new.1.1 new.0
+  ]
+
+-- dropping the pages of a file, slot by slot
+pub record Drops {V : Type 0} (file : List ℕ) (from : List (PagePlace × List ℕ)) (upto : ℕ) (order : List (ℕ × V)) (held : List (Option PagePlace)) (pages : List (List ℕ)) : Type 0 where
+  pub sound : IsSound 1024 order held pages
+  pub left : without_file file (shown order held pages) ≡ without_file file from
+  pub gone : (s : ℕ) → s < upto → is_some (index_in file (get_or held s None)) ≡ false
+
+module _ {V : Type 0} (file : List ℕ) (order : List (ℕ × V)) (held : List (Option PagePlace)) (pages : List (List ℕ)) where
+  pub drops-start : IsSound 1024 order held pages → Drops file (shown order held pages) 0 order held pages
+  drops-start sound = record { sound = sound; left = refl; gone = λ s low. absurd (omega arith) }
+
+  module _ (from : List (PagePlace × List ℕ)) (slot : ℕ) (low : slot < 1024) (d : Drops file from slot order held pages) where
+    pub drops-skip : is_some (index_in file (get_or held slot None)) ≡ false → Drops file from (slot + 1) order held pages
+    drops-skip not_its = record {
+      sound = d.sound;
+      left = d.left;
+      gone = λ s below. elim (cases_eq s slot) [
+        | inl e ↦ rw e not_its
+        | inr n ↦ d.gone s (omega arith)
+      ];
+    }
+
+    pub drops-one : is_some (index_in file (get_or held slot None)) ≡ true → Drops file from (slot + 1) (demoted (nat_eq slot) order) (set held slot None) pages
+    drops-one its = record {
+      sound = sound-back 1024 order held pages d.sound slot low;
+      left = ap (without_file file) (shown-back 1024 order held pages d.sound slot low) ∙ others-rest held pages file slot order its ∙ d.left;
+      gone = λ s below. elim (cases_eq s slot) [
+        | inl e ↦ rw (e, free-here 1024 order held pages d.sound slot low) refl
+        | inr n ↦ rw (get_or-set_other held slot s None None n) (d.gone s (omega arith))
+      ];
+    }
+
+    pub drops-step : Drops file from (slot + 1)
+        (if is_some (index_in file (get_or held slot None)) then demoted (nat_eq slot) order else order)
+        (if is_some (index_in file (get_or held slot None)) then set held slot None else held) pages
+    drops-step = by (is_some (index_in file (get_or held slot None))) refl
+      where
+        by : (b : Bool) → is_some (index_in file (get_or held slot None)) ≡ b
+            → Drops file from (slot + 1) (if b then demoted (nat_eq slot) order else order) (if b then set held slot None else held) pages
+        by true its = drops-one its
+        by false not_its = drops-skip not_its
+
+  pub drops-end : (from : List (PagePlace × List ℕ)) → Drops file from 1024 order held pages → shown order held pages ≡ without_file file from
+  drops-end from d = sym (others-all held pages 1024 file order d.sound.apart d.gone) ∙ d.left
+
+-- changing the pages of a file, slot by slot
+pub record Changes (file : List ℕ) (change : ℕ → List ℕ → List ℕ) (held : List (Option PagePlace)) (before : List (List ℕ)) (upto : ℕ) (now : List (List ℕ)) : Type 0 where
+  pub same : length now ≡ length before
+  pub done : (s : ℕ) → s < upto → get_or now s [] ≡ changed_bytes file change (get_or held s None) (get_or before s [])
+  pub ahead : (s : ℕ) → upto ≤ s → get_or now s [] ≡ get_or before s []
+
+module _ (file : List ℕ) (change : ℕ → List ℕ → List ℕ) (held : List (Option PagePlace)) (before : List (List ℕ)) where
+  pub changes-start : Changes file change held before 0 before
+  changes-start = record { same = refl; done = λ s low. absurd (omega arith); ahead = λ s _. refl }
+
+  module _ (slot : ℕ) (now : List (List ℕ)) (c : Changes file change held before slot now) where
+    pub changes-skip : index_in file (get_or held slot None) ≡ None → Changes file change held before (slot + 1) now
+    changes-skip not_its = record {
+      same = c.same;
+      done = λ s below. elim (cases_eq s slot) [
+        | inl e ↦ rw (e, not_its) (c.ahead slot (omega arith))
+        | inr n ↦ c.done s (omega arith)
+      ];
+      ahead = λ s above. c.ahead s (omega arith);
+    }
+
+    pub changes-one : (index : ℕ) → slot < length before → index_in file (get_or held slot None) ≡ Some index
+        → Changes file change held before (slot + 1) (set now slot (change index (get_or now slot [])))
+    changes-one index low its = record {
+      same = length-set now slot _ ∙ c.same;
+      done = λ s below. elim (cases_eq s slot) [
+        | inl e ↦ rw (e, its, get_or-set_same now slot (change index (get_or now slot [])) [] (rw c.same low)) (ap (change index) (c.ahead slot (omega arith)))
+        | inr n ↦ rw (get_or-set_other now slot s (change index (get_or now slot [])) [] n) (c.done s (omega arith))
+      ];
+      ahead = λ s above. let n : s ≢ slot = (λ e. absurd (omega arith)) in
+          get_or-set_other now slot s (change index (get_or now slot [])) [] n ∙ c.ahead s (omega arith);
+    }
+
+    -- in one form
+    pub changes-step : slot < length before → Changes file change held before (slot + 1) (set now slot (changed_bytes file change (get_or held slot None) (get_or now slot [])))
+    changes-step low = by (index_in file (get_or held slot None)) refl
+      where
+        by : (o : Option ℕ) → index_in file (get_or held slot None) ≡ o → Changes file change held before (slot + 1) (set now slot (option_map_or (λ index. change index (get_or now slot [])) o (get_or now slot [])))
+        by None h = rw (set-get_or now slot []) (changes-skip h)
+        by (Some index) h = changes-one index low h
+
+  module _ {V : Type 0} (order : List (ℕ × V)) (now : List (List ℕ)) (sound : IsSound 1024 order held before) (c : Changes file change held before 1024 now) where
+    pub sound-changed : IsSound 1024 order held now
+    sound-changed = record {
+      apart = sound.apart;
+      every = sound.every;
+      all = sound.all;
+      holders = sound.holders;
+      bytes = c.same ∙ sound.bytes;
+      once = sound.once;
+      free_last = sound.free_last;
+    }
+
+    pub changes-end : shown order held now ≡ map (changed_page file change) (shown order held before)
+    changes-end = shown-changed held before 1024 file change now order sound.apart c.done

@@ -1,0 +1,214 @@
+//! The pages of files.
+
+ghost use Rattle.std.specs.Prelude.{◌≡◌, ◌≤◌, length, IfOk, OnOk, OnErr, None, Some, IsSome, List, ℕ, [], option_map};
+ghost use Rattle.std.specs.Borrow.{sem};
+ghost use Rattle.page_cache.specs.Bytes.{resized, put_at, page_at, put_page, cut_page};
+ghost use Rattle.page_cache.specs.Pages.{nothing_kept, state_of, known_of, mark_of, page_of, opened, keep_answer, after_keep, saw, wrote, cut, with_state};
+
+use crate::place::PagePlace;
+use crate::slots::Slots;
+use crate::state::{FileState, Keep, is_stamp};
+use indexmap::IndexMap;
+use nfs_types::{Handle, Stamp, Wcc};
+use std::alloc::Global;
+use std::marker::Model;
+use xdr_codec::Memory;
+
+/// At most 1,024 pages of files. A new page takes the memory of one that was dropped, or else of the one that wasn't used
+/// for the longest time.
+///
+/// A file is known from its first `opened` on; for another one `stamp` and `mark` are None, `keep` answers Stale, and
+/// nothing else changes anything.
+///
+/// `new` takes all memory but that of the table of files. `page` and `keep` look at up to 1,024 places of pages, which
+/// stand close together; so do `wrote`, `cut`, and the calls that drop pages. Bytes are touched of those pages alone that
+/// change. `stamp`, `mark` and `closed` look at no page.
+#[derive(Drop)]
+pub struct PageCache {
+    files: IndexMap<Handle, FileState>,
+    slots: Slots,
+}
+
+impl Model for PageCache {
+    ghost use Rattle.page_cache.specs.Pages.{Pages};
+
+    ghost Value = { Pages };
+
+    ghost view = { λ c. record { files = c.files.entries; pages = c.slots } };
+}
+
+impl PageCache {
+    ghost use Rattle.page_cache.specs.Ends.{ends_with};
+    ghost use Rattle.page_cache.specs.Pages.{after_page};
+
+    /// The most pages that are kept.
+    pub const MAX: usize = 1024;
+
+    /// Knows no file. It takes the memory of all pages at once, about 4 MiB; later only `opened` takes some.
+    pub fn new(alloc: Global) -> Result<PageCache, Memory>
+        ensures { IfOk result (λ c. c ≡ nothing_kept) }
+    {
+        Ok(PageCache {
+            files: IndexMap::new(alloc),
+            slots: Slots::new(alloc)?,
+        })
+    }
+
+    /// A file was opened in the state of `stamp`, in an operation that began at the moment `mark`. Its pages are dropped
+    /// exactly where another stamp is known, or none. Then the stamp is known and the mark is kept, unless it is below the
+    /// file's. After want of memory, which comes at a file that wasn't known alone, nothing is changed. Where pages are
+    /// dropped it looks at 1,024 places of pages, else at none.
+    pub fn opened(&mut self, file: &Handle, stamp: &Stamp, mark: u64) -> Result<(), Memory>
+        ensures ok { OnOk result (self.new ≡ opened file.now stamp.now mark self.old) }
+        ensures err { OnErr result (self.new ≡ self.old) }
+        ensures unknown { OnErr result (state_of file.now self.old ≡ None) }
+    {
+        let (same, mark) = match self.files.get(file) {
+            Some(state) => (is_stamp(stamp, state.known), state.mark.max(mark)),
+            None => (false, mark),
+        };
+        let state = FileState {
+            known: Some(*stamp),
+            mark,
+        };
+        self.files.insert(*file, state)?;
+        if !same {
+            self.slots.drop_file(file);
+        }
+        Ok(())
+    }
+
+    /// The state of a file under which its pages are believed; None exactly where the file was never opened, or its
+    /// state isn't known.
+    pub fn stamp(&self, file: &Handle) -> Option<Stamp>
+        ensures { result ≡ known_of file.now self.now }
+    {
+        self.files.get(file)?.known
+    }
+
+    /// The file's mark: a reply to a call that was made at this moment or before tells nothing of the file. None exactly
+    /// where the file was never opened.
+    pub fn mark(&self, file: &Handle) -> Option<u64>
+        ensures { result ≡ mark_of file.now self.now }
+    {
+        Some(self.files.get(file)?.mark)
+    }
+
+    /// Shows a page of a file, and moves it to the front; None exactly where it isn't kept. The page begins at 4,096
+    /// times `index` in the file. It looks at up to 1,024 places of pages.
+    pub fn page(&mut self, file: &Handle, index: u64) -> Option<&[u8]>
+        ensures* ends { sem 𝓛 (ends_with self.entry (after_page file.now index self.old)) }
+        ensures gives { option_map (λ bytes. bytes.now) result ≡ page_of file.now index self.old }
+    {
+        self.slots.show(file, index)
+    }
+
+    /// Offers a page that a reply told, with the state of the file in it; `sent` is the moment at which the call was
+    /// made. The bytes are the whole page, or end where the file does. Where it is kept, up to 1,024 places of pages are
+    /// looked at.
+    pub fn keep(
+        &mut self,
+        file: &Handle,
+        stamp: &Stamp,
+        index: u64,
+        bytes: &[u8],
+        sent: u64,
+    ) -> Keep
+        requires { length bytes.now ≤ 4096 }
+        ensures answer { result ≡ keep_answer file.now stamp.now sent self.old }
+        ensures after { self.new ≡ after_keep result stamp.now (record { file = file.now; index = index }) bytes.now self.old }
+    {
+        let state = match self.files.get(file) {
+            Some(state) => *state,
+            None => return Keep::Stale,
+        };
+        if sent <= state.mark {
+            return Keep::Stale;
+        }
+        if !state.takes(stamp) {
+            return Keep::Differs;
+        }
+        self.set_state(file, Some(*stamp), state.mark);
+        let place = PagePlace { file: *file, index };
+        self.slots.put_in_front(place, bytes);
+        Keep::Kept
+    }
+
+    /// A reply showed the state of a file; `sent` is the moment at which the call was made. Nothing changes where that is
+    /// at or below the mark, or the stamp is the known one. Else the file's pages are dropped, and the stamp is known;
+    /// 1,024 places of pages are looked at then.
+    pub fn saw(&mut self, file: &Handle, stamp: &Stamp, sent: u64)
+        ensures { self.new ≡ saw file.now stamp.now sent self.old }
+    {
+        let state = match self.files.get(file) {
+            Some(state) => *state,
+            None => return,
+        };
+        if sent <= state.mark || is_stamp(stamp, state.known) {
+            return;
+        }
+        self.slots.drop_file(file);
+        self.set_state(file, Some(*stamp), state.mark);
+    }
+
+    /// The client's own WRITE put these bytes at this offset; `wcc` tells the file's state before and after it. Where the
+    /// first is the known one and the second is there, each kept page becomes that page of the file so written, and the
+    /// second is known. Else the file's pages are dropped, and no state is known. The mark is `moment` then. It looks at
+    /// 1,024 places of pages.
+    pub fn wrote(&mut self, file: &Handle, wcc: &Wcc, offset: u64, bytes: &[u8], moment: u64)
+        ensures after { self.new ≡ wrote file.now wcc.now offset bytes.now moment self.old }
+        ensures of_the_file { (index : ℕ) (old : List ℕ) → put_page index offset bytes.now (page_at index old) ≡ page_at index (put_at offset bytes.now old) }
+    {
+        let state = match self.files.get(file) {
+            Some(state) => *state,
+            None => return,
+        };
+        match state.after(wcc) {
+            Some(known) => {
+                self.slots.write_file(file, offset, bytes);
+                self.set_state(file, Some(known), moment);
+            }
+            None => {
+                self.slots.drop_file(file);
+                self.set_state(file, None, moment);
+            }
+        }
+    }
+
+    /// The client's own SETATTR gave the file this size. Else as `wrote`.
+    pub fn cut(&mut self, file: &Handle, wcc: &Wcc, size: u64, moment: u64)
+        ensures after { self.new ≡ cut file.now wcc.now size moment self.old }
+        ensures of_the_file { (index : ℕ) (old : List ℕ) → cut_page index size (page_at index old) ≡ page_at index (resized size old) }
+    {
+        let state = match self.files.get(file) {
+            Some(state) => *state,
+            None => return,
+        };
+        match state.after(wcc) {
+            Some(known) => {
+                self.slots.cut_file(file, size);
+                self.set_state(file, Some(known), moment);
+            }
+            None => {
+                self.slots.drop_file(file);
+                self.set_state(file, None, moment);
+            }
+        }
+    }
+
+    /// The last open of a file ended. Its pages, its stamp and its mark stay for a later open.
+    pub fn closed(&mut self, _file: &Handle)
+        ensures { self.new ≡ self.old }
+    {}
+
+    // The file is known already, so that its new state takes no memory.
+    fn set_state(&mut self, file: &Handle, known: Option<Stamp>, mark: u64)
+        requires { IsSome (state_of file.now self.old) }
+        ensures { self.new ≡ with_state file.now known mark self.old }
+    {
+        let _ = self.files.insert(*file, FileState { known, mark });
+    }
+}
+
+#[cfg(test)]
+mod tests;

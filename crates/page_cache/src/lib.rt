@@ -1,0 +1,20 @@
+//! Kept pages of files: bytes that a server told are believed while the file keeps the state in which it told them.
+//!
+//! A file's state is known by a stamp, its length and the times of its last changes (RFC 1813, section 2.5, wcc_attr).
+//! The file's mark is a moment: a reply to a call that was made at or before it is too old to tell of the file. Moments
+//! are numbers of the client's own, which rise.
+//!
+//! A contract sees a cache as the files that were opened, each with its stamp and its mark, and the kept pages, the one
+//! that was used last in front.
+#![tactic(auto)]
+
+mod cache;
+mod page;
+mod place;
+mod places;
+mod slots;
+mod state;
+
+pub use cache::PageCache;
+pub use place::PagePlace;
+pub use state::{FileState, Keep};

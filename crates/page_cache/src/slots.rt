@@ -1,0 +1,153 @@
+//! Pages in slots, by their last use.
+
+ghost use Rattle.std.specs.Prelude.{◌≡◌, ◌≤◌, ◌<◌, ℕ, [], length, get_or, map, is_some, nat_eq, if◌then◌else◌, set, option_map, IfOk, None};
+ghost use Rattle.std.specs.Borrow.{sem};
+ghost use Rattle.std.specs.Map.{lookup};
+ghost use Rattle.lru.specs.LruCache.{promoted, demoted, lru_cache};
+ghost use Rattle.page_cache.specs.Bytes.{put_page, cut_page};
+ghost use Rattle.page_cache.specs.Pages.{is_place, fronted, without_file, changed_page};
+ghost use Rattle.page_cache.specs.Slots.{AreAll, IsSlotFor, index_in};
+
+use crate::page::Page;
+use crate::place::PagePlace;
+use crate::places::Places;
+use lru::LruCache;
+use nfs_types::Handle;
+use std::alloc::Global;
+use std::marker::Model;
+use std::num::NonZeroUsize;
+use xdr_codec::Memory;
+
+/// At most 1,024 pages. A new one takes the slot of one that was dropped, or else of the one that wasn't used for the
+/// longest time.
+#[derive(Drop)]
+pub(crate) struct Slots {
+    // By their last use, free ones at the end. All slots are always there, so that no call adds one.
+    order: LruCache<usize, ()>,
+    places: Places,
+    pages: Vec<Page>,
+}
+
+impl Model for Slots {
+    ghost use Rattle.std.specs.Prelude.{List, ℕ};
+    ghost use Rattle.page_cache.specs.declared.place.PagePlace.{PagePlace};
+
+    ghost Value = { List (PagePlace × List ℕ) };
+
+    ghost use Rattle.page_cache.specs.Slots.{shown, IsSound};
+
+    ghost view = { λ s. shown s.order.entries s.places s.pages.items };
+
+    ghost invariant = { λ s. IsSound 1024 s.order.entries s.places s.pages.items };
+}
+
+impl Slots {
+    ghost use Rattle.page_cache.specs.Ends.{shows_with};
+
+    /// No page, and the memory of all.
+    pub(crate) fn new(alloc: Global) -> Result<Slots, Memory>
+        ensures { IfOk result (λ s. s ≡ []) }
+    {
+        Ok(Slots {
+            order: all_slots(alloc)?,
+            places: Places::new(alloc)?,
+            pages: empty_pages(alloc)?,
+        })
+    }
+
+    /// Shows a page, and moves it to the front; None exactly where it isn't there.
+    pub(crate) fn show(&mut self, file: &Handle, index: u64) -> Option<&[u8]>
+        ensures* ends { sem 𝓛 (shows_with self.entry (promoted (is_place file.now index) self.old)) }
+        ensures gives { option_map (λ bytes. bytes.now) result ≡ lookup (is_place file.now index) self.old }
+    {
+        let slot = self.places.find(file, index)?;
+        self.order.promote(&slot);
+        Some(self.pages[slot].bytes())
+    }
+
+    /// Puts a page in front, in place of an earlier one. The last one goes where there are 1,024 already.
+    pub(crate) fn put_in_front(&mut self, place: PagePlace, bytes: &[u8])
+        requires { length bytes.now ≤ 4096 }
+        ensures { self.new ≡ fronted place bytes.now self.old }
+    {
+        let slot = slot_for(&self.places, &self.order, &place);
+        self.places.set(slot, Some(place));
+        self.pages[slot].put(bytes);
+        self.order.promote(&slot);
+    }
+
+    /// Drops all pages of a file.
+    pub(crate) fn drop_file(&mut self, file: &Handle)
+        ensures { self.new ≡ without_file file.now self.old }
+    {
+        for slot in 0..Places::SLOTS {
+            free_if_of(&mut self.order, &mut self.places, slot, file);
+        }
+    }
+
+    /// Changes each page of a file as a WRITE of these bytes at this offset does.
+    pub(crate) fn write_file(&mut self, file: &Handle, offset: u64, bytes: &[u8])
+        ensures { self.new ≡ map (changed_page file.now (λ index. put_page index offset bytes.now)) self.old }
+    {
+        for slot in 0..Places::SLOTS {
+            let index = self.places.index_in(slot, file);
+            self.pages[slot].write_at(index, offset, bytes);
+        }
+    }
+
+    /// Changes each page of a file as a new size does.
+    pub(crate) fn cut_file(&mut self, file: &Handle, size: u64)
+        ensures { self.new ≡ map (changed_page file.now (λ index. cut_page index size)) self.old }
+    {
+        for slot in 0..Places::SLOTS {
+            let index = self.places.index_in(slot, file);
+            self.pages[slot].cut_at(index, size);
+        }
+    }
+}
+
+/// Frees a slot that holds a page of a file, and moves it to the end.
+fn free_if_of(order: &mut LruCache<usize, ()>, places: &mut Places, slot: usize, file: &Handle)
+    requires { slot < 1024 }
+    ensures order { order.new.entries ≡ (if is_some (index_in file.now (get_or places.old slot None)) then demoted (nat_eq slot) order.old.entries else order.old.entries) }
+    ensures places { places.new ≡ (if is_some (index_in file.now (get_or places.old slot None)) then set places.old slot None else places.old) }
+{
+    if places.index_in(slot, file).is_some() {
+        places.set(slot, None);
+        order.demote(&slot);
+    }
+}
+
+/// The slot that holds a page, or else the last one.
+fn slot_for(places: &Places, order: &LruCache<usize, ()>, place: &PagePlace) -> usize
+    requires { 0 < length order.now.entries }
+    ensures { IsSlotFor order.now.entries places.now place.now result }
+{
+    match places.find(&place.file, place.index) {
+        Some(slot) => slot,
+        None => *order.peek_lru().unwrap().0,
+    }
+}
+
+/// All slots, in an order that says nothing.
+fn all_slots(alloc: Global) -> Result<LruCache<usize, ()>, Memory>
+    ensures { IfOk result (λ order. AreAll 1024 order.entries) }
+{
+    let most = NonZeroUsize::new(Places::SLOTS).unwrap();
+    let mut order = LruCache::new(alloc, most)?;
+    for slot in 0..Places::SLOTS {
+        order.put(slot, ())?;
+    }
+    Ok(order)
+}
+
+/// The memory of all pages.
+fn empty_pages(alloc: Global) -> Result<Vec<Page>, Memory>
+    ensures { IfOk result (λ pages. length pages.items ≡ 1024) }
+{
+    let mut pages = Vec::with_capacity(alloc, Places::SLOTS)?;
+    for _ in 0..Places::SLOTS {
+        pages.push(Page::empty())?;
+    }
+    Ok(pages)
+}
