@@ -6,10 +6,10 @@ use Rattle.std.proofs.lemmas.Bool.{cases_lt}
 use Rattle.std.proofs.lemmas.Bool.Decides.{nat_tests}
 use Rattle.page_cache.specs.Bytes.{resized, over, put_at, start_of, page_at, misses, put_page, cut_page}
 
-length-resized : (z : ℕ) (b : List ℕ) → length (resized z b) ≡ z
+pub length-resized : (z : ℕ) (b : List ℕ) → length (resized z b) ≡ z
 length-resized z b = omega (arith, length-take z (b ++ replicate (z - length b) 0), length-append b (replicate (z - length b) 0), length-replicate {A = ℕ} (z - length b) 0)
 
-at-resized : (z : ℕ) (b : List ℕ) (k : ℕ) → k < z → get_or (resized z b) k 0 ≡ get_or b k 0
+pub at-resized : (z : ℕ) (b : List ℕ) (k : ℕ) → k < z → get_or (resized z b) k 0 ≡ get_or b k 0
 at-resized z b k within = get_or-take z (b ++ replicate (z - length b) 0) k 0 within ∙ (elim (cases_lt k (length b)) [
   | inl low ↦ get_or_append_left b (replicate (z - length b) 0) 0 k low
   | inr high ↦ get_or-append_right b (replicate (z - length b) 0) (length b) k 0 refl high
@@ -17,7 +17,7 @@ at-resized z b k within = get_or-take z (b ++ replicate (z - length b) 0) k 0 wi
 ])
 
 module _ (offset : ℕ) (bytes old : List ℕ) where
-  length-over : length (over offset bytes old) ≡ max (length old) (offset + length bytes)
+  pub length-over : length (over offset bytes old) ≡ max (length old) (offset + length bytes)
   length-over = omega (
     arith,
     length-append (resized offset old ++ bytes) (drop (offset + length bytes) old),
@@ -29,7 +29,7 @@ module _ (offset : ℕ) (bytes old : List ℕ) where
   front : length (resized offset old ++ bytes) ≡ offset + length bytes
   front = omega (arith, length-append (resized offset old) bytes, length-resized offset old)
 
-  below-over : (k : ℕ) → k < offset → get_or (over offset bytes old) k 0 ≡ get_or old k 0
+  pub below-over : (k : ℕ) → k < offset → get_or (over offset bytes old) k 0 ≡ get_or old k 0
   below-over k low =
       get_or_append_left (resized offset old ++ bytes) (drop (offset + length bytes) old) 0 k (omega (arith, front))
       ∙ get_or_append_left (resized offset old) bytes 0 k (omega (arith, length-resized offset old)) ∙ at-resized offset old k low
@@ -48,7 +48,7 @@ module _ (offset : ℕ) (bytes old : List ℕ) where
 abbrev part : ℕ → ℕ → List ℕ → List ℕ
 part size start b = take size (drop start b)
 
-length-part : (size start : ℕ) (b : List ℕ) → length (part size start b) ≡ min size (length b - start)
+pub length-part : (size start : ℕ) (b : List ℕ) → length (part size start b) ≡ min size (length b - start)
 length-part size start b = omega (arith, length-take size (drop start b), length-drop start b)
 
 at-part : (size start : ℕ) (b : List ℕ) (k : ℕ) → k < size → get_or (part size start b) k 0 ≡ get_or b (start + k) 0

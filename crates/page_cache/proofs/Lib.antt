@@ -5,3 +5,11 @@ pub mod Fresh
 pub mod Bytes
 pub mod Showing
 pub mod Changed
+pub mod PageOrder
+pub mod SortedSlots
+pub mod Runs
+pub mod Dropping
+pub mod Changing
+pub mod Full
+pub mod Bounds
+pub mod Parts

@@ -1,15 +1,14 @@
 -- What holds of the slots goes on holding, and what they show, after each thing that is done to them.
-use Rattle.std.proofs.Common.{◌≡◌, ◌≢◌, ◌<◌, ◌≤◌, ℕ, ◌+◌, ◌-◌, suc, Bool, true, false, nat_eq, inl, inr, List, [], ◌∷◌, ◌++◌, length, take, map, set, get_or, Option, Some, None, is_some, if◌then◌else◌, refl, sym, ap, ◌∙◌, subst, arith, length-append, append-nil}
-use Rattle.std.proofs.lemmas.List.{get_or-set_other, get_or-set_same, take_all, length-set, set-get_or}
+use Rattle.std.proofs.Common.{◌≡◌, ◌≢◌, ◌<◌, ◌≤◌, ℕ, ◌+◌, ◌-◌, suc, true, false, nat_eq, inl, inr, List, [], ◌∷◌, ◌++◌, length, take, set, get_or, Option, Some, None, refl, sym, ap, ◌∙◌, subst, arith, length-append, append-nil}
+use Rattle.std.proofs.lemmas.List.{get_or-set_other, get_or-set_same, take_all, length-set}
 use Rattle.std.proofs.lemmas.Bool.{cases_eq}
-use Rattle.std.specs.Option.{option_map_or}
 use Rattle.std.specs.Map.{lookup_entry, remove_entry}
 use Rattle.lru.specs.LruCache.{promoted, demoted, last_entry}
 use Rattle.page_cache.specs.declared.place.PagePlace.{PagePlace}
-use Rattle.page_cache.specs.Pages.{is_place, without_file, changed_page, fronted}
-use Rattle.page_cache.specs.Slots.{shown, changed_bytes, holds_page, index_in, Lacks, AreApart, IsSlotFor, IsSound}
+use Rattle.page_cache.specs.Pages.{is_place, fronted}
+use Rattle.page_cache.specs.Slots.{shown, holds_page, Lacks, AreApart, IsSlotFor, IsSound}
 use Rattle.page_cache.proofs.Orders.{rest_of, lookup-slot, lookup-none, length-rest, last-more, lacks-whole, lacks-parts, apart-lacks, apart-rest, apart-back, last-rest, last-set, last-back}
-use Rattle.page_cache.proofs.Shown.{held-place, holds-same, shown-held, shown-bytes, most-shown, shown-append, shown-rest, shown-last, shown-none, others-rest, others-all, shown-changed}
+use Rattle.page_cache.proofs.Shown.{held-place, holds-same, shown-held, shown-bytes, most-shown, shown-append, shown-rest, shown-last, shown-none}
 
 module _ {V : Type 0} (count : ℕ) (order : List (ℕ × V)) (held : List (Option PagePlace)) (pages : List (List ℕ)) (sound : IsSound count order held pages) where
   -- a slot stands in the order
@@ -113,7 +112,7 @@ module _ {V : Type 0} (count : ℕ) (order : List (ℕ × V)) (held : List (Opti
             | inr n ↦ sym (get_or-set_other held slot k None None n) ∙ h
           ]
 
-      sound-back : IsSound count (demoted (nat_eq slot) order) freed pages
+      pub sound-back : IsSound count (demoted (nat_eq slot) order) freed pages
       sound-back = rw demoted-is (record {
         apart = apart-back count it rest (rw at-slot low) (apart-rest count slot order sound.apart) lacks-it;
         every = every-back;
@@ -124,7 +123,7 @@ module _ {V : Type 0} (count : ℕ) (order : List (ℕ × V)) (held : List (Opti
         free_last = last-back it rest freed (rw at-slot free-here) (last-set slot rest held None lacks (last-rest slot order held sound.free_last));
       })
 
-      shown-back : shown (demoted (nat_eq slot) order) freed pages ≡ shown rest held pages
+      pub shown-back : shown (demoted (nat_eq slot) order) freed pages ≡ shown rest held pages
       shown-back = rw demoted-is (shown-append freed pages rest (it ∷ []) ∙ rw (at-slot, free-here) (append-nil (shown rest freed pages)) ∙ shown-held slot rest held pages None lacks)
 
     -- the slot of the page itself
@@ -173,6 +172,12 @@ module _ {V : Type 0} (order : List (ℕ × V)) (held : List (Option PagePlace))
     | inr new ↦ low-last 1023 order held pages sound place bytes slot new.1.0 new.1.1 new.0
   ]
 
+  pub chosen-alone : (t : ℕ) → t < 1024 → get_or held t None ≡ Some place → t ≡ slot
+  chosen-alone t within holds = elim chosen [
+    | inl found ↦ alone-found 1024 order held pages sound slot found.0 place bytes (held-place place (get_or held slot None) found.1) t within holds
+    | inr new ↦ alone-last 1023 order held pages sound place bytes slot new.1.0 new.1.1 new.0 t within holds
+  ]
+
   pub sound-put : IsSound 1024 (promoted (nat_eq slot) order) (set held slot (Some place)) (set pages slot bytes)
   sound-put = elim chosen [
     | inl found ↦ sound-front 1024 order held pages sound slot found.0 place bytes
@@ -186,103 +191,3 @@ module _ {V : Type 0} (order : List (ℕ × V)) (held : List (Option PagePlace))
     | inl found ↦ front-found 1024 order held pages sound slot found.0 place bytes (held-place place (get_or held slot None) found.1)
     | inr new ↦ front-last 1023 order held pages sound place bytes slot new.1.0 new.1.1 new.0
   ]
-
--- dropping the pages of a file, slot by slot
-pub record Drops {V : Type 0} (file : List ℕ) (from : List (PagePlace × List ℕ)) (upto : ℕ) (order : List (ℕ × V)) (held : List (Option PagePlace)) (pages : List (List ℕ)) : Type 0 where
-  pub sound : IsSound 1024 order held pages
-  pub left : without_file file (shown order held pages) ≡ without_file file from
-  pub gone : (s : ℕ) → s < upto → is_some (index_in file (get_or held s None)) ≡ false
-
-module _ {V : Type 0} (file : List ℕ) (order : List (ℕ × V)) (held : List (Option PagePlace)) (pages : List (List ℕ)) where
-  pub drops-start : IsSound 1024 order held pages → Drops file (shown order held pages) 0 order held pages
-  drops-start sound = record { sound = sound; left = refl; gone = λ s low. absurd (omega arith) }
-
-  module _ (from : List (PagePlace × List ℕ)) (slot : ℕ) (low : slot < 1024) (d : Drops file from slot order held pages) where
-    pub drops-skip : is_some (index_in file (get_or held slot None)) ≡ false → Drops file from (slot + 1) order held pages
-    drops-skip not_its = record {
-      sound = d.sound;
-      left = d.left;
-      gone = λ s below. elim (cases_eq s slot) [
-        | inl e ↦ rw e not_its
-        | inr n ↦ d.gone s (omega arith)
-      ];
-    }
-
-    pub drops-one : is_some (index_in file (get_or held slot None)) ≡ true → Drops file from (slot + 1) (demoted (nat_eq slot) order) (set held slot None) pages
-    drops-one its = record {
-      sound = sound-back 1024 order held pages d.sound slot low;
-      left = ap (without_file file) (shown-back 1024 order held pages d.sound slot low) ∙ others-rest held pages file slot order its ∙ d.left;
-      gone = λ s below. elim (cases_eq s slot) [
-        | inl e ↦ rw (e, free-here 1024 order held pages d.sound slot low) refl
-        | inr n ↦ rw (get_or-set_other held slot s None None n) (d.gone s (omega arith))
-      ];
-    }
-
-    pub drops-step : Drops file from (slot + 1)
-        (if is_some (index_in file (get_or held slot None)) then demoted (nat_eq slot) order else order)
-        (if is_some (index_in file (get_or held slot None)) then set held slot None else held) pages
-    drops-step = by (is_some (index_in file (get_or held slot None))) refl
-      where
-        by : (b : Bool) → is_some (index_in file (get_or held slot None)) ≡ b
-            → Drops file from (slot + 1) (if b then demoted (nat_eq slot) order else order) (if b then set held slot None else held) pages
-        by true its = drops-one its
-        by false not_its = drops-skip not_its
-
-  pub drops-end : (from : List (PagePlace × List ℕ)) → Drops file from 1024 order held pages → shown order held pages ≡ without_file file from
-  drops-end from d = sym (others-all held pages 1024 file order d.sound.apart d.gone) ∙ d.left
-
--- changing the pages of a file, slot by slot
-pub record Changes (file : List ℕ) (change : ℕ → List ℕ → List ℕ) (held : List (Option PagePlace)) (before : List (List ℕ)) (upto : ℕ) (now : List (List ℕ)) : Type 0 where
-  pub same : length now ≡ length before
-  pub done : (s : ℕ) → s < upto → get_or now s [] ≡ changed_bytes file change (get_or held s None) (get_or before s [])
-  pub ahead : (s : ℕ) → upto ≤ s → get_or now s [] ≡ get_or before s []
-
-module _ (file : List ℕ) (change : ℕ → List ℕ → List ℕ) (held : List (Option PagePlace)) (before : List (List ℕ)) where
-  pub changes-start : Changes file change held before 0 before
-  changes-start = record { same = refl; done = λ s low. absurd (omega arith); ahead = λ s _. refl }
-
-  module _ (slot : ℕ) (now : List (List ℕ)) (c : Changes file change held before slot now) where
-    pub changes-skip : index_in file (get_or held slot None) ≡ None → Changes file change held before (slot + 1) now
-    changes-skip not_its = record {
-      same = c.same;
-      done = λ s below. elim (cases_eq s slot) [
-        | inl e ↦ rw (e, not_its) (c.ahead slot (omega arith))
-        | inr n ↦ c.done s (omega arith)
-      ];
-      ahead = λ s above. c.ahead s (omega arith);
-    }
-
-    pub changes-one : (index : ℕ) → slot < length before → index_in file (get_or held slot None) ≡ Some index
-        → Changes file change held before (slot + 1) (set now slot (change index (get_or now slot [])))
-    changes-one index low its = record {
-      same = length-set now slot _ ∙ c.same;
-      done = λ s below. elim (cases_eq s slot) [
-        | inl e ↦ rw (e, its, get_or-set_same now slot (change index (get_or now slot [])) [] (rw c.same low)) (ap (change index) (c.ahead slot (omega arith)))
-        | inr n ↦ rw (get_or-set_other now slot s (change index (get_or now slot [])) [] n) (c.done s (omega arith))
-      ];
-      ahead = λ s above. let n : s ≢ slot = (λ e. absurd (omega arith)) in
-          get_or-set_other now slot s (change index (get_or now slot [])) [] n ∙ c.ahead s (omega arith);
-    }
-
-    -- in one form
-    pub changes-step : slot < length before → Changes file change held before (slot + 1) (set now slot (changed_bytes file change (get_or held slot None) (get_or now slot [])))
-    changes-step low = by (index_in file (get_or held slot None)) refl
-      where
-        by : (o : Option ℕ) → index_in file (get_or held slot None) ≡ o → Changes file change held before (slot + 1) (set now slot (option_map_or (λ index. change index (get_or now slot [])) o (get_or now slot [])))
-        by None h = rw (set-get_or now slot []) (changes-skip h)
-        by (Some index) h = changes-one index low h
-
-  module _ {V : Type 0} (order : List (ℕ × V)) (now : List (List ℕ)) (sound : IsSound 1024 order held before) (c : Changes file change held before 1024 now) where
-    pub sound-changed : IsSound 1024 order held now
-    sound-changed = record {
-      apart = sound.apart;
-      every = sound.every;
-      all = sound.all;
-      holders = sound.holders;
-      bytes = c.same ∙ sound.bytes;
-      once = sound.once;
-      free_last = sound.free_last;
-    }
-
-    pub changes-end : shown order held now ≡ map (changed_page file change) (shown order held before)
-    changes-end = shown-changed held before 1024 file change now order sound.apart c.done

@@ -2,3 +2,5 @@ pub mod Bytes
 pub mod Pages
 pub mod Slots
 pub mod Ends
+pub mod Sorted
+pub mod Full

@@ -1,14 +1,15 @@
 //! The pages of files.
 
-ghost use Rattle.std.specs.Prelude.{◌≡◌, ◌≤◌, length, IfOk, OnOk, OnErr, None, Some, IsSome, List, ℕ, [], option_map};
+ghost use Rattle.std.specs.Prelude.{◌≡◌, ◌<◌, ◌≤◌, ◌/◌, length, IfOk, OnOk, OnErr, None, Some, List, ℕ, [], option_map};
 ghost use Rattle.std.specs.Borrow.{sem};
 ghost use Rattle.page_cache.specs.Bytes.{resized, put_at, page_at, put_page, cut_page};
-ghost use Rattle.page_cache.specs.Pages.{nothing_kept, state_of, known_of, mark_of, page_of, opened, keep_answer, after_keep, saw, wrote, cut, with_state};
+ghost use Rattle.page_cache.specs.Pages.{nothing_kept, state_of, known_of, mark_of, page_of, opened, keep_answer, after_keep, saw, wrote, cut};
 
+use crate::files::Files;
+use crate::page::Page;
 use crate::place::PagePlace;
 use crate::slots::Slots;
 use crate::state::{FileState, Keep, is_stamp};
-use indexmap::IndexMap;
 use nfs_types::{Handle, Stamp, Wcc};
 use std::alloc::Global;
 use std::marker::Model;
@@ -20,12 +21,13 @@ use xdr_codec::Memory;
 /// A file is known from its first `opened` on; for another one `stamp` and `mark` are None, `keep` answers Stale, and
 /// nothing else changes anything.
 ///
-/// `new` takes all memory but that of the table of files. `page` and `keep` look at up to 1,024 places of pages, which
-/// stand close together; so do `wrote`, `cut`, and the calls that drop pages. Bytes are touched of those pages alone that
-/// change. `stamp`, `mark` and `closed` look at no page.
+/// `new` takes all memory but that of the table of files. Kept pages stand in the order of their files and numbers. A page
+/// is found there by halving, in about ten comparisons; to keep a new one moves up to 1,024 slot numbers beside. To drop a
+/// file's pages looks at these alone. `wrote` and `cut` look at the pages that may change, as they say. `stamp`, `mark`
+/// and `closed` look at no page.
 #[derive(Drop)]
 pub struct PageCache {
-    files: IndexMap<Handle, FileState>,
+    files: Files,
     slots: Slots,
 }
 
@@ -34,7 +36,11 @@ impl Model for PageCache {
 
     ghost Value = { Pages };
 
-    ghost view = { λ c. record { files = c.files.entries; pages = c.slots } };
+    ghost use Rattle.page_cache.specs.Full.{states_of, full_below_of, AreFull};
+
+    ghost view = { λ c. record { files = states_of c.files; pages = c.slots } };
+
+    ghost invariant = { λ c. AreFull (full_below_of c.files) c.slots };
 }
 
 impl PageCache {
@@ -49,21 +55,20 @@ impl PageCache {
         ensures { IfOk result (λ c. c ≡ nothing_kept) }
     {
         Ok(PageCache {
-            files: IndexMap::new(alloc),
+            files: Files::new(alloc),
             slots: Slots::new(alloc)?,
         })
     }
 
     /// A file was opened in the state of `stamp`, in an operation that began at the moment `mark`. Its pages are dropped
     /// exactly where another stamp is known, or none. Then the stamp is known and the mark is kept, unless it is below the
-    /// file's. After want of memory, which comes at a file that wasn't known alone, nothing is changed. Where pages are
-    /// dropped it looks at 1,024 places of pages, else at none.
+    /// file's. After want of memory, which comes at a file that wasn't known alone, nothing is changed.
     pub fn opened(&mut self, file: &Handle, stamp: &Stamp, mark: u64) -> Result<(), Memory>
         ensures ok { OnOk result (self.new ≡ opened file.now stamp.now mark self.old) }
         ensures err { OnErr result (self.new ≡ self.old) }
         ensures unknown { OnErr result (state_of file.now self.old ≡ None) }
     {
-        let (same, mark) = match self.files.get(file) {
+        let (same, mark) = match self.files.state(file) {
             Some(state) => (is_stamp(stamp, state.known), state.mark.max(mark)),
             None => (false, mark),
         };
@@ -71,8 +76,11 @@ impl PageCache {
             known: Some(*stamp),
             mark,
         };
-        self.files.insert(*file, state)?;
-        if !same {
+        if same {
+            let full_below = self.files.full_below(file);
+            self.files.put(file, state, full_below)?;
+        } else {
+            self.files.put(file, state, u64::MAX)?;
             self.slots.drop_file(file);
         }
         Ok(())
@@ -83,7 +91,7 @@ impl PageCache {
     pub fn stamp(&self, file: &Handle) -> Option<Stamp>
         ensures { result ≡ known_of file.now self.now }
     {
-        self.files.get(file)?.known
+        self.files.state(file)?.known
     }
 
     /// The file's mark: a reply to a call that was made at this moment or before tells nothing of the file. None exactly
@@ -91,11 +99,11 @@ impl PageCache {
     pub fn mark(&self, file: &Handle) -> Option<u64>
         ensures { result ≡ mark_of file.now self.now }
     {
-        Some(self.files.get(file)?.mark)
+        Some(self.files.state(file)?.mark)
     }
 
     /// Shows a page of a file, and moves it to the front; None exactly where it isn't kept. The page begins at 4,096
-    /// times `index` in the file. It looks at up to 1,024 places of pages.
+    /// times `index` in the file.
     pub fn page(&mut self, file: &Handle, index: u64) -> Option<&[u8]>
         ensures* ends { sem 𝓛 (ends_with self.entry (after_page file.now index self.old)) }
         ensures gives { option_map (λ bytes. bytes.now) result ≡ page_of file.now index self.old }
@@ -104,8 +112,7 @@ impl PageCache {
     }
 
     /// Offers a page that a reply told, with the state of the file in it; `sent` is the moment at which the call was
-    /// made. The bytes are the whole page, or end where the file does. Where it is kept, up to 1,024 places of pages are
-    /// looked at.
+    /// made. The bytes are the whole page, or end where the file does.
     pub fn keep(
         &mut self,
         file: &Handle,
@@ -118,8 +125,8 @@ impl PageCache {
         ensures answer { result ≡ keep_answer file.now stamp.now sent self.old }
         ensures after { self.new ≡ after_keep result stamp.now (record { file = file.now; index = index }) bytes.now self.old }
     {
-        let state = match self.files.get(file) {
-            Some(state) => *state,
+        let state = match self.files.state(file) {
+            Some(state) => state,
             None => return Keep::Stale,
         };
         if sent <= state.mark {
@@ -128,70 +135,100 @@ impl PageCache {
         if !state.takes(stamp) {
             return Keep::Differs;
         }
-        self.set_state(file, Some(*stamp), state.mark);
+        let full_below = full_with(self.files.full_below(file), index, bytes);
+        let known = FileState {
+            known: Some(*stamp),
+            mark: state.mark,
+        };
+        self.files.change(file, known, full_below);
         let place = PagePlace { file: *file, index };
         self.slots.put_in_front(place, bytes);
         Keep::Kept
     }
 
     /// A reply showed the state of a file; `sent` is the moment at which the call was made. Nothing changes where that is
-    /// at or below the mark, or the stamp is the known one. Else the file's pages are dropped, and the stamp is known;
-    /// 1,024 places of pages are looked at then.
+    /// at or below the mark, or the stamp is the known one. Else the file's pages are dropped, and the stamp is known.
     pub fn saw(&mut self, file: &Handle, stamp: &Stamp, sent: u64)
         ensures { self.new ≡ saw file.now stamp.now sent self.old }
     {
-        let state = match self.files.get(file) {
-            Some(state) => *state,
+        let state = match self.files.state(file) {
+            Some(state) => state,
             None => return,
         };
         if sent <= state.mark || is_stamp(stamp, state.known) {
             return;
         }
         self.slots.drop_file(file);
-        self.set_state(file, Some(*stamp), state.mark);
+        let known = FileState {
+            known: Some(*stamp),
+            mark: state.mark,
+        };
+        self.files.change(file, known, u64::MAX);
     }
 
     /// The client's own WRITE put these bytes at this offset; `wcc` tells the file's state before and after it. Where the
     /// first is the known one and the second is there, each kept page becomes that page of the file so written, and the
-    /// second is known. Else the file's pages are dropped, and no state is known. The mark is `moment` then. It looks at
-    /// 1,024 places of pages.
+    /// second is known. Else the file's pages are dropped, and no state is known. The mark is `moment` then.
+    ///
+    /// The pages that are looked at are those from the first one written to the last, and those before it from the first one
+    /// on that may be short of 4,096 bytes: in a file that is read and written in order there is none.
     pub fn wrote(&mut self, file: &Handle, wcc: &Wcc, offset: u64, bytes: &[u8], moment: u64)
         ensures after { self.new ≡ wrote file.now wcc.now offset bytes.now moment self.old }
         ensures of_the_file { (index : ℕ) (old : List ℕ) → put_page index offset bytes.now (page_at index old) ≡ page_at index (put_at offset bytes.now old) }
     {
-        let state = match self.files.get(file) {
-            Some(state) => *state,
+        let state = match self.files.state(file) {
+            Some(state) => state,
             None => return,
         };
         match state.after(wcc) {
             Some(known) => {
-                self.slots.write_file(file, offset, bytes);
-                self.set_state(file, Some(known), moment);
+                let full_below = self.files.full_below(file);
+                self.slots.write_file(file, full_below, offset, bytes);
+                let known = FileState {
+                    known: Some(known),
+                    mark: moment,
+                };
+                let full_below = full_after(full_below, offset, bytes);
+                self.files.change(file, known, full_below);
             }
             None => {
                 self.slots.drop_file(file);
-                self.set_state(file, None, moment);
+                let unknown = FileState {
+                    known: None,
+                    mark: moment,
+                };
+                self.files.change(file, unknown, u64::MAX);
             }
         }
     }
 
-    /// The client's own SETATTR gave the file this size. Else as `wrote`.
+    /// The client's own SETATTR gave the file this size. Else as `wrote`. The pages that are looked at are those from the one
+    /// in which the file ends then, and those before it from the first one on that may be short of 4,096 bytes.
     pub fn cut(&mut self, file: &Handle, wcc: &Wcc, size: u64, moment: u64)
         ensures after { self.new ≡ cut file.now wcc.now size moment self.old }
         ensures of_the_file { (index : ℕ) (old : List ℕ) → cut_page index size (page_at index old) ≡ page_at index (resized size old) }
     {
-        let state = match self.files.get(file) {
-            Some(state) => *state,
+        let state = match self.files.state(file) {
+            Some(state) => state,
             None => return,
         };
         match state.after(wcc) {
             Some(known) => {
-                self.slots.cut_file(file, size);
-                self.set_state(file, Some(known), moment);
+                let full_below = self.files.full_below(file);
+                self.slots.cut_file(file, full_below, size);
+                let known = FileState {
+                    known: Some(known),
+                    mark: moment,
+                };
+                self.files.change(file, known, Page::holding(size));
             }
             None => {
                 self.slots.drop_file(file);
-                self.set_state(file, None, moment);
+                let unknown = FileState {
+                    known: None,
+                    mark: moment,
+                };
+                self.files.change(file, unknown, u64::MAX);
             }
         }
     }
@@ -200,13 +237,29 @@ impl PageCache {
     pub fn closed(&mut self, _file: &Handle)
         ensures { self.new ≡ self.old }
     {}
+}
 
-    // The file is known already, so that its new state takes no memory.
-    fn set_state(&mut self, file: &Handle, known: Option<Stamp>, mark: u64)
-        requires { IsSome (state_of file.now self.old) }
-        ensures { self.new ≡ with_state file.now known mark self.old }
-    {
-        let _ = self.files.insert(*file, FileState { known, mark });
+/// Below which number a file's pages are whole once these bytes are kept as its page of this number.
+fn full_with(full_below: u64, index: u64, bytes: &[u8]) -> u64
+    requires { length bytes.now ≤ 4096 }
+    ensures bound { result ≤ full_below }
+    ensures page { index < result → length bytes.now ≡ 4096 }
+{
+    if bytes.len() < Page::SIZE {
+        full_below.min(index)
+    } else {
+        full_below
+    }
+}
+
+/// The same once these bytes were written at an offset: where there are any, the pages before them are whole then.
+fn full_after(full_below: u64, offset: u64, bytes: &[u8]) -> u64
+    ensures { (i : ℕ) → i < result → full_below ≤ i → (0 < length bytes.now) × (i < offset / 4096) }
+{
+    if bytes.is_empty() {
+        full_below
+    } else {
+        full_below.max(Page::holding(offset))
     }
 }
 

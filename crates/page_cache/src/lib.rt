@@ -9,10 +9,12 @@
 #![tactic(auto)]
 
 mod cache;
+mod files;
 mod page;
 mod place;
 mod places;
 mod slots;
+mod sorted;
 mod state;
 
 pub use cache::PageCache;

@@ -1,6 +1,7 @@
 //! The bytes of a page.
 
-ghost use Rattle.std.specs.Prelude.{◌≡◌, ◌≤◌, ◌+◌, [], length, nat_lt, if◌then◌else◌};
+ghost use Rattle.std.specs.Prelude.{◌≡◌, ◌≤◌, ◌+◌, ◌/◌, [], length, nat_lt, if◌then◌else◌};
+ghost use Rattle.std.specs.Int.{div_ceil};
 ghost use Rattle.std.specs.Option.{option_map_or};
 ghost use Rattle.page_cache.specs.Bytes.{resized, over, start_of, put_page, cut_page};
 
@@ -93,6 +94,20 @@ impl Page {
     {
         self.fill_up(at);
         self.lay(at, bytes);
+    }
+
+    /// The number of the page that holds the byte at an offset of the file.
+    pub(crate) fn holding(offset: u64) -> u64
+        ensures { result ≡ offset / 4096 }
+    {
+        offset / Page::SIZE as u64
+    }
+
+    /// The number of the first page that begins past these bytes at an offset of the file.
+    pub(crate) fn after(offset: u64, bytes: &[u8]) -> u64
+        ensures { result ≡ div_ceil (offset + length bytes.now) 4096 }
+    {
+        (u128::from(offset) + bytes.len() as u128).div_ceil(Page::SIZE as u128) as u64
     }
 
     /// Where the page of this number begins in the file.

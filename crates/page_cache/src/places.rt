@@ -1,29 +1,35 @@
 //! Which page of which file each slot holds.
 
-ghost use Rattle.std.specs.Prelude.{◌≡◌, ◌<◌, IfOk, None, get_or, set, replicate};
+ghost use Rattle.std.specs.Prelude.{◌≡◌, ◌≢◌, ◌<◌, ◌≤◌, ℕ, IfOk, IfSome, None, Some, get_or, set, replicate, map};
 ghost use Rattle.page_cache.specs.Slots.{holds_page, index_in, FindsPage};
+ghost use Rattle.page_cache.specs.Sorted.{freed, IsRun};
 
 use crate::place::PagePlace;
+use crate::sorted::{count_before, free_run, free_slot, give_slot, run_of};
 use nfs_types::Handle;
 use std::alloc::Global;
 use std::marker::Model;
 use xdr_codec::Memory;
 
-/// The page that each of 1,024 slots holds, if any.
+/// The page that each of 1,024 slots holds, if any. No two slots hold the same page.
 #[derive(Drop)]
 pub(crate) struct Places {
     by_slot: Vec<Option<PagePlace>>,
+    // The slots that hold pages, in the order of the pages. It has room for all, so that it never takes memory.
+    sorted: Vec<usize>,
 }
 
 impl Model for Places {
-    ghost use Rattle.std.specs.Prelude.{◌≡◌, List, Option, length};
+    ghost use Rattle.std.specs.Prelude.{◌≤◌, List, Option};
+    ghost use Rattle.std.specs.Vec.{vec_capacity};
     ghost use Rattle.page_cache.specs.declared.place.PagePlace.{PagePlace};
+    ghost use Rattle.page_cache.specs.Sorted.{IsSorted};
 
     ghost Value = { List (Option PagePlace) };
 
     ghost view = { λ p. p.by_slot.items };
 
-    ghost invariant = { λ p. length p.by_slot.items ≡ 1024 };
+    ghost invariant = { λ p. IsSorted p.by_slot.items p.sorted.items × (1024 ≤ vec_capacity p.sorted) };
 }
 
 impl Places {
@@ -36,19 +42,23 @@ impl Places {
     {
         let mut by_slot = Vec::new(alloc);
         by_slot.resize(Places::SLOTS, None)?;
-        Ok(Places { by_slot })
+        Ok(Places {
+            by_slot,
+            sorted: Vec::with_capacity(alloc, Places::SLOTS)?,
+        })
     }
 
     /// The slot that holds a page; None exactly where none does.
     pub(crate) fn find(&self, file: &Handle, index: u64) -> Option<usize>
         ensures { FindsPage file.now index self.now result }
     {
-        for slot in 0..Places::SLOTS {
-            if self.holds(slot, file, index) {
-                return Some(slot);
-            }
+        let at = count_before(&self.by_slot, &self.sorted, file, Some(index));
+        let slot = *self.sorted.get(at)?;
+        if self.holds(slot, file, index) {
+            Some(slot)
+        } else {
+            None
         }
-        None
     }
 
     fn holds(&self, slot: usize, file: &Handle, index: u64) -> bool
@@ -59,6 +69,16 @@ impl Places {
             Some(place) => place.index == index && place.file == *file,
             None => false,
         }
+    }
+
+    /// The slots that hold pages of a file with numbers from `low` on and below `high`, in the order of the pages. None is
+    /// above all numbers.
+    pub(crate) fn slots_of(&self, file: &Handle, low: u64, high: Option<u64>) -> &[usize]
+        requires { IfSome high (λ h. low ≤ h) }
+        ensures { IsRun file.now low high self.now result.now }
+    {
+        let (from, to) = run_of(&self.by_slot, &self.sorted, file, low, high);
+        &self.sorted[from..to]
     }
 
     /// The number of the page of a file that a slot holds; None where it holds none of the file.
@@ -74,11 +94,20 @@ impl Places {
         }
     }
 
-    /// A slot holds this page from now on, or none.
-    pub(crate) fn set(&mut self, slot: usize, place: Option<PagePlace>)
-        requires { slot < 1024 }
-        ensures { self.new ≡ set self.old slot place }
+    /// A slot holds this page from now on, which no other slot holds.
+    pub(crate) fn hold(&mut self, slot: usize, place: PagePlace)
+        requires low { slot < 1024 }
+        requires alone { (t : ℕ) → t < 1024 → get_or self.old t None ≡ Some place → t ≡ slot }
+        ensures { self.new ≡ set self.old slot (Some place) }
     {
-        self.by_slot[slot] = place;
+        free_slot(&mut self.by_slot, &mut self.sorted, slot);
+        give_slot(&mut self.by_slot, &mut self.sorted, slot, place);
+    }
+
+    /// Each slot that holds a page of a file is free from now on.
+    pub(crate) fn free_file(&mut self, file: &Handle)
+        ensures { self.new ≡ map (freed file.now) self.old }
+    {
+        free_run(&mut self.by_slot, &mut self.sorted, file);
     }
 }

@@ -1,12 +1,13 @@
 //! Pages in slots, by their last use.
 
-ghost use Rattle.std.specs.Prelude.{◌≡◌, ◌≤◌, ◌<◌, ℕ, [], length, get_or, map, is_some, nat_eq, if◌then◌else◌, set, option_map, IfOk, None};
+ghost use Rattle.std.specs.Prelude.{◌≡◌, ◌≤◌, ◌<◌, [], length, map, option_map, IfOk};
 ghost use Rattle.std.specs.Borrow.{sem};
 ghost use Rattle.std.specs.Map.{lookup};
-ghost use Rattle.lru.specs.LruCache.{promoted, demoted, lru_cache};
+ghost use Rattle.lru.specs.LruCache.{promoted};
 ghost use Rattle.page_cache.specs.Bytes.{put_page, cut_page};
 ghost use Rattle.page_cache.specs.Pages.{is_place, fronted, without_file, changed_page};
-ghost use Rattle.page_cache.specs.Slots.{AreAll, IsSlotFor, index_in};
+ghost use Rattle.page_cache.specs.Slots.{AreAll, IsSlotFor};
+ghost use Rattle.page_cache.specs.Full.{FullBelow};
 
 use crate::page::Page;
 use crate::place::PagePlace;
@@ -71,7 +72,7 @@ impl Slots {
         ensures { self.new ≡ fronted place bytes.now self.old }
     {
         let slot = slot_for(&self.places, &self.order, &place);
-        self.places.set(slot, Some(place));
+        self.places.hold(slot, place);
         self.pages[slot].put(bytes);
         self.order.promote(&slot);
     }
@@ -80,41 +81,40 @@ impl Slots {
     pub(crate) fn drop_file(&mut self, file: &Handle)
         ensures { self.new ≡ without_file file.now self.old }
     {
-        for slot in 0..Places::SLOTS {
-            free_if_of(&mut self.order, &mut self.places, slot, file);
+        let run = self.places.slots_of(file, 0, None);
+        for slot in run {
+            self.order.demote(slot);
         }
+        self.places.free_file(file);
     }
 
-    /// Changes each page of a file as a WRITE of these bytes at this offset does.
-    pub(crate) fn write_file(&mut self, file: &Handle, offset: u64, bytes: &[u8])
+    /// Changes each page of a file as a WRITE of these bytes at this offset does. Pages below `full_below` are whole. It
+    /// looks at the pages from there, or from the first one written, up to the last one written.
+    pub(crate) fn write_file(&mut self, file: &Handle, full_below: u64, offset: u64, bytes: &[u8])
+        requires { FullBelow file.now full_below self.old }
         ensures { self.new ≡ map (changed_page file.now (λ index. put_page index offset bytes.now)) self.old }
     {
-        for slot in 0..Places::SLOTS {
-            let index = self.places.index_in(slot, file);
-            self.pages[slot].write_at(index, offset, bytes);
+        let low = full_below.min(Page::holding(offset));
+        let high = Page::after(offset, bytes);
+        let run = self.places.slots_of(file, low, Some(high));
+        for slot in run {
+            let index = self.places.index_in(*slot, file);
+            self.pages[*slot].write_at(index, offset, bytes);
         }
     }
 
-    /// Changes each page of a file as a new size does.
-    pub(crate) fn cut_file(&mut self, file: &Handle, size: u64)
+    /// Changes each page of a file as a new size does. Pages below `full_below` are whole. It looks at the pages from there,
+    /// or from the one in which the file ends.
+    pub(crate) fn cut_file(&mut self, file: &Handle, full_below: u64, size: u64)
+        requires { FullBelow file.now full_below self.old }
         ensures { self.new ≡ map (changed_page file.now (λ index. cut_page index size)) self.old }
     {
-        for slot in 0..Places::SLOTS {
-            let index = self.places.index_in(slot, file);
-            self.pages[slot].cut_at(index, size);
+        let low = full_below.min(Page::holding(size));
+        let run = self.places.slots_of(file, low, None);
+        for slot in run {
+            let index = self.places.index_in(*slot, file);
+            self.pages[*slot].cut_at(index, size);
         }
-    }
-}
-
-/// Frees a slot that holds a page of a file, and moves it to the end.
-fn free_if_of(order: &mut LruCache<usize, ()>, places: &mut Places, slot: usize, file: &Handle)
-    requires { slot < 1024 }
-    ensures order { order.new.entries ≡ (if is_some (index_in file.now (get_or places.old slot None)) then demoted (nat_eq slot) order.old.entries else order.old.entries) }
-    ensures places { places.new ≡ (if is_some (index_in file.now (get_or places.old slot None)) then set places.old slot None else places.old) }
-{
-    if places.index_in(slot, file).is_some() {
-        places.set(slot, None);
-        order.demote(&slot);
     }
 }
 

@@ -104,6 +104,21 @@ fn pages_follow_the_clients_own_changes(rt: HostRuntime) -> Result<(), Fail> {
 }
 
 #[test]
+fn a_short_page_before_a_write_is_filled_with_zeros(rt: HostRuntime) -> Result<(), Fail> {
+    let mut cache = PageCache::new(rt.alloc())?;
+    let file = file(1)?;
+    cache.opened(&file, &stamp(2), 5)?;
+    cache.keep(&file, &stamp(2), 0, b"hi", 6);
+    cache.wrote(&file, &wcc(2, 8_195), 8_192, b"yo!", 7);
+    let filled = match cache.page(&file, 0) {
+        Some(kept) => kept.len() == 4_096 && kept.starts_with(b"hi\0\0\0"),
+        None => false,
+    };
+    assert!(rt; filled);
+    Ok(())
+}
+
+#[test]
 fn a_new_state_of_the_file_drops_its_pages_alone(rt: HostRuntime) -> Result<(), Fail> {
     let mut cache = PageCache::new(rt.alloc())?;
     let (one, other) = (file(1)?, file(2)?);

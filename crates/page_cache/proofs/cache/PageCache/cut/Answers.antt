@@ -1,9 +1,20 @@
-use Rattle.std.proofs.Common.{◌∙◌, Some, ap}
 use Rattle.page_cache.specs.Bytes.{cut_page}
-use Rattle.page_cache.specs.Pages.{with_state}
+use Rattle.page_cache.specs.Full.{states_of, full_below_of}
 use Rattle.page_cache.proofs.Bytes.{page-cut}
-use Rattle.page_cache.proofs.Changed.{changed-is}
+use Rattle.page_cache.proofs.Bounds.{full-below, full-cut, full-dropped}
+use Rattle.page_cache.proofs.Changed.{changed-now}
 use Rattle.page_cache.proofs.cache.PageCache.cut.Goals as goal
+
+pub cut_file-requires : goal.cut_file-requires
+cut_file-requires c = rw c.full_below-full_below.ensures (full-below (full_below_of c.self.inside.files) c.args.file.now c.self.inside.slots c.self.invariant)
+
+pub invariant_of-self : goal.invariant_of-self
+invariant_of-self c = rw c.cut_file.ensures
+    (full-cut (full_below_of c.self.inside.files) (full_below_of c.change.new.self) c.args.file.now c.holding.result c.change.ensures.bound c.args.size c.self.inside.slots c.holding.ensures c.self.invariant)
+
+pub invariant_of-self-in-None-after : goal.invariant_of-self-in-None-after
+invariant_of-self-in-None-after c = rw c.drop_file.ensures
+    (full-dropped (full_below_of c.self.inside.files) (full_below_of c.change-in-None-after.new.self) c.args.file.now _ c.change-in-None-after.ensures.bound c.self.inside.slots c.self.invariant)
 
 pub returns-in-None-clause-of_the_file : goal.returns-in-None-clause-of_the_file
 returns-in-None-clause-of_the_file c = λ index old. page-cut index c.args.size old
@@ -15,7 +26,6 @@ pub returns-in-None-after-clause-of_the_file : goal.returns-in-None-after-clause
 returns-in-None-after-clause-of_the_file c = λ index old. page-cut index c.args.size old
 
 pub returns-in-Some-after-clause-after : goal.returns-in-Some-after-clause-after
-returns-in-Some-after-clause-after c = rw (← c.self.view_is) (c.set_state.ensures
-    ∙ ap (λ pages. with_state c.args.file.now (Some c.in-Some-after.known) c.args.moment (record { files = c.self.inside.files.entries; pages = pages })) c.cut_file.ensures
-    ∙ changed-is c.args.file.now c.args.wcc.now (λ index. cut_page index c.args.size) c.args.moment (record { files = c.self.inside.files.entries; pages = c.self.inside.slots }) c.in-Some.state.now
-    c.in-Some-after.known c.in-Some.ensures.value c.in-Some-after.ensures)
+returns-in-Some-after-clause-after c = rw (← c.self.view_is)
+    (changed-now c.args.file.now c.args.wcc.now (λ index. cut_page index c.args.size) c.args.moment (states_of c.self.inside.files) (states_of c.change.new.self) c.self.inside.slots c.cut_file.new.self
+    c.in-Some.state c.in-Some-after.known c.in-Some.ensures c.in-Some-after.ensures c.change.ensures.known c.cut_file.ensures)

@@ -1,5 +1,6 @@
 use Rattle.std.proofs.Common.{◌≡◌, ℕ, zero, suc, ◌-◌, List, [], ◌++◌, take, replicate, Option, None, refl, ap, ◌∙◌, arith}
 use Rattle.page_cache.specs.declared.place.PagePlace.{PagePlace}
+use Rattle.page_cache.proofs.SortedSlots.{sorted-none}
 use Rattle.page_cache.proofs.places.Places.new.Goals as goal
 
 nothing : (n : ℕ) → take {A = Option PagePlace} n [] ≡ []
@@ -12,3 +13,10 @@ filled n m old now none zero_long is =
 
 pub returns : goal.returns
 returns c = filled 1024 _ c.new-by_slot.result.items c.resize.new.self.items c.new-by_slot.ensures.items c.new-by_slot.ensures.len c.in_ok-resize.ensures.items
+
+pub invariant_of-result : goal.invariant_of-result
+invariant_of-result c = (
+  rw c.in_ok-with_capacity.ensures.items (sorted-none c.resize.new.self.items
+      (filled 1024 _ c.new-by_slot.result.items c.resize.new.self.items c.new-by_slot.ensures.items c.new-by_slot.ensures.len c.in_ok-resize.ensures.items)),
+  omega (arith, c.in_ok-with_capacity.ensures.capacity),
+)

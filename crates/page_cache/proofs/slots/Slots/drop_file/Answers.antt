@@ -1,15 +1,22 @@
-use Rattle.std.proofs.Common.{◌≡◌, subst, arith}
-use Rattle.page_cache.proofs.Sound.{Drops, drops-step, drops-end}
-use Rattle.page_cache.specs.Slots.{shown}
+use Rattle.std.proofs.Common.{arith}
+use Rattle.page_cache.proofs.Parts.{front, others}
+use Rattle.page_cache.proofs.Dropping.{drops-start, drops-step, sound-dropped, drops-end}
 use Rattle.page_cache.proofs.slots.Slots.drop_file.Goals as goal
 
+pub loop-slot-init : goal.loop-slot-init
+loop-slot-init c = drops-start c.args.file.now c.self.inside.places c.self.inside.pages.items c.slots_of-run.result.now c.self.inside.order.entries c.self.invariant
+
 pub loop-slot-preserved : goal.loop-slot-preserved
-loop-slot-preserved c = rw (c.free_if_of.ensures.order, c.free_if_of.ensures.places)
-    (drops-step c.args.file.now c.loop-slot.self-inside.order.entries c.loop-slot.self-inside.places c.loop-slot.self-inside.pages.items _ c.loop-slot.slot c.loop-slot-test.true c.loop-slot.invariant)
+loop-slot-preserved c = rw c.demote.ensures.entries
+    (drops-step c.args.file.now c.self.inside.places c.self.inside.pages.items c.slots_of-run.result.now c.slots_of-run.ensures c.self.inside.order.entries (front (others c.loop-slot.self-inside)).entries
+    c.loop-slot.slot-index c.loop-slot-test.true c.loop-slot.invariant)
+
+pub invariant_of-self : goal.invariant_of-self
+invariant_of-self c = rw c.free_file.ensures
+    (sound-dropped c.args.file.now c.self.inside.places c.self.inside.pages.items c.slots_of-run.result.now c.slots_of-run.ensures c.self.invariant.holders c.self.inside.order.entries
+    (front (others c.loop-slot.self-inside)).entries c.loop-slot.slot-index (omega (arith, c.loop-slot-test.false)) c.loop-slot.invariant)
 
 pub returns : goal.returns
-returns c =
-    let whole : c.loop-slot.slot ≡ 1024 = omega (arith, c.loop-slot-test.false, c.loop-slot.auto.slot-end) in
-    rw (← c.self.view_is) (drops-end c.args.file.now c.loop-slot.self-inside.order.entries c.loop-slot.self-inside.places c.loop-slot.self-inside.pages.items
-    (shown c.self.inside.order.entries c.self.inside.places c.self.inside.pages.items)
-    (subst (λ n. Drops c.args.file.now (shown c.self.inside.order.entries c.self.inside.places c.self.inside.pages.items) n c.loop-slot.self-inside.order.entries c.loop-slot.self-inside.places c.loop-slot.self-inside.pages.items) whole c.loop-slot.invariant))
+returns c = rw (c.free_file.ensures, ← c.self.view_is)
+    (drops-end c.args.file.now c.self.inside.places c.self.inside.pages.items c.slots_of-run.result.now c.slots_of-run.ensures c.self.invariant.holders c.self.inside.order.entries
+    (front (others c.loop-slot.self-inside)).entries c.loop-slot.slot-index (omega (arith, c.loop-slot-test.false)) c.loop-slot.invariant)

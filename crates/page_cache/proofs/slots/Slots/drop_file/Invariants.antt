@@ -1,8 +1,7 @@
-use Rattle.page_cache.specs.Slots.{shown}
-use Rattle.page_cache.proofs.Sound.{Drops}
+use Rattle.page_cache.proofs.Parts.{front, others}
+use Rattle.page_cache.proofs.Dropping.{Drops}
 use Rattle.page_cache.proofs.slots.Slots.drop_file.Given as goal
 
 abbrev pub invariant-loop-slot : goal.invariant-loop-slot
 invariant-loop-slot l =
-    Drops l.file (shown l.initial.self-inside.order.entries l.initial.self-inside.places l.initial.self-inside.pages.items) l.slot
-    l.self-inside.order.entries l.self-inside.places l.self-inside.pages.items
+    Drops l.file (front (others (others l.initial.self-inside))) (front (others (others (others l.initial.self-inside)))).items l.run (front (others l.initial.self-inside)).entries l.slot-index (front (others l.self-inside)).entries

@@ -1,16 +1,32 @@
-use Rattle.std.proofs.Common.{◌≡◌, subst, arith}
+use Rattle.std.proofs.Common.{◌∙◌, min, ap, Some, arith}
 use Rattle.page_cache.specs.Bytes.{put_page}
-use Rattle.page_cache.proofs.Sound.{Changes, sound-changed, changes-end}
+use Rattle.page_cache.proofs.Parts.{front, others}
+use Rattle.page_cache.proofs.Changing.{changes-start, changes-on, sound-changed, changes-end, outside-write}
 use Rattle.page_cache.proofs.slots.Slots.write_file.Goals as goal
 
+pub loop-slot-init : goal.loop-slot-init
+loop-slot-init c = changes-start c.args.file.now c.min-low.result (Some c.after-high.result) (λ index. put_page index c.args.offset c.args.bytes.now) c.self.inside.places c.self.inside.pages.items c.slots_of-run.result.now
+
+pub index_mut-requires : goal.index_mut-requires
+index_mut-requires c =
+    let low = c.slots_of-run.ensures.low_slots c.loop-slot.slot-index c.loop-slot-test.true in
+    omega (arith, low, c.loop-slot.invariant.same, c.self.invariant.bytes, (front (others (others (others c.loop-slot.self-inside)))).ok.0)
+
+pub loop-slot-preserved : goal.loop-slot-preserved
+loop-slot-preserved c = changes-on c.args.file.now c.min-low.result (Some c.after-high.result) (λ index. put_page index c.args.offset c.args.bytes.now) c.self.inside.places c.self.inside.pages.items c.slots_of-run.result.now c.slots_of-run.ensures
+    c.self.invariant.bytes c.loop-slot.slot-index c.loop-slot-test.true (front (others (others (others c.loop-slot.self-inside)))).items c.loop-slot.invariant
+    c.index_mut.result.now c.write_at.new.self c.index_in-index.result
+    c.index_in-index.ensures c.index_mut.ensures.value c.write_at.ensures
+
 pub invariant_of-self : goal.invariant_of-self
-invariant_of-self c =
-    let whole : c.loop-slot.slot ≡ 1024 = omega (arith, c.loop-slot-test.false, c.loop-slot.auto.slot-end) in
-    rw (c.loop-slot.invariant.0, c.loop-slot.invariant.1) (sound-changed c.args.file.now (λ index. put_page index c.args.offset c.args.bytes.now) c.self.inside.places c.self.inside.pages.items
-    c.self.inside.order.entries c.loop-slot.self-inside.pages.items c.self.invariant (subst (λ n. Changes c.args.file.now (λ index. put_page index c.args.offset c.args.bytes.now) c.self.inside.places c.self.inside.pages.items n c.loop-slot.self-inside.pages.items) whole c.loop-slot.invariant.2))
+invariant_of-self c = sound-changed c.args.file.now c.min-low.result (Some c.after-high.result) (λ index. put_page index c.args.offset c.args.bytes.now) c.self.inside.places c.self.inside.pages.items c.slots_of-run.result.now c.slots_of-run.ensures c.self.inside.order.entries
+    c.loop-slot.slot-index (omega (arith, c.loop-slot-test.false)) (front (others (others (others c.loop-slot.self-inside)))).items c.self.invariant c.loop-slot.invariant
+    (outside-write c.args.file.now c.args.full_below c.self.inside.order.entries c.self.inside.places c.self.inside.pages.items c.self.invariant (rw (← c.self.view_is) at c.requires)
+    c.min-low.result c.after-high.result c.args.offset c.args.bytes.now (c.min-low.ensures ∙ ap (min c.args.full_below) c.holding.ensures) c.after-high.ensures)
 
 pub returns : goal.returns
-returns c =
-    let whole : c.loop-slot.slot ≡ 1024 = omega (arith, c.loop-slot-test.false, c.loop-slot.auto.slot-end) in
-    rw (← c.self.view_is, c.loop-slot.invariant.0, c.loop-slot.invariant.1) (changes-end c.args.file.now (λ index. put_page index c.args.offset c.args.bytes.now) c.self.inside.places c.self.inside.pages.items
-    c.self.inside.order.entries c.loop-slot.self-inside.pages.items c.self.invariant (subst (λ n. Changes c.args.file.now (λ index. put_page index c.args.offset c.args.bytes.now) c.self.inside.places c.self.inside.pages.items n c.loop-slot.self-inside.pages.items) whole c.loop-slot.invariant.2))
+returns c = rw (← c.self.view_is)
+    (changes-end c.args.file.now c.min-low.result (Some c.after-high.result) (λ index. put_page index c.args.offset c.args.bytes.now) c.self.inside.places c.self.inside.pages.items c.slots_of-run.result.now c.slots_of-run.ensures c.self.inside.order.entries
+    c.loop-slot.slot-index (omega (arith, c.loop-slot-test.false)) (front (others (others (others c.loop-slot.self-inside)))).items c.self.invariant c.loop-slot.invariant
+    (outside-write c.args.file.now c.args.full_below c.self.inside.order.entries c.self.inside.places c.self.inside.pages.items c.self.invariant (rw (← c.self.view_is) at c.requires)
+    c.min-low.result c.after-high.result c.args.offset c.args.bytes.now (c.min-low.ensures ∙ ap (min c.args.full_below) c.holding.ensures) c.after-high.ensures))
