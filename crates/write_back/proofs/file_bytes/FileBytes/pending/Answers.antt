@@ -1,0 +1,6 @@
+use Rattle.std.proofs.Common.{arith}
+use Rattle.write_back.proofs.Limits.{most_is}
+use Rattle.write_back.proofs.file_bytes.FileBytes.pending.Goals as goal
+
+pub overflow_add-result : goal.overflow_add-result
+overflow_add-result c = omega (arith, most_is, c.self.invariant.sound.room, c.self.invariant.flying, c.own.ensures)

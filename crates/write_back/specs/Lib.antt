@@ -1,0 +1,13 @@
+pub mod States
+pub mod Segments
+pub mod Changes
+pub mod Pieces
+pub mod Choice
+pub mod Places
+pub mod Sound
+pub mod Files
+pub mod Ends
+pub mod Effects
+pub mod Walk
+pub mod Landing
+pub mod Ages

@@ -1,0 +1,103 @@
+//! Bytes of a file that stand next to each other and came by one write.
+
+ghost use Rattle.std.specs.Prelude.{◌≡◌, ◌^◌, ◌<◌, ◌≤◌, length, IfOk};
+ghost use Rattle.write_back.specs.Segments.{head_of, tail_of, with_state, own_size};
+
+use crate::state::State;
+use std::alloc::Global;
+use std::marker::Model;
+use xdr_codec::Memory;
+
+/// Bytes of a file that stand next to each other and came by one write.
+#[derive(Debug, Drop)]
+pub struct Segment {
+    bytes: Vec<u8>,
+    number: u64,
+    state: State,
+}
+
+impl Model for Segment {
+    ghost use Rattle.write_back.specs.Segments.{Segment};
+
+    ghost Value = { Segment };
+
+    ghost view = { λ s. record { bytes = s.bytes.items; number = s.number; state = s.state } };
+}
+
+impl Segment {
+    /// A copy of these bytes, with the number of their write and what became of them.
+    pub fn copy(alloc: Global, bytes: &[u8], number: u64, state: State) -> Result<Segment, Memory>
+        ensures { IfOk result (λ s. s ≡ record { bytes = bytes.now; number = number; state = state }) }
+    {
+        let mut own = Vec::new(alloc);
+        own.extend_from_slice(bytes)?;
+        Ok(Segment {
+            bytes: own,
+            number,
+            state,
+        })
+    }
+
+    /// Its bytes.
+    pub fn bytes(&self) -> &[u8]
+        ensures { result.now ≡ self.now.bytes }
+    {
+        self.bytes.as_slice()
+    }
+
+    /// How many bytes it has.
+    pub fn len(&self) -> u64
+        ensures len { result ≡ length self.now.bytes }
+        ensures small { result < 2 ^ 63 }
+    {
+        self.bytes.len() as u64
+    }
+
+    /// How many of its bytes count for themselves: those in flight count with their piece.
+    pub fn own_len(&self) -> u64
+        ensures len { result ≡ own_size self.now }
+        ensures small { result < 2 ^ 63 }
+    {
+        if self.state.is_in_flight() {
+            0
+        } else {
+            self.len()
+        }
+    }
+
+    /// The number of the write that it came by.
+    pub fn number(&self) -> u64
+        ensures { result ≡ self.now.number }
+    {
+        self.number
+    }
+
+    /// What became of it.
+    pub fn state(&self) -> State
+        ensures { result ≡ self.now.state }
+    {
+        self.state
+    }
+
+    /// Keeps the first bytes alone.
+    pub fn shorten(&mut self, len: usize)
+        ensures { self.new ≡ head_of len self.old }
+    {
+        self.bytes.truncate(len);
+    }
+
+    /// A copy of its bytes from a place on.
+    pub fn tail(&self, alloc: Global, from: usize) -> Result<Segment, Memory>
+        requires { from ≤ length self.now.bytes }
+        ensures { IfOk result (λ s. s ≡ tail_of from self.now) }
+    {
+        Segment::copy(alloc, &self.bytes[from..], self.number, self.state)
+    }
+
+    /// Something else became of it.
+    pub fn turn(&mut self, state: State)
+        ensures { self.new ≡ with_state state self.old }
+    {
+        self.state = state;
+    }
+}
