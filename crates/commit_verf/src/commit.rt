@@ -1,0 +1,41 @@
+//! What a COMMIT's verifier tells of the bytes that the server had.
+
+ghost use Rattle.std.specs.Prelude.{◌≡◌};
+ghost use Rattle.write_back.specs.Changes.{lost};
+ghost use Rattle.write_back.specs.Files.{of_file, OnFile};
+ghost use Rattle.commit_verf.specs.Decisions.{decided, verdict_of, IsDecided};
+
+use nfs_types::{Handle, Verf};
+use write_back::WriteBack;
+
+/// What a COMMIT's verifier tells (RFC 1813, section 4.8).
+#[derive(Clone, Copy, Debug, PartialEq, Eq)]
+pub enum Verdict {
+    /// All bytes that the server had are stable.
+    AllStable,
+    /// So many segments may be lost, and are to be sent again.
+    SendAgain(u64),
+}
+
+/// What the verifier of a COMMIT tells of a file's bytes that the server has, of writes with a number up to `upto`: those
+/// that it has under the same verifier are stable and pending no more, and all others are to be sent again, as stable
+/// (RFC 1813, section 4.8). AllStable exactly where there are no others.
+pub fn decide(wb: &mut WriteBack, file: &Handle, upto: u64, verf: Verf) -> Verdict
+    ensures verdict { result ≡ verdict_of (lost verf upto (of_file file.now wb.old).segments) }
+    ensures segments { OnFile wb.old wb.new file.now (decided upto verf (of_file file.now wb.old)) }
+    ensures places { IsDecided upto verf (of_file file.now wb.old) (of_file file.now wb.new) }
+{
+    wb.settle(file, verf, upto);
+    let again = wb.mark_again(file, upto);
+    told(again)
+}
+
+fn told(again: u64) -> Verdict
+    ensures { result ≡ verdict_of again }
+{
+    if again == 0 {
+        Verdict::AllStable
+    } else {
+        Verdict::SendAgain(again)
+    }
+}
