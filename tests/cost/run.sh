@@ -1,6 +1,6 @@
 #!/usr/bin/env bash
-# Counts the instructions that kept pages cost, by valgrind's callgrind over the programs that LLVM builds:
-# a line for each number of pages. The crates are proved first, where they aren't yet.
+# Counts the instructions that pending bytes and kept pages cost, by valgrind's callgrind over the programs that LLVM builds:
+# a line for each program and each number of segments or pages. The crates are proved first, where they aren't yet.
 # It needs valgrind. The status is 0 where each run gave a count.
 set -u
 
@@ -35,5 +35,6 @@ table() {
     done
 }
 
+table back_cost 1000 2000 4000 8000
 table cache_cost 128 256 512 1024
 exit "$status"
