@@ -163,8 +163,16 @@ fn refuses_words_and_scripts(rt: HostRuntime) -> Result<(), Fail> {
     replays(&rt, FILE, &sound("replay --root 1", PUT, 2, ""))?;
     replays(&rt, FILE, &sound("replay /srv --root 01", PUT, 2, ""))?;
     replays(&rt, FILE, &sound("replay", PUT, 2, ""))?;
-    let script = "1 get /a 0 6869";
-    replays(&rt, FILE, &sound(EXPORT, script, 3, "script 0 10\n"))
+    let script = "1 opne 1 r /a";
+    replays(&rt, FILE, &sound(EXPORT, script, 3, "script 1 5\n"))
+}
+
+#[test]
+fn refuses_what_cannot_be_done_yet(rt: HostRuntime) -> Result<(), Fail> {
+    for script in ["", "1 stat /a", "2 put /a 0 6869", "\n1 put /a 0 6869"] {
+        replays(&rt, FILE, &sound(EXPORT, script, 3, "script 0 10\n"))?;
+    }
+    Ok(())
 }
 
 #[test]

@@ -27,6 +27,10 @@ asks_exchanged call old new r h k e = record { same = e.same; sends = e.sends; c
     by_result (Err (halts.Refused faults.Lost)) c = (c.0, c.1.0)
     by_result (Err (halts.Refused faults.Memory)) c = c
     by_result (Err (halts.Refused faults.Spent)) c = absurd c.1
+    by_result (Err (halts.Refused faults.Slot)) c = absurd c.1
+    by_result (Err (halts.Refused faults.Mode)) c = absurd c.1
+    by_result (Err (halts.Refused faults.Kind)) c = absurd c.1
+    by_result (Err (halts.Refused faults.Many)) c = absurd c.1
     by_result (Err (halts.Refused (faults.Nfs n))) c = absurd c.1
     by_result (Err (halts.Refused (faults.Rpc n))) c = absurd c.1
     by_result (Err (halts.Refused (faults.Bad n))) c = absurd c.1
@@ -41,6 +45,10 @@ hears_ok Done call old new bytes v h k done a = record {
   comes = λ idle. let c = a.comes idle in (c.0, done (old.first + old.made) c.1.got.under c.1);
 }
 
+-- the call came to no end
+pub asks_halts : {T : Type 0} (Done : T → List Entry → List Entry → Type 0) (call : Call) (old new : CallsView) (halt : Halt) (h k : List Entry) → Asks call old new (Err halt) h k → Called Done call old new (Err halt) h k
+asks_halts Done call old new halt h k a = record { same = a.same; sends = a.sends; comes = λ idle. a.comes idle }
+
 -- the record refuses the call
 pub refused_as : (c : CallsView) (call : Call) (fault : Fault) (bytes : List ℕ) (x : ℕ) (h k : List Entry) → Heard k (length h) (length k) call x bytes → Refuses x call bytes fault → HaltedAs c call (halts.Refused fault) h k
 refused_as c call (faults.Nfs n) bytes x h k heard r = record { xid = x; bytes = bytes; heard = heard; refuses = r }
@@ -48,6 +56,10 @@ refused_as c call (faults.Rpc n) bytes x h k heard r = record { xid = x; bytes =
 refused_as c call (faults.Bad n) bytes x h k heard r = record { xid = x; bytes = bytes; heard = heard; refuses = r }
 refused_as c call faults.Lost bytes x h k heard r = absurd r
 refused_as c call faults.Spent bytes x h k heard r = absurd r
+refused_as c call faults.Slot bytes x h k heard r = absurd r
+refused_as c call faults.Mode bytes x h k heard r = absurd r
+refused_as c call faults.Kind bytes x h k heard r = absurd r
+refused_as c call faults.Many bytes x h k heard r = absurd r
 refused_as c call faults.Memory bytes x h k heard r = absurd r
 
 pub hears_err : {T : Type 0} (Done : T → List Entry → List Entry → Type 0) (call : Call) (old new : CallsView) (bytes : List ℕ) (fault : Fault) (h k : List Entry) → ((x : ℕ) → HasXid bytes x → Refuses x call bytes fault)

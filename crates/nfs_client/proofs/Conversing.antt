@@ -198,6 +198,10 @@ pub set_up_refused : (s : Settings) (first info : ℕ) (op : Op) (c : CallsView)
 set_up_refused s first info op c faults.Lost k lost memory o h = absurd (lost refl)
 set_up_refused s first info op c faults.Memory k lost memory o h = absurd (memory refl)
 set_up_refused s first info op c faults.Spent k lost memory o h = absurd h
+set_up_refused s first info op c faults.Slot k lost memory o h = record { asked = asked_opened s first info op c k o; single = single_opened s first info c k o; comes = record { path = h.0; mounting = ap origin_of h.1; refused = h.2; unbegun = o.unmarked } }
+set_up_refused s first info op c faults.Mode k lost memory o h = record { asked = asked_opened s first info op c k o; single = single_opened s first info c k o; comes = record { path = h.0; mounting = ap origin_of h.1; refused = h.2; unbegun = o.unmarked } }
+set_up_refused s first info op c faults.Kind k lost memory o h = record { asked = asked_opened s first info op c k o; single = single_opened s first info c k o; comes = record { path = h.0; mounting = ap origin_of h.1; refused = h.2; unbegun = o.unmarked } }
+set_up_refused s first info op c faults.Many k lost memory o h = record { asked = asked_opened s first info op c k o; single = single_opened s first info c k o; comes = record { path = h.0; mounting = ap origin_of h.1; refused = h.2; unbegun = o.unmarked } }
 set_up_refused s first info op c (faults.Nfs n) k lost memory o h = record { asked = asked_opened s first info op c k o; single = single_opened s first info c k o; comes = record { path = h.0; mounting = ap origin_of h.1; refused = h.2; unbegun = o.unmarked } }
 set_up_refused s first info op c (faults.Rpc n) k lost memory o h = record { asked = asked_opened s first info op c k o; single = single_opened s first info c k o; comes = record { path = h.0; mounting = ap origin_of h.1; refused = h.2; unbegun = o.unmarked } }
 set_up_refused s first info op c (faults.Bad n) k lost memory o h = record { asked = asked_opened s first info op c k o; single = single_opened s first info c k o; comes = record { path = h.0; mounting = ap origin_of h.1; refused = h.2; unbegun = o.unmarked } }

@@ -7,6 +7,7 @@ use Rattle.world_model.specs.declared.op.Op.{Op}
 use Rattle.world_model.specs.declared.answer.Answer.{Answer}
 use Rattle.world_model.specs.declared.answer.Answer.TheVariants as answers
 use Rattle.world_model.specs.declared.answer.Fault.TheVariants as faults
+use Rattle.world_model.specs.declared.answer.Value.TheVariants as values
 use Rattle.world_model.specs.declared.tally.Tally.{Tally}
 use Rattle.world_model.specs.History.{History}
 use Rattle.world_model.specs.Told.{Relates}
@@ -32,12 +33,21 @@ lost_for : (cause other : Type 0) (h : List Entry) (to : ℕ) → (cause → oth
 lost_for cause other h to f s = elim s [ inl x ↦ inl (f x) | inr r ↦ inr r ]
 
 for_cause : (cause other : Type 0) (limits : Limits) (h : List Entry) (from to : ℕ) (p : PutOf) (answer : Answer) → (cause → other) → AnswerShown cause limits h from to p answer → AnswerShown other limits h from to p answer
-for_cause cause other limits h from to p (answers.Done value) f s = s
+for_cause cause other limits h from to p (answers.Done values.Nothing) f s = s
+for_cause cause other limits h from to p (answers.Done (values.Bytes bytes)) f s = s
+for_cause cause other limits h from to p (answers.Done (values.Text text)) f s = s
+for_cause cause other limits h from to p (answers.Done (values.Attrs attr)) f s = s
+for_cause cause other limits h from to p (answers.Done (values.Bits bits)) f s = s
+for_cause cause other limits h from to p (answers.Done (values.Names names)) f s = s
 for_cause cause other limits h from to p (answers.Refused (faults.Nfs n)) f s = s
 for_cause cause other limits h from to p (answers.Refused (faults.Rpc n)) f s = s
 for_cause cause other limits h from to p (answers.Refused (faults.Bad n)) f s = s
 for_cause cause other limits h from to p (answers.Refused faults.Lost) f s = lost_for cause other h to f s
 for_cause cause other limits h from to p (answers.Refused faults.Spent) f s = s
+for_cause cause other limits h from to p (answers.Refused faults.Slot) f s = s
+for_cause cause other limits h from to p (answers.Refused faults.Mode) f s = s
+for_cause cause other limits h from to p (answers.Refused faults.Kind) f s = s
+for_cause cause other limits h from to p (answers.Refused faults.Many) f s = s
 for_cause cause other limits h from to p (answers.Refused faults.Memory) f s = s
 
 shown_for : (cause other : Type 0) (terms : Terms) (h : List Entry) (from to : ℕ) (p : PutOf) (answer : Answer) → (cause → other) → Shown cause terms h from to p answer → Shown other terms h from to p answer

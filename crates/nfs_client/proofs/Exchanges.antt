@@ -124,6 +124,10 @@ exchanged call bytes old new result h k l s a b p q = record {
     answer (Err (halts.Refused (faults.Rpc n))) at le f t = absurd (not_lost (faults.Rpc n) tt f.0)
     answer (Err (halts.Refused (faults.Bad n))) at le f t = absurd (not_lost (faults.Bad n) tt f.0)
     answer (Err (halts.Refused faults.Spent)) at le f t = absurd (not_lost faults.Spent tt f.0)
+    answer (Err (halts.Refused faults.Slot)) at le f t = absurd (not_lost faults.Slot tt f.0)
+    answer (Err (halts.Refused faults.Mode)) at le f t = absurd (not_lost faults.Mode tt f.0)
+    answer (Err (halts.Refused faults.Kind)) at le f t = absurd (not_lost faults.Kind tt f.0)
+    answer (Err (halts.Refused faults.Many)) at le f t = absurd (not_lost faults.Many tt f.0)
     answer (Err (halts.Refused faults.Memory)) at le f t = absurd (not_lost faults.Memory tt f.0)
     answer (Err halts.Memory) at le f t = (t, tt)
 
@@ -151,6 +155,10 @@ unsent call bytes old new halt h k s a = record {
     by_halt (halts.Refused (faults.Rpc n)) t = absurd (not_lost (faults.Rpc n) tt t.0)
     by_halt (halts.Refused (faults.Bad n)) t = absurd (not_lost (faults.Bad n) tt t.0)
     by_halt (halts.Refused faults.Spent) t = absurd (not_lost faults.Spent tt t.0)
+    by_halt (halts.Refused faults.Slot) t = absurd (not_lost faults.Slot tt t.0)
+    by_halt (halts.Refused faults.Mode) t = absurd (not_lost faults.Mode tt t.0)
+    by_halt (halts.Refused faults.Kind) t = absurd (not_lost faults.Kind tt t.0)
+    by_halt (halts.Refused faults.Many) t = absurd (not_lost faults.Many tt t.0)
     by_halt (halts.Refused faults.Memory) t = absurd (not_lost faults.Memory tt t.0)
     by_halt halts.Memory t = (t, tt)
 

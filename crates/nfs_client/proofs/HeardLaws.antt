@@ -175,6 +175,10 @@ refuses x call rec (faults.Rpc n) r = r
 refuses x call rec (faults.Bad n) r = r call
 refuses x call rec faults.Lost r = r
 refuses x call rec faults.Spent r = r
+refuses x call rec faults.Slot r = r
+refuses x call rec faults.Mode r = r
+refuses x call rec faults.Kind r = r
+refuses x call rec faults.Many r = r
 refuses x call rec faults.Memory r = r
 
 -- ---- what results mean for a call
@@ -191,6 +195,10 @@ lookup_heard x dir name results rec (Err (faults.Rpc n)) one f = absurd f
 lookup_heard x dir name results rec (Err (faults.Bad n)) one f = unspelled f.0 one.reply (record { no_reply = dir_unspelled x dir name results rec one f.1; no_refusal = one.accepted })
 lookup_heard x dir name results rec (Err faults.Lost) one f = f
 lookup_heard x dir name results rec (Err faults.Spent) one f = f
+lookup_heard x dir name results rec (Err faults.Slot) one f = f
+lookup_heard x dir name results rec (Err faults.Mode) one f = f
+lookup_heard x dir name results rec (Err faults.Kind) one f = f
+lookup_heard x dir name results rec (Err faults.Many) one f = f
 lookup_heard x dir name results rec (Err faults.Memory) one f = f
 
 write_unspelled : (x : ℕ) (file : List ℕ) (offset : ℕ) (bytes results rec : List ℕ) → HasResults x results rec → NoFileReply 7 results
@@ -213,6 +221,10 @@ write_heard x file offset bytes results rec (Err (faults.Rpc n)) one f = absurd 
 write_heard x file offset bytes results rec (Err (faults.Bad n)) one f = bad_write x file offset bytes results rec n one f
 write_heard x file offset bytes results rec (Err faults.Lost) one f = f
 write_heard x file offset bytes results rec (Err faults.Spent) one f = f
+write_heard x file offset bytes results rec (Err faults.Slot) one f = f
+write_heard x file offset bytes results rec (Err faults.Mode) one f = f
+write_heard x file offset bytes results rec (Err faults.Kind) one f = f
+write_heard x file offset bytes results rec (Err faults.Many) one f = f
 write_heard x file offset bytes results rec (Err faults.Memory) one f = f
 
 -- where there were no results, the WRITE is refused
@@ -232,6 +244,10 @@ commit_heard x file results rec (Err (faults.Rpc n)) one f = absurd f
 commit_heard x file results rec (Err (faults.Bad n)) one f = unspelled f.0 one.reply (record { no_reply = commit_unspelled x file results rec one f.1; no_refusal = one.accepted })
 commit_heard x file results rec (Err faults.Lost) one f = f
 commit_heard x file results rec (Err faults.Spent) one f = f
+commit_heard x file results rec (Err faults.Slot) one f = f
+commit_heard x file results rec (Err faults.Mode) one f = f
+commit_heard x file results rec (Err faults.Kind) one f = f
+commit_heard x file results rec (Err faults.Many) one f = f
 commit_heard x file results rec (Err faults.Memory) one f = f
 
 mount_unspelled : (x : ℕ) (path results rec : List ℕ) → HasResults x results rec → NoMountReply 1 results → (reply : Reply) → SpellsReply x (mount_call path) reply rec → ⊥
@@ -246,6 +262,10 @@ mount_heard x path results rec (Err (halts.Refused (faults.Rpc n))) one f = absu
 mount_heard x path results rec (Err (halts.Refused (faults.Bad n))) one f = unspelled f.0 one.reply (record { no_reply = mount_unspelled x path results rec one f.1; no_refusal = one.accepted })
 mount_heard x path results rec (Err (halts.Refused faults.Lost)) one f = f
 mount_heard x path results rec (Err (halts.Refused faults.Spent)) one f = f
+mount_heard x path results rec (Err (halts.Refused faults.Slot)) one f = f
+mount_heard x path results rec (Err (halts.Refused faults.Mode)) one f = f
+mount_heard x path results rec (Err (halts.Refused faults.Kind)) one f = f
+mount_heard x path results rec (Err (halts.Refused faults.Many)) one f = f
 mount_heard x path results rec (Err (halts.Refused faults.Memory)) one f = f
 mount_heard x path results rec (Err halts.Memory) one f = tt
 
@@ -273,4 +293,8 @@ info_heard x root results rec (Err (faults.Rpc n)) one f = absurd f
 info_heard x root results rec (Err (faults.Bad n)) one f = unspelled f.0 one.reply (record { no_reply = info_unspelled x root results rec one f.1; no_refusal = one.accepted })
 info_heard x root results rec (Err faults.Lost) one f = f
 info_heard x root results rec (Err faults.Spent) one f = f
+info_heard x root results rec (Err faults.Slot) one f = f
+info_heard x root results rec (Err faults.Mode) one f = f
+info_heard x root results rec (Err faults.Kind) one f = f
+info_heard x root results rec (Err faults.Many) one f = f
 info_heard x root results rec (Err faults.Memory) one f = f

@@ -116,6 +116,10 @@ link_halts : (r : Halt) (h k l : List Entry) → ExchangeHalts r k l → LinkHal
 link_halts (halts.Refused faults.Lost) h k l e = e.0
 link_halts (halts.Refused faults.Memory) h k l e = tt
 link_halts (halts.Refused faults.Spent) h k l e = e
+link_halts (halts.Refused faults.Slot) h k l e = e
+link_halts (halts.Refused faults.Mode) h k l e = e
+link_halts (halts.Refused faults.Kind) h k l e = e
+link_halts (halts.Refused faults.Many) h k l e = e
 link_halts (halts.Refused (faults.Nfs n)) h k l e = e
 link_halts (halts.Refused (faults.Rpc n)) h k l e = e
 link_halts (halts.Refused (faults.Bad n)) h k l e = e
@@ -144,6 +148,10 @@ earlier_halts : (r : Halt) (h k l : List Entry) → LinkHalts r k l → LinkHalt
 earlier_halts (halts.Refused faults.Lost) h k l e = e
 earlier_halts (halts.Refused faults.Memory) h k l e = tt
 earlier_halts (halts.Refused faults.Spent) h k l e = e
+earlier_halts (halts.Refused faults.Slot) h k l e = e
+earlier_halts (halts.Refused faults.Mode) h k l e = e
+earlier_halts (halts.Refused faults.Kind) h k l e = e
+earlier_halts (halts.Refused faults.Many) h k l e = e
 earlier_halts (halts.Refused (faults.Nfs n)) h k l e = e
 earlier_halts (halts.Refused (faults.Rpc n)) h k l e = e
 earlier_halts (halts.Refused (faults.Bad n)) h k l e = e
@@ -153,6 +161,10 @@ mount_halts : (path : List ℕ) (r : Halt) (h k l : List Entry) → Extends k l 
 mount_halts path (halts.Refused faults.Lost) h k l p sends e = (e.0, none_earlier h k l p sends e.1)
 mount_halts path (halts.Refused faults.Memory) h k l p sends e = tt
 mount_halts path (halts.Refused faults.Spent) h k l p sends e = e
+mount_halts path (halts.Refused faults.Slot) h k l p sends e = absurd e
+mount_halts path (halts.Refused faults.Mode) h k l p sends e = absurd e
+mount_halts path (halts.Refused faults.Kind) h k l p sends e = absurd e
+mount_halts path (halts.Refused faults.Many) h k l p sends e = absurd e
 mount_halts path (halts.Refused (faults.Nfs n)) h k l p sends e = absurd e
 mount_halts path (halts.Refused (faults.Rpc n)) h k l p sends e = absurd e
 mount_halts path (halts.Refused (faults.Bad n)) h k l p sends e = absurd e
@@ -162,6 +174,10 @@ set_up_halts : (s : Settings) (root : List ℕ) (r : Halt) (h k l : List Entry) 
 set_up_halts s root (halts.Refused faults.Lost) h k l r e = (e, inl (root, r))
 set_up_halts s root (halts.Refused faults.Memory) h k l r e = tt
 set_up_halts s root (halts.Refused faults.Spent) h k l r e = e
+set_up_halts s root (halts.Refused faults.Slot) h k l r e = absurd e
+set_up_halts s root (halts.Refused faults.Mode) h k l r e = absurd e
+set_up_halts s root (halts.Refused faults.Kind) h k l r e = absurd e
+set_up_halts s root (halts.Refused faults.Many) h k l r e = absurd e
 set_up_halts s root (halts.Refused (faults.Nfs n)) h k l r e = absurd e
 set_up_halts s root (halts.Refused (faults.Rpc n)) h k l r e = absurd e
 set_up_halts s root (halts.Refused (faults.Bad n)) h k l r e = absurd e
@@ -195,6 +211,10 @@ mount_answered path old new rec result dialed h k l says p d e =
     by_result (Err (halts.Refused (faults.Bad n))) idle heard m = (idle.sent, record { xid = old.first + old.made; bytes = rec; heard = heard; refuses = m })
     by_result (Err (halts.Refused faults.Lost)) idle heard m = absurd m
     by_result (Err (halts.Refused faults.Spent)) idle heard m = absurd m
+    by_result (Err (halts.Refused faults.Slot)) idle heard m = absurd m
+    by_result (Err (halts.Refused faults.Mode)) idle heard m = absurd m
+    by_result (Err (halts.Refused faults.Kind)) idle heard m = absurd m
+    by_result (Err (halts.Refused faults.Many)) idle heard m = absurd m
     by_result (Err (halts.Refused faults.Memory)) idle heard m = absurd m
     by_result (Err halts.Memory) idle heard m = (idle.sent, tt)
 
@@ -274,6 +294,10 @@ set_up_unmounted s path old new halt h k is m = record {
     by_halt (halts.Refused faults.Lost) c = (c.0, (c.1.0, inr c.1.1))
     by_halt (halts.Refused faults.Memory) c = c
     by_halt (halts.Refused faults.Spent) c = absurd c.1
+    by_halt (halts.Refused faults.Slot) c = (c.0, (path, is, c.1))
+    by_halt (halts.Refused faults.Mode) c = (c.0, (path, is, c.1))
+    by_halt (halts.Refused faults.Kind) c = (c.0, (path, is, c.1))
+    by_halt (halts.Refused faults.Many) c = (c.0, (path, is, c.1))
     by_halt (halts.Refused (faults.Nfs n)) c = (c.0, (path, is, c.1))
     by_halt (halts.Refused (faults.Rpc n)) c = (c.0, (path, is, c.1))
     by_halt (halts.Refused (faults.Bad n)) c = (c.0, (path, is, c.1))

@@ -98,6 +98,10 @@ put_halts old mid wsize p from call (halts.Refused (faults.Rpc n)) h k l same le
 put_halts old mid wsize p from call (halts.Refused (faults.Bad n)) h k l same le is r = record { call = call; of = is; refused = Refused-wide l (length k) (length l) from (length l) call (faults.Bad n) le (omega arith) r }
 put_halts old mid wsize p from call (halts.Refused faults.Lost) h k l same le is r = r
 put_halts old mid wsize p from call (halts.Refused faults.Spent) h k l same le is r = spent_by old mid wsize l (length l) same r
+put_halts old mid wsize p from call (halts.Refused faults.Slot) h k l same le is r = r.refuses
+put_halts old mid wsize p from call (halts.Refused faults.Mode) h k l same le is r = r.refuses
+put_halts old mid wsize p from call (halts.Refused faults.Kind) h k l same le is r = r.refuses
+put_halts old mid wsize p from call (halts.Refused faults.Many) h k l same le is r = r.refuses
 put_halts old mid wsize p from call (halts.Refused faults.Memory) h k l same le is r = tt
 put_halts old mid wsize p from call halts.Memory h k l same le is r = tt
 
@@ -232,6 +236,10 @@ halts_by old mid wsize p from (halts.Refused (faults.Rpc n)) h k l same r = r
 halts_by old mid wsize p from (halts.Refused (faults.Bad n)) h k l same r = r
 halts_by old mid wsize p from (halts.Refused faults.Lost) h k l same r = r
 halts_by old mid wsize p from (halts.Refused faults.Spent) h k l same r = λ x low high. r x (omega (arith, low, same.first)) (omega (arith, high, same.first, same.limit))
+halts_by old mid wsize p from (halts.Refused faults.Slot) h k l same r = r
+halts_by old mid wsize p from (halts.Refused faults.Mode) h k l same r = r
+halts_by old mid wsize p from (halts.Refused faults.Kind) h k l same r = r
+halts_by old mid wsize p from (halts.Refused faults.Many) h k l same r = r
 halts_by old mid wsize p from (halts.Refused faults.Memory) h k l same r = tt
 halts_by old mid wsize p from halts.Memory h k l same r = tt
 

@@ -1,22 +1,20 @@
 -- What a run comes to: of the words, the script and the session.
-use Rattle.std.proofs.Common.{◌≡◌, ℕ, List, [], ◌∷◌, take, Option, Some, None, sym, ap, subst, ◌∙◌}
+use Rattle.std.proofs.Common.{◌≡◌, ◌≤◌, ℕ, List, [], ◌∷◌, length, take, Option, Some, None, Result, Ok, Err, sym, ap, subst, ◌∙◌, arith}
 use Rattle.std.specs.Prelude.{slice_get, IfSome}
 use Rattle.world_model.specs.declared.op.Op.{Op}
+use Rattle.world_model.specs.declared.op.Op.TheVariants.{Put}
 use Rattle.world_model.specs.History.{History}
 use Rattle.world_model.specs.Told.{Relates}
 use Rattle.nfs_script.specs.declared.script.ScriptLine.{ScriptLine}
-use Rattle.nfs_script.specs.Script.{SpellsScript, SpellsPut}
+use Rattle.nfs_script.specs.declared.fault.ScriptFault.{ScriptFault}
+use Rattle.nfs_script.specs.Script.{script_of}
 use Rattle.session_words.specs.declared.settings.Settings.{Settings}
 use Rattle.session_words.specs.Words.{IsCommand}
 use Rattle.nfs_client.specs.Streams.{script_limit, TakesAll}
-use Rattle.nfs_client.specs.Run.{SessionBy, IsScript, AsksFor, RunIs, session, Says}
+use Rattle.nfs_client.specs.Putting.{IsBuilt}
+use Rattle.nfs_client.specs.Run.{SessionBy, one_line, IsDoable, IsScript, unbuilt, fault_in, fault_of, IsFaultOf, AsksFor, RefusesWith, no_script, Refuses, RunIs, session, unbegun, Says}
 
 -- ---- scripts
-
--- a text that spells no script was all that the source had
-pub no_script : (left : Option (List ℕ)) (status : ℕ) (text items : List ℕ) → ((lines : List ScriptLine) → SpellsScript lines text → ⊥) → text ≡ items → TakesAll left items → IfSome left (λ l. status ≡ 3 → IsScript (take script_limit l) → ⊥)
-no_script None status text items none v t = tt
-no_script (Some l) status text items none v t = λ q s. none s.0 (subst (SpellsScript s.0) (sym (v ∙ t)) s.1)
 
 abbrev some_line : ScriptLine → Option ScriptLine
 some_line x = Some x
@@ -24,18 +22,66 @@ some_line x = Some x
 same_line : (x y : ScriptLine) → some_line x ≡ some_line y → x ≡ y
 same_line x y e = cc
 
-the_op : (lines : List ScriptLine) (op : Op) (first : ScriptLine) → lines ≡ record { lane = 1; line = 1; op = op } ∷ [] → slice_get lines 0 ≡ Some first → first.op ≡ op
-the_op lines op first one g =
-    sym (ap (λ (x : ScriptLine). x.op) (same_line (record { lane = 1; line = 1; op = op }) first (subst (λ (ls : List ScriptLine). slice_get ls 0 ≡ Some first) one g)))
+abbrev found : List ScriptLine → Result (List ScriptLine) ScriptFault
+found lines = Ok lines
 
--- the first operation of a script is what the script asks for
-pub asks_for : (left : Option (List ℕ)) (lines : List ScriptLine) (text items : List ℕ) (first : ScriptLine) → SpellsScript lines text → slice_get lines 0 ≡ Some first → text ≡ items → TakesAll left items → AsksFor left first.op
-asks_for None lines text items first s g v t = tt
-asks_for (Some l) lines text items first s g v t = record {
-  op = s.op;
-  one = ap (λ (o : Op). record { lane = 1; line = 1; op = o } ∷ []) (the_op lines s.op first s.one g);
-  put = subst (SpellsPut s.op) (v ∙ t) s.put;
-}
+-- a put in the root, of few bytes at a near place, can be done
+pub built_by : (op : Op) (names : List (List ℕ)) (offset : ℕ) (bytes : List ℕ) → op ≡ Put names offset bytes → length names ≡ 1 → length bytes ≤ 65536 → offset ≤ 4611686018427387904 → IsBuilt op
+built_by op [] offset bytes is one few near = absurd cc
+built_by op (name ∷ []) offset bytes is one few near = record { name = name; offset = offset; bytes = bytes; is = is; few = few; near = near }
+built_by op (name ∷ other ∷ names) offset bytes is one few near = absurd (omega (arith, one))
+
+abbrev made : ℕ → ℕ → Op → ScriptLine
+made lane line op = record { lane = lane; line = line; op = op }
+
+-- the operation of one line, of lane 1 and in line 1
+pub one_by : (lines : List ScriptLine) (first : ScriptLine) → length lines ≡ 1 → slice_get lines 0 ≡ Some first → first.lane ≡ 1 → first.line ≡ 1 → lines ≡ one_line first.op
+one_by [] first one g lane line = absurd cc
+one_by (x ∷ []) first one g lane line = ap (λ (y : ScriptLine). y ∷ []) (same_line x first g ∙ parts_are first lane line)
+  where
+    parts_are : (y : ScriptLine) → y.lane ≡ 1 → y.line ≡ 1 → y ≡ record { lane = 1; line = 1; op = y.op }
+    parts_are y a b = ap (λ (n : ℕ). made n y.line y.op) a ∙ ap (λ (n : ℕ). made 1 n y.op) b
+one_by (x ∷ y ∷ lines) first one g lane line = absurd (omega (arith, one))
+
+-- a text that asks for no script that can be done was all that the source had
+pub unscripted : (left : Option (List ℕ)) (status : ℕ) (text items : List ℕ) → (IsScript text → ⊥) → text ≡ items → TakesAll left items → IfSome left (λ l. status ≡ 3 → IsScript (take script_limit l) → ⊥)
+unscripted None status text items none v t = tt
+unscripted (Some l) status text items none v t = λ q s. none (subst IsScript (sym (v ∙ t)) s)
+
+-- a text that asks for one was all that the source had
+pub scripted : (left : Option (List ℕ)) (status : ℕ) (text items : List ℕ) → IsScript text → text ≡ items → TakesAll left items → IfSome left (λ l. (IsScript (take script_limit l) → ⊥) → Refuses status)
+scripted None status text items one v t = tt
+scripted (Some l) status text items one v t = λ none. absurd (none (subst IsScript (v ∙ t) one))
+
+-- a faulty text asks for none
+pub faulty : (text : List ℕ) (fault : ScriptFault) → script_of text ≡ Err fault → IsScript text → ⊥
+faulty text fault e s = let p = s.parsed in cc
+
+-- nor does one that can't be done
+pub undoable : (text : List ℕ) (lines : List ScriptLine) → script_of text ≡ Ok lines → (IsDoable lines → ⊥) → IsScript text → ⊥
+undoable text lines e none s = none (subst IsDoable (same_lines s.lines lines (sym s.parsed ∙ e)) s.doable)
+  where
+    same_lines : (a b : List ScriptLine) → found a ≡ found b → a ≡ b
+    same_lines a b q = cc
+
+pub asks_one : (text : List ℕ) (lines : List ScriptLine) (op : Op) → script_of text ≡ Ok lines → lines ≡ one_line op → IsBuilt op → IsScript text
+asks_one text lines op e one built = record { lines = lines; parsed = e; doable = record { op = op; one = one; built = built } }
+
+-- the operation of a script is what the script asks for
+pub asks_for : (left : Option (List ℕ)) (lines : List ScriptLine) (text items : List ℕ) (op : Op) → script_of text ≡ Ok lines → lines ≡ one_line op → text ≡ items → TakesAll left items → AsksFor left op
+asks_for None lines text items op e one v t = tt
+asks_for (Some l) lines text items op e one v t = ap script_of (sym (v ∙ t)) ∙ e ∙ ap found one
+
+-- why a text is refused is why what the source had is refused
+pub fault_for : (left : Option (List ℕ)) (text items : List ℕ) (fault : ScriptFault) → fault ≡ fault_of text → text ≡ items → TakesAll left items → IsFaultOf left fault
+fault_for None text items fault e v t = tt
+fault_for (Some l) text items fault e v t = e ∙ ap fault_of (v ∙ t)
+
+pub own_fault : (text : List ℕ) (fault : ScriptFault) → script_of text ≡ Err fault → fault ≡ fault_of text
+own_fault text fault e = sym (ap fault_in e)
+
+pub later_fault : (text : List ℕ) (lines : List ScriptLine) → script_of text ≡ Ok lines → unbuilt ≡ fault_of text
+later_fault text lines e = sym (ap fault_in e)
 
 -- ---- what a run says
 
@@ -52,4 +98,18 @@ run_says v w old new cause words left s op status c a said = record {
   text = said.text;
   added = said.added;
   is = relates_run old new cause words left s op status said.text c a said.is;
+}
+
+relates_none : (old : Option History) (cause : Type 0) (words : List (List ℕ)) (left : Option (List ℕ)) (fault : ScriptFault) (status : ℕ) (text : List ℕ) → IsFaultOf left fault → RefusesWith fault status text
+    → Relates old old (λ before h. before ≡ [] → RunIs cause words left h status text)
+relates_none None cause words left fault status text f r = tt
+relates_none (Some x) cause words left fault status text f r = λ e. unbegun e (no_script fault f r)
+
+-- the script was refused
+pub refuse_says : (v w : Option (List ℕ)) (old : Option History) (cause : Type 0) (words : List (List ℕ)) (left : Option (List ℕ)) (fault : ScriptFault) (status : ℕ) → IsFaultOf left fault → Says v w (RefusesWith fault status)
+    → Says v w (λ text. Relates old old (λ before h. before ≡ [] → RunIs cause words left h status text))
+refuse_says v w old cause words left fault status f said = record {
+  text = said.text;
+  added = said.added;
+  is = relates_none old cause words left fault status said.text f said.is;
 }

@@ -224,6 +224,11 @@ works_unnoted v op c new answer n h k l m same e f g b a q p put within ready =
       comes = inr (q.marked ∙ x.same ∙ b.begins.0);
     }
 
+-- it found no memory to be noted
+pub works_uncopied : (v : Option SetUp) (op : Op) (c new : CallsView) (answer : Answer) (n : Memory) (h k l : List Entry) → SameCalls c new → Extends h k → Extends k l → BeginsSo op (Ok tt) h k → AnswersSo v op c new (Ok answer) k l → WorksSo v op c (Err n) h l
+works_uncopied v op c new answer n h k l same e f b a =
+    works_unnoted v op c new answer n h k l l same e f (record { more = []; is = sym (append-nil l) }) b a (record { sends = λ i x at. at; keeps = λ d t. t; idles = λ d t. t; marked = refl })
+
 -- it was noted
 pub works_well : (v : Option SetUp) (op : Op) (c new : CallsView) (answer : Answer) (tally : Tally) (h k l m : List Entry) → tally ≡ new.tally → SameCalls c new → Extends h k → Extends k l → Extends l m → BeginsSo op (Ok tt) h k → AnswersSo v op c new (Ok answer) k l → Notes (Answered 1 1 answer) l m
     → WorksSo v op c (Ok (ends.Answered answer tally)) h m

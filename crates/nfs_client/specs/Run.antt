@@ -1,5 +1,5 @@
--- What the top call promises: statuses with their causes, the history and the text, of a script of one put.
-use Rattle.std.specs.Prelude.{◌≡◌, ◌≤◌, ◌⊎◌, ◌^◌, ℕ, Bool, List, [], ◌∷◌, ◌++◌, length, take, codes, Option, Some, None, if◌then◌else◌}
+-- What the top call promises: statuses with their causes, the history and the text.
+use Rattle.std.specs.Prelude.{◌≡◌, ◌≤◌, ◌⊎◌, ◌^◌, ℕ, Bool, List, [], ◌∷◌, ◌++◌, length, take, Option, Some, None, Result, Ok, Err, if◌then◌else◌}
 use Rattle.world_model.specs.declared.entry.Entry.{Entry}
 use Rattle.world_model.specs.declared.entry.Entry.TheVariants.{Began, Answered, Sent}
 use Rattle.world_model.specs.declared.op.Op.{Op}
@@ -18,10 +18,13 @@ use Rattle.world_model.specs.Mounts.{Mounting, mount_call, info_call, Rooted, Si
 use Rattle.world_model.specs.AskedFor.{Terms, CallsAsked}
 use Rattle.world_model.specs.Transcript.{transcript, mount_text}
 use Rattle.nfs_script.specs.declared.script.ScriptLine.{ScriptLine}
-use Rattle.nfs_script.specs.Script.{SpellsScript}
+use Rattle.nfs_script.specs.declared.fault.ScriptFault.{ScriptFault}
+use Rattle.nfs_script.specs.Script.{script_of}
+use Rattle.nfs_script.specs.RefusalText.{refusal_text}
 use Rattle.session_words.specs.declared.settings.Settings.{Settings}
 use Rattle.session_words.specs.Words.{IsCommand}
 use Rattle.nfs_client.specs.SetUp.{origin_of}
+use Rattle.nfs_client.specs.Putting.{IsBuilt}
 use Rattle.nfs_client.specs.Streams.{script_limit, IsFront, Appends}
 use Rattle.nfs_client.specs.Session.{marks}
 
@@ -131,30 +134,60 @@ pub record SessionBy (cause : Type 0) (s : Settings) (op : Op) (h : List Entry) 
 
 -- ---- how a run ends
 
--- the text that refuses a script
-abbrev pub refusal_text : List ℕ
-refusal_text = codes "script 0 10\n"
+-- the script of one operation, of lane 1 and in line 1
+abbrev pub one_line : Op → List ScriptLine
+one_line op = record { lane = 1; line = 1; op = op } ∷ []
 
--- the bytes spell a script
-abbrev pub IsScript : List ℕ → Type 0
-IsScript bytes = (lines : List ScriptLine) × SpellsScript lines bytes
+-- a script that this client can do: one put of a file in the root itself, of lane 1 and in line 1
+pub record IsDoable (lines : List ScriptLine) : Type 0 where
+  pub op : Op
+  pub one : lines ≡ one_line op
+  pub built : IsBuilt op
 
--- the script of one line, of lane 1 and line 1, as far as the source told its bytes
+-- the text asks for such a script
+pub record IsScript (text : List ℕ) : Type 0 where
+  pub lines : List ScriptLine
+  pub parsed : script_of text ≡ Ok lines
+  pub doable : IsDoable lines
+
+-- line 0, and kind 10: a script that can't be done yet
+abbrev pub unbuilt : ScriptFault
+unbuilt = record { line = 0; kind = 10 }
+
+-- why a text is refused: for its own fault, and else because it can't be done yet
+abbrev pub fault_in : Result (List ScriptLine) ScriptFault → ScriptFault
+fault_in (Ok lines) = unbuilt
+fault_in (Err fault) = fault
+
+abbrev pub fault_of : List ℕ → ScriptFault
+fault_of text = fault_in (script_of text)
+
+-- the script is refused so, as far as the source told its bytes
+abbrev pub IsFaultOf : Option (List ℕ) → ScriptFault → Type 0
+IsFaultOf None fault = Unit {0}
+IsFaultOf (Some left) fault = fault ≡ fault_of (take script_limit left)
+
+-- the script asks for this operation, as far as the source told its bytes
 abbrev pub AsksFor : Option (List ℕ) → Op → Type 0
 AsksFor None op = Unit {0}
-AsksFor (Some left) op = SpellsScript (record { lane = 1; line = 1; op = op } ∷ []) (take script_limit left)
+AsksFor (Some left) op = script_of (take script_limit left) ≡ Ok (one_line op)
 
--- Nothing was begun: the words or the script were refused, the source failed, or the session was cut off before.
-pub data Unbegun (status : ℕ) (text : List ℕ) : Type 0 where
-  no_words : status ≡ 2 → text ≡ [] → Unbegun status text
-  no_source : status ≡ 4 → text ≡ [] → Unbegun status text
-  no_script : status ≡ 3 → text ≡ refusal_text → Unbegun status text
-  cut_before : IsCutOff status → IsFront text refusal_text → Unbegun status text
+-- a script was refused with this fault: all of the line was written, or it was cut off within it
+pub data RefusesWith (fault : ScriptFault) (status : ℕ) (text : List ℕ) : Type 0 where
+  whole : status ≡ 3 → text ≡ refusal_text fault → RefusesWith fault status text
+  cut : IsCutOff status → IsFront text (refusal_text fault) → RefusesWith fault status text
+
+-- Nothing was begun: the words were refused, the source failed, the session was cut off before, or the script was refused.
+pub data Unbegun (left : Option (List ℕ)) (status : ℕ) (text : List ℕ) : Type 0 where
+  no_words : status ≡ 2 → text ≡ [] → Unbegun left status text
+  no_source : status ≡ 4 → text ≡ [] → Unbegun left status text
+  cut_before : IsCutOff status → text ≡ [] → Unbegun left status text
+  no_script : (fault : ScriptFault) → IsFaultOf left fault → RefusesWith fault status text → Unbegun left status text
 
 -- What the history is at the end, and what was written: nothing was begun, or there was a session of the put that the
 -- script asks for, by the settings that the words give.
 pub data RunIs (cause : Type 0) (words : List (List ℕ)) (left : Option (List ℕ)) (h : List Entry) (status : ℕ) (text : List ℕ) : Type 0 where
-  unbegun : h ≡ [] → Unbegun status text → RunIs cause words left h status text
+  unbegun : h ≡ [] → Unbegun left status text → RunIs cause words left h status text
   session : (s : Settings) (op : Op) → IsCommand words s → AsksFor left op → SessionBy cause s op h status text → RunIs cause words left h status text
 
 -- no operation was answered: the words or the script were refused, the source failed, or the session was cut off

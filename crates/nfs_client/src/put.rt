@@ -37,13 +37,17 @@ pub fn put<L: Link>(
     ensures honest { L.honest link.old → L.honest link.new }
     ensures same { SameCalls calls.old calls.new }
 {
-    let Op::Put {
-        path,
-        offset,
-        bytes,
-    } = op;
-    let name = path.names()[0];
-    put_file(alloc, set_up, name, *offset, bytes, link, calls)
+    match op {
+        Op::Put {
+            path,
+            offset,
+            bytes,
+        } => {
+            let name = path.names()[0];
+            put_file(alloc, set_up, name, *offset, bytes, link, calls)
+        }
+        _ => unreachable!(),
+    }
 }
 
 /// Does the put of the bytes at the offset of the file of that name in the root.

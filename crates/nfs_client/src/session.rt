@@ -19,7 +19,7 @@ use world_model::{Answer, Fault, Mark, Op, Tally, Value};
 use xdr_codec::Memory;
 
 /// What a session comes to.
-#[derive(Clone, Copy, Debug)]
+#[derive(Debug, Drop)]
 pub enum Ended {
     /// The mount was refused, and no operation began.
     MountRefused(Fault),
@@ -83,10 +83,14 @@ fn work<L: Link, C: Clock>(
         Ok(answer) => answer,
         Err(wanting) => return Err(wanting),
     };
+    let noted = match answer.copy(alloc) {
+        Ok(noted) => noted,
+        Err(wanting) => return Err(wanting),
+    };
     let mark = Mark::Answered {
         lane: 1,
         line: 1,
-        answer,
+        answer: noted,
     };
     match link.note(mark) {
         Ok(()) => Ok(Ended::Answered {

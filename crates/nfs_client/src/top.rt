@@ -1,15 +1,17 @@
 //! The top call.
 
-ghost use Rattle.std.specs.Prelude.{◌≡◌, ◌≤◌, ◌<◌, ◌+◌, ◌^◌, ◌⊎◌, [], map, take, IfSome};
+ghost use Rattle.std.specs.Prelude.{◌≡◌, ◌≤◌, ◌<◌, ◌+◌, ◌^◌, ◌⊎◌, [], map, take, IfOk, IfSome, MatchOption};
+ghost use Rattle.std.specs.Bool.{OnTrue, OnFalse};
 ghost use Rattle.std.specs.String.{string_bytes};
 ghost use Rattle.world_model.specs.Told.{Relates};
 ghost use Rattle.outside.specs.Causes.{Rose};
+ghost use Rattle.nfs_script.specs.RefusalText.{refusal_text};
 ghost use Rattle.session_words.specs.declared.settings.Settings.{Settings as SettingsOf};
 ghost use Rattle.session_words.specs.Words.{IsCommand};
 ghost use Rattle.nfs_client.specs.Putting.{IsBuilt};
 ghost use Rattle.nfs_client.specs.SetUp.{IsOptions};
 ghost use Rattle.nfs_client.specs.Streams.{script_limit};
-ghost use Rattle.nfs_client.specs.Run.{IsXidOption, IsFirst, IsCutOff, IsScript, Refuses, RunIs, SessionBy, Unbegun, Says};
+ghost use Rattle.nfs_client.specs.Run.{IsXidOption, IsFirst, IsCutOff, IsDoable, IsScript, one_line, Refuses, RefusesWith, RunIs, SessionBy, Says};
 ghost use Rattle.nfs_client.specs.Reports.{IsEnding};
 
 use crate::input::{ReadFault, read_script};
@@ -17,18 +19,27 @@ use crate::output::write_all;
 use crate::report::report;
 use crate::session::converse;
 use crate::status;
-use nfs_script::{ParseFault, parse};
+use nfs_script::{ParseFault, Script, ScriptFault, parse, refusal_line};
 use outside::{Clock, Link, LinkFault, Sink, Source};
 use session_words::{Settings, WordsFault, read_words};
 use std::alloc::Global;
 use world_model::Op;
+use xdr_codec::{Blob, Memory, Writer};
+
+/// The whole script is refused: it asks for what can't be done yet.
+const UNBUILT: ScriptFault = ScriptFault { line: 0, kind: 10 };
+/// The greatest offset of a put.
+const MOST_OFFSET: u64 = 4_611_686_018_427_387_904;
+/// The most bytes of a put.
+const MOST_BYTES: usize = 65_536;
 
 /// Runs the script that the source gives, and writes an answer line for each operation. The words say where the files
 /// are and how they are asked for. It answers the status of the session: 0 where each operation went well, 1 where one
 /// was refused, 2 where the words are refused, 3 where the script is, 4 where the source failed, 5 where the sink
 /// failed, 6 where the link is lost, 7 for want of memory outside an operation, 8 where the mount is refused.
 ///
-/// For now a script is one line `1 put /NAME OFF HEX`.
+/// For now only a script whose one operation is `1 put /NAME OFF HEX` in line 1 is done. Any other that is well formed is
+/// refused as a whole.
 pub fn run<S: Source, L: Link, C: Clock, K: Sink>(
     alloc: Global,
     words: &[String],
@@ -41,7 +52,7 @@ pub fn run<S: Source, L: Link, C: Clock, K: Sink>(
     ensures words { result ≡ 2 → (s : SettingsOf) → IsCommand (map string_bytes words.now) s → ⊥ }
     ensures no_words { ((s : SettingsOf) → IsCommand (map string_bytes words.now) s → ⊥) → (result ≡ 2) ⊎ (result ≡ 7) }
 
-    // 3 comes only where the script's bytes spell none, and where they don't no operation is answered.
+    // 3 comes only where the script's bytes ask for none that can be done, and where they don't no operation is answered.
     ensures script { IfSome (S.left script.old) (λ left. result ≡ 3 → IsScript (take script_limit left) → ⊥) }
     ensures unspelled { IfSome (S.left script.old) (λ left. (IsScript (take script_limit left) → ⊥) → Refuses result) }
 
@@ -68,26 +79,79 @@ pub fn run<S: Source, L: Link, C: Clock, K: Sink>(
         Err(ReadFault::Memory) => return status::NO_MEMORY,
     };
     match parse(alloc, text.as_slice()) {
-        Ok(script) => {
-            let (_, _, op) = script.op(0);
-            session(alloc, &settings, op, link, clock, out)
-        }
-        Err(ParseFault::Script(_)) => refuse(out),
+        Ok(script) => match doable(&script) {
+            Some(op) => session(alloc, &settings, op, link, clock, out),
+            None => refuse(alloc, &UNBUILT, out),
+        },
+        Err(ParseFault::Script(fault)) => refuse(alloc, &fault, out),
         Err(ParseFault::Memory) => status::NO_MEMORY,
     }
 }
 
-/// Writes that the script is refused.
-fn refuse<K: Sink>(out: &mut K) -> u8
+/// The operation of a script that this client can do. None exactly where it can't.
+fn doable(script: &Script) -> Option<&Op>
+    ensures { MatchOption result (¬ IsDoable script.now) (λ op. (script.now ≡ one_line op.now) × IsBuilt op.now) }
+{
+    if script.count() != 1 {
+        return None;
+    }
+    let (lane, line, op) = script.op(0);
+    if lane == 1 && line == 1 && is_built(op) {
+        Some(op)
+    } else {
+        None
+    }
+}
+
+/// Whether the operation is a put of a file in the root itself.
+fn is_built(op: &Op) -> bool
+    ensures yes { OnTrue result (IsBuilt op.now) }
+    ensures other { OnFalse result (¬ IsBuilt op.now) }
+{
+    match op {
+        Op::Put {
+            path,
+            offset,
+            bytes,
+        } => {
+            if path.names().len() != 1 {
+                return false;
+            }
+            if bytes.bytes().len() > MOST_BYTES {
+                return false;
+            }
+            if *offset > MOST_OFFSET {
+                return false;
+            }
+            true
+        }
+        _ => false,
+    }
+}
+
+/// Writes why the script is refused.
+fn refuse<K: Sink>(alloc: Global, fault: &ScriptFault, out: &mut K) -> u8
     ensures status { (result ≡ 3) ⊎ IsCutOff result }
     ensures sink { result ≡ 5 → Rose (K.faults out.old) (K.faults out.new) }
-    ensures said { Says (K.written out.old) (K.written out.new) (Unbegun result) }
+    ensures said { Says (K.written out.old) (K.written out.new) (RefusesWith fault.now result) }
 {
-    match write_all(out, b"script 0 10\n") {
+    let Ok(text) = refusal(alloc, fault) else {
+        return status::NO_MEMORY;
+    };
+    match write_all(out, text.bytes()) {
         Ok(()) => status::SCRIPT_REFUSED,
         Err(LinkFault::Failed) => status::WRITE_FAULT,
         Err(LinkFault::Memory) => status::NO_MEMORY,
     }
+}
+
+/// The line that refuses a script.
+fn refusal(alloc: Global, fault: &ScriptFault) -> Result<Blob, Memory>
+    ensures { IfOk result (λ text. text ≡ refusal_text fault.now) }
+{
+    let mut text = Writer::new(alloc);
+    refusal_line(&mut text, fault)?;
+    Ok(text.finish())
 }
 
 /// A session of one operation.

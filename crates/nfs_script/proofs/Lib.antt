@@ -1,6 +1,5 @@
-pub mod Cuts
-pub mod Payloads
-pub mod Decimals
-pub mod Plain
-pub mod Puts
-pub mod Passed
+pub mod ReadOn
+pub mod Bounds
+pub mod Within
+pub mod Hexed
+pub mod Shown

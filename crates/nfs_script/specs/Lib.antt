@@ -1,3 +1,5 @@
-pub mod Words
+pub mod Faults
+pub mod Commands
+pub mod Asked
 pub mod Script
-pub mod Refusals
+pub mod RefusalText

@@ -1,63 +1,74 @@
--- What a script is: for now exactly one line, a put of a file that stands in the root itself.
-use Rattle.std.specs.Prelude.{◌≡◌, ◌≤◌, ◌⊎◌, ◌==◌, ◌&&◌, nat_le, not, Bool, ℕ, List, [], ◌∷◌, ◌++◌, codes, length, Ok}
-use Rattle.std.specs.List.{AllPass}
-use Rattle.std.specs.Str.Parse.{IsNumeral, digits_value}
-use Rattle.hex.specs.Hex.{decode_of}
-use Rattle.world_model.specs.declared.op.Op.{Op}
-use Rattle.world_model.specs.declared.op.Op.TheVariants.{Put}
+-- What a text says as a script.
+use Rattle.std.specs.Prelude.{◌≡◌, ℕ, suc, ok_or, List, [], ◌∷◌, ◌++◌, length, nat_lt, Option, Some, None, Result, Ok, Err, if◌then◌else◌}
+use Rattle.std.specs.Option.{option_map_or}
+use Rattle.std.specs.Str.{is_utf8}
+use Rattle.script_text.specs.Lines.{lines, words, is_skipped}
+use Rattle.script_text.specs.Numbers.{number_of}
+use Rattle.nfs_script.specs.declared.fault.Cause.{Cause}
+use Rattle.nfs_script.specs.declared.fault.Cause.TheVariants as causes
+use Rattle.nfs_script.specs.declared.fault.ScriptFault.{ScriptFault}
+use Rattle.nfs_script.specs.declared.fault.ParseFault.{ParseFault}
+use Rattle.nfs_script.specs.declared.fault.ParseFault.TheVariants as faults
 use Rattle.nfs_script.specs.declared.script.ScriptLine.{ScriptLine}
+use Rattle.nfs_script.specs.Faults.{◌>>=◌, fault_at}
+use Rattle.nfs_script.specs.Commands.{op_of}
 
--- a byte from 33 to 126 other than `%` and `/`
-abbrev pub is_plain : ℕ → Bool
-is_plain byte = nat_le 33 byte && nat_le byte 126 && not (byte == 37) && not (byte == 47)
+-- the first word and those after it
+abbrev pub first_of : Cause → List (List ℕ) → Result (List ℕ × List (List ℕ)) Cause
+first_of cause [] = Err cause
+first_of cause (word ∷ words) = Ok (word, words)
 
--- 1 to 255 such bytes
-pub record IsPlainName (name : List ℕ) : Type 0 where
-  pub some : 1 ≤ length name
-  pub most : length name ≤ 255
-  pub plain : AllPass is_plain name
+abbrev pub lane_of : List ℕ → Result ℕ Cause
+lane_of word = ok_or (number_of 1 16 word) causes.Lane
 
--- one decimal digit or more, leading zeros allowed, and the number that they write
-pub record SpellsNumber (number : ℕ) (digits : List ℕ) : Type 0 where
-  pub numeral : IsNumeral 10 digits
-  pub value : number ≡ digits_value 10 digits
+-- a line's number and its words: the lane, the command and the words of the command
+unfoldable pub asked_of : ℕ → List (List ℕ) → Result ScriptLine Cause
+asked_of number words = do
+  first ← first_of causes.Lane words
+  lane ← lane_of first.0
+  command ← first_of causes.Command first.1
+  op ← op_of command.0 command.1
+  Ok (record { lane = lane; line = number; op = op })
 
--- a number up to 2 ^ 62
-pub record SpellsOffset (offset : ℕ) (digits : List ℕ) : Type 0 where
-  pub number : SpellsNumber offset digits
-  pub most : offset ≤ 4611686018427387904
+-- a line's number and its text; None where the line is skipped
+abbrev pub line_of : ℕ → List ℕ → Result (Option ScriptLine) Cause
+line_of number line = if is_skipped line then Ok None else (asked_of number (words line) >>= λ asked. Ok (Some asked))
 
--- 1 to 65,536 bytes, each as two hex digits of either case
-pub record SpellsPayload (bytes hex : List ℕ) : Type 0 where
-  pub decodes : decode_of hex ≡ Ok bytes
-  pub some : 1 ≤ length bytes
-  pub most : length bytes ≤ 65536
+-- after some lines and then this one
+abbrev pub taken : ℕ → List ScriptLine → Result (Option ScriptLine) Cause → Result (List ScriptLine) ScriptFault
+taken number before (Ok None) = Ok before
+taken number before (Ok (Some asked)) = Ok (before ++ asked ∷ [])
+taken number before (Err cause) = Err (fault_at number cause)
 
--- an operation is the put of these words: of the name in the root, at the offset, of the bytes
-pub record IsPut (op : Op) (name digits hex : List ℕ) : Type 0 where
-  pub offset : ℕ
-  pub bytes : List ℕ
-  pub is : op ≡ Put (name ∷ []) offset bytes
-  pub plain : IsPlainName name
-  pub at : SpellsOffset offset digits
-  pub payload : SpellsPayload bytes hex
+abbrev pub after_line : ℕ → List ScriptLine → List ℕ → Result (List ScriptLine) ScriptFault
+after_line number before line = taken number before (line_of number line)
 
--- a text has the words of a put, parted by single spaces, with or without a line feed at its end
-pub record LaidOut (name digits hex text : List ℕ) : Type 0 where
-  pub ending : List ℕ
-  pub is : text ≡ codes "1 put /" ++ name ++ codes " " ++ digits ++ codes " " ++ hex ++ ending
-  pub ends : (ending ≡ []) ⊎ (ending ≡ codes "\n")
+-- After so many lines, which asked for these, and then more lines: what all ask for, or the first faulty line.
+abbrev pub after_lines : ℕ → List ScriptLine → List (List ℕ) → Result (List ScriptLine) ScriptFault
+after_lines count before [] = Ok before
+after_lines count before (line ∷ more) = after_line (suc count) before line >>= λ asked. after_lines (suc count) asked more
 
--- a text asks for a put
-pub record SpellsPut (op : Op) (text : List ℕ) : Type 0 where
-  pub name : List ℕ
-  pub digits : List ℕ
-  pub hex : List ℕ
-  pub put : IsPut op name digits hex
-  pub laid_out : LaidOut name digits hex text
+-- After so many lines and then more: the first that isn't UTF-8, or else that there are more than 16,384.
+abbrev pub lines_fault : ℕ → List (List ℕ) → Option ScriptFault
+lines_fault count [] = if nat_lt 16384 count then Some (fault_at 16385 causes.ManyLines) else None
+lines_fault count (line ∷ more) = if is_utf8 line then lines_fault (suc count) more else Some (fault_at (suc count) causes.Utf8)
 
--- a script is one put, of lane 1 and in line 1
-pub record SpellsScript (lines : List ScriptLine) (text : List ℕ) : Type 0 where
-  pub op : Op
-  pub one : lines ≡ record { lane = 1; line = 1; op = op } ∷ []
-  pub put : SpellsPut op text
+-- the fault of a text as a whole
+abbrev pub text_fault : List ℕ → Option ScriptFault
+text_fault text = if nat_lt 1048576 (length text) then Some (fault_at 0 causes.Long) else lines_fault 0 (lines text)
+
+-- what a text asks for, or its fault
+abbrev pub script_of : List ℕ → Result (List ScriptLine) ScriptFault
+script_of text = option_map_or (λ fault. Err fault) (text_fault text) (after_lines 0 [] (lines text))
+
+-- What came of a text is what it asks for, or its fault. Want of memory may come at any text.
+abbrev pub IsParsed : Result (List ScriptLine) ScriptFault → Result (List ScriptLine) ParseFault → Type 0
+IsParsed read (Ok asked) = read ≡ Ok asked
+IsParsed read (Err (faults.Script fault)) = read ≡ Err fault
+IsParsed read (Err faults.Memory) = Unit {0}
+
+-- what came of a line after some others, and what they all ask for
+abbrev pub Takes : Result (List ScriptLine) ScriptFault → Result Unit ParseFault → List ScriptLine → Type 0
+Takes read (Ok u) asked = read ≡ Ok asked
+Takes read (Err (faults.Script fault)) asked = read ≡ Err fault
+Takes read (Err faults.Memory) asked = Unit {0}

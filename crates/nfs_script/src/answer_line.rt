@@ -1,9 +1,10 @@
 //! Writes the lines that answer operations.
 
-ghost use Rattle.std.specs.Prelude.{◌≡◌, ◌++◌, decimal, OnOk, OnErr};
+ghost use Rattle.std.specs.Prelude.{◌≡◌, ◌++◌, codes, decimal, OnOk, OnErr};
 ghost use Rattle.xdr_codec.specs.Spelling.{BeginsWith};
-ghost use Rattle.world_model.specs.Transcript.{answer_text, fault_text, line_text};
+ghost use Rattle.world_model.specs.Transcript.{answer_text, fault_text, line_text, value_text};
 
+use crate::value_text::write_value;
 use itoa::Buffer;
 use world_model::{Answer, Fault, Value};
 use xdr_codec::{Memory, Writer};
@@ -29,9 +30,19 @@ fn write_answer(out: &mut Writer, answer: &Answer) -> Result<(), Memory>
     ensures err { OnErr result (BeginsWith out.old out.new) }
 {
     match answer {
-        Answer::Done(Value::Nothing) => out.raw(b"ok"),
+        Answer::Done(value) => write_done(out, value),
         Answer::Refused(fault) => write_fault(out, *fault),
     }
+}
+
+#[tactic(auto, using(xdr_codec::proofs::Begins::begins_then, std::proofs::Common::append_assoc))]
+fn write_done(out: &mut Writer, value: &Value) -> Result<(), Memory>
+    ensures ok { OnOk result (out.new ≡ out.old ++ (codes "ok" ++ value_text value.now)) }
+    ensures err { OnErr result (BeginsWith out.old out.new) }
+{
+    out.raw(b"ok")?;
+    write_value(out, value)?;
+    Ok(())
 }
 
 #[tactic(auto, using(xdr_codec::proofs::Begins::begins_then, std::proofs::Common::append_assoc))]
@@ -45,6 +56,10 @@ pub(crate) fn write_fault(out: &mut Writer, fault: Fault) -> Result<(), Memory>
         Fault::Bad(rule) => write_counted(out, b"bad ", u64::from(rule)),
         Fault::Lost => out.raw(b"lost"),
         Fault::Spent => out.raw(b"spent"),
+        Fault::Slot => out.raw(b"slot"),
+        Fault::Mode => out.raw(b"mode"),
+        Fault::Kind => out.raw(b"type"),
+        Fault::Many => out.raw(b"many"),
         Fault::Memory => out.raw(b"memory"),
     }
 }

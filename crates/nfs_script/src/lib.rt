@@ -3,18 +3,28 @@
 #![tactic(auto)]
 
 mod answer_line;
+mod asked;
+mod attr_text;
+mod commands;
 mod fault;
-mod fields;
-mod put;
-mod refused_mount;
-mod script;
-mod tally;
+mod file_commands;
+mod hex_text;
 #[cfg(test)]
-mod tests;
+mod line_tests;
+#[cfg(test)]
+mod parse_tests;
+mod path_commands;
+mod refused_mount;
+mod refused_script;
+mod script;
+mod shown_text;
+mod tally;
+mod value_text;
 mod words;
 
 pub use answer_line::line;
 pub use fault::{ParseFault, ScriptFault};
 pub use refused_mount::mount_line;
-pub use script::{Script, ScriptLine, one_script, parse};
+pub use refused_script::refusal_line;
+pub use script::{Script, ScriptLine, parse};
 pub use tally::tally_line;

@@ -1,18 +1,24 @@
 //! Scripts: the operations that are asked for, each with its lane and its line.
 
-ghost use Rattle.std.specs.Prelude.{◌≡◌, ◌<◌, List, [], ◌∷◌, length, slice_get, IfOk, IfErr, MatchResult};
-ghost use Rattle.nfs_script.specs.Refusals.{IsRefusal};
-ghost use Rattle.nfs_script.specs.Script.{SpellsScript};
+ghost use Rattle.std.specs.Prelude.{◌≡◌, ◌≤◌, ◌<◌, ◌++◌, [], ◌∷◌, length, slice_get, All, IfNone, IfOk, OnOk};
+ghost use Rattle.script_text.specs.Lines.{lines};
+ghost use Rattle.nfs_script.specs.Asked.{IsAskedLine};
+ghost use Rattle.nfs_script.specs.Script.{after_line, after_lines, lines_fault, text_fault, script_of, IsParsed, Takes};
 ghost use Rattle.nfs_script.specs.declared.script.ScriptLine.{ScriptLine};
-ghost use Rattle.nfs_script.specs.declared.fault.ParseFault.TheVariants as faults;
-ghost use Rattle.world_model.specs.declared.op.Op.{Op};
 
-use crate::fault::ParseFault;
-use crate::put::put;
+use crate::asked::asked;
+use crate::fault::{Cause, LineFault, ParseFault, ScriptFault};
+use script_text::{first_line, is_utf8};
 use std::alloc::Global;
 use std::marker::Model;
 use world_model::Op;
 use xdr_codec::Memory;
+
+/// The most bytes of a script.
+const MOST_BYTES: usize = 1_048_576;
+
+/// The most lines of a script.
+const MOST_LINES: u32 = 16_384;
 
 /// An operation of a script.
 #[derive(Debug, Drop)]
@@ -41,19 +47,6 @@ impl Model for Script {
 }
 
 impl Script {
-    /// The script of this one operation, of lane 1 and in line 1.
-    fn of_one(alloc: Global, op: Op) -> Result<Script, Memory>
-        ensures { IfOk result (λ lines. lines ≡ record { lane = 1; line = 1; op = op } ∷ []) }
-    {
-        let mut lines = Vec::new(alloc);
-        lines.push(ScriptLine {
-            lane: 1,
-            line: 1,
-            op,
-        })?;
-        Ok(Script { lines })
-    }
-
     /// How many operations it has.
     pub fn count(&self) -> usize
         ensures { result ≡ length self.now }
@@ -69,22 +62,101 @@ impl Script {
         let line = &self.lines[n];
         (line.lane, line.line, &line.op)
     }
+
+    /// Nothing is asked for.
+    fn new(alloc: Global) -> Script
+        ensures { result ≡ [] }
+    {
+        Script {
+            lines: Vec::new(alloc),
+        }
+    }
+
+    /// Takes over the line of that number.
+    fn read_line(&mut self, alloc: Global, number: u32, line: &[u8]) -> Result<(), ParseFault>
+        ensures { Takes (after_line number self.old line.now) result self.new }
+    {
+        match asked(alloc, number, line) {
+            Ok(Some(asked)) => Ok(self.add(asked)?),
+            Ok(None) => Ok(()),
+            Err(LineFault::Refused(cause)) => Err(ParseFault::Script(cause.at(number))),
+            Err(LineFault::Memory) => Err(ParseFault::Memory),
+        }
+    }
+
+    /// Takes over what a line asks for.
+    fn add(&mut self, asked: ScriptLine) -> Result<(), Memory>
+        ensures { OnOk result (self.new ≡ self.old ++ asked ∷ []) }
+    {
+        self.lines.push(asked)?;
+        Ok(())
+    }
 }
 
-/// Reads a script. For now a script is exactly one line `1 put /NAME OFF HEX`, with or without a line feed at its end,
-/// its words parted by single spaces: a name of 1 to 255 bytes from 33 to 126 without `%` and `/`, an offset of one
-/// decimal digit or more up to 2^62, and 1 to 65,536 bytes in hex digits of either case. Any other text is refused with
-/// line 0 and kind 10, unless memory runs out.
+/// Reads a script of at most 1,048,576 bytes and 16,384 lines. Empty lines and lines that begin with `#` are skipped, and
+/// counted.
+///
+/// The fault is that of the text's length, or else the first line that isn't UTF-8, or else that there are too many
+/// lines, or else the first faulty line, in it the lane, then the command and how many words it has, then those words
+/// from left to right.
 pub fn parse(alloc: Global, text: &[u8]) -> Result<Script, ParseFault>
-    ensures found { IfOk result (λ lines. SpellsScript lines text.now) }
-    ensures only { (lines : List ScriptLine) → SpellsScript lines text.now → MatchResult result (λ given. given ≡ lines) (λ e. e ≡ faults.Memory) }
-    ensures refused { IfErr result IsRefusal }
+    ensures read { IsParsed (script_of text.now) result }
+    ensures asked { IfOk result (All IsAskedLine) }
 {
-    let op = put(alloc, text)?;
-    Ok(Script::of_one(alloc, op)?)
+    if let Some(fault) = text_fault(text) {
+        return Err(ParseFault::Script(fault));
+    }
+    read_lines(alloc, text)
 }
 
-/// A text is one script at most: a fact for proofs.
-pub fn one_script(text: &[u8])
-    ensures { (a b : List ScriptLine) → SpellsScript a text.now → SpellsScript b text.now → a ≡ b }
-{}
+/// The fault of a text as a whole.
+fn text_fault(text: &[u8]) -> Option<ScriptFault>
+    ensures fault { result ≡ text_fault text.now }
+    ensures length { IfNone result (length text.now ≤ 1048576) }
+{
+    if text.len() > MOST_BYTES {
+        return Some(Cause::Long.at(0));
+    }
+    lines_fault(text)
+}
+
+/// The first line that isn't UTF-8, or else that there are too many.
+fn lines_fault(text: &[u8]) -> Option<ScriptFault>
+    requires { length text.now ≤ 1048576 }
+    ensures { result ≡ lines_fault 0 (lines text.now) }
+{
+    let mut rest = text;
+    let mut number = 0u32;
+    while !rest.is_empty() {
+        let (line, after) = first_line(rest);
+        number += 1;
+        if !is_utf8(line) {
+            return Some(Cause::Utf8.at(number));
+        }
+        rest = after;
+    }
+    if number > MOST_LINES {
+        return Some(Cause::ManyLines.at(MOST_LINES + 1));
+    }
+    None
+}
+
+/// What the lines ask for.
+fn read_lines(alloc: Global, text: &[u8]) -> Result<Script, ParseFault>
+    requires { length text.now ≤ 1048576 }
+    ensures { IsParsed (after_lines 0 [] (lines text.now)) result }
+{
+    let mut script = Script::new(alloc);
+    let mut rest = text;
+    let mut number = 0u32;
+    while !rest.is_empty() {
+        let (line, after) = first_line(rest);
+        number += 1;
+        match script.read_line(alloc, number, line) {
+            Ok(()) => {}
+            Err(fault) => return Err(fault),
+        }
+        rest = after;
+    }
+    Ok(script)
+}

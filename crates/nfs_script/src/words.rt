@@ -1,51 +1,220 @@
-//! Cuts a line into its words.
+//! Reads the words of a command.
 
-ghost use Rattle.std.specs.Prelude.{◌≡◌, ◌≢◌, ◌++◌, ℕ, List, codes, MatchOption, IfSome, IsSomeAnd, Contains};
-ghost use Rattle.nfs_script.specs.Script.{LaidOut};
-ghost use Rattle.nfs_script.specs.Words.{Cut, EndsLine, Apart};
+ghost use Rattle.std.specs.Prelude.{◌≡◌};
+ghost use Rattle.script_text.specs.Lines.{words, one, two, three, four};
+ghost use Rattle.nfs_script.specs.Faults.{Gives};
+ghost use Rattle.nfs_script.specs.Commands.{wanted, slot_of, offset_of, read_count_of, fill_count_of, bits_of, mode_of, any_path_of, named_path_of, link_target_of, bytes_of, one_byte_of};
+ghost use Rattle.nfs_script.specs.Script.{first_of, lane_of};
 
-/// The words of a put: the name after the path's slash, the offset and the payload.
-#[derive(Clone, Copy)]
-pub(crate) struct PutWords<'a> {
-    pub name: &'a [u8],
-    pub digits: &'a [u8],
-    pub hex: &'a [u8],
+use crate::fault::{Cause, LineFault};
+use nfs_types::Mode;
+use script_text::{
+    byte, four_words, long_number, next_word, number, one_word, path, payload, target, three_words,
+    two_words,
+};
+use std::alloc::Global;
+use world_model::Path;
+use xdr_codec::Blob;
+
+/// The greatest lane.
+const MOST_LANE: u32 = 16;
+
+/// The greatest slot.
+const MOST_SLOT: u32 = 16;
+
+/// The greatest offset and size of an operation, 2^62.
+const MOST_OFFSET: u64 = 4_611_686_018_427_387_904;
+
+/// The most bytes of a read.
+const MOST_READ: u32 = 65_536;
+
+/// The most bytes of a fill.
+const MOST_FILL: u32 = 1_048_576;
+
+/// The six rights of ACCESS (RFC 1813, section 3.3.4).
+const ALL_RIGHTS: u32 = 63;
+
+/// The first word and what follows it. This is the fault where there is none.
+pub(crate) fn first<'a>(cause: Cause, line: &'a [u8]) -> Result<(&'a [u8], &'a [u8]), LineFault>
+    ensures { Gives (λ p. (p.0.now, words p.1.now)) result (first_of cause (words line.entry.now)) }
+{
+    match next_word(line) {
+        Some(first) => Ok(first),
+        None => Err(LineFault::Refused(cause)),
+    }
 }
 
-/// The words of a text that is laid out as a put.
-pub(crate) fn put_words(text: &[u8]) -> Option<PutWords<'_>>
-    ensures found { IfSome result (λ w. LaidOut w.name.now w.digits.now w.hex.now text.now) }
-    ensures only { (name digits hex : List ℕ) → Apart name digits hex → LaidOut name digits hex text.now → IsSomeAnd result (λ w. (w.name.now ≡ name) × (w.digits.now ≡ digits) × (w.hex.now ≡ hex)) }
+/// The word of a command that has one.
+pub(crate) fn one<'a>(line: &'a [u8]) -> Result<&'a [u8], LineFault>
+    ensures { Gives (λ w. w.now) result (wanted (one (words line.entry.now))) }
 {
-    let words = after(b"1 put /", text)?;
-    let (name, rest) = cut_word(words)?;
-    let (digits, payload) = cut_word(rest)?;
-    Some(PutWords {
-        name,
-        digits,
-        hex: without_line_feed(payload),
-    })
+    match one_word(line) {
+        Some(word) => Ok(word),
+        None => Err(LineFault::Refused(Cause::Command)),
+    }
 }
 
-/// What follows a text's beginning. None exactly where it begins otherwise.
-fn after<'a>(beginning: &[u8], text: &'a [u8]) -> Option<&'a [u8]>
-    ensures { MatchOption result ((rest : List ℕ) → text.now ≢ beginning.now ++ rest) (λ rest. text.now ≡ beginning.now ++ rest.now) }
+/// The words of a command that has two.
+pub(crate) fn two<'a>(line: &'a [u8]) -> Result<(&'a [u8], &'a [u8]), LineFault>
+    ensures { Gives (λ w. (w.0.now, w.1.now)) result (wanted (two (words line.entry.now))) }
 {
-    text.strip_prefix(beginning)
+    match two_words(line) {
+        Some(words) => Ok(words),
+        None => Err(LineFault::Refused(Cause::Command)),
+    }
 }
 
-/// The first word of a text and what follows the one space after it. None exactly where the text has no space.
-fn cut_word(text: &[u8]) -> Option<(&[u8], &[u8])>
-    ensures { MatchOption result (¬ Contains text.now 32) (λ p. Cut p.0.now p.1.now text.now) }
+/// The words of a command that has three.
+pub(crate) fn three<'a>(line: &'a [u8]) -> Result<(&'a [u8], &'a [u8], &'a [u8]), LineFault>
+    ensures { Gives (λ w. (w.0.now, w.1.now, w.2.now)) result (wanted (three (words line.entry.now))) }
 {
-    let end = text.iter().position(|byte| *byte == b' ')?;
-    Some((&text[..end], &text[end + 1..]))
+    match three_words(line) {
+        Some(words) => Ok(words),
+        None => Err(LineFault::Refused(Cause::Command)),
+    }
 }
 
-/// The text without the line feed at its end, if it has one.
-fn without_line_feed(text: &[u8]) -> &[u8]
-    ensures line { EndsLine result.now text.now }
-    ensures cut { (line : List ℕ) → text.now ≡ line ++ codes "\n" → result.now ≡ line }
+/// The words of a command that has four.
+pub(crate) fn four<'a>(
+    line: &'a [u8],
+) -> Result<(&'a [u8], &'a [u8], &'a [u8], &'a [u8]), LineFault>
+    ensures { Gives (λ w. (w.0.now, w.1.now, w.2.now, w.3.now)) result (wanted (four (words line.entry.now))) }
 {
-    text.strip_suffix(b"\n").unwrap_or(text)
+    match four_words(line) {
+        Some(words) => Ok(words),
+        None => Err(LineFault::Refused(Cause::Command)),
+    }
+}
+
+/// A lane, 1 to 16.
+pub(crate) fn lane(word: &[u8]) -> Result<u8, LineFault>
+    ensures { Gives (λ n. n) result (lane_of word.now) }
+{
+    match number(word, 1, MOST_LANE) {
+        Some(lane) => Ok(lane as u8),
+        None => Err(LineFault::Refused(Cause::Lane)),
+    }
+}
+
+/// A slot, 1 to 16.
+pub(crate) fn slot(word: &[u8]) -> Result<u8, LineFault>
+    ensures { Gives (λ n. n) result (slot_of word.now) }
+{
+    match number(word, 1, MOST_SLOT) {
+        Some(slot) => Ok(slot as u8),
+        None => Err(LineFault::Refused(Cause::Slot)),
+    }
+}
+
+/// An offset or a size, up to 2^62.
+pub(crate) fn offset(word: &[u8]) -> Result<u64, LineFault>
+    ensures { Gives (λ n. n) result (offset_of word.now) }
+{
+    match long_number(word, 0, MOST_OFFSET) {
+        Some(offset) => Ok(offset),
+        None => Err(LineFault::Refused(Cause::Number)),
+    }
+}
+
+/// How many bytes are read, up to 65,536.
+pub(crate) fn read_count(word: &[u8]) -> Result<u32, LineFault>
+    ensures { Gives (λ n. n) result (read_count_of word.now) }
+{
+    match number(word, 0, MOST_READ) {
+        Some(count) => Ok(count),
+        None => Err(LineFault::Refused(Cause::Number)),
+    }
+}
+
+/// How many bytes are filled, 1 to 1,048,576.
+pub(crate) fn fill_count(word: &[u8]) -> Result<u32, LineFault>
+    ensures { Gives (λ n. n) result (fill_count_of word.now) }
+{
+    match number(word, 1, MOST_FILL) {
+        Some(count) => Ok(count),
+        None => Err(LineFault::Refused(Cause::Number)),
+    }
+}
+
+/// Which rights are asked for, 1 to 63.
+pub(crate) fn bits(word: &[u8]) -> Result<u32, LineFault>
+    ensures { Gives (λ n. n) result (bits_of word.now) }
+{
+    match number(word, 1, ALL_RIGHTS) {
+        Some(bits) => Ok(bits),
+        None => Err(LineFault::Refused(Cause::Number)),
+    }
+}
+
+/// How a file is opened.
+pub(crate) fn mode(word: &[u8]) -> Result<Mode, LineFault>
+    ensures { Gives (λ m. m) result (mode_of word.now) }
+{
+    if word == b"r".as_slice() {
+        return Ok(Mode::R);
+    }
+    if word == b"w".as_slice() {
+        return Ok(Mode::W);
+    }
+    if word == b"rw".as_slice() {
+        return Ok(Mode::RW);
+    }
+    if word == b"c".as_slice() {
+        return Ok(Mode::C);
+    }
+    if word == b"x".as_slice() {
+        return Ok(Mode::X);
+    }
+    Err(LineFault::Refused(Cause::Command))
+}
+
+/// A path, the root too.
+pub(crate) fn any_path(alloc: Global, word: &[u8]) -> Result<Path, LineFault>
+    ensures { Gives (λ p. p) result (any_path_of word.now) }
+{
+    match path(alloc, word)? {
+        Some(path) => Ok(path),
+        None => Err(LineFault::Refused(Cause::Path)),
+    }
+}
+
+/// A path other than the root.
+pub(crate) fn named_path(alloc: Global, word: &[u8]) -> Result<Path, LineFault>
+    ensures { Gives (λ p. p) result (named_path_of word.now) }
+{
+    let path = any_path(alloc, word)?;
+    if path.names().is_empty() {
+        return Err(LineFault::Refused(Cause::Path));
+    }
+    Ok(path)
+}
+
+/// What a symbolic link is to lead to.
+pub(crate) fn link_target(alloc: Global, word: &[u8]) -> Result<Blob, LineFault>
+    ensures { Gives (λ t. t) result (link_target_of word.now) }
+{
+    match target(alloc, word)? {
+        Some(target) => Ok(target),
+        None => Err(LineFault::Refused(Cause::Path)),
+    }
+}
+
+/// 1 to 65,536 bytes in hex digits.
+pub(crate) fn bytes(alloc: Global, word: &[u8]) -> Result<Blob, LineFault>
+    ensures { Gives (λ b. b) result (bytes_of word.now) }
+{
+    match payload(alloc, word)? {
+        Some(bytes) => Ok(bytes),
+        None => Err(LineFault::Refused(Cause::Hex)),
+    }
+}
+
+/// One byte in hex digits.
+pub(crate) fn one_byte(word: &[u8]) -> Result<u8, LineFault>
+    ensures { Gives (λ b. b) result (one_byte_of word.now) }
+{
+    match byte(word) {
+        Some(byte) => Ok(byte),
+        None => Err(LineFault::Refused(Cause::Hex)),
+    }
 }

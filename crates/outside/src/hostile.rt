@@ -96,7 +96,7 @@ impl Link for HostileLink {
         ensures given { HandsOut self.old.left self.new.left rec.new.items result }
     {
         let Some(record) = self.records.as_slice().get(self.next) else {
-            if self.entries.push(Entry::Failed).is_err() {
+            if tell(&mut self.entries, Entry::Failed).is_err() {
                 return Received::Memory;
             }
             self.faults = self.faults.saturating_add(1);

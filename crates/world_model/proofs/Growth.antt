@@ -8,6 +8,7 @@ use Rattle.world_model.specs.declared.message.Reply.{Reply}
 use Rattle.world_model.specs.declared.answer.Answer.{Answer}
 use Rattle.world_model.specs.declared.answer.Answer.TheVariants as answers
 use Rattle.world_model.specs.declared.answer.Fault.{Fault}
+use Rattle.world_model.specs.declared.answer.Value.TheVariants as values
 use Rattle.world_model.specs.declared.answer.Fault.TheVariants as faults
 use Rattle.world_model.specs.Waiting.{FirstSent, Waits, Drops, Answers}
 use Rattle.world_model.specs.Heard.{Heard, Asked, Refused}
@@ -184,13 +185,22 @@ pub SpentShown-grow : (limits : Limits) (h more : List Entry) (to : ℕ) → Spe
 SpentShown-grow limits h more to s x low high = WasSent-grow h more x to (s x low high)
 
 pub AnswerShown-grow : {cause later : Type 0} (limits : Limits) (h more : List Entry) (from to : ℕ) (p : PutOf) (a : Answer) → to ≤ length h → (cause → later) → AnswerShown cause limits h from to p a → AnswerShown later limits (h ++ more) from to p a
-AnswerShown-grow limits h more from to p (answers.Done v) within go s = OkShown-grow h more from to p s
+AnswerShown-grow limits h more from to p (answers.Done values.Nothing) within go s = OkShown-grow h more from to p s
+AnswerShown-grow limits h more from to p (answers.Done (values.Bytes b)) within go s = absurd s
+AnswerShown-grow limits h more from to p (answers.Done (values.Text b)) within go s = absurd s
+AnswerShown-grow limits h more from to p (answers.Done (values.Attrs a)) within go s = absurd s
+AnswerShown-grow limits h more from to p (answers.Done (values.Bits n)) within go s = absurd s
+AnswerShown-grow limits h more from to p (answers.Done (values.Names ns)) within go s = absurd s
 AnswerShown-grow limits h more from to p (answers.Refused (faults.Nfs n)) within go s = RefusalShown-grow limits.wsize h more from to p (faults.Nfs n) s
 AnswerShown-grow limits h more from to p (answers.Refused (faults.Rpc n)) within go s = RefusalShown-grow limits.wsize h more from to p (faults.Rpc n) s
 AnswerShown-grow limits h more from to p (answers.Refused (faults.Bad n)) within go s = RefusalShown-grow limits.wsize h more from to p (faults.Bad n) s
 AnswerShown-grow limits h more from to p (answers.Refused faults.Lost) within go s = LostShown-grow h more to within go s
 AnswerShown-grow limits h more from to p (answers.Refused faults.Spent) within go s = SpentShown-grow limits h more to s
 AnswerShown-grow limits h more from to p (answers.Refused faults.Memory) within go s = tt
+AnswerShown-grow limits h more from to p (answers.Refused faults.Slot) within go s = absurd s
+AnswerShown-grow limits h more from to p (answers.Refused faults.Mode) within go s = absurd s
+AnswerShown-grow limits h more from to p (answers.Refused faults.Kind) within go s = absurd s
+AnswerShown-grow limits h more from to p (answers.Refused faults.Many) within go s = absurd s
 
 -- ---- the mount, and the size of WRITE
 

@@ -3,3 +3,4 @@ pub mod Histories
 pub mod Growth
 pub mod ServiceExamples
 pub mod HistoryExamples
+pub mod OperationExamples

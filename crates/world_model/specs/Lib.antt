@@ -24,3 +24,10 @@ pub mod Once
 pub mod Fresh
 pub mod Rising
 pub mod Leads
+pub mod Operations
+pub mod Slots
+pub mod Touched
+pub mod Settled
+pub mod Pending
+pub mod ReadTrue
+pub mod Recent

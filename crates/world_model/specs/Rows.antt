@@ -5,6 +5,7 @@ use Rattle.world_model.specs.declared.entry.Entry.TheVariants.{Sent, Delivered}
 use Rattle.world_model.specs.declared.message.Call.{Call}
 use Rattle.world_model.specs.declared.answer.Answer.{Answer}
 use Rattle.world_model.specs.declared.answer.Answer.TheVariants as answers
+use Rattle.world_model.specs.declared.answer.Value.TheVariants as values
 use Rattle.world_model.specs.declared.answer.Fault.{Fault}
 use Rattle.world_model.specs.declared.answer.Fault.TheVariants as faults
 use Rattle.world_model.specs.Entries.{At}
@@ -61,12 +62,15 @@ pub record Limits : Type 0 where
 abbrev pub SpentShown : Limits → List Entry → ℕ → Type 0
 SpentShown limits h to = (x : ℕ) → limits.first ≤ x → x < limits.first + limits.calls → WasSent h x to
 
--- The row of each answer to a put that began at the place from, by the place to. Want of memory has none.
+-- The row of each answer to a put that began at the place from, by the place to. Want of memory has none, and other
+-- answers don't come.
 abbrev pub AnswerShown : Type 0 → Limits → List Entry → ℕ → ℕ → PutOf → Answer → Type 0
-AnswerShown cause limits h from to p (answers.Done value) = OkShown h from to p
+AnswerShown cause limits h from to p (answers.Done values.Nothing) = OkShown h from to p
+AnswerShown cause limits h from to p (answers.Done value) = ⊥
 AnswerShown cause limits h from to p (answers.Refused (faults.Nfs n)) = RefusalShown limits.wsize h from to p (faults.Nfs n)
 AnswerShown cause limits h from to p (answers.Refused (faults.Rpc n)) = RefusalShown limits.wsize h from to p (faults.Rpc n)
 AnswerShown cause limits h from to p (answers.Refused (faults.Bad n)) = RefusalShown limits.wsize h from to p (faults.Bad n)
 AnswerShown cause limits h from to p (answers.Refused faults.Lost) = LostShown cause h to
 AnswerShown cause limits h from to p (answers.Refused faults.Spent) = SpentShown limits h to
 AnswerShown cause limits h from to p (answers.Refused faults.Memory) = Unit {0}
+AnswerShown cause limits h from to p (answers.Refused fault) = ⊥

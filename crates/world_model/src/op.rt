@@ -2,7 +2,7 @@
 
 ghost use Rattle.std.specs.Prelude.{◌≡◌, IfOk};
 
-use nfs_types::Name;
+use nfs_types::{Mode, Name};
 use std::alloc::Global;
 use std::marker::Model;
 use xdr_codec::{Blob, Memory};
@@ -46,14 +46,96 @@ impl Path {
     }
 }
 
-/// An operation, as a line of a script asks for it.
+/// An operation, as a line of a script asks for it. A slot, 1 to 16, holds an open file of its lane.
 #[derive(Debug, Drop)]
 pub enum Op {
+    /// Opens the file into the slot, which is free.
+    OpenFile {
+        slot: u8,
+        mode: Mode,
+        path: Path,
+    },
+    /// Reads so many bytes at the offset, at most 65,536, or those up to the end of the file.
+    Read {
+        slot: u8,
+        offset: u64,
+        count: u32,
+    },
+    /// Writes the bytes at the offset. They are held back until a sync, a close or want of room.
+    Write {
+        slot: u8,
+        offset: u64,
+        bytes: Blob,
+    },
+    /// As a write of so many equal bytes, 1 to 1,048,576.
+    Fill {
+        slot: u8,
+        offset: u64,
+        count: u32,
+        byte: u8,
+    },
     /// Writes the bytes at the offset of the file that the path names, and makes them stable.
     Put {
         path: Path,
         offset: u64,
         bytes: Blob,
+    },
+    /// Makes stable what was written to the file.
+    Sync {
+        slot: u8,
+    },
+    /// Makes stable what was written to the file, and frees the slot.
+    Close {
+        slot: u8,
+    },
+    /// Gives the file this size.
+    Truncate {
+        slot: u8,
+        size: u64,
+    },
+    /// Shows an object's attributes.
+    Stat {
+        path: Path,
+    },
+    /// Asks which of these rights are granted, as the bits of ACCESS, 1 to 63 (RFC 1813, section 3.3.4).
+    Access {
+        path: Path,
+        bits: u32,
+    },
+    /// Makes a directory.
+    MakeDir {
+        path: Path,
+    },
+    /// Removes a directory, which is empty.
+    RemoveDir {
+        path: Path,
+    },
+    /// Removes a name of a file. A file that this client has open keeps its bytes until the last close.
+    Remove {
+        path: Path,
+    },
+    /// Gives an object another name in place of this one.
+    Rename {
+        from: Path,
+        to: Path,
+    },
+    /// Gives a file a further name.
+    Link {
+        from: Path,
+        to: Path,
+    },
+    /// Makes a symbolic link that leads to the target, 1 to 1,024 bytes.
+    SymLink {
+        path: Path,
+        target: Blob,
+    },
+    /// Shows what a symbolic link leads to.
+    ReadLink {
+        path: Path,
+    },
+    /// Shows the names of a directory.
+    List {
+        path: Path,
     },
 }
 
@@ -62,16 +144,90 @@ impl Op {
     pub fn copy(&self, alloc: Global) -> Result<Op, Memory>
         ensures { IfOk result (λ op. op ≡ self.now) }
     {
-        match self {
+        Ok(match self {
+            Op::OpenFile { slot, mode, path } => Op::OpenFile {
+                slot: *slot,
+                mode: *mode,
+                path: path.copy(alloc)?,
+            },
+            Op::Read {
+                slot,
+                offset,
+                count,
+            } => Op::Read {
+                slot: *slot,
+                offset: *offset,
+                count: *count,
+            },
+            Op::Write {
+                slot,
+                offset,
+                bytes,
+            } => Op::Write {
+                slot: *slot,
+                offset: *offset,
+                bytes: Blob::copy(alloc, bytes.bytes())?,
+            },
+            Op::Fill {
+                slot,
+                offset,
+                count,
+                byte,
+            } => Op::Fill {
+                slot: *slot,
+                offset: *offset,
+                count: *count,
+                byte: *byte,
+            },
             Op::Put {
                 path,
                 offset,
                 bytes,
-            } => Ok(Op::Put {
+            } => Op::Put {
                 path: path.copy(alloc)?,
                 offset: *offset,
                 bytes: Blob::copy(alloc, bytes.bytes())?,
-            }),
-        }
+            },
+            Op::Sync { slot } => Op::Sync { slot: *slot },
+            Op::Close { slot } => Op::Close { slot: *slot },
+            Op::Truncate { slot, size } => Op::Truncate {
+                slot: *slot,
+                size: *size,
+            },
+            Op::Stat { path } => Op::Stat {
+                path: path.copy(alloc)?,
+            },
+            Op::Access { path, bits } => Op::Access {
+                path: path.copy(alloc)?,
+                bits: *bits,
+            },
+            Op::MakeDir { path } => Op::MakeDir {
+                path: path.copy(alloc)?,
+            },
+            Op::RemoveDir { path } => Op::RemoveDir {
+                path: path.copy(alloc)?,
+            },
+            Op::Remove { path } => Op::Remove {
+                path: path.copy(alloc)?,
+            },
+            Op::Rename { from, to } => Op::Rename {
+                from: from.copy(alloc)?,
+                to: to.copy(alloc)?,
+            },
+            Op::Link { from, to } => Op::Link {
+                from: from.copy(alloc)?,
+                to: to.copy(alloc)?,
+            },
+            Op::SymLink { path, target } => Op::SymLink {
+                path: path.copy(alloc)?,
+                target: Blob::copy(alloc, target.bytes())?,
+            },
+            Op::ReadLink { path } => Op::ReadLink {
+                path: path.copy(alloc)?,
+            },
+            Op::List { path } => Op::List {
+                path: path.copy(alloc)?,
+            },
+        })
     }
 }

@@ -1,7 +1,7 @@
 use Rattle.std.proofs.Common.{[]}
 use Rattle.world_model.specs.declared.entry.Entry.TheVariants.{Answered}
 use Rattle.nfs_client.proofs.Alongs.{along_call, along_then, along_less}
-use Rattle.nfs_client.proofs.Working.{Notes, Quiet, Answering, notes_by, quiet_of, works_unbegun, works_unanswered, works_unnoted, works_well}
+use Rattle.nfs_client.proofs.Working.{Notes, Quiet, Answering, notes_by, quiet_of, works_unbegun, works_unanswered, works_unnoted, works_uncopied, works_well}
 use Rattle.nfs_client.proofs.session.work.Goals as goal
 
 pub returns-in-Err-clause-goes : goal.returns-in-Err-clause-goes
@@ -12,10 +12,16 @@ returns-in-Err-answer-clause-goes g c =
     let a = c.in-Err-answer.ensures in
     along_then _ _ _ _ _ _ _ _ _ (λ h k l e f b x. works_unanswered c.args.set_up c.args.op.now c.args.calls c.answer.new.calls c.in-Err-answer.wanting c.in-Err-answer.wanting h k l a.same e f b x) c.in-Ok.ensures.goes a.goes
 
+pub returns-in-Err-copy-clause-goes : goal.returns-in-Err-copy-clause-goes
+returns-in-Err-copy-clause-goes g c =
+    let a = c.in-Ok-answer.ensures in
+    let answer = c.in-Ok-answer.answer in
+    along_then _ _ _ _ _ _ _ _ _ (λ h k l e f b x. works_uncopied c.args.set_up c.args.op.now c.args.calls c.answer.new.calls answer c.in-Err-copy.wanting h k l a.same e f b x) c.in-Ok.ensures.goes a.goes
+
 pub returns-in-Ok-note-clause-goes : goal.returns-in-Ok-note-clause-goes
 returns-in-Ok-note-clause-goes g c =
     let a = c.in-Ok-answer.ensures in
-    let n = c.in-Ok-note.ensures in
+    let n = rw c.in-Ok-copy.ensures at c.in-Ok-note.ensures in
     let answer = c.in-Ok-answer.answer in
     let R = Answering c.args.set_up c.args.op.now c.args.calls c.answer.new.calls answer in
     along_then _ _ _ _ _ _ R (Notes (Answered 1 1 answer)) _

@@ -1,20 +1,40 @@
-use Rattle.nfs_client.proofs.Runs.{no_script, asks_for, run_says}
+use Rattle.nfs_client.proofs.Runs.{unscripted, scripted, faulty, undoable, asks_one, asks_for, fault_for, own_fault, later_fault, run_says, refuse_says}
 use Rattle.nfs_client.proofs.top.run.Goals as goal
 
 pub returns-in-Err-Failed-clause-no_words : goal.returns-in-Err-Failed-clause-no_words
 returns-in-Err-Failed-clause-no_words g c = λ none. absurd (none c.in-Ok.settings c.in-Ok.ensures.found)
 
+pub returns-in-Some-clause-no_words : goal.returns-in-Some-clause-no_words
+returns-in-Some-clause-no_words g c = λ none. absurd (none c.in-Ok.settings c.in-Ok.ensures.found)
+
+pub returns-in-Some-clause-unspelled : goal.returns-in-Some-clause-unspelled
+returns-in-Some-clause-unspelled g c =
+    scripted _ _ _ _ (asks_one _ _ _ c.in-Ok-parse.ensures.read c.in-Some.ensures.0 c.in-Some.ensures.1) c.as_slice.ensures.value c.in-Ok-read_script.ensures.text
+
+pub returns-in-Some-clause-shown : goal.returns-in-Some-clause-shown
+returns-in-Some-clause-shown g c =
+    run_says _ _ _ _ _ _ _ _ _ _ c.in-Ok.ensures.found (asks_for _ _ _ _ _ c.in-Ok-parse.ensures.read c.in-Some.ensures.0 c.as_slice.ensures.value c.in-Ok-read_script.ensures.text) c.session.ensures.shown
+
 pub returns-in-Ok-parse-clause-no_words : goal.returns-in-Ok-parse-clause-no_words
 returns-in-Ok-parse-clause-no_words g c = λ none. absurd (none c.in-Ok.settings c.in-Ok.ensures.found)
 
+pub returns-in-Ok-parse-clause-script : goal.returns-in-Ok-parse-clause-script
+returns-in-Ok-parse-clause-script g c =
+    unscripted _ _ _ _ (undoable _ _ c.in-Ok-parse.ensures.read c.in-None.ensures) c.as_slice.ensures.value c.in-Ok-read_script.ensures.text
+
 pub returns-in-Ok-parse-clause-shown : goal.returns-in-Ok-parse-clause-shown
 returns-in-Ok-parse-clause-shown g c =
-    run_says _ _ _ _ _ _ _ _ _ _ c.in-Ok.ensures.found (asks_for _ _ _ _ _ c.in-Ok-parse.ensures.found c.op.ensures c.as_slice.ensures.value c.in-Ok-read_script.ensures.text) c.session.ensures.shown
+    refuse_says _ _ _ _ _ _ _ _ (fault_for _ _ _ _ (later_fault _ _ c.in-Ok-parse.ensures.read) c.as_slice.ensures.value c.in-Ok-read_script.ensures.text) c.refuse.ensures.said
 
 pub returns-in-Err-Script-clause-no_words : goal.returns-in-Err-Script-clause-no_words
 returns-in-Err-Script-clause-no_words g c = λ none. absurd (none c.in-Ok.settings c.in-Ok.ensures.found)
 
 pub returns-in-Err-Script-clause-script : goal.returns-in-Err-Script-clause-script
 returns-in-Err-Script-clause-script g c =
-    let e = rw c.in-Err-Script.field-0-is at c.in-Err-Script.ensures in
-    no_script _ _ _ _ (λ lines s. let m = e.only lines s in cc) c.as_slice.ensures.value c.in-Ok-read_script.ensures.text
+    let e = rw c.in-Err-Script.field-0-is at c.in-Err-Script.ensures.read in
+    unscripted _ _ _ _ (faulty _ _ e) c.as_slice.ensures.value c.in-Ok-read_script.ensures.text
+
+pub returns-in-Err-Script-clause-shown : goal.returns-in-Err-Script-clause-shown
+returns-in-Err-Script-clause-shown g c =
+    let e = rw c.in-Err-Script.field-0-is at c.in-Err-Script.ensures.read in
+    refuse_says _ _ _ _ _ _ _ _ (fault_for _ _ _ _ (own_fault _ _ e) c.as_slice.ensures.value c.in-Ok-read_script.ensures.text) c.refuse-in-Err-Script.ensures.said

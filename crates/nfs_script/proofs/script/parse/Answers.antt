@@ -1,10 +1,7 @@
-use Rattle.std.proofs.Common.{◌≡◌}
-use Rattle.nfs_script.proofs.Passed.{memory_kept}
-use Rattle.nfs_script.proofs.Puts.{same_lines}
+use Rattle.std.proofs.Common.{rules}
+use Rattle.nfs_script.specs.Script.{script_of}
+use Rattle.nfs_script.proofs.Within.{script_bounds, parsed_bounds}
 use Rattle.nfs_script.proofs.script.parse.Goals as goal
 
-pub returns-in_err-op-clause-only : goal.returns-in_err-op-clause-only
-returns-in_err-op-clause-only c = λ lines s. memory_kept c.from_residual.result _ (λ given. given ≡ lines) c.from_residual.ensures.1 (c.in_err-op.ensures.only s.op s.put)
-
-pub returns-clause-only : goal.returns-clause-only
-returns-clause-only c = λ lines s. same_lines _ _ lines _ c.in_ok-of_one.ensures s (c.in_ok-op.ensures.only s.op s.put)
+pub returns-clause-asked : goal.returns-clause-asked
+returns-clause-asked c = parsed_bounds (script_of c.args.text.now) c.read_lines.result (search rules) (script_bounds c.args.text.now)
