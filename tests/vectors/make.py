@@ -2,10 +2,11 @@
 """Makes records of NFS version 3, MOUNT version 3 and ONC RPC by scapy, an implementation that isn't ours.
 
   make.py           prints the records, one a line: its name, and its bytes in hex
-  make.py --write   writes them to records.txt and into the test that reads them
-  make.py --check   says whether these two files hold them, and ends with status 1 where they don't
+  make.py --write   writes them to records.txt
+  make.py --check   says whether the rows of crates/wire_rows hold them too, and ends with status 1 where they or that
+                    file don't
 
-It needs scapy with its layers for NFS (Debian's python3-scapy 2.5.0 is what the records were made with). The tests
+It needs scapy with its layers for NFS (Debian's python3-scapy 2.5.0 is what the records were made with). The rows
 need only the bytes. What scapy doesn't make, or makes otherwise than RFC 1813 says, is left out: see README.md.
 """
 import pathlib
@@ -15,7 +16,7 @@ from scapy.contrib import mount, nfs, oncrpc
 
 HERE = pathlib.Path(__file__).resolve().parent
 TEXT = HERE / "records.txt"
-CODE = HERE.parent.parent / "crates" / "codec_vectors" / "src" / "records.rt"
+ROWS = HERE.parent.parent / "crates" / "wire_rows" / "stdin"
 
 
 def handle(digits):
@@ -261,28 +262,20 @@ def as_text():
     return "".join(f"{key} {digits}".rstrip() + "\n" for key, digits in records())
 
 
-def as_code():
-    lines = [
-        "//! The records of `tests/vectors/records.txt`, in hex. `tests/vectors/make.py` writes this file and that one.",
-    ]
-    for key, digits in records():
-        word = key.upper().replace("-", "_")
-        line = f'pub const {word}: &str = "{digits}";'
-        if len(line) > 100:
-            line = f'pub const {word}: &str =\n    "{digits}";'
-        lines += ["", line]
-    return "\n".join(lines) + "\n"
+def missing():
+    """The records that no row has."""
+    rows = {line.split(" ")[2] for line in ROWS.read_text().splitlines() if not line.startswith("#")}
+    return [key for key, digits in records() if (digits or "-") not in rows]
 
 
 def main(words):
-    files = [(TEXT, as_text()), (CODE, as_code())]
     if words == ["--write"]:
-        for file, text in files:
-            file.write_text(text)
+        TEXT.write_text(as_text())
     elif words == ["--check"]:
-        wrong = [file.name for file, text in files if not file.is_file() or file.read_text() != text]
-        if wrong:
-            sys.exit("make.py: not what scapy makes: " + ", ".join(wrong))
+        if not TEXT.is_file() or TEXT.read_text() != as_text():
+            sys.exit("make.py: records.txt isn't what scapy makes")
+        if missing():
+            sys.exit("make.py: no row has " + ", ".join(missing()))
     elif words:
         sys.exit(__doc__)
     else:

@@ -1,2 +1,3 @@
 pub mod ListLaws
 pub mod Laws
+pub mod Rows

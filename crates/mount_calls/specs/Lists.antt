@@ -9,7 +9,7 @@ use Rattle.xdr_codec.specs.Bytes.{IsBytes}
 use Rattle.xdr_codec.specs.Lists.{list_at}
 use Rattle.xdr_codec.specs.Spells.{◌⨾◌, SpellsU32}
 
--- what a read of a value with data of its own gave, and left, is what reading gives: want of memory is free
+-- what a read of a value with data of its own gave, and left, is what reading gives: out of memory is free
 abbrev pub ReadsOwned : {X : Type 0} → Result X CodecFault → List ℕ → Result (X × List ℕ) XdrFault → Type 0
 ReadsOwned (Ok x) new read = read ≡ Ok (x, new)
 ReadsOwned (Err faults.Memory) new read = Unit {0}

@@ -49,7 +49,7 @@ pub fn mount_proc(call: &MountCall) -> u32
 }
 
 /// Reads the call of a procedure from all of its arguments, with the first fault in order of spelling. A path of
-/// more than 1,024 bytes is TooLong. Memory is want of memory.
+/// more than 1,024 bytes is TooLong. Memory means out of memory.
 pub fn read_mount_call(alloc: Global, proc: u32, args: &[u8]) -> Result<MountCall, CodecFault>
     requires { IsMountProc proc }
     ensures exact { GivesOwned result (mount_call_at proc args.now) }
@@ -108,7 +108,7 @@ fn export_call(args: &[u8]) -> Result<MountCall, CodecFault>
     Ok(MountCall::Export)
 }
 
-/// Writes the arguments of a call. After want of memory the writer begins with what it held.
+/// Writes the arguments of a call. When out of memory the writer begins with what it held.
 #[tactic(auto, unfolding(crate::specs::Calls::mount_call_bytes))]
 pub fn write_mount_call(w: &mut Writer, call: &MountCall) -> Result<(), Memory>
     requires { HasSpellingCall call.now }

@@ -115,7 +115,7 @@ fn read_groups(alloc: Global, r: &mut Reader<'_>) -> Result<Groups, CodecFault>
     Ok(Groups { names })
 }
 
-/// Writes the list of exports. After want of memory the writer begins with what it held.
+/// Writes the list of exports. When out of memory the writer begins with what it held.
 #[tactic(auto, using(xdr_codec::proofs::Begins::begins_then, std::proofs::Common::append_assoc), unfolding(crate::specs::Exports::exports_bytes))]
 pub fn write_exports(w: &mut Writer, list: &ExportList) -> Result<(), Memory>
     requires { AreExports list.now }

@@ -67,7 +67,7 @@ fn read_words(alloc: Global, r: &mut Reader<'_>, count: u32) -> Result<Flavors, 
     Ok(Flavors { list })
 }
 
-/// Writes a list with its count. After want of memory the writer begins with what it held.
+/// Writes a list with its count. When out of memory the writer begins with what it held.
 #[tactic(auto, using(xdr_codec::proofs::Begins::begins_then, std::proofs::Common::append_assoc), unfolding(crate::specs::Flavors::flavors_bytes))]
 pub fn write_flavors(w: &mut Writer, flavors: &Flavors) -> Result<(), Memory>
     requires { length flavors.now ≤ 64 }

@@ -6,8 +6,6 @@ mod exports;
 mod flavors;
 mod keep;
 mod reply;
-#[cfg(test)]
-mod tests;
 mod text;
 
 pub use call::{MountCall, is_mount_proc, mount_proc, read_mount_call, write_mount_call};

@@ -119,7 +119,7 @@ fn export_reply(alloc: Global, results: &[u8]) -> Result<MountReply, CodecFault>
     Ok(MountReply::Export { list })
 }
 
-/// Writes the results of a call. After want of memory the writer begins with what it held.
+/// Writes the results of a call. When out of memory the writer begins with what it held.
 #[tactic(auto, unfolding(crate::specs::Replies::mount_reply_bytes))]
 pub fn write_mount_reply(w: &mut Writer, reply: &MountReply) -> Result<(), Memory>
     requires { HasSpellingReply reply.now }

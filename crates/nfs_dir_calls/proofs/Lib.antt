@@ -23,3 +23,4 @@ pub mod ReadDirPlusLaws
 pub mod Calls
 pub mod Replies
 pub mod HasSpelling
+pub mod Rows

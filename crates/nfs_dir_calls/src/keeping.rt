@@ -146,6 +146,7 @@ pub enum DirKept {
     },
 }
 
+// One arm a reply, field by field: longer than other functions, but a split would only hide the table.
 /// A copy that owns its data.
 pub fn kept(alloc: Global, reply: &DirReply<'_>) -> Result<DirKept, Memory>
     ensures { IfOk result (λ k. k ≡ kept_of reply.now) }

@@ -15,24 +15,16 @@ mod mkdir;
 mod mknod;
 mod new_object;
 mod opt_handle;
-#[cfg(test)]
-mod page_tests;
 mod place;
 mod plus_page;
 mod readdir;
 mod readdirplus;
 mod readlink;
-#[cfg(test)]
-mod record_tests;
 mod remove;
 mod rename;
 mod reply;
 mod rmdir;
 mod symlink;
-#[cfg(test)]
-mod test_records;
-#[cfg(test)]
-mod value_tests;
 
 pub use call::{DirCall, dir_proc, is_dir_proc, read_dir_call, write_dir_call};
 pub use create::Making;

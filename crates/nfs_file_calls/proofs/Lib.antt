@@ -7,3 +7,4 @@ pub mod ReplyLaws
 pub mod Written
 pub mod WrittenCalls
 pub mod WrittenReplies
+pub mod Rows

@@ -102,7 +102,7 @@ pub fn file_proc(call: &FileCall) -> u32
 
 /// Reads the call of a procedure from all of its arguments, with the first fault in order of spelling. A WRITE
 /// whose `how` is above 2, or whose count isn't the length of its data, is BadValue. Data have at most
-/// 65,536 bytes, else TooLong. Memory is want of memory.
+/// 65,536 bytes, else TooLong. Memory means out of memory.
 pub fn read_file_call(alloc: Global, proc: u32, args: &[u8]) -> Result<FileCall, CodecFault>
     requires { IsFileProc proc }
     ensures exact { GivesOwned result (file_call_at proc args.now) }

@@ -13,6 +13,3 @@ pub use call::{FileCall, file_proc, is_file_proc, read_file_call, write_file_cal
 pub use owned::{FileKept, kept};
 pub use read_back::{file_call_read_back, file_reply_read_back};
 pub use reply::{FileReply, read_file_reply, write_file_reply};
-
-#[cfg(test)]
-mod tests;

@@ -126,6 +126,7 @@ pub enum FileKept {
     },
 }
 
+// One arm a reply, field by field: longer than other functions, but a split would only hide the table.
 /// A copy of a reply that owns its data.
 pub fn kept(alloc: Global, reply: &FileReply<'_>) -> Result<FileKept, Memory>
     ensures { IfOk result (λ k. k ≡ kept_of reply.now) }

@@ -189,6 +189,7 @@ pub fn write_file_reply(w: &mut Writer, reply: &FileReply<'_>) -> Result<(), Mem
     file_reply_into(w, reply)
 }
 
+// One arm a reply, field by field: longer than other functions, but a split would only hide the table.
 #[tactic(auto, using(xdr_codec::proofs::Begins::begins_then, std::proofs::Common::append_assoc), unfolding(crate::specs::Replies::file_reply_bytes, crate::specs::FileSystem::fs_stat_done_bytes, crate::specs::FileSystem::fs_info_done_bytes, crate::specs::FileSystem::path_conf_done_bytes))]
 fn file_reply_into(w: &mut Writer, reply: &FileReply<'_>) -> Result<(), Memory>
     requires { HasSpellingReply (kept_of reply.now) }

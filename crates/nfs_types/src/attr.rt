@@ -107,7 +107,7 @@ fn attr_of(r: &mut Reader<'_>) -> Result<Attr, XdrFault>
     })
 }
 
-/// Writes attributes. After want of memory the writer begins with what it held.
+/// Writes attributes. When out of memory the writer begins with what it held.
 pub fn write_attr(w: &mut Writer, v: &Attr) -> Result<(), Memory>
     ensures ok { OnOk result (w.new ≡ w.old ++ attr_bytes v.now) }
     ensures err { OnErr result (BeginsWith w.old w.new) }
@@ -209,7 +209,7 @@ fn opt_attr_of(r: &mut Reader<'_>) -> Result<Option<Attr>, XdrFault>
     Ok(attr)
 }
 
-/// Writes attributes or none. After want of memory the writer begins with what it held.
+/// Writes attributes or none. When out of memory the writer begins with what it held.
 pub fn write_opt_attr(w: &mut Writer, v: &Option<Attr>) -> Result<(), Memory>
     ensures ok { OnOk result (w.new ≡ w.old ++ opt_attr_bytes v.now) }
     ensures err { OnErr result (BeginsWith w.old w.new) }

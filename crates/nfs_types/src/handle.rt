@@ -90,7 +90,7 @@ fn handle_of(r: &mut Reader<'_>) -> Result<Handle, XdrFault>
     Ok(Handle::of(bytes))
 }
 
-/// Writes a file handle. After want of memory the writer begins with what it held.
+/// Writes a file handle. When out of memory the writer begins with what it held.
 pub fn write_handle(w: &mut Writer, v: &Handle) -> Result<(), Memory>
     ensures ok { OnOk result (w.new ≡ w.old ++ handle_bytes v.now) }
     ensures err { OnErr result (BeginsWith w.old w.new) }

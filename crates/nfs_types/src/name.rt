@@ -106,7 +106,7 @@ fn name_of(r: &mut Reader<'_>) -> Result<Name, XdrFault>
     Ok(Name::of(bytes))
 }
 
-/// Writes a name. After want of memory the writer begins with what it held.
+/// Writes a name. When out of memory the writer begins with what it held.
 pub fn write_name(w: &mut Writer, v: &Name) -> Result<(), Memory>
     ensures ok { OnOk result (w.new ≡ w.old ++ name_bytes v.now) }
     ensures err { OnErr result (BeginsWith w.old w.new) }

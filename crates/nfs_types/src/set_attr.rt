@@ -70,7 +70,7 @@ fn set_attr_of(r: &mut Reader<'_>) -> Result<SetAttr, XdrFault>
     })
 }
 
-/// Writes the attributes to set. After want of memory the writer begins with what it held.
+/// Writes the attributes to set. When out of memory the writer begins with what it held.
 pub fn write_set_attr(w: &mut Writer, v: &SetAttr) -> Result<(), Memory>
     ensures ok { OnOk result (w.new ≡ w.old ++ set_attr_bytes v.now) }
     ensures err { OnErr result (BeginsWith w.old w.new) }

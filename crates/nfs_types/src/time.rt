@@ -38,7 +38,7 @@ fn time_of(r: &mut Reader<'_>) -> Result<Time, XdrFault>
     Ok(Time { seconds, nanos })
 }
 
-/// Writes a time. After want of memory the writer begins with what it held.
+/// Writes a time. When out of memory the writer begins with what it held.
 pub fn write_time(w: &mut Writer, v: &Time) -> Result<(), Memory>
     ensures ok { OnOk result (w.new ≡ w.old ++ time_bytes v.now) }
     ensures err { OnErr result (BeginsWith w.old w.new) }

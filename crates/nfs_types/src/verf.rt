@@ -34,7 +34,7 @@ fn verf_of(r: &mut Reader<'_>) -> Result<Verf, XdrFault>
     Ok(Verf(hold(bytes)))
 }
 
-/// Writes a verifier. After want of memory the writer begins with what it held.
+/// Writes a verifier. When out of memory the writer begins with what it held.
 pub fn write_verf(w: &mut Writer, v: &Verf) -> Result<(), Memory>
     ensures ok { OnOk result (w.new ≡ w.old ++ verf_bytes v.now) }
     ensures err { OnErr result (BeginsWith w.old w.new) }

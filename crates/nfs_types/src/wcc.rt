@@ -52,7 +52,7 @@ fn stamp_of(r: &mut Reader<'_>) -> Result<Stamp, XdrFault>
     Ok(Stamp { size, mtime, ctime })
 }
 
-/// Writes a length and two times. After want of memory the writer begins with what it held.
+/// Writes a length and two times. When out of memory the writer begins with what it held.
 pub fn write_stamp(w: &mut Writer, v: &Stamp) -> Result<(), Memory>
     ensures ok { OnOk result (w.new ≡ w.old ++ stamp_bytes v.now) }
     ensures err { OnErr result (BeginsWith w.old w.new) }
@@ -111,7 +111,7 @@ fn wcc_of(r: &mut Reader<'_>) -> Result<Wcc, XdrFault>
     Ok(Wcc { before, after })
 }
 
-/// Writes what was before and after a change. After want of memory the writer begins with what it held.
+/// Writes what was before and after a change. When out of memory the writer begins with what it held.
 pub fn write_wcc(w: &mut Writer, v: &Wcc) -> Result<(), Memory>
     ensures ok { OnOk result (w.new ≡ w.old ++ wcc_bytes v.now) }
     ensures err { OnErr result (BeginsWith w.old w.new) }

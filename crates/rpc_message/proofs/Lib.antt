@@ -3,3 +3,4 @@ pub mod Creds
 pub mod Written
 pub mod CallLaws
 pub mod ReplyLaws
+pub mod Rows

@@ -105,7 +105,7 @@ fn head_of<'a>(xid: u32, bytes: &'a [u8]) -> Result<(CallHead, &'a [u8]), XdrFau
     ))
 }
 
-/// Writes a call up to its arguments; the verifier is AUTH_NONE. After want of memory the writer begins with what
+/// Writes a call up to its arguments; the verifier is AUTH_NONE. When out of memory the writer begins with what
 /// it held.
 #[tactic(auto, using(xdr_codec::proofs::Begins::begins_then, std::proofs::Common::append_assoc), unfolding(crate::specs::Call::call_head_bytes))]
 pub fn write_call(w: &mut Writer, head: &CallHead, cred: &Cred) -> Result<(), Memory>

@@ -14,7 +14,8 @@ const AUTH_NONE: u32 = 0;
 /// The flavor of a credential with a machine, a user and a group (RFC 5531, appendix A).
 const AUTH_SYS: u32 = 1;
 
-/// The bytes of the body of AUTH_SYS that aren't the machine's name: stamp, length of the name, uid, gid, count of groups.
+/// The bytes of the body of AUTH_SYS that aren't the machine's name: stamp, length of the name, uid, gid, count of
+/// groups.
 const SYS_WORDS: usize = 20;
 
 /// As whom a call is made (RFC 5531, section 8.2).
@@ -33,7 +34,7 @@ pub enum Cred {
     },
 }
 
-/// Writes AUTH_NONE. After want of memory the writer begins with what it held.
+/// Writes AUTH_NONE. When out of memory the writer begins with what it held.
 #[tactic(auto, using(xdr_codec::proofs::Begins::begins_then, std::proofs::Common::append_assoc), unfolding(crate::specs::Cred::none_bytes))]
 pub fn write_none(w: &mut Writer) -> Result<(), Memory>
     ensures ok { OnOk result (w.new ≡ w.old ++ none_bytes) }
@@ -44,7 +45,7 @@ pub fn write_none(w: &mut Writer) -> Result<(), Memory>
     Ok(())
 }
 
-/// Writes a credential. After want of memory the writer begins with what it held.
+/// Writes a credential. When out of memory the writer begins with what it held.
 #[tactic(auto, using(xdr_codec::proofs::Begins::begins_then, std::proofs::Common::append_assoc), unfolding(crate::specs::Cred::cred_bytes))]
 pub fn write_cred(w: &mut Writer, cred: &Cred) -> Result<(), Memory>
     ensures ok { OnOk result (w.new ≡ w.old ++ cred_bytes cred.now) }

@@ -5,8 +5,6 @@ mod call;
 mod cred;
 mod front;
 mod reply;
-#[cfg(test)]
-mod tests;
 
 pub use call::{CallFault, CallHead, read_call, write_call, xid_of};
 pub use cred::Cred;

@@ -30,7 +30,8 @@ const PROG_MISMATCH: u32 = 2;
 /// The program has no such procedure.
 const PROC_UNAVAIL: u32 = 3;
 
-/// The server failed, as by want of memory. Between this and PROC_UNAVAIL lies GARBAGE_ARGS, for arguments that can't be read.
+/// The server failed, as by lack of memory. Between this and PROC_UNAVAIL lies GARBAGE_ARGS, for arguments that can't
+/// be read.
 const SYSTEM_ERR: u32 = 5;
 
 /// The reject status of a call in another version of RPC (RFC 5531, section 9, reject_stat).
@@ -226,7 +227,7 @@ fn last_word(bytes: &[u8]) -> Result<u32, XdrFault>
     Ok(word)
 }
 
-/// Writes the reply to a call that was executed, up to its results; the verifier is AUTH_NONE. After want of memory
+/// Writes the reply to a call that was executed, up to its results; the verifier is AUTH_NONE. When out of memory
 /// the writer begins with what it held.
 #[tactic(auto, using(xdr_codec::proofs::Begins::begins_then, std::proofs::Common::append_assoc), unfolding(crate::specs::Reply::accepted_bytes))]
 pub fn write_accepted(w: &mut Writer, xid: u32) -> Result<(), Memory>
@@ -240,7 +241,7 @@ pub fn write_accepted(w: &mut Writer, xid: u32) -> Result<(), Memory>
 }
 
 /// Writes the reply to a call that was accepted and not executed: stat is 1 to 5, and low and high are 0 unless it
-/// is 2, PROG_MISMATCH. After want of memory the writer begins with what it held.
+/// is 2, PROG_MISMATCH. When out of memory the writer begins with what it held.
 #[tactic(auto, using(xdr_codec::proofs::Begins::begins_then, std::proofs::Common::append_assoc), unfolding(crate::specs::Reply::refused_bytes))]
 pub fn write_refused(w: &mut Writer, xid: u32, stat: u32, low: u32, high: u32) -> Result<(), Memory>
     requires refused { 1 ≤ stat }
@@ -256,8 +257,8 @@ pub fn write_refused(w: &mut Writer, xid: u32, stat: u32, low: u32, high: u32) -
     Ok(())
 }
 
-/// Writes the reply to a call that was denied: stat is 0, RPC_MISMATCH, or 1, AUTH_ERROR, and at 1 second is 0. After
-/// want of memory the writer begins with what it held.
+/// Writes the reply to a call that was denied: stat is 0, RPC_MISMATCH, or 1, AUTH_ERROR, and at 1 second is 0. When
+/// out of memory the writer begins with what it held.
 #[tactic(auto, using(xdr_codec::proofs::Begins::begins_then, std::proofs::Common::append_assoc), unfolding(crate::specs::Reply::denied_bytes))]
 pub fn write_denied(
     w: &mut Writer,

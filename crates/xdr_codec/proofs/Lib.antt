@@ -3,3 +3,5 @@ pub mod Laws
 pub mod MoreLaws
 pub mod Written
 pub mod WholeLaws
+pub mod Hex
+pub mod Rows

@@ -18,7 +18,7 @@ abbrev pub Gives : {X Y : Type 0} → (X → Y) → Result X XdrFault → Result
 Gives view (Ok x) read = read ≡ Ok (view x)
 Gives view (Err f) read = read ≡ Err f
 
--- The same of a value with data of its own: want of memory is free.
+-- The same of a value with data of its own: out of memory is free.
 abbrev pub GivesOwned : {X : Type 0} → Result X CodecFault → Result X XdrFault → Type 0
 GivesOwned (Ok x) read = read ≡ Ok x
 GivesOwned (Err faults.Memory) read = Unit {0}
@@ -29,13 +29,13 @@ pub record FindsWhole {X A : Type 0} (view : X → A) (Spells : A → List ℕ �
   pub found : IfOk result (λ x. Spells (view x) bytes)
   pub only : (v : A) → Spells v bytes → IfOk result (λ x. view x ≡ v) × IsOk result
 
--- not a fault of spelling: the value, or want of memory
+-- not a fault of spelling: the value, or out of memory
 abbrev pub IsOwned : {X : Type 0} → Result X CodecFault → X → Type 0
 IsOwned (Ok x) v = x ≡ v
 IsOwned (Err faults.Memory) v = Unit {0}
 IsOwned (Err (faults.Xdr f)) v = ⊥
 
--- The same of a value with data of its own: where the bytes spell a value, it is read or memory is wanting.
+-- The same of a value with data of its own: where the bytes spell a value, it is read or memory runs out.
 pub record FindsOwned {X : Type 0} (Spells : X → List ℕ → Type 0) (bytes : List ℕ) (result : Result X CodecFault) : Type 0 where
   pub found : IfOk result (λ x. Spells x bytes)
   pub only : (v : X) → Spells v bytes → IsOwned result v

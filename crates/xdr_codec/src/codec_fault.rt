@@ -8,7 +8,7 @@ use crate::reader::XdrFault;
 pub enum CodecFault {
     /// The bytes spell no such value; the first fault in order of spelling.
     Xdr(XdrFault),
-    /// Want of memory.
+    /// Out of memory.
     Memory,
 }
 

@@ -5,8 +5,6 @@ mod blob;
 mod codec_fault;
 mod fits;
 mod reader;
-#[cfg(test)]
-mod tests;
 mod writer;
 
 pub use blob::{Blob, Memory};

@@ -33,7 +33,7 @@ impl Writer {
         }
     }
 
-    /// Appends bytes as they are. After want of memory it is as it was.
+    /// Appends bytes as they are. When out of memory it is as it was.
     pub fn raw(&mut self, bytes: &[u8]) -> Result<(), Memory>
         ensures ok { OnOk result (self.new ≡ self.old ++ bytes.now) }
         ensures err { OnErr result (self.new ≡ self.old) }
@@ -42,7 +42,7 @@ impl Writer {
         Ok(())
     }
 
-    /// Appends an unsigned number of four bytes (RFC 4506, section 4.2). After want of memory it is as it was.
+    /// Appends an unsigned number of four bytes (RFC 4506, section 4.2). When out of memory it is as it was.
     #[tactic(auto, using(crate::proofs::Begins::begins_then, crate::proofs::Written::wrote_u32), unfolding(crate::specs::Spelling::u32_bytes))]
     pub fn u32(&mut self, v: u32) -> Result<(), Memory>
         ensures ok { OnOk result (self.new ≡ self.old ++ u32_bytes v) }
@@ -54,7 +54,7 @@ impl Writer {
         self.raw(&word)
     }
 
-    /// Appends an unsigned number of eight bytes (RFC 4506, section 4.5). After want of memory it is as it was.
+    /// Appends an unsigned number of eight bytes (RFC 4506, section 4.5). When out of memory it is as it was.
     #[tactic(auto, using(crate::proofs::Begins::begins_then, crate::proofs::Written::wrote_u64), unfolding(crate::specs::Spelling::u64_bytes))]
     pub fn u64(&mut self, v: u64) -> Result<(), Memory>
         ensures ok { OnOk result (self.new ≡ self.old ++ u64_bytes v) }
@@ -66,7 +66,7 @@ impl Writer {
         self.raw(&word)
     }
 
-    /// Appends a bool (RFC 4506, section 4.4). After want of memory it is as it was.
+    /// Appends a bool (RFC 4506, section 4.4). When out of memory it is as it was.
     #[tactic(auto, using(crate::proofs::Begins::begins_then, crate::proofs::Written::wrote_flag), unfolding(crate::specs::Spelling::flag_bytes))]
     pub fn flag(&mut self, v: bool) -> Result<(), Memory>
         ensures ok { OnOk result (self.new ≡ self.old ++ flag_bytes v) }
@@ -76,7 +76,7 @@ impl Writer {
         self.u32(u32::from(v))
     }
 
-    /// Appends a fixed opaque: the bytes, and zeros as padding (RFC 4506, section 4.9). After want of memory it begins
+    /// Appends a fixed opaque: the bytes, and zeros as padding (RFC 4506, section 4.9). When out of memory it begins
     /// with what it held.
     pub fn fixed(&mut self, bytes: &[u8]) -> Result<(), Memory>
         ensures ok { OnOk result (self.new ≡ self.old ++ fixed_bytes bytes.now) }
@@ -87,7 +87,7 @@ impl Writer {
     }
 
     /// Appends an opaque or a string: a length, the bytes, and zeros as padding (RFC 4506, section 4.10). There are
-    /// fewer than 2^32 bytes. After want of memory it begins with what it held.
+    /// fewer than 2^32 bytes. When out of memory it begins with what it held.
     pub fn opaque(&mut self, bytes: &[u8]) -> Result<(), Memory>
         requires { length bytes.now < 2 ^ 32 }
         ensures ok { OnOk result (self.new ≡ self.old ++ opaque_bytes bytes.now) }

@@ -1,0 +1,2 @@
+pub mod MappingCodec
+pub mod Rows
