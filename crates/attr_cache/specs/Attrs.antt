@@ -1,10 +1,10 @@
 -- Attributes that are believed for a while (nfs(5), acregmin to acdirmax), by file handle. Moments and lifetimes are milliseconds.
-use Rattle.std.specs.Prelude.{ℕ, ◌+◌, ◌*◌, ◌-◌, Bool, ◌==◌, ◌&&◌, nat_eq, nat_lt, min, if◌then◌else◌, List, [], length, drop, Option, Some, None, option_and_then}
+use Rattle.std.specs.Prelude.{ℕ, ◌+◌, ◌*◌, ◌-◌, Bool, ◌==◌, nat_eq, nat_lt, min, if◌then◌else◌, List, [], length, drop, Option, Some, None, option_and_then}
 use Rattle.std.specs.Cmp.Lexicographic.{pointwise}
 use Rattle.std.specs.Map.{lookup, remove_entry}
 use Rattle.indexmap.specs.IndexMap.{insert_entry}
-use Rattle.nfs_types.specs.declared.time.Time.{Time}
 use Rattle.nfs_types.specs.declared.attr.Attr.{Attr}
+use Rattle.nfs_types.specs.Stamps.{same_stamp, stamp_of}
 use Rattle.attr_cache.specs.declared.lives.Lives.{Lives}
 use Rattle.attr_cache.specs.declared.kept.KeptAttr.{KeptAttr}
 
@@ -40,12 +40,9 @@ shortest lives attr = if attr.kind == 2 then lives.dir_min else lives.reg_min
 abbrev pub longest : Lives → Attr → ℕ
 longest lives attr = if attr.kind == 2 then lives.dir_max else lives.reg_max
 
-abbrev pub same_time : Time → Time → Bool
-same_time s t = (s.seconds == t.seconds) && (s.nanos == t.nanos)
-
 -- whether the file has the length and the times of its last changes that are kept: mtime tells of its bytes, ctime of its attributes
 abbrev pub has_stamp : Attr → KeptAttr → Bool
-has_stamp attr kept = (kept.attr.size == attr.size) && same_time kept.attr.mtime attr.mtime && same_time kept.attr.ctime attr.ctime
+has_stamp attr kept = same_stamp (stamp_of kept.attr) (stamp_of attr)
 
 -- the lifetime of attributes that are learnt by a call that was sent at a moment: a file that changed begins again, and one that
 -- didn't change while it was believed is believed longer

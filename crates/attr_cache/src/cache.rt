@@ -73,7 +73,7 @@ impl AttrCache {
     /// Learns attributes that a call told which was sent at `sent_at`. Those of an earlier call than the last one
     /// that counted change nothing. A file that wasn't known goes last, and the first one is dropped where there are
     /// 1,024 already. The lifetime is the shortest for a file that wasn't known or has changed; else it stays where it
-    /// hadn't ended at `sent_at`, and doubles up to the longest where it had. After want of memory, which comes at a
+    /// hadn't ended at `sent_at`, and doubles up to the longest where it had. When out of memory, which comes at a
     /// file that wasn't known alone, nothing is changed.
     pub fn learn(&mut self, file: &Handle, attr: &Attr, sent_at: u64) -> Result<(), Memory>
         ensures ok { OnOk result (self.new ≡ learnt file.now attr.now sent_at self.old) }
@@ -110,6 +110,3 @@ impl AttrCache {
         self.table.shift_remove(file);
     }
 }
-
-#[cfg(test)]
-mod tests;

@@ -1,1 +1,4 @@
+pub mod Numbers
+pub mod Rows
+pub mod Stable
 pub mod Verdicts

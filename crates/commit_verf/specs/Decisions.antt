@@ -1,6 +1,6 @@
 -- What a COMMIT's verifier tells: what the server has under it is stable, and what it has under another one may be lost
 -- (RFC 1813, sections 3.3.21 and 4.8).
-use Rattle.std.specs.Prelude.{◌≡◌, ℕ, ◌==◌, nat_le, if◌then◌else◌, Option, Some, None}
+use Rattle.std.specs.Prelude.{◌≡◌, ◌≤◌, ℕ, ◌==◌, true, nat_le, if◌then◌else◌, Option, Some, None}
 use Rattle.nfs_types.specs.declared.verf.Verf.{Verf}
 use Rattle.write_back.specs.declared.state.State.{State}
 use Rattle.write_back.specs.declared.state.State.TheVariants.{Waiting, InFlight, Acked}
@@ -39,3 +39,7 @@ cell_decided upto verf (Some cell) = cell_with cell (state_decided upto verf cel
 pub record IsDecided (upto : ℕ) (verf : Verf) (old new : FilePending) : Type 0 where
   pub rest : (place : ℕ) → rest_at new place ≡ cell_decided upto verf (rest_at old place)
   pub fly : (place : ℕ) → fly_at new place ≡ fly_at old place
+
+-- all that the server has of a file, of writes with a number up to another, it has under this verifier
+abbrev pub IsAllUnder : ℕ → Verf → FilePending → Type 0
+IsAllUnder upto verf of = (place : ℕ) (cell : Cell) (held : Verf) → rest_at of place ≡ Some cell → cell.state ≡ Acked held → cell.number ≤ upto → same_verf held verf ≡ true

@@ -1,9 +1,10 @@
 //! What a COMMIT's verifier tells of the bytes that the server had.
 
-ghost use Rattle.std.specs.Prelude.{◌≡◌};
+ghost use Rattle.std.specs.Prelude.{◌≡◌, ◌≤◌, ◌↔◌};
 ghost use Rattle.write_back.specs.Changes.{lost};
-ghost use Rattle.write_back.specs.Files.{of_file, OnFile};
-ghost use Rattle.commit_verf.specs.Decisions.{decided, verdict_of, IsDecided};
+ghost use Rattle.write_back.specs.Files.{of_file, all_pending, OnFile};
+ghost use Rattle.commit_verf.specs.Decisions.{decided, verdict_of, IsAllUnder, IsDecided};
+ghost use Rattle.commit_verf.specs.declared.commit.Verdict.TheVariants.{AllStable};
 
 use nfs_types::{Handle, Verf};
 use write_back::WriteBack;
@@ -22,9 +23,12 @@ pub enum Verdict {
 /// (RFC 1813, section 4.8). AllStable exactly where there are no others.
 pub fn decide(wb: &mut WriteBack, file: &Handle, upto: u64, verf: Verf) -> Verdict
     ensures verdict { result ≡ verdict_of (lost verf upto (of_file file.now wb.old).segments) }
+    ensures stable { (result ≡ AllStable) ↔ IsAllUnder upto verf (of_file file.now wb.old) }
     ensures segments { OnFile wb.old wb.new file.now (decided upto verf (of_file file.now wb.old)) }
     ensures places { IsDecided upto verf (of_file file.now wb.old) (of_file file.now wb.new) }
+    ensures total { all_pending wb.new ≤ all_pending wb.old }
 {
+    wb.is_sound();
     wb.settle(file, verf, upto);
     let again = wb.mark_again(file, upto);
     told(again)

@@ -3,8 +3,6 @@
 
 mod listing;
 mod progress;
-#[cfg(test)]
-mod tests;
 
 pub use listing::Listing;
 pub use progress::{ListFault, Step};

@@ -23,6 +23,6 @@ pub enum ListFault {
     Many,
     /// It has no entry, and isn't the last one: there is no cookie to go on with.
     Stuck,
-    /// Want of memory.
+    /// Out of memory.
     Memory,
 }

@@ -8,9 +8,10 @@ use Rattle.std.specs.Map.{lookup_entry, remove_entry}
 use Rattle.lru.specs.LruCache.{promoted}
 use Rattle.nfs_types.specs.declared.time.Time.{Time}
 use Rattle.nfs_types.specs.declared.wcc.Stamp.{Stamp}
+use Rattle.nfs_types.specs.Stamps.{same_time}
 use Rattle.name_cache.specs.declared.entry.Place.{Place}
 use Rattle.name_cache.specs.declared.entry.KeptName.{KeptName}
-use Rattle.name_cache.specs.Names.{Entries, is_place, kept_of, same_time, has_stamp, looked, after_look, learnt, is_of_other, without_dir}
+use Rattle.name_cache.specs.Names.{Entries, is_place, kept_of, has_stamp, looked, after_look, learnt, is_of_other, without_dir}
 use Rattle.name_cache.proofs.Learning.{same_place}
 
 -- a time that passes the test is the time

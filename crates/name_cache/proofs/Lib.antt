@@ -2,3 +2,4 @@ pub mod Orders
 pub mod Learning
 pub mod Turning
 pub mod Entries
+pub mod Rows

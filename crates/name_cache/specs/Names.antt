@@ -1,10 +1,10 @@
 -- What names stand for, by directory and name. A name is believed while its directory keeps the stamp under which it was learnt.
-use Rattle.std.specs.Prelude.{ℕ, Bool, not, ◌==◌, ◌&&◌, nat_eq, if◌then◌else◌, List, [], ◌∷◌, ◌++◌, take, filter, Option, Some, None, is_some, option_and_then}
+use Rattle.std.specs.Prelude.{ℕ, Bool, not, ◌&&◌, nat_eq, if◌then◌else◌, List, [], ◌∷◌, ◌++◌, take, filter, Option, Some, None, is_some, option_and_then}
 use Rattle.std.specs.Cmp.Lexicographic.{pointwise}
 use Rattle.std.specs.Map.{lookup, remove_entry}
 use Rattle.lru.specs.LruCache.{promoted}
-use Rattle.nfs_types.specs.declared.time.Time.{Time}
 use Rattle.nfs_types.specs.declared.wcc.Stamp.{Stamp}
+use Rattle.nfs_types.specs.Stamps.{same_stamp}
 use Rattle.name_cache.specs.declared.entry.Place.{Place}
 use Rattle.name_cache.specs.declared.entry.KeptName.{KeptName}
 
@@ -20,12 +20,9 @@ is_place dir name place = pointwise nat_eq dir place.dir && pointwise nat_eq nam
 abbrev pub kept_of : List ℕ → List ℕ → Entries → Option KeptName
 kept_of dir name entries = lookup (is_place dir name) entries
 
-abbrev pub same_time : Time → Time → Bool
-same_time s t = (s.seconds == t.seconds) && (s.nanos == t.nanos)
-
 -- whether it was learnt under this stamp of its directory
 abbrev pub has_stamp : Stamp → KeptName → Bool
-has_stamp stamp kept = (kept.stamp.size == stamp.size) && same_time kept.stamp.mtime stamp.mtime && same_time kept.stamp.ctime stamp.ctime
+has_stamp stamp kept = same_stamp kept.stamp stamp
 
 -- what a name stands for in a directory of that stamp
 abbrev pub looked : List ℕ → List ℕ → Stamp → Entries → Option (List ℕ)

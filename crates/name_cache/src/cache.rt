@@ -64,7 +64,7 @@ impl NameCache {
     }
 
     /// Learns what a name stands for in a directory in the state of `stamp`. It stands in front, in place of what was
-    /// kept of that name. After want of memory, which comes at a name of which nothing is kept alone, nothing is changed.
+    /// kept of that name. When out of memory, which comes at a name of which nothing is kept alone, nothing is changed.
     pub fn learn(
         &mut self,
         dir: &Handle,
@@ -113,6 +113,3 @@ impl NameCache {
         }
     }
 }
-
-#[cfg(test)]
-mod tests;

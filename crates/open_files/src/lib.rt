@@ -3,8 +3,6 @@
 
 mod open_files;
 mod opened;
-#[cfg(test)]
-mod tests;
 
 pub use open_files::OpenFiles;
 pub use opened::Opened;

@@ -73,7 +73,7 @@ impl OpenFiles {
         }
     }
 
-    /// Holds an open at a slot of a lane. The condition is that the slot is free. After want of memory nothing is
+    /// Holds an open at a slot of a lane. The condition is that the slot is free. When out of memory nothing is
     /// changed.
     pub fn put(&mut self, lane: u8, slot: u8, of: Opened) -> Result<(), Memory>
         requires { map.get self.old (lane, slot) ≡ None }

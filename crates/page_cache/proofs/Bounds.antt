@@ -1,8 +1,8 @@
 -- The pages of each file below its number are whole, after each thing that is done to the files and the pages.
-use Rattle.std.proofs.Common.{◌≡◌, ◌<◌, ◌≤◌, ℕ, ◌/◌, inl, inr, zero, suc, Bool, true, false, not, cond, nat_eq, List, [], ◌∷◌, length, take, map, Option, Some, None, option_map, if◌then◌else◌, refl, sym, ap, ◌∙◌, subst, arith}
+use Rattle.std.proofs.Common.{◌≡◌, ◌<◌, ◌≤◌, ℕ, ◌/◌, inl, inr, zero, suc, Bool, true, false, not, cond, List, [], ◌∷◌, length, take, map, All, Option, Some, None, option_map, if◌then◌else◌, refl, sym, ap, ◌∙◌, subst, arith}
 use Rattle.std.proofs.lemmas.Bool.{cases_lt}
+use Rattle.std.proofs.lemmas.List.Elements.{All-nil, All-cons}
 use Rattle.std.specs.Option.{option_map_or}
-use Rattle.std.specs.Cmp.Lexicographic.{pointwise, bytes_decides}
 use Rattle.std.specs.Map.{lookup, lookup_entry, remove_entry}
 use Rattle.indexmap.specs.IndexMap.{insert_entry}
 use Rattle.lru.specs.LruCache.{promoted}
@@ -11,10 +11,8 @@ use Rattle.page_cache.specs.declared.files.FileRecord.{FileRecord}
 use Rattle.page_cache.specs.Bytes.{put_page, cut_page}
 use Rattle.page_cache.specs.Pages.{is_place, without_file, changed_page, fronted}
 use Rattle.page_cache.specs.Full.{states_of, full_below_of, AreFull, FullBelow}
+use Rattle.page_cache.proofs.Inserts.{same, same-is, same-self, lookup-insert}
 use Rattle.page_cache.proofs.Full.{below-first, put-fits, put-grows, put-whole, length-cut}
-
-abbrev same : List ℕ → List ℕ → Bool
-same f g = pointwise nat_eq f g
 
 -- the files' states and numbers, where one file is known anew
 pub states_lookup : (test : List ℕ → Bool) (files : List (List ℕ × FileRecord)) → lookup test (states_of files) ≡ option_map (λ r. r.state) (lookup test files)
@@ -36,29 +34,6 @@ states_insert file r (e ∷ files) = by (same file e.0) (states_insert file r fi
     by true on = refl
     by false on = ap (λ l. (e.0, e.1.state) ∷ l) on
 
-same-sym : (f g : List ℕ) → same f g ≡ true → f ≡ g
-same-sym f g t = (bytes_decides f g).0 t
-
-same-self : (f : List ℕ) → same f f ≡ true
-same-self f = (bytes_decides f f).1 refl
-
-lookup-insert : (f file : List ℕ) (r : FileRecord) (files : List (List ℕ × FileRecord))
-    → lookup (same f) (insert_entry same files file r) ≡ (if same f file then Some r else lookup (same f) files)
-lookup-insert f file r [] = refl
-lookup-insert f file r (e ∷ files) = by (same file e.0) (same f e.0) (same f file) refl refl refl (lookup-insert f file r files)
-  where
-    by : (a b c : Bool) → same file e.0 ≡ a → same f e.0 ≡ b → same f file ≡ c
-        → lookup (same f) (insert_entry same files file r) ≡ (if c then Some r else lookup (same f) files)
-        → lookup (same f) (if a then (e.0, r) ∷ files else e ∷ insert_entry same files file r) ≡ (if c then Some r else (if b then Some e.1 else lookup (same f) files))
-    by true true true ea eb ec on = rw eb refl
-    by true true false ea eb ec on = absurd (let t : same f file ≡ true = ap (same f) (same-sym file e.0 ea) ∙ eb in cc)
-    by true false true ea eb ec on = absurd (let t : same f e.0 ≡ true = ap (same f) (sym (same-sym file e.0 ea)) ∙ ec in cc)
-    by true false false ea eb ec on = rw eb refl
-    by false true true ea eb ec on = absurd (let t : same file e.0 ≡ true = ap (λ g. same g e.0) (sym (same-sym f file ec)) ∙ eb in cc)
-    by false true false ea eb ec on = rw eb refl
-    by false false true ea eb ec on = rw eb on
-    by false false false ea eb ec on = rw eb on
-
 pub full_below_insert : (file : List ℕ) (r : FileRecord) (files : List (List ℕ × FileRecord)) (f : List ℕ)
     → full_below_of (insert_entry same files file r) f ≡ (if same f file then r.full_below else full_below_of files f)
 full_below_insert file r files f = ap (λ o. option_map_or (λ q. q.full_below) o 0) (lookup-insert f file r files) ∙ by (same f file)
@@ -66,6 +41,11 @@ full_below_insert file r files f = ap (λ o. option_map_or (λ q. q.full_below) 
     by : (b : Bool) → option_map_or (λ q. q.full_below) (if b then Some r else lookup (same f) files) 0 ≡ (if b then r.full_below else full_below_of files f)
     by true = refl
     by false = refl
+
+-- no page has more than 4,096 bytes
+pub full-fits : (b : List ℕ → ℕ) (pages : List (PagePlace × List ℕ)) → AreFull b pages → All (λ p. length p.1 ≤ 4096) pages
+full-fits b [] a = All-nil (λ p. length p.1 ≤ 4096)
+full-fits b (p ∷ pages) a = All-cons (λ p. length p.1 ≤ 4096) p pages a.0 (full-fits b pages a.2)
 
 -- a bound that says less
 pub full-lower : (b c : List ℕ → ℕ) (pages : List (PagePlace × List ℕ)) → ((f : List ℕ) → c f ≤ b f) → AreFull b pages → AreFull c pages
@@ -107,7 +87,7 @@ module _ (b : List ℕ → ℕ) where
 
   pub full-below : (file : List ℕ) (pages : List (PagePlace × List ℕ)) → AreFull b pages → FullBelow file (b file) pages
   full-below file [] a = tt
-  full-below file (p ∷ pages) a = ((λ of_file low. a.1 (subst (λ f. p.0.index < b f) (sym (same-sym p.0.file file of_file)) low)), full-below file pages a.2)
+  full-below file (p ∷ pages) a = ((λ of_file low. a.1 (subst (λ f. p.0.index < b f) (sym (same-is p.0.file file of_file)) low)), full-below file pages a.2)
 
 -- one file has another number
 module _ (b c : List ℕ → ℕ) (file : List ℕ) (n : ℕ) (is : (f : List ℕ) → c f ≡ (if same f file then n else b f)) where
@@ -121,7 +101,7 @@ module _ (b c : List ℕ → ℕ) (file : List ℕ) (n : ℕ) (is : (f : List �
   lower less f = by (same f file) refl
     where
       by : (t : Bool) → same f file ≡ t → c f ≤ b f
-      by true e = let x = its f e in let y = ap b (same-sym f file e) in omega (arith, less)
+      by true e = let x = its f e in let y = ap b (same-is f file e) in omega (arith, less)
       by false e = let x = of_other f e in omega arith
 
   -- a file's number is as it was
@@ -158,7 +138,7 @@ module _ (b c : List ℕ → ℕ) (file : List ℕ) (n : ℕ) (is : (f : List �
           → AreFull c ((if not t then p else (p.0, change p.0.index p.1)) ∷ map (changed_page file change) pages)
       by true e on = (
         fits p.0.index p.1 a.0,
-        (λ low. whole p.0.index p.1 a.0 (λ below. a.1 (subst (λ f. p.0.index < b f) (sym (same-sym p.0.file file e)) below)) (subst (λ k. p.0.index < k) (its p.0.file e) low)),
+        (λ low. whole p.0.index p.1 a.0 (λ below. a.1 (subst (λ f. p.0.index < b f) (sym (same-is p.0.file file e)) below)) (subst (λ k. p.0.index < k) (its p.0.file e) low)),
         on,
       )
       by false e on = (a.0, (λ low. a.1 (subst (λ k. p.0.index < k) (of_other p.0.file e) low)), on)

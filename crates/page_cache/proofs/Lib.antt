@@ -13,3 +13,11 @@ pub mod Changing
 pub mod Full
 pub mod Bounds
 pub mod Parts
+pub mod Inserts
+pub mod Distinct
+pub mod Entries
+pub mod States
+pub mod Known
+pub mod Believed
+pub mod Rows
+pub mod Nth

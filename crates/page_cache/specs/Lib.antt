@@ -4,3 +4,4 @@ pub mod Slots
 pub mod Ends
 pub mod Sorted
 pub mod Full
+pub mod Sound

@@ -1,14 +1,14 @@
 -- Kept pages of files: the file's state under which they are believed, and the calls that are too old to tell of it.
-use Rattle.std.specs.Prelude.{ℕ, Bool, true, false, not, ◌==◌, ◌&&◌, ◌||◌, nat_eq, nat_le, max, if◌then◌else◌, List, [], ◌∷◌, take, map, filter, Option, Some, None, option_map, option_and_then}
+use Rattle.std.specs.Prelude.{ℕ, Bool, true, false, not, ◌==◌, ◌&&◌, ◌||◌, nat_eq, nat_le, max, if◌then◌else◌, List, [], ◌∷◌, take, map, filter, filter_map, slice_get, Option, Some, None, option_map, option_and_then}
 use Rattle.std.specs.Option.{option_map_or}
 use Rattle.std.specs.Cmp.Lexicographic.{pointwise}
 use Rattle.std.specs.Map.{lookup, remove_entry}
 use Rattle.indexmap.specs.IndexMap.{insert_entry}
 use Rattle.lru.specs.LruCache.{promoted}
-use Rattle.nfs_types.specs.declared.time.Time.{Time}
-use Rattle.nfs_types.specs.declared.attr.Attr.{Attr}
+use Rattle.nfs_types.specs.declared.kept_page.KeptPage.{KeptPage}
 use Rattle.nfs_types.specs.declared.wcc.Stamp.{Stamp}
 use Rattle.nfs_types.specs.declared.wcc.Wcc.{Wcc}
+use Rattle.nfs_types.specs.Stamps.{same_stamp, stamp_of}
 use Rattle.page_cache.specs.declared.state.FileState.{FileState}
 use Rattle.page_cache.specs.declared.state.Keep.{Keep}
 use Rattle.page_cache.specs.declared.state.Keep.TheVariants.{Stale, Differs, Kept}
@@ -44,12 +44,6 @@ is_place file index place = (place.index == index) && pointwise nat_eq place.fil
 abbrev pub page_of : List ℕ → ℕ → Pages → Option (List ℕ)
 page_of file index c = lookup (is_place file index) c.pages
 
-abbrev pub same_time : Time → Time → Bool
-same_time s t = (s.seconds == t.seconds) && (s.nanos == t.nanos)
-
-abbrev pub same_stamp : Stamp → Stamp → Bool
-same_stamp s t = (s.size == t.size) && same_time s.mtime t.mtime && same_time s.ctime t.ctime
-
 -- whether a stamp is this one; one that isn't there equals nothing
 abbrev pub is_stamp : Stamp → Option Stamp → Bool
 is_stamp stamp known = option_map_or (λ s. same_stamp s stamp) known false
@@ -57,10 +51,6 @@ is_stamp stamp known = option_map_or (λ s. same_stamp s stamp) known false
 -- whether two stamps are there and equal
 abbrev pub both_same : Option Stamp → Option Stamp → Bool
 both_same before known = option_map_or (λ s. is_stamp s known) before false
-
--- the stamp of attributes
-abbrev pub stamp_of : Attr → Stamp
-stamp_of attr = record { size = attr.size; mtime = attr.mtime; ctime = attr.ctime }
 
 -- whether it is another file's page
 abbrev pub is_of_other : List ℕ → PagePlace × List ℕ → Bool
@@ -154,3 +144,22 @@ wrote file wcc offset bytes moment c = changed_over (state_of file c) file wcc (
 -- after its own SETATTR of this size
 abbrev pub cut : List ℕ → Wcc → ℕ → ℕ → Pages → Pages
 cut file wcc size moment c = changed_over (state_of file c) file wcc (λ index. cut_page index size) moment c
+
+-- a page as it is handed out, with its file's known stamp
+pub record Handed : Type 0 where
+  pub file : List ℕ
+  pub stamp : Stamp
+  pub index : ℕ
+  pub bytes : List ℕ
+
+-- a page that was handed out
+abbrev pub shows_page : KeptPage → Handed
+shows_page p = record { file = p.file; stamp = p.stamp; index = p.index; bytes = p.bytes.now }
+
+-- a kept page is handed out where its file's stamp is known
+abbrev pub handed : Pages → PagePlace × List ℕ → Option Handed
+handed c p = option_map (λ stamp. record { file = p.0.file; stamp = stamp; index = p.0.index; bytes = p.1 }) (known_of p.0.file c)
+
+-- the n-th of these pages, from the front
+abbrev pub nth_handed : ℕ → Pages → Option Handed
+nth_handed n c = slice_get (filter_map (handed c) c.pages) n

@@ -3,28 +3,29 @@
 ghost use Rattle.std.specs.Prelude.{◌≡◌, ◌<◌, ◌≤◌, ◌/◌, length, IfOk, OnOk, OnErr, None, Some, List, ℕ, [], option_map};
 ghost use Rattle.std.specs.Borrow.{sem};
 ghost use Rattle.page_cache.specs.Bytes.{resized, put_at, page_at, put_page, cut_page};
-ghost use Rattle.page_cache.specs.Pages.{nothing_kept, state_of, known_of, mark_of, page_of, opened, keep_answer, after_keep, saw, wrote, cut};
+ghost use Rattle.page_cache.specs.Pages.{nothing_kept, state_of, known_of, mark_of, page_of, shows_page, nth_handed, opened, keep_answer, after_keep, saw, wrote, cut};
+ghost use Rattle.page_cache.specs.Sound.{IsSound};
 
 use crate::files::Files;
 use crate::page::Page;
 use crate::place::PagePlace;
 use crate::slots::Slots;
 use crate::state::{FileState, Keep, is_stamp};
-use nfs_types::{Handle, Stamp, Wcc};
+use nfs_types::{Handle, KeptPage, Stamp, Wcc};
 use std::alloc::Global;
 use std::marker::Model;
 use xdr_codec::Memory;
 
-/// At most 1,024 pages of files. A new page takes the memory of one that was dropped, or else of the one that wasn't used
-/// for the longest time.
+/// At most 1,024 pages of files. A new page takes the memory of one that was dropped, or else of the one that wasn't
+/// used for the longest time.
 ///
 /// A file is known from its first `opened` on; for another one `stamp` and `mark` are None, `keep` answers Stale, and
 /// nothing else changes anything.
 ///
-/// `new` takes all memory but that of the table of files. Kept pages stand in the order of their files and numbers. A page
-/// is found there by halving, in about ten comparisons; to keep a new one moves up to 1,024 slot numbers beside. To drop a
-/// file's pages looks at these alone. `wrote` and `cut` look at the pages that may change, as they say. `stamp`, `mark`
-/// and `closed` look at no page.
+/// `new` takes all memory but that of the table of files. Kept pages stand in the order of their files and numbers. A
+/// page is found there by halving, in about ten comparisons; to keep a new one moves up to 1,024 slot numbers beside.
+/// To drop a file's pages looks at these alone. `wrote` and `cut` look at the pages that may change, as they say.
+/// `stamp`, `mark` and `closed` look at no page.
 #[derive(Drop)]
 pub struct PageCache {
     files: Files,
@@ -37,10 +38,11 @@ impl Model for PageCache {
     ghost Value = { Pages };
 
     ghost use Rattle.page_cache.specs.Full.{states_of, full_below_of, AreFull};
+    ghost use Rattle.page_cache.specs.Sound.{AreKnown};
 
     ghost view = { λ c. record { files = states_of c.files; pages = c.slots } };
 
-    ghost invariant = { λ c. AreFull (full_below_of c.files) c.slots };
+    ghost invariant = { λ c. AreFull (full_below_of c.files) c.slots × AreKnown (record { files = states_of c.files; pages = c.slots }) };
 }
 
 impl PageCache {
@@ -60,9 +62,18 @@ impl PageCache {
         })
     }
 
-    /// A file was opened in the state of `stamp`, in an operation that began at the moment `mark`. Its pages are dropped
-    /// exactly where another stamp is known, or none. Then the stamp is known and the mark is kept, unless it is below the
-    /// file's. After want of memory, which comes at a file that wasn't known alone, nothing is changed.
+    /// What holds of it at any time: a fact for proofs. No page has more than 4,096 bytes or is kept twice, there are
+    /// at most 1,024, and each is of a file whose state is known.
+    pub fn is_sound(&self)
+        ensures { IsSound self.now }
+    {
+        let _files = &self.files;
+        self.slots.are_apart();
+    }
+
+    /// A file was opened in the state of `stamp`, in an operation that began at the moment `mark`. Its pages are
+    /// dropped exactly where another stamp is known, or none. Then the stamp is known and the mark is kept, unless it
+    /// is below the file's. When out of memory, which comes at a file that wasn't known alone, nothing is changed.
     pub fn opened(&mut self, file: &Handle, stamp: &Stamp, mark: u64) -> Result<(), Memory>
         ensures ok { OnOk result (self.new ≡ opened file.now stamp.now mark self.old) }
         ensures err { OnErr result (self.new ≡ self.old) }
@@ -94,8 +105,8 @@ impl PageCache {
         self.files.state(file)?.known
     }
 
-    /// The file's mark: a reply to a call that was made at this moment or before tells nothing of the file. None exactly
-    /// where the file was never opened.
+    /// The file's mark: a reply to a call that was made at this moment or before tells nothing of the file. None
+    /// exactly where the file was never opened.
     pub fn mark(&self, file: &Handle) -> Option<u64>
         ensures { result ≡ mark_of file.now self.now }
     {
@@ -109,6 +120,25 @@ impl PageCache {
         ensures gives { option_map (λ bytes. bytes.now) result ≡ page_of file.now index self.old }
     {
         self.slots.show(file, index)
+    }
+
+    /// The n-th kept page whose file's stamp is known, from 0 on and from the front; None exactly where there are at
+    /// most n such pages. The order stays. It takes as many steps as n says.
+    pub fn nth(&self, n: usize) -> Option<KeptPage<'_>>
+        ensures { option_map shows_page result ≡ nth_handed n self.now }
+    {
+        match self.slots.nth(n) {
+            Some((place, bytes)) => match self.stamp(&place.file) {
+                Some(stamp) => Some(KeptPage {
+                    file: place.file,
+                    stamp,
+                    index: place.index,
+                    bytes,
+                }),
+                None => None,
+            },
+            None => None,
+        }
     }
 
     /// Offers a page that a reply told, with the state of the file in it; `sent` is the moment at which the call was
@@ -146,8 +176,9 @@ impl PageCache {
         Keep::Kept
     }
 
-    /// A reply showed the state of a file; `sent` is the moment at which the call was made. Nothing changes where that is
-    /// at or below the mark, or the stamp is the known one. Else the file's pages are dropped, and the stamp is known.
+    /// A reply showed the state of a file; `sent` is the moment at which the call was made. Nothing changes where that
+    /// is at or below the mark, or the stamp is the known one. Else the file's pages are dropped, and the stamp is
+    /// known.
     pub fn saw(&mut self, file: &Handle, stamp: &Stamp, sent: u64)
         ensures { self.new ≡ saw file.now stamp.now sent self.old }
     {
@@ -166,12 +197,12 @@ impl PageCache {
         self.files.change(file, known, u64::MAX);
     }
 
-    /// The client's own WRITE put these bytes at this offset; `wcc` tells the file's state before and after it. Where the
-    /// first is the known one and the second is there, each kept page becomes that page of the file so written, and the
-    /// second is known. Else the file's pages are dropped, and no state is known. The mark is `moment` then.
+    /// The client's own WRITE put these bytes at this offset; `wcc` tells the file's state before and after it. Where
+    /// the first is the known one and the second is there, each kept page becomes that page of the file so written, and
+    /// the second is known. Else the file's pages are dropped, and no state is known. The mark is `moment` then.
     ///
-    /// The pages that are looked at are those from the first one written to the last, and those before it from the first one
-    /// on that may be short of 4,096 bytes: in a file that is read and written in order there is none.
+    /// The pages that are looked at are those from the first one written to the last, and those before it from the
+    /// first one on that may be short of 4,096 bytes: in a file that is read and written in order there is none.
     pub fn wrote(&mut self, file: &Handle, wcc: &Wcc, offset: u64, bytes: &[u8], moment: u64)
         ensures after { self.new ≡ wrote file.now wcc.now offset bytes.now moment self.old }
         ensures of_the_file { (index : ℕ) (old : List ℕ) → put_page index offset bytes.now (page_at index old) ≡ page_at index (put_at offset bytes.now old) }
@@ -202,8 +233,8 @@ impl PageCache {
         }
     }
 
-    /// The client's own SETATTR gave the file this size. Else as `wrote`. The pages that are looked at are those from the one
-    /// in which the file ends then, and those before it from the first one on that may be short of 4,096 bytes.
+    /// The client's own SETATTR gave the file this size. Else as `wrote`. The pages that are looked at are those from
+    /// the one in which the file ends then, and those before it from the first one on that may be short of 4,096 bytes.
     pub fn cut(&mut self, file: &Handle, wcc: &Wcc, size: u64, moment: u64)
         ensures after { self.new ≡ cut file.now wcc.now size moment self.old }
         ensures of_the_file { (index : ℕ) (old : List ℕ) → cut_page index size (page_at index old) ≡ page_at index (resized size old) }
@@ -262,6 +293,3 @@ fn full_after(full_below: u64, offset: u64, bytes: &[u8]) -> u64
         full_below.max(Page::holding(offset))
     }
 }
-
-#[cfg(test)]
-mod tests;

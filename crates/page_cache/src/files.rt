@@ -65,7 +65,7 @@ impl Files {
         }
     }
 
-    /// This is known of a file from now on. Want of memory comes at a file that was never opened alone.
+    /// This is known of a file from now on. Out of memory comes at a file that was never opened alone.
     #[tactic(auto, using(crate::proofs::Bounds::states_lookup, crate::proofs::Bounds::states_insert, crate::proofs::Bounds::full_below_insert))]
     pub(crate) fn put(
         &mut self,

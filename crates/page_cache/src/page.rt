@@ -159,6 +159,3 @@ impl Page {
         self.resize(len.min(Page::SIZE as u128) as usize);
     }
 }
-
-#[cfg(test)]
-mod tests;

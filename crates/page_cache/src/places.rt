@@ -71,6 +71,14 @@ impl Places {
         }
     }
 
+    /// The page that a slot holds.
+    pub(crate) fn at(&self, slot: usize) -> Option<PagePlace>
+        requires { slot < 1024 }
+        ensures { result ≡ get_or self.now slot None }
+    {
+        self.by_slot[slot]
+    }
+
     /// The slots that hold pages of a file with numbers from `low` on and below `high`, in the order of the pages. None is
     /// above all numbers.
     pub(crate) fn slots_of(&self, file: &Handle, low: u64, high: Option<u64>) -> &[usize]

@@ -1,13 +1,15 @@
 //! Pages in slots, by their last use.
 
-ghost use Rattle.std.specs.Prelude.{◌≡◌, ◌≤◌, ◌<◌, [], length, map, option_map, IfOk};
+ghost use Rattle.std.specs.Prelude.{◌≡◌, ◌≤◌, ◌<◌, [], length, map, slice_get, option_map, IfOk};
 ghost use Rattle.std.specs.Borrow.{sem};
-ghost use Rattle.std.specs.Map.{lookup};
+ghost use Rattle.std.specs.List.{IsDistinct};
+ghost use Rattle.std.specs.Map.{lookup, keys_of};
 ghost use Rattle.lru.specs.LruCache.{promoted};
 ghost use Rattle.page_cache.specs.Bytes.{put_page, cut_page};
 ghost use Rattle.page_cache.specs.Pages.{is_place, fronted, without_file, changed_page};
 ghost use Rattle.page_cache.specs.Slots.{AreAll, IsSlotFor};
 ghost use Rattle.page_cache.specs.Full.{FullBelow};
+ghost use Rattle.page_cache.specs.Sound.{same_place};
 
 use crate::page::Page;
 use crate::place::PagePlace;
@@ -56,6 +58,14 @@ impl Slots {
         })
     }
 
+    /// No page is there twice, and there are at most 1,024: a fact for proofs.
+    pub(crate) fn are_apart(&self)
+        ensures few { length self.now ≤ 1024 }
+        ensures apart { IsDistinct same_place (keys_of self.now) }
+    {
+        let _order = &self.order;
+    }
+
     /// Shows a page, and moves it to the front; None exactly where it isn't there.
     pub(crate) fn show(&mut self, file: &Handle, index: u64) -> Option<&[u8]>
         ensures* ends { sem 𝓛 (shows_with self.entry (promoted (is_place file.now index) self.old)) }
@@ -64,6 +74,15 @@ impl Slots {
         let slot = self.places.find(file, index)?;
         self.order.promote(&slot);
         Some(self.pages[slot].bytes())
+    }
+
+    /// The n-th page from the front, from 0 on; None exactly where there are at most so many.
+    pub(crate) fn nth(&self, n: usize) -> Option<(PagePlace, &[u8])>
+        ensures { option_map (λ p. (p.0, p.1.now)) result ≡ slice_get self.now n }
+    {
+        let slot = slot_at(&self.order, n)?;
+        let place = self.places.at(slot)?;
+        Some((place, self.pages[slot].bytes()))
     }
 
     /// Puts a page in front, in place of an earlier one. The last one goes where there are 1,024 already.
@@ -126,6 +145,16 @@ fn slot_for(places: &Places, order: &LruCache<usize, ()>, place: &PagePlace) -> 
     match places.find(&place.file, place.index) {
         Some(slot) => slot,
         None => *order.peek_lru().unwrap().0,
+    }
+}
+
+/// The n-th slot from the front.
+fn slot_at(order: &LruCache<usize, ()>, n: usize) -> Option<usize>
+    ensures { result ≡ option_map (λ e. e.0) (slice_get order.now.entries n) }
+{
+    match order.iter().nth(n) {
+        Some((slot, _)) => Some(*slot),
+        None => None,
     }
 }
 

@@ -69,7 +69,7 @@ module _ {P : Type 0} where
   sound_at cred low next (x ∷ es) (suc at) call s e = sound_at cred (x.0 + 1) next es at call s.2 e
 
   pub sound_sent_call : (cred : Cred) (xid : ℕ) (call : Waiting P) → call.due ≡ true → IsSoundCall cred xid call → IsSoundCall cred xid (sent_call call)
-  sound_sent_call cred xid call d s = let few : call.attempts < 4 = s.again d in record { spelled = s.spelled; tried = omega arith; again = λ n. absurd (cc); idle = λ n. absurd (cc) }
+  sound_sent_call cred xid call d s = let few : call.attempts < 4 = s.again d in record { spelled = s.spelled; tried = omega arith; again = λ n. absurd (cc); idle = λ n. absurd (cc); given = λ n. omega arith }
 
   -- after one more attempt all are as sound as before
   pub sound_sent : (cred : Cred) (low next : ℕ) (es : List (ℕ × Waiting P)) → AreSound cred low next es → AreSound cred low next (sent es)

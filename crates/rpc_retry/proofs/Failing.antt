@@ -13,7 +13,7 @@ use Rattle.rpc_retry.proofs.Order.{sound_with}
 module _ {P : Type 0} where
   pub sound_given_up : (cred : Cred) (low next : ℕ) (es : List (ℕ × Waiting P)) → AreSound cred low next es → AreSound cred low next (failed false es)
   sound_given_up cred low next [] s = s
-  sound_given_up cred low next (e ∷ es) s = (s.0, record { spelled = s.1.spelled; tried = s.1.tried; again = s.1.again; idle = λ d. refl }, sound_given_up cred (e.0 + 1) next es s.2)
+  sound_given_up cred low next (e ∷ es) s = (s.0, record { spelled = s.1.spelled; tried = s.1.tried; again = s.1.again; idle = λ d. refl; given = s.1.given }, sound_given_up cred (e.0 + 1) next es s.2)
 
   -- where none is given up, neither is the first nor one of the others
   not_given_up : (e : ℕ × Waiting P) (es : List (ℕ × Waiting P)) → first_given_up (e ∷ es) ≡ None → (is_given_up e.1 ≡ false) × (first_given_up es ≡ None)
@@ -27,7 +27,7 @@ module _ {P : Type 0} where
   sound_due_call cred xid call d s =
       let other : call.attempts ≢ 4 = eqb-false call.attempts 4 d in
       let tried : call.attempts ≤ 4 = s.tried in
-      record { spelled = s.spelled; tried = tried; again = λ x. omega arith; idle = λ x. refl }
+      record { spelled = s.spelled; tried = tried; again = λ x. omega arith; idle = λ x. refl; given = λ x. absurd (cc) }
 
   pub sound_again : (cred : Cred) (low next : ℕ) (es : List (ℕ × Waiting P)) → first_given_up es ≡ None → AreSound cred low next es → AreSound cred low next (failed true es)
   sound_again cred low next [] n s = s

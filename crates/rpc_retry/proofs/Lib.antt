@@ -7,3 +7,5 @@ pub mod Lookups
 pub mod Stories
 pub mod Steps
 pub mod GivenUp
+pub mod Apart
+pub mod Rows

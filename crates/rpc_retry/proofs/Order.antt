@@ -15,7 +15,7 @@ module _ {P : Type 0} where
   bounds cred low next (e ∷ es) s = let rest : e.0 + 1 ≤ next = bounds cred (e.0 + 1) next es s.2 in let from : low ≤ e.0 = s.0 in omega arith
 
   pub made_is_sound : (cred : Cred) (xid : ℕ) (bytes : List ℕ) (purpose : P) → IsRecord cred xid bytes → IsSoundCall cred xid (made_call bytes purpose)
-  made_is_sound cred xid bytes purpose r = record { spelled = r; tried = omega arith; again = λ e. omega arith; idle = λ e. refl }
+  made_is_sound cred xid bytes purpose r = record { spelled = r; tried = omega arith; again = λ e. omega arith; idle = λ e. refl; given = λ e. absurd (cc) }
 
   -- a call that is made goes last
   pub sound_made : (cred : Cred) (low next : ℕ) (calls : List (ℕ × Waiting P)) (w : Waiting P) → AreSound cred low next calls → IsSoundCall cred next w → AreSound cred low (next + 1) (calls ++ (next, w) ∷ [])

@@ -130,7 +130,7 @@ module _ {P : Type 0} where
       (unmade_stays old new xid does.settings does.made) (omega arith) story
 
   -- all attempts that ran have failed
-  failed_how : (calls : List (ℕ × Waiting P)) → (again : Bool) × (after_failure calls ≡ failed again calls)
+  pub failed_how : (calls : List (ℕ × Waiting P)) → (again : Bool) × (after_failure calls ≡ failed again calls)
   failed_how calls =
       elim (first_given_up calls) as (λ r. (again : Bool) × (failed_after r calls ≡ failed again calls)) [
         | None ↦ (true, refl)

@@ -1,5 +1,5 @@
 -- What is done with calls from the first on, and what becomes of each xid (RFC 5531, section 9).
-use Rattle.std.specs.Prelude.{◌≡◌, ◌<◌, ◌≤◌, ◌+◌, ◌⊎◌, ℕ, List, [], ◌∷◌, ◌++◌, length, Option, Some, None, ◌==◌, if◌then◌else◌}
+use Rattle.std.specs.Prelude.{◌≡◌, ◌<◌, ◌≤◌, ◌+◌, ◌⊎◌, ℕ, List, [], ◌∷◌, ◌++◌, Bool, true, false, length, Option, Some, None, ◌==◌, if◌then◌else◌}
 use Rattle.rpc_retry.specs.declared.waiting.Waiting.{Waiting}
 use Rattle.rpc_retry.specs.declared.answers.Taken.{Taken}
 use Rattle.rpc_retry.specs.declared.answers.Taken.TheVariants.{Dropped, Took}
@@ -93,6 +93,28 @@ abbrev pub AreAll : List ℕ → List (List ℕ) → Type 0
 AreAll bytes [] = Unit {0}
 AreAll bytes (b ∷ bs) = (b ≡ bytes) × AreAll bytes bs
 
+-- whether it was sent since the attempts that ran have failed the last time
+abbrev pub sent_since : ℕ → List Done → Bool
+sent_since xid [] = false
+sent_since xid (Making other bytes ∷ ds) = sent_since xid ds
+sent_since xid (Sending other bytes ∷ ds) = if xid == other then true else sent_since xid ds
+sent_since xid (Taking other ∷ ds) = sent_since xid ds
+sent_since xid (Failing ∷ ds) = false
+
+-- between two transmissions of it the attempts that ran have failed
+abbrev pub FailsBetween : ℕ → List Done → Type 0
+FailsBetween xid [] = Unit {0}
+FailsBetween xid (Making other bytes ∷ ds) = FailsBetween xid ds
+FailsBetween xid (Sending other bytes ∷ ds) = (other ≡ xid → sent_since xid ds ≡ false) × FailsBetween xid ds
+FailsBetween xid (Taking other ∷ ds) = FailsBetween xid ds
+FailsBetween xid (Failing ∷ ds) = FailsBetween xid ds
+
+-- A call is sent again only after a failure, and an attempt of one that waits runs exactly where it was sent since the
+-- last failure.
+pub record SentApart {P : Type 0} (ds : List Done) (h : Held P) (xid : ℕ) : Type 0 where
+  pub apart : FailsBetween xid ds
+  pub runs : (call : Waiting P) → waiting_at xid h.calls ≡ Some call → call.running ≡ sent_since xid ds
+
 -- made once, sent so many times with the same record, and a reply taken so many times
 pub record Went (ds : List Done) (xid : ℕ) (bytes : List ℕ) (attempts replies : ℕ) : Type 0 where
   pub made : made_records xid ds ≡ bytes ∷ []
@@ -100,8 +122,8 @@ pub record Went (ds : List Done) (xid : ℕ) (bytes : List ℕ) (attempts replie
   pub sent : length (sent_records xid ds) ≡ attempts
   pub taken : times_taken xid ds ≡ replies
 
--- What became of an xid: it was never made; or it waits, was sent as often as its attempts count, always with the record
--- with which it was made, and no reply to it was taken; or one reply was taken and it waits no more.
+-- What became of an xid: it was never made; or it waits, was sent as often as its attempts count, always with the
+-- record with which it was made, and no reply to it was taken; or one reply was taken and it waits no more.
 pub data Story {P : Type 0} (ds : List Done) (h : Held P) (xid : ℕ) : Type 0 where
   unmade : (xid < h.first_xid) ⊎ (next_xid h ≤ xid) → made_records xid ds ≡ [] → sent_records xid ds ≡ [] → times_taken xid ds ≡ 0 → Story ds h xid
   waits : (call : Waiting P) → waiting_at xid h.calls ≡ Some call → Went ds xid call.bytes call.attempts 0 → Story ds h xid

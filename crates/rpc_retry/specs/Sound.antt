@@ -14,12 +14,13 @@ pub record IsRecord (cred : Cred) (xid : ℕ) (bytes : List ℕ) : Type 0 where
   pub is : bytes ≡ call_bytes cred xid prog proc args
   pub spells : SpellsCallHead (call_head xid prog proc) args bytes
 
--- at most four attempts were made of a call, and it is due only before the fourth and while none runs
+-- at most four attempts were made of a call, it is due only before the fourth and while none runs, and one that isn't due was sent
 pub record IsSoundCall {P : Type 0} (cred : Cred) (xid : ℕ) (call : Waiting P) : Type 0 where
   pub spelled : IsRecord cred xid call.bytes
   pub tried : call.attempts ≤ 4
   pub again : call.due ≡ true → call.attempts < 4
   pub idle : call.due ≡ true → call.running ≡ false
+  pub given : call.due ≡ false → 1 ≤ call.attempts
 
 -- the xids rise from one number on and lie below another
 abbrev pub AreSound : {P : Type 0} → Cred → ℕ → ℕ → List (ℕ × Waiting P) → Type 0

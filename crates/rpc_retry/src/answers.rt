@@ -22,7 +22,7 @@ pub enum PutFault {
     Spent,
     /// 32 calls wait.
     Crowded,
-    /// Want of memory.
+    /// Out of memory.
     Memory,
 }
 

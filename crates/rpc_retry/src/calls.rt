@@ -9,7 +9,7 @@ ghost use Rattle.rpc_retry.specs.Waiting.{made_call, first_due, sent, first_give
 ghost use Rattle.rpc_retry.specs.Put.{check_of, AnswersPut, call_head, call_bytes};
 ghost use Rattle.rpc_retry.specs.Take.{Takes, after_taking, IfDropped};
 ghost use Rattle.rpc_retry.specs.Records.{KeepsRecords, IsGone};
-ghost use Rattle.rpc_retry.specs.Runs.{Done, Runs, Story, DoesMake, DoesGive, DoesAnswer, DoesFail};
+ghost use Rattle.rpc_retry.specs.Runs.{Done, Runs, Story, SentApart, DoesMake, DoesGive, DoesAnswer, DoesFail};
 ghost use Rattle.rpc_retry.specs.Fail.{answer_after, after_failure, ShowsAttempts};
 
 use crate::answers::{AfterFailure, PutFault, PutRefusal, Taken};
@@ -102,6 +102,12 @@ impl<P: Drop> Calls<P> {
     /// and no reply to it was taken; or one reply was taken, and it waits no more.
     pub fn have_stories(&self)
         ensures { (ds : List Done) → Runs ds self.now → (xid : ℕ) → Story ds self.now xid }
+    {}
+
+    /// Between two transmissions of a call the attempts that ran have failed, and an attempt of a call that waits runs
+    /// exactly where it was sent since the last failure: a fact for proofs.
+    pub fn are_sent_apart(&self)
+        ensures { (ds : List Done) → Runs ds self.now → (xid : ℕ) → SentApart ds self.now xid }
     {}
 
     /// Whether a call can be made now. Spent exactly where the calls made equal the limit; else Crowded exactly where

@@ -5,19 +5,19 @@ ghost use Rattle.rpc_retry.specs.Waiting.{made_call, sent_call, failed_call};
 
 use xdr_codec::Blob;
 
-/// A call that waits for its reply.
+/// A call that waits for its reply, as contracts show it; no call hands one out.
 #[derive(Debug, Drop)]
 pub struct Waiting<P> {
     /// Its record, which never changes.
-    pub(crate) bytes: Blob,
+    pub bytes: Blob,
     /// What it was made for.
-    pub(crate) purpose: P,
+    pub purpose: P,
     /// Whether it is to be sent.
-    pub(crate) due: bool,
+    pub due: bool,
     /// How many times it was sent, at most 4.
-    pub(crate) attempts: u32,
+    pub attempts: u32,
     /// Whether the last of these attempts hasn't failed.
-    pub(crate) running: bool,
+    pub running: bool,
 }
 
 impl<P> Waiting<P> {

@@ -40,7 +40,7 @@ impl Silly {
         }
     }
 
-    /// Keeps the directory and the name that the file has now, in place of what was kept of it. After want of memory
+    /// Keeps the directory and the name that the file has now, in place of what was kept of it. When out of memory
     /// nothing is changed.
     pub fn put(&mut self, file: &Handle, dir: &Handle, name: &Name) -> Result<(), Memory>
         ensures ok { OnOk result (self.new ≡ map.insert self.old file.now (dir.now, name.now)) }

@@ -4,8 +4,6 @@
 mod kept;
 mod removal;
 mod rename;
-#[cfg(test)]
-mod tests;
 
 pub use kept::Silly;
 pub use removal::Plan;

@@ -1,6 +1,6 @@
 //! Pending bytes behind a test of each call's conditions.
 
-ghost use Rattle.std.specs.Prelude.{◌≡◌, ◌≤◌, ◌↔◌, IsTrue};
+ghost use Rattle.std.specs.Prelude.{◌↔◌, IsTrue};
 ghost use Rattle.write_back.specs.Files.{HasNoPiece, IsFree};
 
 use crate::piece::{OwnPiece, copied};
@@ -11,7 +11,7 @@ use std::marker::Model;
 use write_back::{AddFault, WriteBack};
 use xdr_codec::Memory;
 
-/// No write of a test ends past this place, and no test has more writes.
+/// No write ends past this place, and there are no more writes than this.
 const FARTHEST: u64 = 1 << 32;
 
 /// The xids are this one to the last.
@@ -30,13 +30,13 @@ pub struct KeptBack {
 
 impl Model for KeptBack {
     ghost use Rattle.write_back.specs.Files.{Pending};
-    ghost use Rattle.slow_bodies.specs.Kept.{IsKept};
+    ghost use Rattle.write_back.specs.Numbers.{AllUpTo};
 
     ghost Value = { Pending };
 
     ghost view = { λ k. k.back };
 
-    ghost invariant = { λ k. IsKept k.number k.back };
+    ghost invariant = { λ k. AllUpTo k.number k.back };
 }
 
 impl KeptBack {
@@ -141,7 +141,7 @@ impl KeptBack {
 
     /// Bytes from a size on go: whether nothing of the file is in flight.
     pub fn cut(&mut self, file: &Handle, size: u64, upto: u64) -> bool {
-        if !self.is_still(file) {
+        if !self.is_quiet(file) {
             return false;
         }
         self.back.cut(file, size, upto);
@@ -150,7 +150,7 @@ impl KeptBack {
 
     /// All bytes of a file go: whether nothing of it is in flight.
     pub fn give_up(&mut self, file: &Handle) -> bool {
-        if !self.is_still(file) {
+        if !self.is_quiet(file) {
             return false;
         }
         self.back.give_up(file);
@@ -168,18 +168,10 @@ impl KeptBack {
     }
 
     /// Whether nothing of a file is in flight.
-    fn is_still(&self, file: &Handle) -> bool
-        ensures { IsTrue result → HasNoPiece file.now self.now }
+    pub fn is_quiet(&self, file: &Handle) -> bool
+        ensures { IsTrue result ↔ HasNoPiece file.now self.now }
     {
-        let _number = &self.number;
-        if !self.is_free(file, FIRST_XID)
-            || !self.is_free(file, 8)
-            || !self.is_free(file, 9)
-            || !self.is_free(file, LAST_XID)
-        {
-            return false;
-        }
-        true
+        self.back.is_quiet(file)
     }
 
     /// Whether nothing of a file is in flight under an xid.
@@ -190,10 +182,7 @@ impl KeptBack {
     }
 }
 
-/// Whether a test may use an xid.
-fn is_xid(xid: u32) -> bool
-    ensures least { IsTrue result → 7 ≤ xid }
-    ensures most { IsTrue result → xid ≤ 10 }
-{
+/// Whether a row may use an xid.
+fn is_xid(xid: u32) -> bool {
     FIRST_XID <= xid && xid <= LAST_XID
 }

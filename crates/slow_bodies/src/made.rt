@@ -4,18 +4,18 @@ ghost use Rattle.std.specs.Prelude.{◌<◌};
 
 /// Gives numbers one after the other, by a linear congruence modulo 2^64 (Knuth's MMIX).
 #[derive(Drop)]
-pub(crate) struct Made {
+pub struct Made {
     state: u64,
 }
 
 impl Made {
     /// The numbers of a seed.
-    pub(crate) fn of(seed: u64) -> Made {
+    pub fn of(seed: u64) -> Made {
         Made { state: seed }
     }
 
     /// The next number below a bound, or 0 where the bound is 0.
-    pub(crate) fn below(&mut self, bound: u64) -> u64
+    pub fn below(&mut self, bound: u64) -> u64
         ensures { 0 < bound → result < bound }
     {
         self.state = self

@@ -140,6 +140,7 @@ pub sound-added : (offset : ℕ) (bytes : List ℕ) (number : ℕ) (of : FilePen
 sound-added offset bytes number of sound some last room above = record {
   apart = apart-added offset bytes number of.segments sound.apart some last;
   sent = sound.sent;
+  xids = sound.xids;
   within = within-added offset bytes number of.pieces of.segments sound.apart sound.within;
   over = λ place. over place (covers offset (length bytes) place) refl;
   room = omega (arith, own-added offset bytes number of.segments sound.apart, room);
@@ -221,6 +222,7 @@ pub sound-cut : (at upto : ℕ) (of : FilePending) → IsSound of → of.pieces 
 sound-cut at upto of sound none = record {
   apart = apart-cut at upto 0 of.segments sound.apart;
   sent = sound.sent;
+  xids = sound.xids;
   within = rw none tt;
   over = λ place. over place;
   room = omega (arith, own-cut at upto of.segments, sound.room);

@@ -25,7 +25,7 @@ use Rattle.write_back.proofs.Marking.{sound-held, sound-xid}
 use Rattle.write_back.proofs.Sending.{IsNext, next-is, sound-sent}
 
 pub sound-nothing : IsSound nothing
-sound-nothing = record { apart = tt; sent = tt; within = tt; over = λ place. tt; room = omega arith }
+sound-nothing = record { apart = tt; sent = tt; xids = tt; within = tt; over = λ place. tt; room = omega arith }
 
 pub kept-added : (offset : ℕ) (bytes : List ℕ) (number : ℕ) (of : FilePending) (flying resume : ℕ) → IsKept of flying resume → 0 < length bytes → offset + length bytes ≤ 2 ^ 63 - 1 → pending_of of + length bytes ≤ most_pending → IsAbove number of
     → IsKept (with_added offset bytes number of) flying (min resume offset)
@@ -116,7 +116,7 @@ that-at test place from (e ∷ es) x apart found = by (nat_le place e.0 && test 
 abbrev pub piece_at : ℕ → ℕ → ℕ → FilePending → ℕ → Sent
 piece_at xid upto room of first = gathered xid first (run_from of.pieces upto (how_at first of.segments) first room (from_key first of.segments)) (how_at first of.segments)
 
--- what comes of a sending: nothing, or the piece that was gathered
+-- what comes of a transmission: nothing, or the piece that was gathered
 abbrev pub PutsFirst : ℕ → ℕ → ℕ → FilePending → ℕ → Type 0
 PutsFirst xid upto room of first = (new : FilePending) → new ≡ with_sent (piece_at xid upto room of first) of → IsPut xid (chosen upto room of) of new (Ok true)
 
@@ -140,7 +140,7 @@ next-first xid upto room of x apart some found =
 pub put-none : (xid upto room : ℕ) (of new : FilePending) → first_that (may_go of.pieces upto) 0 of.segments ≡ None → new ≡ of → IsPut xid (chosen upto room of) of new (Ok false)
 put-none xid upto room of new none same = subst (λ c. IsPut xid c of new (Ok false)) (sym (chosen-none of.pieces upto room of.segments none)) (refl, same)
 
--- a sending makes nothing wait
+-- a transmission makes nothing wait
 none-sent : (place low high : ℕ) (es : Segments) → NoneBefore place es → NoneBefore place (changed by_change.Send low high es)
 none-sent place low high [] none = tt
 none-sent place low high (e ∷ es) none = by (nat_le low e.0 && nat_lt e.0 high) refl (none-sent place low high es none.1)
@@ -154,9 +154,9 @@ none-sent place low high (e ∷ es) none = by (nat_le low e.0 && nat_lt e.0 high
     by true h more = rw h ((λ t. absurd (waits e.1.state t)), more)
     by false h more = rw h (none.0, more)
 
-pub kept-sent : (piece : Sent) (upto : ℕ) (of : FilePending) (flying resume : ℕ) → IsNext piece upto of → IsKept of flying resume → IsKept (with_sent piece of) (flying + length piece.bytes) resume
-kept-sent piece upto of flying resume next kept = record {
-  sound = sound-sent piece upto of kept.sound next;
+pub kept-sent : (piece : Sent) (upto : ℕ) (of : FilePending) (flying resume : ℕ) → piece_under piece.xid of.pieces ≡ None → IsNext piece upto of → IsKept of flying resume → IsKept (with_sent piece of) (flying + length piece.bytes) resume
+kept-sent piece upto of flying resume free next kept = record {
+  sound = sound-sent piece upto of free kept.sound next;
   flying = ap (λ n. n + length piece.bytes) kept.flying ∙ sym (flying-append of.pieces piece);
   none = none-sent resume piece.offset (end_of_sent piece) (split (end_of_sent piece) of.segments) (none-split resume (end_of_sent piece) (λ _. true) of.segments kept.none);
 }
@@ -188,8 +188,8 @@ kept-part change count piece of flying resume answer found kept = by (nat_le (le
               (none-changed change (min resume piece.offset) piece.offset (piece.offset + count) _ (omega arith) (none-split (min resume piece.offset) (piece.offset + count) (λ s. is_in_flight s.state) of.segments lower));
         })
 
-pub kept-xid : (xid to : ℕ) (of : FilePending) (flying resume : ℕ) → IsKept of flying resume → IsKept (with_xid xid to of) flying resume
-kept-xid xid to of flying resume kept = record { sound = sound-xid xid to of kept.sound; flying = kept.flying ∙ sym (flying-renumbered xid to of.pieces); none = kept.none }
+pub kept-xid : (xid to : ℕ) (of : FilePending) (flying resume : ℕ) → piece_under to of.pieces ≡ None → IsKept of flying resume → IsKept (with_xid xid to of) flying resume
+kept-xid xid to of flying resume free kept = record { sound = sound-xid xid to of free kept.sound; flying = kept.flying ∙ sym (flying-renumbered xid to of.pieces); none = kept.none }
 
 pub kept-held : (change : Change) (of : FilePending) (flying resume : ℕ) → IsOfHeld change → IsKept of flying resume → IsKept (with_change change of) flying 0
 kept-held change of flying resume held kept = record { sound = sound-held change held of kept.sound; flying = kept.flying; none = none-zero _ }

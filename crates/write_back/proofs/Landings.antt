@@ -23,6 +23,7 @@ use Rattle.write_back.proofs.ByPlace.{cells-between, cells-split}
 use Rattle.write_back.proofs.Stops.{Keeps, stops-changed, within-changed, stops-split, stops-cut, within-split}
 use Rattle.write_back.proofs.OwnBytes.{own-landed, own-split}
 use Rattle.write_back.proofs.Flying.{fly-without, fly-some, under-within, sent-without, within-without, flying-without}
+use Rattle.write_back.proofs.Xids.{distinct-without}
 
 -- what isn't in flight is left
 leaves-answered : (f : Ready → Option State) (state : State) → is_in_flight state ≡ false → answered f state ≡ Some state
@@ -244,6 +245,7 @@ sound-one change answer piece of sound found =
     record {
       apart = apart-changed change piece.offset (end_of_sent piece) 0 of.segments sound.apart;
       sent = sent-without piece.xid of.pieces sound.sent;
+      xids = distinct-without piece.xid of.pieces sound.xids;
       within = within-changed change (answer-keeps change answer) piece.offset (end_of_sent piece) (without piece.xid of.pieces) of.segments (within-without piece.xid of.pieces of.segments sound.within);
       over = over-so change change answer answer piece 0 of (changed change piece.offset (end_of_sent piece) of.segments) sound found (cells-one change answer piece 0 of.segments sound.apart stops.0 stops.1);
       room = omega (arith, sound.room, flying-without piece.xid of.pieces piece found, own-landed change answer.leaves piece.offset (end_of_sent piece) 0 of.segments sound.apart stops.1);
@@ -314,6 +316,7 @@ module _ (first : Change) (answer : IsAnswer first) (piece : Sent) (count : ℕ)
       by false h = rw h (record {
         apart = apart-changed by_change.Return (piece.offset + count) (end_of_sent piece) 0 (changed first piece.offset (piece.offset + count) (split_flying (piece.offset + count) of.segments)) apart-two;
         sent = sent-without piece.xid of.pieces sound.sent;
+        xids = distinct-without piece.xid of.pieces sound.xids;
         within = within-changed by_change.Return (answer-keeps by_change.Return answer-return) (piece.offset + count) (end_of_sent piece) (without piece.xid of.pieces) (changed first piece.offset (piece.offset + count) (split_flying (piece.offset + count) of.segments))
             (within-changed first (answer-keeps first answer) piece.offset (piece.offset + count) (without piece.xid of.pieces) (split_flying (piece.offset + count) of.segments)
             (within-split (λ s. is_in_flight s.state) (piece.offset + count) (without piece.xid of.pieces) of.segments (within-without piece.xid of.pieces of.segments sound.within)));

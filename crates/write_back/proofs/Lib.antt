@@ -7,6 +7,7 @@ pub mod Cells
 pub mod Changing
 pub mod Counting
 pub mod Covering
+pub mod EndAndBytes
 pub mod Entering
 pub mod Flying
 pub mod Gathering
@@ -21,14 +22,18 @@ pub mod Limits
 pub mod Losing
 pub mod Marking
 pub mod Newest
+pub mod NextPiece
+pub mod Numbers
 pub mod OneFile
 pub mod Opening
 pub mod Overlaying
 pub mod OwnBytes
 pub mod PartSums
+pub mod Passed
 pub mod Putting
 pub mod Ranges
 pub mod Replying
+pub mod Rows
 pub mod Room
 pub mod Running
 pub mod Searching
@@ -42,6 +47,7 @@ pub mod Stops
 pub mod Sums
 pub mod Taking
 pub mod Through
+pub mod Totals
 pub mod WritesByFile
 pub mod WritesChanged
 pub mod WritesFlying
@@ -49,3 +55,5 @@ pub mod WritesKept
 pub mod WritesLaid
 pub mod WritesSent
 pub mod WritesTold
+pub mod Xids
+pub mod OldestPlace

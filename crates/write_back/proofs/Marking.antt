@@ -10,7 +10,7 @@ use Rattle.write_back.specs.declared.change.Change.TheVariants as by_change
 use Rattle.write_back.specs.States.{is_in_flight, same_verf}
 use Rattle.write_back.specs.Segments.{Segment, Segments, Cell, AreApart, end_of, cell_at}
 use Rattle.write_back.specs.Changes.{fate, all_changed, left_of, cell_left, cell_changed}
-use Rattle.write_back.specs.Pieces.{Flown, FilePending, rest_of, fly_at, pending_of}
+use Rattle.write_back.specs.Pieces.{Flown, FilePending, rest_of, fly_at, pending_of, piece_under}
 use Rattle.write_back.specs.Places.{ChangesAll, cell_flown}
 use Rattle.write_back.specs.Landing.{with_change, with_xid}
 use Rattle.write_back.specs.Effects.{IsOfHeld}
@@ -20,6 +20,7 @@ use Rattle.write_back.proofs.Cells.{cells-changed}
 use Rattle.write_back.proofs.Stops.{within-all}
 use Rattle.write_back.proofs.OwnBytes.{own-all}
 use Rattle.write_back.proofs.Flying.{sent-renumbered, within-renumbered, over-renumbered, flying-renumbered}
+use Rattle.write_back.proofs.Xids.{distinct-renumbered}
 
 pub held-settle : (verf : Verf) (upto : ℕ) → IsOfHeld (by_change.Settle verf upto)
 held-settle verf upto = record { waits = λ number ready. refl; flies = λ number ready. refl; lands = λ number held left is. by (nat_le number upto && same_verf held verf) number held left refl is }
@@ -101,6 +102,7 @@ pub sound-held : (change : Change) → IsOfHeld change → (of : FilePending) �
 sound-held change held of sound = record {
   apart = apart-all change 0 of.segments sound.apart;
   sent = sound.sent;
+  xids = sound.xids;
   within = within-all change (held-keeps change held) of.pieces of.segments sound.within;
   over = λ place. over place;
   room = omega (arith, room-held change held of, sound.room);
@@ -110,10 +112,11 @@ sound-held change held of sound = record {
     over place = rw (cells-changed change 0 of.segments place sound.apart) (over-held change held (fly_at of place) (cell_at of.segments place) (sound.over place))
 
 -- another xid
-pub sound-xid : (xid to : ℕ) (of : FilePending) → IsSound of → IsSound (with_xid xid to of)
-sound-xid xid to of sound = record {
+pub sound-xid : (xid to : ℕ) (of : FilePending) → piece_under to of.pieces ≡ None → IsSound of → IsSound (with_xid xid to of)
+sound-xid xid to of free sound = record {
   apart = sound.apart;
   sent = sent-renumbered xid to of.pieces sound.sent;
+  xids = distinct-renumbered xid to of.pieces sound.xids free;
   within = within-renumbered xid to of.pieces of.segments sound.within;
   over = λ place. over-renumbered xid to of.pieces place (cell_at of.segments place) (sound.over place);
   room = omega (arith, sound.room, flying-renumbered xid to of.pieces);

@@ -1,15 +1,15 @@
--- What a reply, a sending and another xid make of all that is pending, where they change that of one file.
-use Rattle.std.proofs.Common.{◌≡◌, ℕ, ◌+◌, ◌-◌, List, Some, Result, Ok, Err, sym, ap, ◌∙◌, subst, arith, nat_cmp}
+-- What a reply, a transmission and another xid make of all that is pending, where they change that of one file.
+use Rattle.std.proofs.Common.{◌≡◌, ℕ, ◌+◌, ◌-◌, List, Some, None, Result, Ok, Err, sym, ap, ◌∙◌, subst, arith, nat_cmp}
 use Rattle.std.specs.Prelude.{OnOk, OnErr}
 use Rattle.std.specs.Cmp.Lexicographic.{slice_cmp}
 use Rattle.std.specs.Map.{lookup}
 use Rattle.std.specs.BTreeMap.{BTreeMap, WritesThrough}
-use Rattle.write_back.specs.Pieces.{FilePending, pending_of}
+use Rattle.write_back.specs.Pieces.{FilePending, pending_of, piece_under}
 use Rattle.write_back.specs.Landing.{with_xid}
-use Rattle.write_back.specs.Files.{Pending, of_file, OnFile, IsCounted}
+use Rattle.write_back.specs.Files.{Pending, of_file, OnFile, IsCounted, IsFree}
 use Rattle.write_back.specs.Sound.{IsSound}
 use Rattle.write_back.proofs.ByFile.{on-tidied}
-use Rattle.write_back.proofs.Counting.{is_file}
+use Rattle.write_back.proofs.Counting.{is_file, of-found}
 use Rattle.write_back.proofs.Marking.{sound-xid, room-xid}
 use Rattle.write_back.proofs.Replying.{IsLess}
 use Rattle.write_back.proofs.Through.{sound-here, covers-here, through-changed, through-counted, through-holds, tidied-holds}
@@ -27,6 +27,10 @@ pub err-of : {A E : Type 0} (r : Result A E) (P : Type 0) → P → OnErr r P
 err-of (Ok x) P p = tt
 err-of (Err e) P p = p
 
+-- nothing of the file is in flight under an xid
+pub free-here : (xid : ℕ) (file : List ℕ) (p : Pending) (v : FilePending) → lookup (is_file file) p ≡ Some v → IsFree xid file p → piece_under xid v.pieces ≡ None
+free-here xid file p v found free = subst (λ (z : FilePending). piece_under xid z.pieces ≡ None) (of-found file p (Some v) found) free
+
 module _ (m n : BTreeMap (List ℕ) FilePending) (file : List ℕ) (v w : FilePending) (found : lookup (is_file file) m.entries ≡ Some v) (writes : WritesThrough (slice_cmp nat_cmp) (slice_cmp nat_cmp file) m w n) where
   -- all are counted, where the file has no more bytes than before
   pub counted-less : (total before after : ℕ) → IsCounted m.entries total → before ≡ pending_of v → after ≡ pending_of w → IsLess v w → IsCounted n.entries (total - before + after)
@@ -35,10 +39,10 @@ module _ (m n : BTreeMap (List ℕ) FilePending) (file : List ℕ) (v w : FilePe
       (subst (λ a. IsCounted n.entries (total - pending_of v + a)) (sym is-after) (through-counted m n file v w found writes total counted less))
 
   -- under another xid it has as many
-  pub counted-xid : (xid to total : ℕ) → IsCounted m.entries total → w ≡ with_xid xid to v → IsCounted n.entries total
-  counted-xid xid to total counted is =
+  pub counted-xid : (xid to total : ℕ) → IsFree to file m.entries → IsCounted m.entries total → w ≡ with_xid xid to v → IsCounted n.entries total
+  counted-xid xid to total free counted is =
       let same : pending_of w ≡ pending_of v = ap pending_of is ∙ room-xid xid to v in
-      let less : IsLess v w = (subst IsSound (sym is) (sound-xid xid to v (sound-here m.entries file v total found counted)), omega (arith, same)) in
+      let less : IsLess v w = (subst IsSound (sym is) (sound-xid xid to v (free-here to file m.entries v found free) (sound-here m.entries file v total found counted)), omega (arith, same)) in
       let sum : total - pending_of v + pending_of w ≡ total = omega (arith, same, covers-here m.entries file v total found counted) in
       subst (IsCounted n.entries) sum (through-counted m n file v w found writes total counted less)
 

@@ -17,13 +17,13 @@ use Rattle.write_back.specs.Choice.{may_go, how_of_segment, run_from, chosen_fro
 use Rattle.write_back.specs.Sound.{StopsAt}
 use Rattle.write_back.proofs.Keys.{in-range, past-range, before-range}
 use Rattle.write_back.proofs.Apart.{apart-split}
-use Rattle.write_back.proofs.Changing.{changed-lower}
+use Rattle.write_back.proofs.Changing.{changed-lower, apart-lower}
 use Rattle.write_back.proofs.Gathering.{run-zero}
 use Rattle.write_back.proofs.ByPlace.{covered}
 use Rattle.write_back.proofs.Stops.{stops-later}
 use Rattle.write_back.proofs.Flying.{fly-none}
 use Rattle.write_back.proofs.Sums.{own-cons}
-use Rattle.write_back.proofs.OwnBytes.{own-split, own-left-same}
+use Rattle.write_back.proofs.OwnBytes.{own-split}
 
 -- a place of a piece: the part that has it, and that its byte may go
 pub record AtPlace (pieces : List Sent) (upto : ℕ) (es : Segments) (bytes : List ℕ) (parts : List Part) (from place : ℕ) : Type 0 where
@@ -37,28 +37,27 @@ pub record AtPlace (pieces : List Sent) (upto : ℕ) (es : Segments) (bytes : Li
 pub record IsRun (pieces : List Sent) (upto : ℕ) (es : Segments) (from : ℕ) (run : Segments) : Type 0 where
   pub has : (place : ℕ) → from ≤ place → place < from + length (bytes_in run) → AtPlace pieces upto es (bytes_in run) (map part_of run) from place
   pub last : from + length (bytes_in run) ≤ 2 ^ 63 - 1
-  pub own : own_of (changed Send from (from + length (bytes_in run)) (split (from + length (bytes_in run)) es)) + length (bytes_in run) ≤ own_of es
+  pub own : own_of (changed Send from (from + length (bytes_in run)) (split (from + length (bytes_in run)) es)) + length (bytes_in run) ≡ own_of es
 
 pub parts-sum : (run : Segments) → sum_by (λ (part : Part). part.size) (map part_of run) ≡ length (bytes_in run)
 parts-sum [] = refl
 parts-sum (e ∷ run) = sum_by-cons (λ (part : Part). part.size) (part_of e) (map part_of run) ∙ ap (λ n. length e.1.bytes + n) (parts-sum run) ∙ sym (length-append e.1.bytes (bytes_in run))
 
--- a sending makes no segment count for itself
-own-between : (low high : ℕ) (es : Segments) → own_of (changed Send low high es) ≤ own_of es
-own-between low high [] = omega arith
-own-between low high (e ∷ es) = omega (arith, own-between low high es, own-left-same (fate_between Send low high e) e (changed Send low high es) flies, own-cons e es)
-  where
-    still : (state left : State) → Some (sent state) ≡ Some left → is_in_flight state ≡ true → is_in_flight left ≡ true
-    still (Waiting ready) left is t = absurd cc
-    still (InFlight ready) left is t = let same : InFlight ready ≡ left = cc in sym (ap is_in_flight same)
-    still (Acked verf) left is t = absurd cc
+-- what isn't sent counts as before
+own-kept : (low high : ℕ) (e : ℕ × Segment) (es : Segments) → (nat_le low e.0 && nat_lt e.0 high) ≡ false → own_of (changed Send low high es) ≡ own_of es → own_of (changed Send low high (e ∷ es)) ≡ own_of (e ∷ es)
+own-kept low high e es out more = rw out (own-cons (e.0, with_state e.1.state e.1) (changed Send low high es) ∙ ap (λ n. own_size e.1 + n) more ∙ sym (own-cons e es))
 
-    flies : (left : State) → fate_between Send low high e ≡ Some left → is_in_flight e.1.state ≡ true → is_in_flight left ≡ true
-    flies left is t = by (nat_le low e.0 && nat_lt e.0 high) refl
-      where
-        by : (b : Bool) → (nat_le low e.0 && nat_lt e.0 high) ≡ b → is_in_flight left ≡ true
-        by true h = let f : Some (sent e.1.state) ≡ Some left = (rw h at is) in still e.1.state left f t
-        by false h = let f : Some e.1.state ≡ Some left = (rw h at is) in let same : e.1.state ≡ left = cc in sym (ap is_in_flight same) ∙ t
+own-empty : (low high : ℕ) (es : Segments) → high ≤ low → own_of (changed Send low high es) ≡ own_of es
+own-empty low high [] none = refl
+own-empty low high (e ∷ es) none = own-kept low high e es (by (cases_lt e.0 low)) (own-empty low high es none)
+  where
+    by : (e.0 < low) ⊎ (low ≤ e.0) → (nat_le low e.0 && nat_lt e.0 high) ≡ false
+    by (inl less) = before-range low high e.0 less
+    by (inr more) = past-range low high e.0 (omega (arith, none, more))
+
+own-later : (low high from : ℕ) (es : Segments) → AreApart from es → high ≤ from → own_of (changed Send low high es) ≡ own_of es
+own-later low high from [] apart past = refl
+own-later low high from (e ∷ es) apart past = own-kept low high e es (past-range low high e.0 (omega (arith, past, apart.0))) (own-later low high (end_of e) es apart.3 (omega (arith, past, apart.0)))
 
 ready-is : (state : State) → is_ready state ≡ true → state ≡ Waiting (ready_of state)
 ready-is (Waiting ready) t = refl
@@ -76,7 +75,7 @@ run-none : (pieces : List Sent) (upto from : ℕ) (es : Segments) → from ≤ 2
 run-none pieces upto from es most = record {
   has = λ place first last. absurd (omega (arith, first, last));
   last = omega (arith, most);
-  own = omega (arith, own-between from (from + 0) (split (from + 0) es), own-split (λ _. true) (from + 0) es);
+  own = omega (arith, own-empty from (from + 0) (split (from + 0) es) (omega arith), own-split (λ _. true) (from + 0) es);
 }
 
 -- one segment is sent, and others that touch it
@@ -133,7 +132,7 @@ module _ (pieces : List Sent) (upto room : ℕ) (e : ℕ × Segment) (es run : S
       by (inr past) (inr long) = there place (omega (arith, size, long)) (omega (arith, size, long, past)) (omega (arith, last, total, size, long))
 
   -- all of it is sent
-  own-all-of : length e.1.bytes ≤ room → own_of (changed Send e.0 (e.0 + length (bytes_in ((e.0, head_of room e.1) ∷ run))) (split (e.0 + length (bytes_in ((e.0, head_of room e.1) ∷ run))) (e ∷ es))) + length (bytes_in ((e.0, head_of room e.1) ∷ run)) ≤ own_of (e ∷ es)
+  own-all-of : length e.1.bytes ≤ room → own_of (changed Send e.0 (e.0 + length (bytes_in ((e.0, head_of room e.1) ∷ run))) (split (e.0 + length (bytes_in ((e.0, head_of room e.1) ∷ run))) (e ∷ es))) + length (bytes_in ((e.0, head_of room e.1) ∷ run)) ≡ own_of (e ∷ es)
   own-all-of long =
       let sum : e.0 + length (bytes_in ((e.0, head_of room e.1) ∷ run)) ≡ end_of e + length (bytes_in run) = omega (arith, total, size, long) in
       let first : nat_lt e.0 (end_of e + length (bytes_in run)) ≡ true = lt-ltb e.0 (end_of e + length (bytes_in run)) (omega (arith, some)) in
@@ -150,7 +149,7 @@ module _ (pieces : List Sent) (upto room : ℕ) (e : ℕ × Segment) (es run : S
       omega (arith, owns, sent-none e.1 ready, more.own, own-cons e es, ready-own e.1 ready, total, size, long)
 
   -- its first bytes are
-  own-head-of : room < length e.1.bytes → own_of (changed Send e.0 (e.0 + length (bytes_in ((e.0, head_of room e.1) ∷ run))) (split (e.0 + length (bytes_in ((e.0, head_of room e.1) ∷ run))) (e ∷ es))) + length (bytes_in ((e.0, head_of room e.1) ∷ run)) ≤ own_of (e ∷ es)
+  own-head-of : room < length e.1.bytes → own_of (changed Send e.0 (e.0 + length (bytes_in ((e.0, head_of room e.1) ∷ run))) (split (e.0 + length (bytes_in ((e.0, head_of room e.1) ∷ run))) (e ∷ es))) + length (bytes_in ((e.0, head_of room e.1) ∷ run)) ≡ own_of (e ∷ es)
   own-head-of short =
       let none : length (bytes_in run) ≡ 0 = ap (λ z. length (bytes_in z)) (full.0 short) in
       let sum : e.0 + length (bytes_in ((e.0, head_of room e.1) ∷ run)) ≡ e.0 + room = omega (arith, total, size, short, none) in
@@ -164,14 +163,15 @@ module _ (pieces : List Sent) (upto room : ℕ) (e : ℕ × Segment) (es run : S
       let owns : own_of (changed Send e.0 (e.0 + length (bytes_in ((e.0, head_of room e.1) ∷ run))) (split (e.0 + length (bytes_in ((e.0, head_of room e.1) ∷ run))) (e ∷ es))) ≡ own_size (with_state (sent e.1.state) (head_of room e.1)) + own_of (changed Send e.0 (e.0 + room) ((e.0 + room, tail_of room e.1) ∷ es)) =
       ap (λ n. own_of (changed Send e.0 n (split n (e ∷ es)))) sum ∙ ap (λ z. own_of (changed Send e.0 (e.0 + room) z)) cut ∙ ap own_of is
       ∙ own-cons (e.0, with_state (sent e.1.state) (head_of room e.1)) (changed Send e.0 (e.0 + room) ((e.0 + room, tail_of room e.1) ∷ es)) in
+      let past-apart : AreApart (e.0 + room) ((e.0 + room, tail_of room e.1) ∷ es) = (omega arith, omega (arith, length-drop room e.1.bytes, short), omega (arith, length-drop room e.1.bytes, short, ends), apart-lower (e.0 + room + length (drop room e.1.bytes)) (end_of e) es (omega (arith, length-drop room e.1.bytes, short)) apart) in
       let tail-own : own_size (tail_of room e.1) ≡ length (drop room e.1.bytes) = ready-own (tail_of room e.1) ready in
-      omega (arith, owns, none-own, own-between e.0 (e.0 + room) ((e.0 + room, tail_of room e.1) ∷ es), own-cons (e.0 + room, tail_of room e.1) es, tail-own, length-drop room e.1.bytes, own-cons e es, ready-own e.1 ready, total, size, short, none)
+      omega (arith, owns, none-own, own-later e.0 (e.0 + room) (e.0 + room) ((e.0 + room, tail_of room e.1) ∷ es) past-apart (omega arith), own-cons (e.0 + room, tail_of room e.1) es, tail-own, length-drop room e.1.bytes, own-cons e es, ready-own e.1 ready, total, size, short, none)
 
   pub run-more : IsRun pieces upto (e ∷ es) e.0 ((e.0, head_of room e.1) ∷ run)
   run-more = record { has = has-more; last = omega (arith, total, size, more.last); own = by (cases_lt room (length e.1.bytes)) }
     where
       by : (room < length e.1.bytes) ⊎ (length e.1.bytes ≤ room)
-          → own_of (changed Send e.0 (e.0 + length (bytes_in ((e.0, head_of room e.1) ∷ run))) (split (e.0 + length (bytes_in ((e.0, head_of room e.1) ∷ run))) (e ∷ es))) + length (bytes_in ((e.0, head_of room e.1) ∷ run)) ≤ own_of (e ∷ es)
+          → own_of (changed Send e.0 (e.0 + length (bytes_in ((e.0, head_of room e.1) ∷ run))) (split (e.0 + length (bytes_in ((e.0, head_of room e.1) ∷ run))) (e ∷ es))) + length (bytes_in ((e.0, head_of room e.1) ∷ run)) ≡ own_of (e ∷ es)
       by (inl short) = own-head-of short
       by (inr long) = own-all-of long
 
@@ -215,7 +215,7 @@ run-skip pieces upto place from e es run apart later is = record { has = λ q fi
         let off : covers e.0 (length e.1.bytes) q ≡ false = past-range e.0 (end_of e) q (omega (arith, later, first)) in
         record { part = at.part; there = at.there; cell = rw off at.cell; old_enough = at.old_enough; free = at.free }
 
-    own : own_of (changed Send place (place + length (bytes_in run)) (split (place + length (bytes_in run)) (e ∷ es))) + length (bytes_in run) ≤ own_of (e ∷ es)
+    own : own_of (changed Send place (place + length (bytes_in run)) (split (place + length (bytes_in run)) (e ∷ es))) + length (bytes_in run) ≡ own_of (e ∷ es)
     own =
         let begins : nat_lt e.0 (place + length (bytes_in run)) ≡ true = lt-ltb e.0 (place + length (bytes_in run)) (omega (arith, later, apart.1)) in
         let ends : nat_lt (place + length (bytes_in run)) (end_of e) ≡ false = le-ltb (place + length (bytes_in run)) (end_of e) (omega (arith, later)) in

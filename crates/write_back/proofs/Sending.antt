@@ -11,7 +11,7 @@ use Rattle.write_back.specs.declared.sent.Part.{Part}
 use Rattle.write_back.specs.States.{is_in_flight}
 use Rattle.write_back.specs.Segments.{Segment, Segments, AreApart, end_of, covers, cell_at, split, own_of}
 use Rattle.write_back.specs.Changes.{changed, cell_changed}
-use Rattle.write_back.specs.Pieces.{Sent, Flown, FilePending, part_at, flown_in, fly_in, fly_at, rest_of, rest_at, overlaps, end_of_sent, pending_of}
+use Rattle.write_back.specs.Pieces.{Sent, Flown, FilePending, part_at, flown_in, fly_in, fly_at, rest_of, rest_at, overlaps, end_of_sent, pending_of, piece_under}
 use Rattle.write_back.specs.Places.{PutsInFlight, cell_flown}
 use Rattle.write_back.specs.Choice.{chosen, bytes_in, part_of, piece_of, with_sent}
 use Rattle.write_back.specs.Sound.{IsSound, IsOver, IsWhole, HaveSizes, StopsAt, AreWithin}
@@ -22,13 +22,14 @@ use Rattle.write_back.proofs.Stops.{stops-changed, stops-split, stops-cut, withi
 use Rattle.write_back.proofs.Flying.{fly-append, sent-append, within-append, flying-append, overlaps-free, meets}
 use Rattle.write_back.proofs.WritesSent.{sized-chosen}
 use Rattle.write_back.proofs.Running.{AtPlace, IsChosen, chosen-is, parts-sum}
+use Rattle.write_back.proofs.Xids.{distinct-append}
 
 -- a piece that may be sent next
 pub record IsNext (piece : Sent) (upto : ℕ) (of : FilePending) : Type 0 where
   pub whole : IsWhole piece
   pub has : (place : ℕ) → covers piece.offset (length piece.bytes) place ≡ true → AtPlace of.pieces upto of.segments piece.bytes piece.parts piece.offset place
   pub stops : StopsAt (λ _. true) piece.offset of.segments
-  pub own : own_of (changed Send piece.offset (end_of_sent piece) (split (end_of_sent piece) of.segments)) + length piece.bytes ≤ own_of of.segments
+  pub own : own_of (changed Send piece.offset (end_of_sent piece) (split (end_of_sent piece) of.segments)) + length piece.bytes ≡ own_of of.segments
 
 pub next-is : (xid upto wsize : ℕ) (of : FilePending) (first : ℕ × Segment) (run : Segments) → AreApart 0 of.segments → chosen upto wsize of ≡ first ∷ run → IsNext (piece_of xid first (first ∷ run)) upto of
 next-is xid upto wsize of first run apart is =
@@ -160,13 +161,14 @@ stops-any : (place : ℕ) (es : Segments) → StopsAt (λ _. true) place es → 
 stops-any place [] stops = tt
 stops-any place (e ∷ es) stops = ((λ t. stops.0 refl), stops-any place es stops.1)
 
-pub room-sent : (piece : Sent) (upto : ℕ) (of : FilePending) → IsNext piece upto of → pending_of (with_sent piece of) ≤ pending_of of
+pub room-sent : (piece : Sent) (upto : ℕ) (of : FilePending) → IsNext piece upto of → pending_of (with_sent piece of) ≡ pending_of of
 room-sent piece upto of next = omega (arith, next.own, flying-append of.pieces piece)
 
-pub sound-sent : (piece : Sent) (upto : ℕ) (of : FilePending) → IsSound of → IsNext piece upto of → IsSound (with_sent piece of)
-sound-sent piece upto of sound next = record {
+pub sound-sent : (piece : Sent) (upto : ℕ) (of : FilePending) → piece_under piece.xid of.pieces ≡ None → IsSound of → IsNext piece upto of → IsSound (with_sent piece of)
+sound-sent piece upto of free_xid sound next = record {
   apart = apart-changed Send piece.offset (end_of_sent piece) 0 (split (end_of_sent piece) of.segments) (apart-split (λ _. true) (end_of_sent piece) 0 of.segments sound.apart);
   sent = sent-append of.pieces piece sound.sent next.whole apart;
+  xids = distinct-append of.pieces piece sound.xids free_xid;
   within = within-append of.pieces piece (segments_sent piece of)
       (within-sent piece.offset (end_of_sent piece) of.pieces (split (end_of_sent piece) of.segments) apart at-high (within-split (λ _. true) (end_of_sent piece) of.pieces of.segments sound.within))
       (stops-any piece.offset (segments_sent piece of) (stops-changed Send (λ _. true) (λ number state left is t. refl) piece.offset (end_of_sent piece) piece.offset (split (end_of_sent piece) of.segments) at-low))

@@ -1,11 +1,11 @@
--- A sending: the piece that was gathered at the first segment that may go is put in flight.
+-- A transmission: the piece that was gathered at the first segment that may go is put in flight.
 use Rattle.std.proofs.Common.{◌≡◌, ◌<◌, ℕ, ◌+◌, true, List, [], ◌∷◌, ◌++◌, length, Option, Some, None, Ok, refl, sym, ap, ◌∙◌, subst}
 use Rattle.std.specs.Option.{option_map}
 use Rattle.write_back.specs.declared.change.Change.TheVariants.{Send}
 use Rattle.write_back.specs.Segments.{Segment, Segments, split}
 use Rattle.write_back.specs.Changes.{changed}
 use Rattle.write_back.specs.Walk.{first_that, from_key}
-use Rattle.write_back.specs.Pieces.{Sent, FilePending, end_of_sent}
+use Rattle.write_back.specs.Pieces.{Sent, FilePending, piece_under, end_of_sent}
 use Rattle.write_back.specs.Choice.{may_go, run_from, how_at, gathered, chosen, with_sent, IsPut}
 use Rattle.write_back.specs.Sound.{IsSound, IsKept}
 use Rattle.write_back.proofs.Sending.{IsNext}
@@ -43,8 +43,9 @@ module _ (xid upto room first : ℕ) (es : Segments) (ps lent : List Sent) (now 
     after-is : record { segments = new; pieces = sent } ≡ with_sent piece (record { segments = es; pieces = ps })
     after-is = ap (λ z. record { segments = z; pieces = sent }) segments-are ∙ ap (λ z. record { segments = changed Send piece.offset (end_of_sent piece) (split (end_of_sent piece) es); pieces = z }) sent-is
 
-    pub sends-kept : IsKept (record { segments = new; pieces = sent }) (flying + length piece.bytes) resume
-    sends-kept = subst (λ z. IsKept z (flying + length piece.bytes) resume) (sym after-is) (kept-sent piece upto (record { segments = es; pieces = ps }) flying resume sends-next kept)
+    pub sends-kept : piece_under xid ps ≡ None → IsKept (record { segments = new; pieces = sent }) (flying + length piece.bytes) resume
+    sends-kept free = subst (λ z. IsKept z (flying + length piece.bytes) resume) (sym after-is)
+        (kept-sent piece upto (record { segments = es; pieces = ps }) flying resume (subst (λ x. piece_under x ps ≡ None) (sym (ap (λ (p : Sent). p.xid) piece-is)) free) sends-next kept)
 
     pub sends-put : IsPut xid (chosen upto room now) now (record { segments = new; pieces = sent }) (Ok true)
     sends-put = subst (λ z. IsPut xid (chosen upto room z) z (record { segments = new; pieces = sent }) (Ok true)) now-is

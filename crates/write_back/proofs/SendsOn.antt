@@ -11,16 +11,17 @@ use Rattle.write_back.specs.declared.piece.Piece.{Piece}
 use Rattle.write_back.specs.declared.state.State.TheVariants.{Waiting}
 use Rattle.write_back.specs.declared.state.Ready.TheVariants.{Unsent}
 use Rattle.write_back.specs.Segments.{Segments, covers}
-use Rattle.write_back.specs.Pieces.{Sent, FilePending, last_of, rest_at, fly_at}
+use Rattle.write_back.specs.Pieces.{Sent, FilePending, last_of, rest_at, fly_at, pending_of, piece_under}
 use Rattle.write_back.specs.Choice.{chosen, some_go, piece_of, with_sent, IsPut}
 use Rattle.write_back.specs.Places.{PutsInFlight, PutsBytes}
-use Rattle.write_back.specs.Files.{Pending, of_file, OnFile, with_bytes, PutsPiece, ShowsPiece, ShowsSent}
+use Rattle.write_back.specs.Files.{Pending, of_file, OnFile, with_bytes, PutsPiece, ShowsPiece, ShowsSent, IsFree, IsCounted}
 use Rattle.write_back.specs.Sound.{IsSound}
 use Rattle.write_back.proofs.Keys.{past-range, before-range}
 use Rattle.write_back.proofs.Sending.{IsNext, next-is, puts-sent, sound-sent, room-sent}
 use Rattle.write_back.proofs.Adding.{with_added, puts-added}
-use Rattle.write_back.proofs.Replying.{IsLess}
 use Rattle.write_back.proofs.Counting.{is_file, of-found, on-through}
+use Rattle.write_back.proofs.Through.{sound-here}
+use Rattle.write_back.proofs.Totals.{total-same}
 use Rattle.write_back.proofs.ByFile.{on-is}
 
 pub last-append : (pieces : List Sent) (piece : Sent) → last_of (pieces ++ piece ∷ []) ≡ Some piece
@@ -43,33 +44,41 @@ shows-some xid upto (e ∷ run) old new file shown some puts shows =
     let last : last_of (of_file file new).pieces ≡ Some (piece_of xid e (e ∷ run)) = ap (λ (z : FilePending). last_of z.pieces) puts.0.here ∙ last-append (of_file file old).pieces (piece_of xid e (e ∷ run)) in
     subst (λ o. ShowsSent o shown) last shows
 
+-- it is sound, with as many bytes
+abbrev pub HasAsMany : FilePending → FilePending → Type 0
+HasAsMany of new = IsSound new × (pending_of new ≡ pending_of of)
+
 -- of a file with pending bytes
 abbrev pub PutsOn : ℕ → ℕ → ℕ → Pending → Pending → List ℕ → Bool → FilePending → FilePending → Type 0
-PutsOn xid upto wsize p q file done of new = PutsPiece xid upto (chosen upto wsize (of_file file p)) p q file × (done ≡ some_go (chosen upto wsize (of_file file p))) × IsLess of new
+PutsOn xid upto wsize p q file done of new = PutsPiece xid upto (chosen upto wsize (of_file file p)) p q file × (done ≡ some_go (chosen upto wsize (of_file file p))) × HasAsMany of new
 
-pub puts-on : (xid upto wsize : ℕ) (m n : BTreeMap (List ℕ) FilePending) (file : List ℕ) (of new : FilePending) (done : Bool) → lookup (is_file file) m.entries ≡ Some of → IsSound of
+pub puts-on : (xid upto wsize : ℕ) (m n : BTreeMap (List ℕ) FilePending) (file : List ℕ) (of new : FilePending) (done : Bool) (total : ℕ) → lookup (is_file file) m.entries ≡ Some of → IsFree xid file m.entries → IsCounted m.entries total
     → WritesThrough (slice_cmp nat_cmp) (slice_cmp nat_cmp file) m new n → (r : Result Bool Memory) → r ≡ Ok done → IsPut xid (chosen upto wsize of) of new r → PutsOn xid upto wsize m.entries n.entries file done of new
-puts-on xid upto wsize m n file of new done found sound writes r is_ok put =
-    subst (λ z. PutsPiece xid upto (chosen upto wsize z) m.entries n.entries file × (done ≡ some_go (chosen upto wsize z)) × IsLess of new) (sym (of-found file m.entries (Some of) found)) (by (chosen upto wsize of) refl put)
+puts-on xid upto wsize m n file of new done total found free counted writes r is_ok put =
+    subst (λ z. PutsPiece xid upto (chosen upto wsize z) m.entries n.entries file × (done ≡ some_go (chosen upto wsize z)) × HasAsMany of new) (sym (of-found file m.entries (Some of) found)) (by (chosen upto wsize of) refl put)
   where
+    sound : IsSound of
+    sound = sound-here m.entries file of total found counted
+
     on : OnFile m.entries n.entries file new
     on = on-through m n file of new found writes
 
-    by : (run : Segments) → chosen upto wsize of ≡ run → IsPut xid run of new r → PutsPiece xid upto run m.entries n.entries file × (done ≡ some_go run) × IsLess of new
+    by : (run : Segments) → chosen upto wsize of ≡ run → IsPut xid run of new r → PutsPiece xid upto run m.entries n.entries file × (done ≡ some_go run) × HasAsMany of new
     by [] h p =
         let no-more : Ok done ≡ Ok false = sym is_ok ∙ p.0 in
         let same : set_value (is_file file) m.entries new ≡ m.entries = ap (set_value (is_file file) m.entries) p.1 ∙ set_value_same (is_file file) m.entries of found in
-        (writes.0 ∙ same, cc, subst (λ z. IsLess of z) (sym p.1) (sound, omega arith))
+        (writes.0 ∙ same, cc, subst (λ z. HasAsMany of z) (sym p.1) (sound, refl))
     by (e ∷ run) h p =
         let more : Ok done ≡ Ok true = sym is_ok ∙ p.0 in
         let next : IsNext (piece_of xid e (e ∷ run)) upto of = next-is xid upto wsize of e run sound.apart h in
         let old-is : of_file file m.entries ≡ of = of-found file m.entries (Some of) found in
         let new-is : of_file file n.entries ≡ with_sent (piece_of xid e (e ∷ run)) of = on.here ∙ p.1 in
         let puts : PutsInFlight (piece_of xid e (e ∷ run)) upto (of_file file m.entries) (of_file file n.entries) =
-        subst (λ z. PutsInFlight (piece_of xid e (e ∷ run)) upto z (of_file file n.entries)) (sym old-is) (subst (λ z. PutsInFlight (piece_of xid e (e ∷ run)) upto of z) (sym new-is) (puts-sent (piece_of xid e (e ∷ run)) upto of sound next)) in (
-          (on-is m.entries n.entries file new (with_sent (piece_of xid e (e ∷ run)) (of_file file m.entries)) on (p.1 ∙ ap (with_sent (piece_of xid e (e ∷ run))) (sym old-is)), puts),
+        subst (λ z. PutsInFlight (piece_of xid e (e ∷ run)) upto z (of_file file n.entries)) (sym old-is) (subst (λ z. PutsInFlight (piece_of xid e (e ∷ run)) upto of z) (sym new-is) (puts-sent (piece_of xid e (e ∷ run)) upto of sound next)) in
+        let as-many : HasAsMany of new = subst (λ z. HasAsMany of z) (sym p.1) (sound-sent (piece_of xid e (e ∷ run)) upto of (subst (λ (z : FilePending). piece_under xid z.pieces ≡ None) old-is free) sound next, room-sent (piece_of xid e (e ∷ run)) upto of next) in (
+          (on-is m.entries n.entries file new (with_sent (piece_of xid e (e ∷ run)) (of_file file m.entries)) on (p.1 ∙ ap (with_sent (piece_of xid e (e ∷ run))) (sym old-is)), puts, total-same m n file of new found writes total counted as-many.0 as-many.1),
           cc,
-          subst (λ z. IsLess of z) (sym p.1) (sound-sent (piece_of xid e (e ∷ run)) upto of sound next, room-sent (piece_of xid e (e ∷ run)) upto of next),
+          as-many,
         )
 
 -- new bytes, if there are any

@@ -131,7 +131,7 @@ pub on-err : {A E P : Type 0} (r : Result A E) → P → OnErr r P
 on-err (Ok x) holds = tt
 on-err (Err e) holds = holds
 
--- Want of memory isn't Full.
+-- Out of memory isn't Full.
 pub not-full : {A : Type 0} (r : Result A AddFault) → IsErrAnd r (λ e. e ≡ Memory) → r ≡ Err Full → ⊥
 not-full (Ok x) fails is = absurd cc
 not-full (Err e) fails is = let same : e ≡ Full = cc in let k : Memory ≡ Full = sym fails ∙ same in absurd cc

@@ -18,10 +18,10 @@ first-in n ns = Contains-append_left (n ∷ []) ns n (Contains-push [] n)
 later-in : (n : ℕ) (ns : List ℕ) (x : ℕ) → Contains ns x → Contains (n ∷ ns) x
 later-in n ns x c = Contains-append_right (n ∷ []) ns x c
 
-none-in : (x : ℕ) → Contains [] x → ⊥
+pub none-in : (x : ℕ) → Contains [] x → ⊥
 none-in x c = absurd (omega (arith, c.1))
 
-cases-in : (n : ℕ) (ns : List ℕ) (x : ℕ) → Contains (n ∷ ns) x → (n ≡ x) ⊎ Contains ns x
+pub cases-in : (n : ℕ) (ns : List ℕ) (x : ℕ) → Contains (n ∷ ns) x → (n ≡ x) ⊎ Contains ns x
 cases-in n ns x c = by (Contains-append_cases (n ∷ []) ns x c)
   where
     one : Contains [] x ⊎ (n ≡ x) → n ≡ x

@@ -81,13 +81,13 @@ abbrev pub ShowsSent : Option Sent → Option Piece → Type 0
 ShowsSent None shown = shown ≡ None
 ShowsSent (Some sent) shown = IsSomeAnd shown (ShowsBytes sent)
 
--- These segments are put in flight, as one piece, if there are any.
+-- These segments are put in flight, as one piece, if there are any. As many bytes are pending in all as before.
 abbrev pub PutsPiece : ℕ → ℕ → Segments → Pending → Pending → List ℕ → Type 0
 PutsPiece xid upto [] old new file = new ≡ old
 PutsPiece xid upto (e ∷ es) old new file =
-    OnFile old new file (with_sent (piece_of xid e (e ∷ es)) (of_file file old)) × PutsInFlight (piece_of xid e (e ∷ es)) upto (of_file file old) (of_file file new)
+    OnFile old new file (with_sent (piece_of xid e (e ∷ es)) (of_file file old)) × PutsInFlight (piece_of xid e (e ∷ es)) upto (of_file file old) (of_file file new) × (all_pending new ≡ all_pending old)
 
--- After want of memory nothing is changed.
+-- When out of memory nothing is changed.
 abbrev pub SendsPiece : ℕ → ℕ → Segments → Pending → Pending → List ℕ → Result (Option Piece) Memory → Type 0
 SendsPiece xid upto run old new file (Ok shown) = PutsPiece xid upto run old new file
 SendsPiece xid upto run old new file (Err memory) = new ≡ old

@@ -11,3 +11,6 @@ pub mod Effects
 pub mod Walk
 pub mod Landing
 pub mod Ages
+pub mod Waits
+pub mod Cursor
+pub mod Numbers

@@ -1,12 +1,17 @@
 -- What is pending by place: for each place of a file the newest of it that isn't in flight, and what is in flight there. Each
 -- call changes it over a range, and leaves the other places (RFC 1813, sections 3.3.7 and 4.8).
-use Rattle.std.specs.Prelude.{◌≡◌, ◌≤◌, ℕ, ◌-◌, true, ◌&&◌, nat_lt, nat_le, if◌then◌else◌, List, length, slice_index, Option, Some, None}
+use Rattle.std.specs.Prelude.{◌≡◌, ◌⊎◌, ◌≤◌, ℕ, ◌-◌, true, ◌&&◌, nat_lt, nat_le, if◌then◌else◌, List, length, slice_index, Option, Some, None}
 use Rattle.write_back.specs.declared.state.State.TheVariants.{Waiting, InFlight}
 use Rattle.write_back.specs.declared.state.Ready.TheVariants.{Unsent}
 use Rattle.write_back.specs.declared.change.Change.{Change}
 use Rattle.write_back.specs.Segments.{Cell, covers}
 use Rattle.write_back.specs.Changes.{cell_changed}
 use Rattle.write_back.specs.Pieces.{Sent, FilePending, Flown, rest_at, fly_at, flown_in}
+
+-- a byte of this write stands at the place, in flight or not
+abbrev pub Stands : FilePending → ℕ → ℕ → Type 0
+Stands of number place =
+    ((cell : Cell) × (rest_at of place ≡ Some cell) × (cell.number ≡ number)) ⊎ ((flown : Flown) × (fly_at of place ≡ Some flown) × (flown.number ≡ number))
 
 -- new bytes are the newest over their range; what is in flight stays
 pub record PutsBytes (offset : ℕ) (bytes : List ℕ) (number : ℕ) (old new : FilePending) : Type 0 where

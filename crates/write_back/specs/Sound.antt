@@ -7,7 +7,7 @@ use Rattle.write_back.specs.declared.state.Ready.TheVariants.{Unsent}
 use Rattle.write_back.specs.declared.sent.Part.{Part}
 use Rattle.write_back.specs.States.{is_in_flight, is_ready}
 use Rattle.write_back.specs.Segments.{Segments, Cell, AreApart, cell_at, end_of}
-use Rattle.write_back.specs.Pieces.{Sent, FilePending, Flown, fly_at, end_of_sent, overlaps, flying_of, pending_of}
+use Rattle.write_back.specs.Pieces.{Sent, FilePending, Flown, fly_at, piece_under, end_of_sent, overlaps, flying_of, pending_of}
 use Rattle.write_back.specs.Places.{cell_flown}
 
 -- the most bytes that may be pending
@@ -36,6 +36,11 @@ abbrev pub AreSent : List Sent → Type 0
 AreSent [] = ⊤
 AreSent (piece ∷ pieces) = IsWhole piece × (overlaps pieces piece.offset (end_of_sent piece) ≡ false) × AreSent pieces
 
+-- no two pieces have one xid
+abbrev pub AreDistinct : List Sent → Type 0
+AreDistinct [] = ⊤
+AreDistinct (piece ∷ pieces) = (piece_under piece.xid pieces ≡ None) × AreDistinct pieces
+
 -- no segment in flight goes on past an end of a piece
 abbrev pub AreWithin : List Sent → Segments → Type 0
 AreWithin [] es = ⊤
@@ -57,10 +62,11 @@ abbrev pub NoneBefore : ℕ → Segments → Type 0
 NoneBefore place [] = ⊤
 NoneBefore place (e ∷ es) = (is_ready e.1.state ≡ true → place ≤ e.0) × NoneBefore place es
 
--- What is pending of a file: segments share no place, nor do pieces, and each place of a piece has its bytes or newer ones.
+-- What is pending of a file: segments share no place, nor do pieces, each of which has its own xid, and each place of a piece has its bytes or newer ones.
 pub record IsSound (of : FilePending) : Type 0 where
   pub apart : AreApart 0 of.segments
   pub sent : AreSent of.pieces
+  pub xids : AreDistinct of.pieces
   pub within : AreWithin of.pieces of.segments
   pub over : (place : ℕ) → IsOver (fly_at of place) (cell_at of.segments place)
   pub room : pending_of of ≤ most_pending

@@ -45,7 +45,7 @@ impl Ages {
         }
     }
 
-    /// A write of a file has so many bytes, at least one. After want of memory nothing is changed.
+    /// A write of a file has so many bytes, at least one. When out of memory nothing is changed.
     pub fn enter(&mut self, number: u64, file: &Handle, bytes: u64) -> Result<(), Memory>
         requires some { 0 < bytes }
         requires unknown { IsUnknown number self.old }

@@ -1,6 +1,6 @@
 //! What is pending of one file.
 
-ghost use Rattle.std.specs.Prelude.{◌≡◌, ◌+◌, ◌^◌, ◌<◌, ◌-◌, ◌≤◌, ◌↔◌, [], ℕ, List, IsTrue, length, IsOk, OnOk, OnErr, IfSome};
+ghost use Rattle.std.specs.Prelude.{◌≡◌, ◌+◌, ◌^◌, ◌<◌, ◌-◌, ◌≤◌, ◌↔◌, [], ℕ, List, None, IsTrue, length, IsOk, OnOk, OnErr, IfSome, nat_le, min, if◌then◌else◌};
 ghost use Rattle.std.specs.Option.{option_map};
 ghost use Rattle.write_back.specs.declared.change.Change.TheVariants as by;
 ghost use Rattle.write_back.specs.Choice.{chosen, may_go, IsPut};
@@ -32,17 +32,20 @@ pub struct FileBytes {
     flying: u64,
     /// No segment that begins before this place may be sent.
     resume: u64,
+    /// No segment that begins before this place, and whose number is at most `passed_upto`, may be sent.
+    passed: u64,
+    passed_upto: u64,
 }
 
 impl Model for FileBytes {
     ghost use Rattle.write_back.specs.Pieces.{FilePending};
-    ghost use Rattle.write_back.specs.Sound.{IsKept};
+    ghost use Rattle.write_back.specs.Cursor.{IsResumed};
 
     ghost Value = { FilePending };
 
     ghost view = { λ f. record { segments = f.spans; pieces = f.sent.items } };
 
-    ghost invariant = { λ f. IsKept (record { segments = f.spans; pieces = f.sent.items }) f.flying f.resume };
+    ghost invariant = { λ f. IsResumed (record { segments = f.spans; pieces = f.sent.items }) f.flying f.resume f.passed_upto f.passed };
 }
 
 impl FileBytes {
@@ -55,6 +58,8 @@ impl FileBytes {
             sent: Vec::new(alloc),
             flying: 0,
             resume: 0,
+            passed: 0,
+            passed_upto: 0,
         }
     }
 
@@ -63,6 +68,13 @@ impl FileBytes {
         ensures { IsTrue result ↔ (self.now ≡ nothing) }
     {
         self.spans.is_empty() && self.sent.is_empty()
+    }
+
+    /// Whether nothing is in flight.
+    pub fn is_quiet(&self) -> bool
+        ensures { IsTrue result ↔ (self.now.pieces ≡ []) }
+    {
+        self.sent.is_empty()
     }
 
     /// How many bytes are pending.
@@ -80,7 +92,7 @@ impl FileBytes {
         &self.spans
     }
 
-    /// New bytes of the file, at least one. After want of memory nothing is changed.
+    /// New bytes of the file, at least one. When out of memory nothing is changed.
     pub fn add(
         &mut self,
         alloc: Global,
@@ -110,10 +122,11 @@ impl FileBytes {
         }
         ages.lessen_parts(older.as_slice());
         self.resume = self.resume.min(offset);
+        self.passed = before_new(self.passed, self.passed_upto, offset, number);
         Ok(())
     }
 
-    /// Puts a piece in flight: whether there is one. After want of memory nothing is changed.
+    /// Puts a piece in flight: whether there is one. When out of memory nothing is changed.
     pub fn send(
         &mut self,
         alloc: Global,
@@ -123,6 +136,7 @@ impl FileBytes {
         xid: u32,
     ) -> Result<bool, Memory>
         requires some { 0 < room }
+        requires free { piece_under xid self.old.pieces ≡ None }
         requires room { (file : List ℕ) (n : ℕ) → kept_by ages.old file n ≤ 2 ^ 63 + most_pending }
         ensures gains { Gains self.old self.new ages.old ages.new }
         ensures ok { OnOk result (IsPut xid (chosen upto room self.old) self.old self.new result) }
@@ -153,7 +167,10 @@ impl FileBytes {
         ensures small { IfSome result (λ at. at < 2 ^ 63) }
     {
         self.resume = self.spans.first_ready(self.resume)?;
-        self.spans.first_to_go(self.resume, upto, &self.sent)
+        let from = passed_before(self.passed, self.passed_upto, self.resume, upto);
+        self.passed_upto = upto;
+        self.passed = self.spans.first_waiting(from, upto);
+        self.spans.first_to_go(self.passed, upto, &self.sent)
     }
 
     /// The piece that was sent last.
@@ -172,12 +189,13 @@ impl FileBytes {
 
     /// The piece in flight under one xid is so under another.
     pub fn renumber(&mut self, xid: u32, to: u32)
+        requires free { piece_under to self.old.pieces ≡ None }
         ensures { self.new ≡ with_xid xid to self.old }
     {
         in_flight::renumber(&mut self.sent, xid, to);
     }
 
-    /// The server has the first bytes of a piece. After want of memory the piece is as before it was sent.
+    /// The server has the first bytes of a piece. When out of memory the piece is as before it was sent.
     pub fn acked(
         &mut self,
         alloc: Global,
@@ -198,6 +216,7 @@ impl FileBytes {
         ages.lessen_parts(piece.parts());
         self.flying -= piece.len();
         self.resume = self.resume.min(piece.offset());
+        self.passed = self.passed.min(piece.offset());
         land_part(&mut self.spans, alloc, ages, &piece, count, change)
     }
 
@@ -210,8 +229,10 @@ impl FileBytes {
         if let Some(piece) = in_flight::take_out(&mut self.sent, xid) {
             ages.lessen_parts(piece.parts());
             self.flying -= piece.len();
-            self.resume = self.resume.min(piece.offset());
-            change_between(&mut self.spans, ages, piece.offset(), piece.end(), change);
+            let start = piece.offset();
+            self.resume = self.resume.min(start);
+            self.passed = self.passed.min(start);
+            change_between(&mut self.spans, ages, start, piece.end(), change);
         }
     }
 
@@ -223,6 +244,7 @@ impl FileBytes {
         ensures count { result ≡ count_all_changed change self.old.segments }
     {
         self.resume = 0;
+        self.passed = 0;
         self.spans.lessen_gone(0, u64::MAX, change, ages);
         self.spans.change_all(change)
     }
@@ -243,6 +265,25 @@ impl FileBytes {
         ensures { Lessens (λ n. pending_by n self.now) ages.old ages.new }
     {
         self.spans.lessen_gone(0, u64::MAX, Change::Clear, ages);
+    }
+}
+
+/// A place before which nothing waits with a number up to `upto`: the one for another number where that is no less,
+/// else the one before which nothing waits at all.
+fn passed_before(passed: u64, passed_upto: u64, resume: u64, upto: u64) -> u64
+    ensures { result ≡ (if nat_le upto passed_upto then passed else resume) }
+{
+    if upto <= passed_upto { passed } else { resume }
+}
+
+/// Such a place once bytes with a number were added at an offset.
+fn before_new(passed: u64, passed_upto: u64, offset: u64, number: u64) -> u64
+    ensures { result ≡ (if nat_le number passed_upto then min passed offset else passed) }
+{
+    if number <= passed_upto {
+        passed.min(offset)
+    } else {
+        passed
     }
 }
 
@@ -267,8 +308,8 @@ fn change_between(spans: &mut Spans, ages: &mut Ages, low: u64, high: u64, chang
     spans.change(low, high, change);
 }
 
-/// The first bytes of a piece that is in flight no more are changed, and the others are as before they were sent. After
-/// want of memory all of them are.
+/// The first bytes of a piece that is in flight no more are changed, and the others are as before they were sent. When
+/// out of memory all of them are.
 fn land_part(
     spans: &mut Spans,
     alloc: Global,

@@ -1,4 +1,4 @@
-//! The pieces of a file that are in flight, in order of sending.
+//! The pieces of a file that are in flight, in order of transmission.
 
 ghost use Rattle.std.specs.Prelude.{◌≡◌, nat_eq};
 ghost use Rattle.std.specs.List.{position};

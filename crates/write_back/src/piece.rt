@@ -7,7 +7,7 @@ use xdr_codec::Memory;
 pub enum AddFault {
     /// With them more than 4,194,304 bytes would be pending.
     Full,
-    /// Want of memory.
+    /// Out of memory.
     Memory,
 }
 

@@ -92,7 +92,7 @@ impl SegmentMap {
         Some((*at, segment))
     }
 
-    /// Lays a segment at a place, over the one that begins there. After want of memory nothing is changed.
+    /// Lays a segment at a place, over the one that begins there. When out of memory nothing is changed.
     pub fn lay(&mut self, at: u64, segment: Segment) -> Result<(), Memory>
         requires { own_of self.old + own_bytes (at, segment) < 2 ^ 64 }
         ensures ok { OnOk result (self.new ≡ laid at segment self.old) }
@@ -150,7 +150,7 @@ impl SegmentMap {
         }
     }
 
-    /// Lays a segment at a place, where another one ends then. After want of memory nothing is changed.
+    /// Lays a segment at a place, where another one ends then. When out of memory nothing is changed.
     pub fn cut(&mut self, at: u64, place: u64, tail: Segment) -> Result<(), Memory>
         requires order { at ≤ place }
         requires room { own_of self.old + own_bytes (place, tail) < 2 ^ 64 }
@@ -162,8 +162,8 @@ impl SegmentMap {
         Ok(())
     }
 
-    /// Lays a segment at a place, and before that the tail of another one, if there is one, where none begins. After
-    /// want of memory nothing is changed.
+    /// Lays a segment at a place, and before that the tail of another one, if there is one, where none begins. When
+    /// out of memory nothing is changed.
     pub fn lay_both(
         &mut self,
         at: u64,

@@ -7,6 +7,7 @@ ghost use Rattle.write_back.specs.Changes.{changed, count_changed, all_changed, 
 ghost use Rattle.write_back.specs.States.{is_in_flight, is_ready};
 ghost use Rattle.write_back.specs.Choice.{may_go, run_from, how_at, gathered, part_of};
 ghost use Rattle.write_back.specs.Ages.{Lessens, gone_by, cut_by};
+ghost use Rattle.write_back.specs.Cursor.{place_of, waits_upto};
 ghost use Rattle.write_back.specs.Walk.{first_that, from_key, one_of, passing, passing_upto, tail_past, split_as};
 
 use crate::ages::Ages;
@@ -75,7 +76,7 @@ impl Spans {
         walks::overlay(&self.map, offset, buf);
     }
 
-    /// Lays new bytes at an offset, and takes away what older segments have there. After want of memory nothing is
+    /// Lays new bytes at an offset, and takes away what older segments have there. When out of memory nothing is
     /// changed.
     pub fn put(
         &mut self,
@@ -144,8 +145,8 @@ impl Spans {
         Ok(Some(segment.tail(alloc, (place - at) as usize)?))
     }
 
-    /// The segment that goes on past a place is cut there. Where it isn't in flight it stays if `flying` is said. After
-    /// want of memory nothing is changed.
+    /// The segment that goes on past a place is cut there. Where it isn't in flight it stays if `flying` is said. When
+    /// out of memory nothing is changed.
     pub fn split(&mut self, alloc: Global, place: u64, flying: bool) -> Result<(), Memory>
         ensures ok { OnOk result (self.new ≡ split_as flying place self.old) }
         ensures err { OnErr result (self.new ≡ self.old) }
@@ -193,6 +194,14 @@ impl Spans {
         ensures { result ≡ option_map (λ e. e.0) (first_that (λ e. is_ready e.1.state) from self.now) }
     {
         walks::first_ready(&self.map, from)
+    }
+
+    /// Where the first segment begins, from a place on, that may be sent by its state and whose number is at most
+    /// `upto`; past all where there is none.
+    pub fn first_waiting(&self, from: u64, upto: u64) -> u64
+        ensures { result ≡ place_of (first_that (λ e. waits_upto upto e.1) from self.now) }
+    {
+        walks::first_waiting(&self.map, from, upto)
     }
 
     /// Where the first segment begins, from a place on, that may go: its state allows it, its number is at most `upto`,

@@ -9,6 +9,7 @@ ghost use Rattle.write_back.specs.Pieces.{end_of_sent};
 ghost use Rattle.write_back.specs.Ages.{Lessens, gone_by, is_gone};
 ghost use Rattle.write_back.specs.Changes.{fate};
 ghost use Rattle.write_back.specs.Walk.{first_that, from_key, one_of};
+ghost use Rattle.write_back.specs.Cursor.{place_of, waits_upto};
 
 use crate::ages::Ages;
 use crate::change::Change;
@@ -31,6 +32,29 @@ pub fn first_ready(map: &SegmentMap, from: u64) -> Option<u64>
         next = at + 1;
     }
     None
+}
+
+/// Where the first segment begins, from a place on, that may be sent by its state and whose number is at most `upto`; past
+/// all where there is none. No two share a place.
+pub fn first_waiting(map: &SegmentMap, from: u64, upto: u64) -> u64
+    requires { AreApart 0 map.now }
+    ensures { result ≡ place_of (first_that (λ e. waits_upto upto e.1) from map.now) }
+{
+    let mut next = from;
+    while let Some((at, segment)) = map.first_between(next, u64::MAX) {
+        if waits(segment, upto) {
+            return at;
+        }
+        next = at + 1;
+    }
+    u64::MAX
+}
+
+/// Whether a segment may be sent by its state, and its number is at most `upto`.
+fn waits(segment: &Segment, upto: u64) -> bool
+    ensures { result ≡ waits_upto upto segment.now }
+{
+    segment.state().is_ready() && segment.number() <= upto
 }
 
 /// Where the first segment begins, from a place on, that may go. No two share a place.

@@ -1,6 +1,6 @@
 //! The bytes that were written and that the server hasn't made stable.
 
-ghost use Rattle.std.specs.Prelude.{◌≡◌, ◌↔◌, ◌+◌, ◌-◌, ◌^◌, ◌<◌, ◌≤◌, ℕ, List, [], Err, IsOk, IsSome, IsTrue, length, OnOk, OnErr, IfOk, IfSome};
+ghost use Rattle.std.specs.Prelude.{◌≡◌, ◌↔◌, ◌+◌, ◌-◌, ◌^◌, ◌<◌, ◌≤◌, ℕ, List, [], Err, None, IsOk, IsSome, IsTrue, length, OnOk, OnErr, IfOk, IfSome};
 ghost use Rattle.std.specs.Borrow.{sem};
 ghost use Rattle.write_back.specs.declared.piece.AddFault.TheVariants.{Full};
 ghost use Rattle.write_back.specs.declared.change.Change.TheVariants as by;
@@ -11,6 +11,7 @@ ghost use Rattle.write_back.specs.Choice.{chosen, some_go};
 ghost use Rattle.write_back.specs.Effects.{IsAnswer, IsOfHeld};
 ghost use Rattle.write_back.specs.Sound.{IsSound, most_pending};
 ghost use Rattle.write_back.specs.Places.{PutsBytes, Lands, ChangesAll, Cuts};
+ghost use Rattle.write_back.specs.Waits.{AreSound};
 ghost use Rattle.write_back.specs.Landing.{landed, landed_part, at_xid, acked_by, with_change, with_cut, with_xid};
 ghost use Rattle.write_back.specs.Files.{Pending, of_file, OnFile, all_pending, with_bytes, IsNewest, TellsOldest, HasNoPiece, IsFree, PutsPiece, SendsPiece, ShowsBytes, ShowsPiece, ShowsSent};
 
@@ -65,8 +66,8 @@ impl WriteBack {
         }
     }
 
-    /// Adds bytes that were written to a file, with a number. What is pending there and isn't in flight is gone; what is
-    /// in flight stays so. No bytes add nothing. Full exactly where with them more than 4,194,304 bytes would be
+    /// Adds bytes that were written to a file, with a number. What is pending there and isn't in flight is gone; what
+    /// is in flight stays so. No bytes add nothing. Full exactly where with them more than 4,194,304 bytes would be
     /// pending, those in flight among them. After Full and Memory nothing is changed. The number is above all earlier
     /// ones, and the offset plus the length is at most 2^63 - 1.
     pub fn add(
@@ -81,6 +82,7 @@ impl WriteBack {
         ensures full { (result ≡ Err Full) ↔ (most_pending < all_pending self.old + length bytes.now) }
         ensures ok { OnOk result (OnFile self.old self.new file.now (with_bytes offset bytes.now seq (of_file file.now self.old))) }
         ensures places { OnOk result (PutsBytes offset bytes.now seq (of_file file.now self.old) (of_file file.now self.new)) }
+        ensures total { OnOk result (all_pending self.new ≤ all_pending self.old + length bytes.now) }
         ensures err { OnErr result (self.new ≡ self.old) }
     {
         if self.total + bytes.len() as u64 > MOST {
@@ -93,13 +95,14 @@ impl WriteBack {
         Ok(())
     }
 
-    /// Lays bytes, at least one, over those of a file. After want of memory nothing is changed.
+    /// Lays bytes, at least one, over those of a file. When out of memory nothing is changed.
     fn lay(&mut self, file: &Handle, offset: u64, bytes: &[u8], seq: u64) -> Result<(), Memory>
         requires some { 0 < length bytes.now }
         requires last { offset + length bytes.now ≤ 2 ^ 63 - 1 }
         requires room { all_pending self.old + length bytes.now ≤ most_pending }
         requires newest { IsNewest seq self.old }
         ensures ok { OnOk result (OnFile self.old self.new file.now (with_bytes offset bytes.now seq (of_file file.now self.old))) }
+        ensures total { OnOk result (all_pending self.new ≤ all_pending self.old + length bytes.now) }
         ensures err { OnErr result (self.new ≡ self.old) }
     {
         if let Some(of) = self.files.get_mut(file) {
@@ -119,11 +122,11 @@ impl WriteBack {
         Ok(())
     }
 
-    /// Puts a piece of a file in flight under an xid, and shows it. It begins at the lowest offset of a segment that may
-    /// go: one that the server doesn't have, with a number up to `upto`, which shares no place with what is in flight.
-    /// It goes on through segments that touch it, may go and are to be sent alike, until it has `wsize` bytes. None
-    /// exactly where no segment may go. After want of memory nothing is changed. `wsize` is at least 1, and nothing is
-    /// in flight under that xid.
+    /// Puts a piece of a file in flight under an xid, and shows it. It begins at the lowest offset of a segment that
+    /// may go: one that the server doesn't have, with a number up to `upto`, which shares no place with what is in
+    /// flight. It goes on through segments that touch it, may go and are to be sent alike, until it has `wsize` bytes.
+    /// None exactly where no segment may go. When out of memory nothing is changed. `wsize` is at least 1, and nothing
+    /// is in flight under that xid.
     pub fn next_to_send(
         &mut self,
         file: &Handle,
@@ -142,9 +145,10 @@ impl WriteBack {
         Ok(self.last_sent(file))
     }
 
-    /// Puts a piece in flight: whether there is one. After want of memory nothing is changed.
+    /// Puts a piece in flight: whether there is one. When out of memory nothing is changed.
     fn send(&mut self, file: &Handle, upto: u64, wsize: u32, xid: u32) -> Result<bool, Memory>
-        requires { 1 ≤ wsize }
+        requires room { 1 ≤ wsize }
+        requires free { IsFree xid file.now self.old }
         ensures puts { OnOk result (PutsPiece xid upto (chosen upto wsize (of_file file.now self.old)) self.old self.new file.now) }
         ensures told { IfOk result (λ done. done ≡ some_go (chosen upto wsize (of_file file.now self.old))) }
         ensures err { OnErr result (self.new ≡ self.old) }
@@ -174,9 +178,19 @@ impl WriteBack {
         Some(shown_piece(piece))
     }
 
+    /// Whether nothing of a file is in flight.
+    pub fn is_quiet(&self, file: &Handle) -> bool
+        ensures { IsTrue result ↔ HasNoPiece file.now self.now }
+    {
+        match self.files.get(file) {
+            Some(of) => of.is_quiet(),
+            None => true,
+        }
+    }
+
     /// The server has the first `count` bytes of a piece: under this verifier where `committed` is 0, else they are
     /// stable and pending no more (RFC 1813, section 3.3.7). The others are as before they were sent, and what newer
-    /// bytes cover is pending no more. After want of memory all of the piece is as before it was sent; a whole count
+    /// bytes cover is pending no more. When out of memory all of the piece is as before it was sent; a whole count
     /// takes no memory. An unknown xid changes nothing.
     pub fn acked(
         &mut self,
@@ -190,6 +204,7 @@ impl WriteBack {
         ensures err { OnErr result (OnFile self.old self.new file.now (at_xid (landed by.Return) xid (of_file file.now self.old))) }
         ensures places { OnOk result (IfSome (piece_under xid (of_file file.now self.old).pieces) (λ piece. Lands piece count (acked_by committed verf) by.Return (of_file file.now self.old) (of_file file.now self.new))) }
         ensures err_places { OnErr result (IfSome (piece_under xid (of_file file.now self.old).pieces) (λ piece. Lands piece 0 by.Return by.Return (of_file file.now self.old) (of_file file.now self.new))) }
+        ensures total { all_pending self.new ≤ all_pending self.old }
         ensures whole { IfSome (piece_under xid (of_file file.now self.old).pieces) (λ piece. length piece.bytes ≤ count → IsOk result) }
     {
         let change = acked_by(committed, verf);
@@ -208,6 +223,7 @@ impl WriteBack {
     pub fn refused(&mut self, file: &Handle, xid: u32, status: u32)
         ensures segments { OnFile self.old self.new file.now (at_xid (landed (by.Refuse status)) xid (of_file file.now self.old)) }
         ensures places { IfSome (piece_under xid (of_file file.now self.old).pieces) (λ piece. Lands piece 0 (by.Refuse status) (by.Refuse status) (of_file file.now self.old) (of_file file.now self.new)) }
+        ensures total { all_pending self.new ≤ all_pending self.old }
     {
         self.ended(file, xid, Change::Refuse(status));
     }
@@ -217,6 +233,7 @@ impl WriteBack {
     pub fn returned(&mut self, file: &Handle, xid: u32)
         ensures segments { OnFile self.old self.new file.now (at_xid (landed by.Return) xid (of_file file.now self.old)) }
         ensures places { IfSome (piece_under xid (of_file file.now self.old).pieces) (λ piece. Lands piece 0 by.Return by.Return (of_file file.now self.old) (of_file file.now self.new)) }
+        ensures total { all_pending self.new ≤ all_pending self.old }
     {
         self.ended(file, xid, Change::Return);
     }
@@ -226,6 +243,7 @@ impl WriteBack {
         requires { IsAnswer change }
         ensures segments { OnFile self.old self.new file.now (at_xid (landed change) xid (of_file file.now self.old)) }
         ensures places { IfSome (piece_under xid (of_file file.now self.old).pieces) (λ piece. Lands piece 0 change change (of_file file.now self.old) (of_file file.now self.new)) }
+        ensures total { all_pending self.new ≤ all_pending self.old }
     {
         if let Some(of) = self.files.get_mut(file) {
             let before = of.pending();
@@ -235,12 +253,13 @@ impl WriteBack {
         }
     }
 
-    /// A piece is in flight under another xid. The condition is that a piece is in flight under the first and none under
-    /// the second.
+    /// A piece is in flight under another xid. The condition is that a piece is in flight under the first and none
+    /// under the second.
     pub fn renumber(&mut self, file: &Handle, xid: u32, to: u32)
         requires there { IsSome (piece_under xid (of_file file.now self.old).pieces) }
         requires free { IsFree to file.now self.old }
-        ensures { OnFile self.old self.new file.now (with_xid xid to (of_file file.now self.old)) }
+        ensures pieces { OnFile self.old self.new file.now (with_xid xid to (of_file file.now self.old)) }
+        ensures total { all_pending self.new ≡ all_pending self.old }
     {
         let Some(of) = self.files.get_mut(file) else {
             return;
@@ -252,6 +271,7 @@ impl WriteBack {
     pub fn settle(&mut self, file: &Handle, verf: Verf, upto: u64)
         ensures segments { OnFile self.old self.new file.now (with_change (by.Settle verf upto) (of_file file.now self.old)) }
         ensures places { ChangesAll (by.Settle verf upto) (of_file file.now self.old) (of_file file.now self.new) }
+        ensures total { all_pending self.new ≤ all_pending self.old }
     {
         self.change(file, Change::Settle(verf, upto));
         self.tidy(file);
@@ -261,6 +281,7 @@ impl WriteBack {
     pub fn mark_again(&mut self, file: &Handle, upto: u64) -> u64
         ensures segments { OnFile self.old self.new file.now (with_change (by.MarkAgain upto) (of_file file.now self.old)) }
         ensures places { ChangesAll (by.MarkAgain upto) (of_file file.now self.old) (of_file file.now self.new) }
+        ensures total { all_pending self.new ≤ all_pending self.old }
         ensures count { result ≡ count_all_changed (by.MarkAgain upto) (of_file file.now self.old).segments }
     {
         self.change(file, Change::MarkAgain(upto))
@@ -271,6 +292,7 @@ impl WriteBack {
         requires { IsOfHeld change }
         ensures segments { OnFile self.old self.new file.now (with_change change (of_file file.now self.old)) }
         ensures places { ChangesAll change (of_file file.now self.old) (of_file file.now self.new) }
+        ensures total { all_pending self.new ≤ all_pending self.old }
         ensures count { result ≡ count_all_changed change (of_file file.now self.old).segments }
     {
         let Some(of) = self.files.get_mut(file) else {
@@ -305,6 +327,7 @@ impl WriteBack {
         requires { HasNoPiece file.now self.old }
         ensures segments { OnFile self.old self.new file.now (with_cut size upto (of_file file.now self.old)) }
         ensures places { Cuts size upto (of_file file.now self.old) (of_file file.now self.new) }
+        ensures total { all_pending self.new ≤ all_pending self.old }
     {
         if let Some(of) = self.files.get_mut(file) {
             let before = of.pending();
@@ -317,7 +340,8 @@ impl WriteBack {
     /// No byte of a file is pending any more. The condition is that nothing of the file is in flight.
     pub fn give_up(&mut self, file: &Handle)
         requires { HasNoPiece file.now self.old }
-        ensures { OnFile self.old self.new file.now nothing }
+        ensures bytes { OnFile self.old self.new file.now nothing }
+        ensures total { all_pending self.new ≤ all_pending self.old }
     {
         if let Some(of) = self.files.remove(file) {
             of.leave(&mut self.ages);
@@ -336,10 +360,19 @@ impl WriteBack {
         self.total
     }
 
+    /// What holds at any time: a fact for proofs.
+    pub fn is_sound(&self)
+        ensures { AreSound self.now }
+    {
+        let _files = self.files.iter();
+    }
+
     /// The file of the least number that is pending. None exactly where nothing is.
     pub fn oldest(&self) -> Option<Handle>
-        ensures { TellsOldest self.now result }
+        ensures file { TellsOldest self.now result }
+        ensures nothing { (result ≡ None) ↔ (all_pending self.now ≡ 0) }
     {
+        self.is_sound();
         self.ages.first()
     }
 
@@ -355,7 +388,8 @@ impl WriteBack {
 
     /// Keeps no entry of a file of which nothing is pending.
     fn tidy(&mut self, file: &Handle)
-        ensures { OnFile self.old self.new file.now (of_file file.now self.old) }
+        ensures bytes { OnFile self.old self.new file.now (of_file file.now self.old) }
+        ensures total { all_pending self.new ≤ all_pending self.old }
     {
         if self.has_nothing(file) {
             self.give_up(file);

@@ -1,20 +1,26 @@
+use Rattle.std.proofs.Common.{refl}
 use Rattle.page_cache.specs.Bytes.{cut_page}
 use Rattle.page_cache.specs.Full.{states_of, full_below_of}
 use Rattle.page_cache.proofs.Bytes.{page-cut}
 use Rattle.page_cache.proofs.Bounds.{full-below, full-cut, full-dropped}
+use Rattle.page_cache.proofs.Known.{known-changed, known-dropped}
 use Rattle.page_cache.proofs.Changed.{changed-now}
 use Rattle.page_cache.proofs.cache.PageCache.cut.Goals as goal
 
 pub cut_file-requires : goal.cut_file-requires
-cut_file-requires c = rw c.full_below-full_below.ensures (full-below (full_below_of c.self.inside.files) c.args.file.now c.self.inside.slots c.self.invariant)
+cut_file-requires c = rw c.full_below-full_below.ensures (full-below (full_below_of c.self.inside.files) c.args.file.now c.self.inside.slots c.self.invariant.0)
 
 pub invariant_of-self : goal.invariant_of-self
-invariant_of-self c = rw c.cut_file.ensures
-    (full-cut (full_below_of c.self.inside.files) (full_below_of c.change.new.self) c.args.file.now c.holding.result c.change.ensures.bound c.args.size c.self.inside.slots c.holding.ensures c.self.invariant)
+invariant_of-self c = rw c.cut_file.ensures (
+  full-cut (full_below_of c.self.inside.files) (full_below_of c.change.new.self) c.args.file.now c.holding.result c.change.ensures.bound c.args.size c.self.inside.slots c.holding.ensures c.self.invariant.0,
+  known-changed (states_of c.self.inside.files) (states_of c.change.new.self) c.args.file.now _ c.change.ensures.known c.in-Some-after.known refl (λ index. cut_page index c.args.size) c.self.inside.slots c.self.invariant.1,
+)
 
 pub invariant_of-self-in-None-after : goal.invariant_of-self-in-None-after
-invariant_of-self-in-None-after c = rw c.drop_file.ensures
-    (full-dropped (full_below_of c.self.inside.files) (full_below_of c.change-in-None-after.new.self) c.args.file.now _ c.change-in-None-after.ensures.bound c.self.inside.slots c.self.invariant)
+invariant_of-self-in-None-after c = rw c.drop_file.ensures (
+  full-dropped (full_below_of c.self.inside.files) (full_below_of c.change-in-None-after.new.self) c.args.file.now _ c.change-in-None-after.ensures.bound c.self.inside.slots c.self.invariant.0,
+  known-dropped (states_of c.self.inside.files) (states_of c.change-in-None-after.new.self) c.args.file.now _ c.change-in-None-after.ensures.known c.self.inside.slots c.self.invariant.1,
+)
 
 pub returns-in-None-clause-of_the_file : goal.returns-in-None-clause-of_the_file
 returns-in-None-clause-of_the_file c = λ index old. page-cut index c.args.size old

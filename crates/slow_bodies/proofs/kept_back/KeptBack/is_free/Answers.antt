@@ -1,4 +1,4 @@
-use Rattle.slow_bodies.proofs.Numbered.{free_is}
+use Rattle.write_back.proofs.Numbers.{free_is}
 use Rattle.slow_bodies.proofs.kept_back.KeptBack.is_free.Goals as goal
 
 pub returns : goal.returns

@@ -1,6 +1,6 @@
 use Rattle.write_back.specs.declared.change.Change.TheVariants as by
-use Rattle.slow_bodies.proofs.Numbered.{kept-ended}
+use Rattle.write_back.proofs.Numbers.{upto-ended}
 use Rattle.slow_bodies.proofs.kept_back.KeptBack.refused.Goals as goal
 
 pub invariant_of-self : goal.invariant_of-self
-invariant_of-self c = kept-ended c.self.inside.number c.args.xid (by.Refuse c.args.status) _ _ c.args.file.now c.refused.ensures.segments c.self.invariant
+invariant_of-self c = upto-ended c.self.inside.number c.args.xid (by.Refuse c.args.status) _ _ c.args.file.now c.refused.ensures.segments c.self.invariant

@@ -11,6 +11,7 @@ use Rattle.write_back.proofs.Replying.{IsLess, less-part, less-one, either, land
 use Rattle.write_back.proofs.OneFile.{ok-then, err-then, counted-less, then-changed, then-places}
 use Rattle.write_back.proofs.Through.{sound-here}
 use Rattle.write_back.proofs.Knowing.{loses-through}
+use Rattle.write_back.proofs.Totals.{total-less}
 use Rattle.write_back.proofs.write_back.WriteBack.acked.Goals as goal
 
 pub overflow_add-self : goal.overflow_add-self
@@ -32,12 +33,12 @@ pub returns-clause-ok : goal.returns-clause-ok
 returns-clause-ok c =
     let ok = subst (λ change. OnOk c.acked-done.result (c.acked-done.new.self ≡ at_xid (landed_part change c.args.count) c.args.xid c.in-Some.of.now)) c.acked_by-change.ensures c.acked-done.ensures.ok in
     rw (← c.self.view_is) (ok-then c.acked-done.result _ _ ok
-    (λ is. then-changed c.self.inside.files (c.get_mut.follows.lender c.acked-done.new.self) c.args.file.now c.in-Some.of.now c.acked-done.new.self (sym c.in-Some.ensures.value) (c.get_mut.follows.holds c.acked-done.new.self) c.tidy.new.self c.tidy.ensures (at_xid (landed_part (acked_by c.args.committed c.args.verf) c.args.count) c.args.xid) is))
+    (λ is. then-changed c.self.inside.files (c.get_mut.follows.lender c.acked-done.new.self) c.args.file.now c.in-Some.of.now c.acked-done.new.self (sym c.in-Some.ensures.value) (c.get_mut.follows.holds c.acked-done.new.self) c.tidy.new.self c.tidy.ensures.bytes (at_xid (landed_part (acked_by c.args.committed c.args.verf) c.args.count) c.args.xid) is))
 
 pub returns-clause-err : goal.returns-clause-err
 returns-clause-err c =
     rw (← c.self.view_is) (err-then c.acked-done.result _ _ c.acked-done.ensures.err
-    (λ is. then-changed c.self.inside.files (c.get_mut.follows.lender c.acked-done.new.self) c.args.file.now c.in-Some.of.now c.acked-done.new.self (sym c.in-Some.ensures.value) (c.get_mut.follows.holds c.acked-done.new.self) c.tidy.new.self c.tidy.ensures (at_xid (landed by.Return) c.args.xid) is))
+    (λ is. then-changed c.self.inside.files (c.get_mut.follows.lender c.acked-done.new.self) c.args.file.now c.in-Some.of.now c.acked-done.new.self (sym c.in-Some.ensures.value) (c.get_mut.follows.holds c.acked-done.new.self) c.tidy.new.self c.tidy.ensures.bytes (at_xid (landed by.Return) c.args.xid) is))
 
 pub returns-clause-places : goal.returns-clause-places
 returns-clause-places c =
@@ -45,7 +46,7 @@ returns-clause-places c =
     let sound = sound-here c.self.inside.files.entries c.args.file.now c.in-Some.of.now c.self.inside.total found c.self.invariant.counted in
     let ok = subst (λ change. OnOk c.acked-done.result (c.acked-done.new.self ≡ at_xid (landed_part change c.args.count) c.args.xid c.in-Some.of.now)) c.acked_by-change.ensures c.acked-done.ensures.ok in
     rw (← c.self.view_is) (ok-then c.acked-done.result _ _ ok
-    (λ is. then-places c.self.inside.files (c.get_mut.follows.lender c.acked-done.new.self) c.args.file.now c.in-Some.of.now c.acked-done.new.self found (c.get_mut.follows.holds c.acked-done.new.self) c.tidy.new.self c.tidy.ensures
+    (λ is. then-places c.self.inside.files (c.get_mut.follows.lender c.acked-done.new.self) c.args.file.now c.in-Some.of.now c.acked-done.new.self found (c.get_mut.follows.holds c.acked-done.new.self) c.tidy.new.self c.tidy.ensures.bytes
     (λ a b. IfSome (piece_under c.args.xid a.pieces) (λ piece. Lands piece c.args.count (acked_by c.args.committed c.args.verf) by.Return a b))
     (lands-part-at (acked_by c.args.committed c.args.verf) c.args.count c.args.xid c.in-Some.of.now c.acked-done.new.self (answer-acked c.args.committed c.args.verf) sound is)))
 
@@ -54,6 +55,16 @@ returns-clause-err_places c =
     let found = sym c.in-Some.ensures.value in
     let sound = sound-here c.self.inside.files.entries c.args.file.now c.in-Some.of.now c.self.inside.total found c.self.invariant.counted in
     rw (← c.self.view_is) (err-then c.acked-done.result _ _ c.acked-done.ensures.err
-    (λ is. then-places c.self.inside.files (c.get_mut.follows.lender c.acked-done.new.self) c.args.file.now c.in-Some.of.now c.acked-done.new.self found (c.get_mut.follows.holds c.acked-done.new.self) c.tidy.new.self c.tidy.ensures
+    (λ is. then-places c.self.inside.files (c.get_mut.follows.lender c.acked-done.new.self) c.args.file.now c.in-Some.of.now c.acked-done.new.self found (c.get_mut.follows.holds c.acked-done.new.self) c.tidy.new.self c.tidy.ensures.bytes
     (λ a b. IfSome (piece_under c.args.xid a.pieces) (λ piece. Lands piece 0 by.Return by.Return a b))
     (lands-one-at by.Return c.args.xid c.in-Some.of.now c.acked-done.new.self answer-return sound is)))
+
+pub returns-clause-total : goal.returns-clause-total
+returns-clause-total c =
+    let found = sym c.in-Some.ensures.value in
+    let sound = sound-here c.self.inside.files.entries c.args.file.now c.in-Some.of.now c.self.inside.total found c.self.invariant.counted in
+    let answer = subst IsAnswer (sym c.acked_by-change.ensures) (answer-acked c.args.committed c.args.verf) in
+    let less = either c.acked-done.result (IsLess c.in-Some.of.now) c.acked-done.new.self _ _ c.acked-done.ensures.ok c.acked-done.ensures.err
+    (less-part c.acked_by-change.result c.args.count c.args.xid c.in-Some.of.now answer sound) (less-one by.Return c.args.xid c.in-Some.of.now answer-return sound) in
+    let before = total-less c.self.inside.files (c.get_mut.follows.lender c.acked-done.new.self) c.args.file.now c.in-Some.of.now c.acked-done.new.self found (c.get_mut.follows.holds c.acked-done.new.self) c.self.inside.total c.self.invariant.counted less in
+    rw (← c.self.view_is) (omega (arith, before, c.tidy.ensures.total))

@@ -8,6 +8,7 @@ use Rattle.write_back.proofs.Marking.{changes-held}
 use Rattle.write_back.proofs.Replying.{IsLess}
 use Rattle.write_back.proofs.Through.{less-held, sound-here, covers-here, fits-less, through-changed, through-holds, through-counted, stays-changed, stays-holds, stays-counted}
 use Rattle.write_back.proofs.Knowing.{loses-through, kept-still}
+use Rattle.write_back.proofs.Totals.{total-less, stays-total}
 use Rattle.write_back.proofs.write_back.WriteBack.change.Goals as goal
 
 pub invariant_of-self : goal.invariant_of-self
@@ -63,3 +64,12 @@ returns-clause-places c =
 pub returns-clause-count : goal.returns-clause-count
 returns-clause-count c =
     rw (← c.self.view_is) (c.change-count.ensures.count ∙ ap (λ (z : FilePending). count_all_changed c.args.change z.segments) (sym (of-found c.args.file.now c.self.inside.files.entries _ (sym c.in-Some.ensures.value))))
+
+pub returns-clause-total : goal.returns-clause-total
+returns-clause-total c =
+    let sound = sound-here c.self.inside.files.entries c.args.file.now c.in-Some.of.now c.self.inside.total (sym c.in-Some.ensures.value) c.self.invariant.counted in
+    let less = subst (λ z. IsLess c.in-Some.of.now z) (sym c.change-count.ensures.after) (less-held c.args.change c.requires c.in-Some.of.now sound) in
+    rw (← c.self.view_is) (total-less c.self.inside.files (c.get_mut.follows.lender c.change-count.new.self) c.args.file.now c.in-Some.of.now c.change-count.new.self (sym c.in-Some.ensures.value) (c.get_mut.follows.holds c.change-count.new.self) c.self.inside.total c.self.invariant.counted less)
+
+pub returns-in_default-clause-total : goal.returns-in_default-clause-total
+returns-in_default-clause-total c = rw (← c.self.view_is) (stays-total c.self.inside.files _ c.get_mut.follows.holds-at-none)

@@ -6,6 +6,7 @@ use Rattle.write_back.proofs.ByFile.{on-tidied}
 use Rattle.write_back.proofs.Replying.{IsLess}
 use Rattle.write_back.proofs.Through.{less-cut, no-piece, sound-here, covers-here, fits-less, through-changed, through-holds, through-counted, stays-changed, stays-holds, stays-counted, tidied-holds}
 use Rattle.write_back.proofs.Knowing.{loses-through, kept-still}
+use Rattle.write_back.proofs.Totals.{total-less, stays-total}
 use Rattle.write_back.proofs.write_back.WriteBack.cut.Goals as goal
 
 pub cut-requires : goal.cut-requires
@@ -44,13 +45,13 @@ invariant_of-self-in_default c = record {
 pub returns-in-Some-clause-segments : goal.returns-in-Some-clause-segments
 returns-in-Some-clause-segments c =
     rw (← c.self.view_is)
-    (on-tidied _ _ _ c.args.file.now _ (through-changed c.self.inside.files (c.get_mut.follows.lender c.cut.new.self) c.args.file.now c.in-Some.of.now c.cut.new.self (sym c.in-Some.ensures.value) (c.get_mut.follows.holds c.cut.new.self) (with_cut c.args.size c.args.upto) c.cut.ensures.after) c.tidy.ensures)
+    (on-tidied _ _ _ c.args.file.now _ (through-changed c.self.inside.files (c.get_mut.follows.lender c.cut.new.self) c.args.file.now c.in-Some.of.now c.cut.new.self (sym c.in-Some.ensures.value) (c.get_mut.follows.holds c.cut.new.self) (with_cut c.args.size c.args.upto) c.cut.ensures.after) c.tidy.ensures.bytes)
 
 pub returns-in-Some-clause-places : goal.returns-in-Some-clause-places
 returns-in-Some-clause-places c =
     let sound = sound-here c.self.inside.files.entries c.args.file.now c.in-Some.of.now c.self.inside.total (sym c.in-Some.ensures.value) c.self.invariant.counted in
     rw (← c.self.view_is)
-    (tidied-holds _ _ _ c.args.file.now (Cuts c.args.size c.args.upto) c.tidy.ensures
+    (tidied-holds _ _ _ c.args.file.now (Cuts c.args.size c.args.upto) c.tidy.ensures.bytes
     (through-holds c.self.inside.files (c.get_mut.follows.lender c.cut.new.self) c.args.file.now c.in-Some.of.now c.cut.new.self (sym c.in-Some.ensures.value) (c.get_mut.follows.holds c.cut.new.self) (Cuts c.args.size c.args.upto)
     (subst (λ z. Cuts c.args.size c.args.upto c.in-Some.of.now z) (sym c.cut.ensures.after) (cuts-so c.args.size c.args.upto c.in-Some.of.now sound.apart))))
 
@@ -61,3 +62,14 @@ returns-in_default-clause-segments c =
 pub returns-in_default-clause-places : goal.returns-in_default-clause-places
 returns-in_default-clause-places c =
     rw (← c.self.view_is) (stays-holds c.self.inside.files _ c.args.file.now (sym c.in_default.ensures.value) c.get_mut.follows.holds-at-none (Cuts c.args.size c.args.upto) (record { rest = λ place. refl }))
+
+pub returns-in-Some-clause-total : goal.returns-in-Some-clause-total
+returns-in-Some-clause-total c =
+    let none = rw (← c.self.view_is) at c.requires in
+    let sound = sound-here c.self.inside.files.entries c.args.file.now c.in-Some.of.now c.self.inside.total (sym c.in-Some.ensures.value) c.self.invariant.counted in
+    let less = subst (λ z. IsLess c.in-Some.of.now z) (sym c.cut.ensures.after) (less-cut c.args.size c.args.upto c.in-Some.of.now sound (no-piece c.self.inside.files.entries c.args.file.now c.in-Some.of.now (sym c.in-Some.ensures.value) none)) in
+    let before = total-less c.self.inside.files (c.get_mut.follows.lender c.cut.new.self) c.args.file.now c.in-Some.of.now c.cut.new.self (sym c.in-Some.ensures.value) (c.get_mut.follows.holds c.cut.new.self) c.self.inside.total c.self.invariant.counted less in
+    rw (← c.self.view_is) (omega (arith, before, c.tidy.ensures.total))
+
+pub returns-in_default-clause-total : goal.returns-in_default-clause-total
+returns-in_default-clause-total c = rw (← c.self.view_is) (stays-total c.self.inside.files _ c.get_mut.follows.holds-at-none)

@@ -1,4 +1,4 @@
-use Rattle.std.proofs.Common.{sym}
+use Rattle.std.proofs.Common.{sym, arith}
 use Rattle.write_back.proofs.Counting.{on-removed, counted-removed}
 use Rattle.write_back.proofs.Through.{no-piece, covers-here, counted-gone}
 use Rattle.write_back.proofs.Knowing.{left-out, left-absent}
@@ -24,8 +24,18 @@ invariant_of-self-in_default c = record {
   aged = left-absent c.self.inside.files c.remove.new.self c.args.file.now c.in_default.ensures.updates c.self.inside.ages (sym c.in_default.ensures.value) c.self.invariant.aged;
 }
 
-pub returns-in-Some : goal.returns-in-Some
-returns-in-Some c = rw (← c.self.view_is) (on-removed c.self.inside.files c.remove.new.self c.args.file.now c.in-Some.ensures.updates)
+pub returns-in-Some-clause-bytes : goal.returns-in-Some-clause-bytes
+returns-in-Some-clause-bytes c = rw (← c.self.view_is) (on-removed c.self.inside.files c.remove.new.self c.args.file.now c.in-Some.ensures.updates)
 
-pub returns-in_default : goal.returns-in_default
-returns-in_default c = rw (← c.self.view_is) (on-removed c.self.inside.files c.remove.new.self c.args.file.now c.in_default.ensures.updates)
+pub returns-in_default-clause-bytes : goal.returns-in_default-clause-bytes
+returns-in_default-clause-bytes c = rw (← c.self.view_is) (on-removed c.self.inside.files c.remove.new.self c.args.file.now c.in_default.ensures.updates)
+
+pub returns-in-Some-clause-total : goal.returns-in-Some-clause-total
+returns-in-Some-clause-total c =
+    let after = counted-removed c.self.inside.files c.remove.new.self c.args.file.now _ c.self.inside.total (sym c.in-Some.ensures.value) c.in-Some.ensures.updates c.in-Some.ensures.entries c.self.invariant.counted in
+    rw (← c.self.view_is) (omega (arith, after.total, c.self.invariant.counted.total))
+
+pub returns-in_default-clause-total : goal.returns-in_default-clause-total
+returns-in_default-clause-total c =
+    let after = counted-gone c.self.inside.files c.remove.new.self c.args.file.now c.self.inside.total (sym c.in_default.ensures.value) c.in_default.ensures.updates c.in_default.ensures.entries c.self.invariant.counted in
+    rw (← c.self.view_is) (omega (arith, after.total, c.self.invariant.counted.total))

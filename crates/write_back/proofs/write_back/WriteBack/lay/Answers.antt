@@ -13,6 +13,7 @@ use Rattle.write_back.proofs.Entering.{first-undone}
 use Rattle.write_back.proofs.WritesByFile.{aged-same}
 use Rattle.write_back.proofs.Knowing.{fresh-here, kept-through, takes-through, takes-first}
 use Rattle.write_back.proofs.WritesTold.{unknown-newest}
+use Rattle.write_back.proofs.Totals.{total-more, total-first}
 use Rattle.write_back.proofs.write_back.WriteBack.lay.Goals as goal
 
 pub add-requires-clause-room : goal.add-requires-clause-room
@@ -123,3 +124,22 @@ returns-clause-ok c =
     rw (← c.self.view_is)
     (on-is c.self.inside.files.entries c.insert.new.self.entries c.args.file.now c.add-2.new.self _ (on-first c.get_mut.follows.lender-at-none c.self.inside.files c.insert.new.self c.args.file.now c.add-2.new.self c.get_mut.follows.holds-at-none c.in_default-insert.ensures.updates)
     (is ∙ sym (with-some c.args.offset c.args.bytes.now c.args.seq _ c.requires.some) ∙ ap (with_bytes c.args.offset c.args.bytes.now c.args.seq) (sym none)))
+
+pub returns-in-Some-clause-total : goal.returns-in-Some-clause-total
+returns-in-Some-clause-total c =
+    let room = rw (← c.self.view_is) at c.requires.room in
+    let newest = rw (← c.self.view_is) at c.requires.newest in
+    let found = sym c.in-Some.ensures.value in
+    let sound = sound-here c.self.inside.files.entries c.args.file.now c.in-Some.of.now c.self.inside.total found c.self.invariant.counted in
+    rw (← c.self.view_is)
+    (total-more c.self.inside.files (c.get_mut.follows.lender c.add.new.self) c.args.file.now c.in-Some.of.now c.add.new.self found (c.get_mut.follows.holds c.add.new.self) c.self.inside.total c.self.invariant.counted c.args.offset c.args.bytes.now c.args.seq c.in_ok-add.ensures.ok
+    (sound-more c.args.offset c.args.bytes.now c.args.seq c.self.inside.files.entries c.args.file.now c.in-Some.of.now c.add.new.self found c.in_ok-add.ensures.ok sound c.requires.some c.requires.last room newest)
+    (room-more c.args.offset c.args.bytes.now c.args.seq c.self.inside.total c.self.inside.files.entries c.args.file.now c.in-Some.of.now c.add.new.self found c.in_ok-add.ensures.ok c.self.invariant.counted room))
+
+pub returns-clause-total : goal.returns-clause-total
+returns-clause-total c =
+    let room = rw (← c.self.view_is) at c.requires.room in
+    let is = c.in_ok-add-2.ensures.ok ∙ ap (with_added c.args.offset c.args.bytes.now c.args.seq) c.new-of.ensures in
+    let first = sound-first c.args.offset c.args.bytes.now c.args.seq c.self.inside.total c.self.inside.files.entries c.add-2.new.self is c.self.invariant.counted c.requires.some c.requires.last room in
+    let after = counted-first c.get_mut.follows.lender-at-none c.self.inside.files c.insert.new.self c.args.file.now c.add-2.new.self c.get_mut.follows.holds-at-none c.in_default-insert.ensures.updates c.self.inside.total (sym c.in_default.ensures.value) c.insert.ensures.was_ordered c.in_default-insert.ensures.entries c.self.invariant.counted first.0 first.1 in
+    rw (← c.self.view_is) (total-first c.args.offset c.args.bytes.now c.args.seq c.self.inside.total c.self.inside.files.entries c.insert.new.self.entries c.add-2.new.self is c.self.invariant.counted after)

@@ -2,8 +2,8 @@ use Rattle.std.proofs.Common.{Ok, refl, sym, subst, arith}
 use Rattle.write_back.specs.Files.{IsCounted}
 use Rattle.write_back.proofs.Limits.{most_is}
 use Rattle.write_back.proofs.SendsOn.{puts-on}
-use Rattle.write_back.proofs.OneFile.{err-of, counted-less}
-use Rattle.write_back.proofs.Through.{sound-here, through-same}
+use Rattle.write_back.proofs.OneFile.{err-of, counted-less, free-here}
+use Rattle.write_back.proofs.Through.{through-same}
 use Rattle.write_back.proofs.Knowing.{gains-through}
 use Rattle.write_back.proofs.WritesTold.{kept-room}
 use Rattle.write_back.proofs.write_back.WriteBack.send.Goals as goal
@@ -29,16 +29,17 @@ returns-in_err-done-clause-err c =
 pub invariant_of-self-2 : goal.invariant_of-self-2
 invariant_of-self-2 c =
     let found = sym c.in-Some.ensures.value in
-    let sound = sound-here c.self.inside.files.entries c.args.file.now c.in-Some.of.now c.self.inside.total found c.self.invariant.counted in
     let writes = c.get_mut.follows.holds c.send.new.self in
-    let puts = puts-on c.args.xid c.args.upto c.args.wsize c.self.inside.files (c.get_mut.follows.lender c.send.new.self) c.args.file.now c.in-Some.of.now c.send.new.self c.in_ok-done.done found sound writes (Ok c.in_ok-done.done) refl c.in_ok-done.ensures.ok in
+    let puts = puts-on c.args.xid c.args.upto c.args.wsize c.self.inside.files (c.get_mut.follows.lender c.send.new.self) c.args.file.now c.in-Some.of.now c.send.new.self c.in_ok-done.done c.self.inside.total found (rw (← c.self.view_is) at c.requires.free) c.self.invariant.counted writes (Ok c.in_ok-done.done) refl c.in_ok-done.ensures.ok in
     record {
-      counted = counted-less c.self.inside.files (c.get_mut.follows.lender c.send.new.self) c.args.file.now c.in-Some.of.now c.send.new.self found writes c.self.inside.total c.pending-before.result c.pending.result c.self.invariant.counted c.pending-before.ensures.count c.pending.ensures.count puts.2;
+      counted = counted-less c.self.inside.files (c.get_mut.follows.lender c.send.new.self) c.args.file.now c.in-Some.of.now c.send.new.self found writes c.self.inside.total c.pending-before.result c.pending.result c.self.invariant.counted c.pending-before.ensures.count c.pending.ensures.count (puts.2.0, omega (arith, puts.2.1));
       aged = gains-through c.self.inside.files (c.get_mut.follows.lender c.send.new.self) c.args.file.now c.in-Some.of.now c.send.new.self (sym c.in-Some.ensures.value) (c.get_mut.follows.holds c.send.new.self) c.self.inside.ages c.send.new.ages c.self.invariant.aged c.send.ensures.gains;
     }
 
 pub returns-clause-puts : goal.returns-clause-puts
 returns-clause-puts c =
     let found = sym c.in-Some.ensures.value in
-    let sound = sound-here c.self.inside.files.entries c.args.file.now c.in-Some.of.now c.self.inside.total found c.self.invariant.counted in
-    rw (← c.self.view_is) (puts-on c.args.xid c.args.upto c.args.wsize c.self.inside.files (c.get_mut.follows.lender c.send.new.self) c.args.file.now c.in-Some.of.now c.send.new.self c.in_ok-done.done found sound (c.get_mut.follows.holds c.send.new.self) (Ok c.in_ok-done.done) refl c.in_ok-done.ensures.ok).0
+    rw (← c.self.view_is) (puts-on c.args.xid c.args.upto c.args.wsize c.self.inside.files (c.get_mut.follows.lender c.send.new.self) c.args.file.now c.in-Some.of.now c.send.new.self c.in_ok-done.done c.self.inside.total found (rw (← c.self.view_is) at c.requires.free) c.self.invariant.counted (c.get_mut.follows.holds c.send.new.self) (Ok c.in_ok-done.done) refl c.in_ok-done.ensures.ok).0
+
+pub send-requires-clause-free : goal.send-requires-clause-free
+send-requires-clause-free c = free-here c.args.xid c.args.file.now c.self.inside.files.entries c.in-Some.of.now (sym c.in-Some.ensures.value) (rw (← c.self.view_is) at c.requires.free)

@@ -9,7 +9,7 @@ pub change-requires : goal.change-requires
 change-requires c = held-settle c.args.verf c.args.upto
 
 pub returns-clause-segments : goal.returns-clause-segments
-returns-clause-segments c = on-tidied _ _ _ c.args.file.now _ c.change.ensures.segments c.tidy.ensures
+returns-clause-segments c = on-tidied _ _ _ c.args.file.now _ c.change.ensures.segments c.tidy.ensures.bytes
 
 pub returns-clause-places : goal.returns-clause-places
-returns-clause-places c = tidied-holds _ _ _ c.args.file.now (ChangesAll (by.Settle c.args.verf c.args.upto)) c.tidy.ensures c.change.ensures.places
+returns-clause-places c = tidied-holds _ _ _ c.args.file.now (ChangesAll (by.Settle c.args.verf c.args.upto)) c.tidy.ensures.bytes c.change.ensures.places

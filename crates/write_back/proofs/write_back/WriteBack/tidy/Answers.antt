@@ -6,5 +6,5 @@ use Rattle.write_back.proofs.write_back.WriteBack.tidy.Goals as goal
 pub give_up-requires : goal.give_up-requires
 give_up-requires c = ap (λ (z : FilePending). z.pieces) (c.has_nothing.ensures.0 c.if-has_nothing.true)
 
-pub returns-then-has_nothing : goal.returns-then-has_nothing
-returns-then-has_nothing c = on-is _ _ c.args.file.now _ _ c.give_up.ensures (sym (c.has_nothing.ensures.0 c.if-has_nothing.true))
+pub returns-then-has_nothing-clause-bytes : goal.returns-then-has_nothing-clause-bytes
+returns-then-has_nothing-clause-bytes c = on-is _ _ c.args.file.now _ _ c.give_up.ensures.bytes (sym (c.has_nothing.ensures.0 c.if-has_nothing.true))

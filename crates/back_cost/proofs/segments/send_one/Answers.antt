@@ -1,6 +1,0 @@
-use Rattle.std.proofs.Common.{sym, ◌∙◌}
-use Rattle.slow_bodies.proofs.Numbered.{not_shown}
-use Rattle.back_cost.proofs.segments.send_one.Goals as goal
-
-pub next_to_send-requires-clause-free : goal.next_to_send-requires-clause-free
-next_to_send-requires-clause-free c = not_shown _ c.in_flight.result c.in_flight.ensures (sym c.is_some.ensures ∙ c.if-is_some.false)
