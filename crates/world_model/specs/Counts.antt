@@ -1,6 +1,8 @@
 -- How many calls a session made: different xids among the records of NFS that were sent.
 use Rattle.std.specs.Prelude.{ℕ, List, [], ◌∷◌, ◌++◌, ◌==◌, ◌&&◌, Bool, true, codes, decimal, length, Result, Ok, Err, if◌then◌else◌}
 use Rattle.std.specs.List.{list_any}
+use Rattle.nfs_types.specs.declared.program.TheConstants.{NFS_PROGRAM}
+use Rattle.nfs_types.specs.declared.nfs_proc.TheConstants.{GETATTR, LOOKUP, READ, WRITE, COMMIT}
 use Rattle.rpc_message.specs.declared.call.CallHead.{CallHead}
 use Rattle.rpc_message.specs.declared.call.CallFault.{CallFault}
 use Rattle.rpc_message.specs.Call.{call_at}
@@ -17,9 +19,9 @@ abbrev pub counts_proc : Counted → ℕ → Bool
 counts_proc Every proc = true
 counts_proc (Only counted) proc = proc == counted
 
--- a call of NFS, program 100003, of such a procedure
+-- a call of NFS, of such a procedure
 abbrev pub counts_head : Counted → CallHead → Bool
-counts_head which head = (head.prog == 100003) && counts_proc which head.proc
+counts_head which head = (head.prog == NFS_PROGRAM) && counts_proc which head.proc
 
 -- a record that is such a call gives its xid
 abbrev pub xid_counted : Counted → Result (CallHead × List ℕ) CallFault → List ℕ
@@ -43,7 +45,7 @@ calls_made which h = length (different (xids_sent which h))
 
 -- the numbers of a session's last line
 abbrev pub tally_of : List Entry → Tally
-tally_of h = record { calls = calls_made Every h; getattr = calls_made (Only 1) h; lookup = calls_made (Only 3) h; read = calls_made (Only 6) h; write = calls_made (Only 7) h; commit = calls_made (Only 21) h }
+tally_of h = record { calls = calls_made Every h; getattr = calls_made (Only GETATTR) h; lookup = calls_made (Only LOOKUP) h; read = calls_made (Only READ) h; write = calls_made (Only WRITE) h; commit = calls_made (Only COMMIT) h }
 
 -- a word, a space and a number
 unfoldable pub item_text : List ℕ → ℕ → List ℕ

@@ -1,7 +1,8 @@
 -- What a server may answer with status 0 to a call on a file, and what the call changes (RFC 1813, section 3.3). Where
 -- several outcomes are left, the server may choose.
-use Rattle.std.specs.Prelude.{◌≡◌, ◌≤◌, ◌⊎◌, ◌+◌, ℕ, Bool, true, List, length, take, Option, Some, None, ◌==◌, if◌then◌else◌, ⊤}
+use Rattle.std.specs.Prelude.{◌≡◌, ◌≢◌, ◌≤◌, ◌⊎◌, ◌+◌, ℕ, Bool, true, List, length, take, Option, Some, None, ◌==◌, if◌then◌else◌, ⊤}
 use Rattle.nfs_types.specs.declared.attr.Attr.{Attr}
+use Rattle.nfs_types.specs.declared.status.Status.{Status}
 use Rattle.nfs_types.specs.declared.verf.Verf.{Verf}
 use Rattle.nfs_types.specs.declared.wcc.Wcc.{Wcc}
 use Rattle.nfs_types.specs.declared.set_attr.SetAttr.{SetAttr}
@@ -81,6 +82,18 @@ pub record Writes (s t : Server) (f : List ℕ) (offset how : ℕ) (bytes : List
   pub firm : how ≤ committed
   pub known : committed ≤ 2
   pub verifier : verf ≡ s.verf
+
+-- A WRITE that is refused, while a prefix of its bytes was put into the file: as a server that breaks off in the midst
+-- leaves it. The same prefix may have become stable.
+pub record WritesPrefix (s t : Server) (f : List ℕ) (offset : ℕ) (bytes : List ℕ) (status : Status) (wcc : Wcc) : Type 0 where
+  pub now : List ℕ
+  pub stable : List ℕ
+  pub steady : List ℕ
+  pub count : ℕ
+  pub puts : Puts s t f now stable (put_at offset (take count bytes) now) steady
+  pub kept : (steady ≡ stable) ⊎ (steady ≡ put_at offset (take count bytes) stable)
+  pub nonzero : status.0 ≢ 0
+  pub shows : TrueWcc s t f wcc
 
 -- COMMIT, section 3.3.21: what the file holds in the range becomes stable
 pub record Commits (s t : Server) (f : List ℕ) (offset count : ℕ) (wcc : Wcc) (verf : Verf) : Type 0 where

@@ -1,7 +1,7 @@
 -- Each change of an object gives it a stamp that it never had (RFC 1813, section 2.6: what mtime and ctime are for).
 use Rattle.std.specs.Prelude.{◌≡◌, ◌≢◌, ◌<◌, ◌≤◌, ℕ, suc, List, length, Some}
 use Rattle.world_model.specs.Server.{Listed, Bytes, Entries, Object}
-use Rattle.world_model.specs.Steps.{stamp_of}
+use Rattle.nfs_types.specs.Stamps.{stamp_of}
 use Rattle.world_model.specs.History.{History}
 
 -- A file has other bytes, a directory another list, or one of these another stamp.

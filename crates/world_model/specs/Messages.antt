@@ -4,6 +4,7 @@ use Rattle.rpc_message.specs.declared.call.CallHead.{CallHead}
 use Rattle.rpc_message.specs.declared.cred.Cred.{Cred}
 use Rattle.rpc_message.specs.Call.{xid_at, SpellsCallHead, call_head_bytes}
 use Rattle.rpc_message.specs.Reply.{SpellsAccepted}
+use Rattle.nfs_types.specs.declared.program.TheConstants.{NFS_PROGRAM, MOUNT_PROGRAM, PROGRAM_VERSION}
 use Rattle.mount_calls.specs.Calls.{mount_proc, SpellsMountArgs}
 use Rattle.mount_calls.specs.Replies.{SpellsMountReply}
 use Rattle.nfs_dir_calls.specs.Calls.{dir_proc, SpellsDirCall}
@@ -27,13 +28,13 @@ proc_of (calls.Mount call) = mount_proc call
 
 -- the number of its program: NFS or MOUNT (RFC 1813, sections 2.1 and 5)
 abbrev pub program_of : Call → ℕ
-program_of (calls.File call) = 100003
-program_of (calls.Dir call) = 100003
-program_of (calls.Mount call) = 100005
+program_of (calls.File call) = NFS_PROGRAM
+program_of (calls.Dir call) = NFS_PROGRAM
+program_of (calls.Mount call) = MOUNT_PROGRAM
 
 -- the head of a call, of version 3 of its program
 abbrev pub head_of : ℕ → Call → CallHead
-head_of xid call = record { xid = xid; prog = program_of call; vers = 3; proc = proc_of call }
+head_of xid call = record { xid = xid; prog = program_of call; vers = PROGRAM_VERSION; proc = proc_of call }
 
 -- the arguments spell the call
 abbrev pub SpellsArguments : Call → List ℕ → Type 0

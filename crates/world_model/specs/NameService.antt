@@ -59,15 +59,15 @@ pub record Shown (t : Server) (d name : List ℕ) (found : Option (List ℕ)) (a
   pub handle : ShowsHandle found object
   pub attributes : TrueOf t object attr
 
--- a new object enters under the name
-pub record Makes (s t : Server) (d name : List ℕ) (kind : ℕ) (holds : Holds) (set : SetAttr) : Type 0 where
+-- A new object enters under the name. Its attributes are the server's choice: a directory's default access list, or its
+-- setgid bit, may change the rights and owners that were asked for.
+pub record Makes (s t : Server) (d name : List ℕ) (kind : ℕ) (holds : Holds) : Type 0 where
   pub object : List ℕ
   pub old : List Listed
   pub new : List Listed
   pub relists : Relists s t d old new
   pub enters : Enters name object old new
   pub begins : Begins s t object kind holds
-  pub fields : HasSet set begins.new.attr
   pub only : Only (λ h. (h ≡ d) ⊎ (h ≡ object)) s t
 
 -- the bytes of a new file: none, or zeros up to the size that is set
@@ -99,19 +99,19 @@ pub record Meets (s t : Server) (d name : List ℕ) (set : SetAttr) : Type 0 whe
 
 -- CREATE, section 3.3.8: UNCHECKED and EXCLUSIVE may meet a file that is there
 abbrev pub Creates : Server → Server → List ℕ → List ℕ → Making → Type 0
-Creates s t d name (makings.Unchecked set) = Makes s t d name 1 (new_file set.size) set ⊎ Meets s t d name set
-Creates s t d name (makings.Guarded set) = Makes s t d name 1 (new_file set.size) set
-Creates s t d name (makings.Exclusive verf) = Makes s t d name 1 (new_file None) keeps_all ⊎ Meets s t d name keeps_all
+Creates s t d name (makings.Unchecked set) = Makes s t d name 1 (new_file set.size) ⊎ Meets s t d name set
+Creates s t d name (makings.Guarded set) = Makes s t d name 1 (new_file set.size)
+Creates s t d name (makings.Exclusive verf) = Makes s t d name 1 (new_file None) ⊎ Meets s t d name keeps_all
 
 -- MKDIR, section 3.3.9
-pub record MakesDir (s t : Server) (d name : List ℕ) (set : SetAttr) : Type 0 where
+pub record MakesDir (s t : Server) (d name : List ℕ) : Type 0 where
   pub own : List Listed
   pub bare : IsBare own
-  pub makes : Makes s t d name 2 (Entries own) set
+  pub makes : Makes s t d name 2 (Entries own)
 
 -- SYMLINK, section 3.3.10
-abbrev pub MakesLink : Server → Server → List ℕ → List ℕ → SetAttr → List ℕ → Type 0
-MakesLink s t d name set target = Makes s t d name 5 (Text target) set
+abbrev pub MakesLink : Server → Server → List ℕ → List ℕ → List ℕ → Type 0
+MakesLink s t d name target = Makes s t d name 5 (Text target)
 
 -- MKNOD, section 3.3.11
 abbrev pub kind_of : Node → ℕ
@@ -119,13 +119,8 @@ kind_of (nodes.Device kind set major minor) = kind
 kind_of (nodes.Pipe kind set) = kind
 kind_of (nodes.Plain kind) = kind
 
-abbrev pub set_of : Node → SetAttr
-set_of (nodes.Device kind set major minor) = set
-set_of (nodes.Pipe kind set) = set
-set_of (nodes.Plain kind) = keeps_all
-
 abbrev pub MakesNode : Server → Server → List ℕ → List ℕ → Node → Type 0
-MakesNode s t d name node = Makes s t d name (kind_of node) (Text []) (set_of node)
+MakesNode s t d name node = Makes s t d name (kind_of node) (Text [])
 
 -- LINK, section 3.3.15: an object gets one more name
 pub record Links (s t : Server) (f d name : List ℕ) : Type 0 where

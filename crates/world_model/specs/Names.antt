@@ -1,5 +1,6 @@
 -- How a directory's list changes: names enter, leave and move (RFC 1813, sections 3.3.8 to 3.3.15).
-use Rattle.std.specs.Prelude.{◌≡◌, ◌≢◌, ◌⊎◌, ◌↔◌, ℕ, true, List, [], ◌∷◌, ◌++◌, Some}
+use Rattle.std.specs.Prelude.{◌≡◌, ◌≢◌, ◌⊎◌, ◌↔◌, ◌||◌, nat_eq, ℕ, Bool, true, List, [], ◌∷◌, ◌++◌, Some}
+use Rattle.std.specs.Cmp.Lexicographic.{pointwise}
 use Rattle.world_model.specs.Server.{Listed, Entries, Object, Server, Lists}
 
 -- `.` and `..`, which a list may hold
@@ -8,6 +9,9 @@ own_name = 46 ∷ []
 
 abbrev pub parent_name : List ℕ
 parent_name = 46 ∷ 46 ∷ []
+
+abbrev pub is_dots : List ℕ → Bool
+is_dots name = pointwise nat_eq name own_name || pointwise nat_eq name parent_name
 
 -- the list doesn't hold the name
 abbrev pub Lacks : List Listed → List ℕ → Type 0

@@ -1,9 +1,10 @@
 -- Which bytes the client may still hold back: a wide set, in which what it really holds back lies.
-use Rattle.std.specs.Prelude.{◌≡◌, ◌<◌, ◌≤◌, ℕ, List}
+use Rattle.std.specs.Prelude.{◌<◌, ◌≤◌, ℕ, List}
 use Rattle.world_model.specs.declared.entry.Entry.{Entry}
 use Rattle.world_model.specs.declared.entry.Entry.TheVariants.{Began}
 use Rattle.world_model.specs.declared.op.Op.TheVariants as ops
 use Rattle.world_model.specs.Entries.{At}
+use Rattle.world_model.specs.Modes.{Modes}
 use Rattle.world_model.specs.Mounts.{Origin}
 use Rattle.world_model.specs.Operations.{AnsweredBefore, NoneCame}
 use Rattle.world_model.specs.Slots.{Opens}
@@ -14,23 +15,23 @@ abbrev pub NoPutAt : List Entry → ℕ → Type 0
 NoPutAt h k = (x lane line offset : ℕ) (path : List (List ℕ)) (bytes : List ℕ) → At h x (Began lane line (ops.Put path offset bytes)) → x < k → AnsweredBefore h x k
 
 -- After the place k no open of the file goes well before the next record comes.
-abbrev pub NoneOpens : List Entry → ℕ → List ℕ → Type 0
-NoneOpens h k f = (lane slot x y : ℕ) → Opens h lane slot x y f → k < y → NoneCame h k y → ⊥
+abbrev pub NoneOpens : Modes → List Entry → ℕ → List ℕ → Type 0
+NoneOpens m h k f = (lane slot x y : ℕ) → Opens m h lane slot x y f → k < y → NoneCame h k y → ⊥
 
 -- a last close after which the client holds nothing of the file back
-pub record LeftAlone (h : List Entry) (k : ℕ) (f : List ℕ) : Type 0 where
-  pub left : Left h k f
+pub record LeftAlone (m : Modes) (h : List Entry) (k : ℕ) (f : List ℕ) : Type 0 where
+  pub left : Left m h k f
   pub no_put : NoPutAt h k
-  pub unopened : NoneOpens h k f
+  pub unopened : NoneOpens m h k f
 
 -- The byte may be pending at the moment n: an operation that began before writes it there, and since that was answered no
--- later one that went well covers, cuts or settles it, and no last close gave it up.
-pub record Pending (origin : Origin) (h : List Entry) (f : List ℕ) (i n v : ℕ) : Type 0 where
+-- later one that went well covers, cuts or settles it, and no last close left the file alone.
+pub record Pending (m : Modes) (origin : Origin) (h : List Entry) (f : List ℕ) (i n v : ℕ) : Type 0 where
   pub w : ℕ
   pub before : w < n
-  pub writes : WritesByte origin h w f i v
+  pub writes : WritesByte m origin h w f i v
   pub unrefused : RefusedWrite h w → ⊥
-  pub uncovered : (x y u : ℕ) → AnsweredBefore h w x → Wrote h x y f i u → y < n → ⊥
-  pub uncut : (x y size : ℕ) → AnsweredBefore h w x → Truncated h x y f size → size ≤ i → y < n → ⊥
-  pub unsettled : (x y : ℕ) → AnsweredBefore h w x → MadeStable h x y f → y < n → ⊥
-  pub unleft : (k : ℕ) → AnsweredBefore h w k → LeftAlone h k f → k < n → ⊥
+  pub uncovered : (x y u : ℕ) → AnsweredBefore h w x → Wrote m h x y f i u → y < n → ⊥
+  pub uncut : (x y size : ℕ) → AnsweredBefore h w x → Truncated m h x y f size → size ≤ i → y < n → ⊥
+  pub unsettled : (x y : ℕ) → AnsweredBefore h w x → MadeStable m h x y f → y < n → ⊥
+  pub unleft : (k : ℕ) → AnsweredBefore h w k → LeftAlone m h k f → k < n → ⊥

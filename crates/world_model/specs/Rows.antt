@@ -62,7 +62,7 @@ pub record Limits : Type 0 where
 abbrev pub SpentShown : Limits → List Entry → ℕ → Type 0
 SpentShown limits h to = (x : ℕ) → limits.first ≤ x → x < limits.first + limits.calls → WasSent h x to
 
--- The row of each answer to a put that began at the place from, by the place to. Want of memory has none, and other
+-- The row of each answer to a put that began at the place from, by the place to. Out of memory has none, and other
 -- answers don't come.
 abbrev pub AnswerShown : Type 0 → Limits → List Entry → ℕ → ℕ → PutOf → Answer → Type 0
 AnswerShown cause limits h from to p (answers.Done values.Nothing) = OkShown h from to p

@@ -51,11 +51,16 @@ pub record HasBytes (s : Server) (f : List ℕ) (now stable : List ℕ) : Type 0
 abbrev pub Lists : List Listed → Listed → Type 0
 Lists entries e = (at : ℕ) × (slice_get entries at ≡ Some e)
 
--- a directory that is there holds this name for the object h
-pub record HasName (s : Server) (d name h : List ℕ) : Type 0 where
+-- A directory holds this name for the object h, also where the directory itself is gone: its list stays what it was.
+pub record Names (s : Server) (d name h : List ℕ) : Type 0 where
   pub dir : Object
   pub entries : List Listed
   pub cookie : ℕ
-  pub has : Has s d dir
+  pub is : s.object d ≡ Some dir
   pub holds : dir.holds ≡ Entries entries
   pub listed : Lists entries (record { name = name; object = h; cookie = cookie })
+
+-- a directory that is there holds this name for the object h
+pub record HasName (s : Server) (d name h : List ℕ) : Type 0 where
+  pub names : Names s d name h
+  pub there : names.dir.gone ≡ false

@@ -1,5 +1,5 @@
 -- What a server may answer to a call, and what the call changes (RFC 1813, sections 3.3 and 5.2).
-use Rattle.std.specs.Prelude.{◌≢◌, ◌⊎◌, ℕ, List, Option}
+use Rattle.std.specs.Prelude.{◌≡◌, ◌≢◌, ◌⊎◌, ℕ, List, Option}
 use Rattle.nfs_types.specs.declared.attr.Attr.{Attr}
 use Rattle.nfs_types.specs.declared.status.Status.{Status}
 use Rattle.nfs_types.specs.declared.wcc.Wcc.{Wcc}
@@ -21,7 +21,7 @@ use Rattle.world_model.specs.declared.message.Reply.{Reply}
 use Rattle.world_model.specs.declared.message.Reply.TheVariants as replies
 use Rattle.world_model.specs.Server.{Server}
 use Rattle.world_model.specs.Steps.{Same, TrueOf, TrueWcc}
-use Rattle.world_model.specs.FileService.{GetsAttr, Asks, SetsAttr, ReadsBytes, Writes, Commits}
+use Rattle.world_model.specs.FileService.{GetsAttr, Asks, SetsAttr, ReadsBytes, Writes, WritesPrefix, Commits}
 use Rattle.world_model.specs.NameService.{LooksUp, ReadsLink, Shown, Creates, MakesDir, MakesLink, MakesNode, Links, Removes, Renames, KeepsNames}
 use Rattle.world_model.specs.ListService.{ListsNames, ListsObjects}
 
@@ -95,8 +95,8 @@ abbrev pub DoesDir : Server → DirCall → DirKept → Server → Type 0
 DoesDir s (dirs.Lookup d name) (found.Lookup object attr dir) t = LooksUp s t d name object attr dir
 DoesDir s (dirs.ReadLink f) (found.ReadLink attr text) t = ReadsLink s t f attr text
 DoesDir s (dirs.Create d name making) (found.Create object attr wcc) t = Creates s t d name making × Shown t d name object attr × TrueWcc s t d wcc
-DoesDir s (dirs.MkDir d name set) (found.MkDir object attr wcc) t = MakesDir s t d name set × Shown t d name object attr × TrueWcc s t d wcc
-DoesDir s (dirs.SymLink d name set target) (found.SymLink object attr wcc) t = MakesLink s t d name set target × Shown t d name object attr × TrueWcc s t d wcc
+DoesDir s (dirs.MkDir d name set) (found.MkDir object attr wcc) t = MakesDir s t d name × Shown t d name object attr × TrueWcc s t d wcc
+DoesDir s (dirs.SymLink d name set target) (found.SymLink object attr wcc) t = MakesLink s t d name target × Shown t d name object attr × TrueWcc s t d wcc
 DoesDir s (dirs.MkNod d name node) (found.MkNod object attr wcc) t = MakesNode s t d name node × Shown t d name object attr × TrueWcc s t d wcc
 DoesDir s (dirs.Remove d name) (found.Remove wcc) t = Removes s t d name × TrueWcc s t d wcc
 DoesDir s (dirs.RmDir d name) (found.RmDir wcc) t = Removes s t d name × TrueWcc s t d wcc
@@ -120,7 +120,10 @@ Does s (calls.Dir call) (replies.Dir reply) t = DoesDir s call reply t
 Does s (calls.Mount call) (replies.Mount reply) t = DoesMount s call reply t
 Does s call reply t = ⊥
 
--- The server s answers the call so, and is t afterwards.
+-- The server s answers the call so, and is t afterwards: it refuses the call, and nothing changes; or it refuses a WRITE
+-- of which it put a prefix into the file; or it does what the call asks for.
 pub data Serves (s : Server) (call : Call) (reply : Reply) (t : Server) : Type 0 where
   refused : Refuses s call reply → Same s t → Serves s call reply t
+  broken_off : (f : List ℕ) (offset how : ℕ) (bytes : List ℕ) (status : Status) (wcc : Wcc) → call ≡ calls.File (files.Write f offset how bytes) → reply ≡ replies.File (kept.WriteFail status wcc) → WritesPrefix s t f offset bytes status wcc
+      → Serves s call reply t
   done : Does s call reply t → Serves s call reply t

@@ -1,7 +1,8 @@
 -- Bytes that a sync, close or put made stable stay, until something touches them.
-use Rattle.std.specs.Prelude.{◌≡◌, ◌<◌, ◌≤◌, ◌⊎◌, ℕ, List, length, Some, slice_get}
+use Rattle.std.specs.Prelude.{◌≡◌, ◌<◌, ◌≤◌, ℕ, List, length, Some, slice_get}
 use Rattle.world_model.specs.declared.entry.Entry.{Entry}
 use Rattle.world_model.specs.History.{History}
+use Rattle.world_model.specs.Modes.{Modes}
 use Rattle.world_model.specs.Mounts.{Origin}
 use Rattle.world_model.specs.Server.{Server, HasBytes}
 use Rattle.world_model.specs.Operations.{AnsweredBefore}
@@ -18,12 +19,12 @@ pub record HoldsStable (s : Server) (f : List ℕ) (i v : ℕ) : Type 0 where
 
 -- At the place j the write at the place w, answered at y, is known to be stable: the answer of a later sync, close or put
 -- of the file, or its own where it is a put.
-pub data SettledBy (h : List Entry) (w y : ℕ) (f : List ℕ) (j : ℕ) : Type 0 where
-  later : (x : ℕ) → AnsweredBefore h w x → MadeStable h x j f → SettledBy h w y f j
-  itself : (offset : ℕ) (bytes : List ℕ) → PutsTo h w y f offset bytes → j ≡ y → SettledBy h w y f j
+pub data SettledBy (m : Modes) (h : List Entry) (w y : ℕ) (f : List ℕ) (j : ℕ) : Type 0 where
+  later : (x : ℕ) → AnsweredBefore h w x → MadeStable m h x j f → SettledBy m h w y f j
+  itself : (offset : ℕ) (bytes : List ℕ) → PutsTo h w y f offset bytes → j ≡ y → SettledBy m h w y f j
 
 -- Each byte of a write, fill or put that went well and that was then made stable is there at every later moment, and
--- stable, or was touched.
-abbrev pub Settled : Origin → History → Type 0
-Settled origin t = (w y : ℕ) (f : List ℕ) (i v j : ℕ) → Wrote t.entries w y f i v → SettledBy t.entries w y f j
-    → (p : ℕ) → j < p → p ≤ length t.entries → HoldsStable (t.at p) f i v ⊎ Touched origin t w p f i
+-- stable, unless it was touched.
+abbrev pub Settled : Modes → Origin → History → Type 0
+Settled m origin t = (w y : ℕ) (f : List ℕ) (i v j : ℕ) → Wrote m t.entries w y f i v → SettledBy m t.entries w y f j
+    → (p : ℕ) → j < p → p ≤ length t.entries → (Touched m origin t w p f i → ⊥) → HoldsStable (t.at p) f i v

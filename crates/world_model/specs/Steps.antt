@@ -3,6 +3,7 @@ use Rattle.std.specs.Prelude.{◌≡◌, ℕ, List, Option, Some, None, ⊤}
 use Rattle.nfs_types.specs.declared.attr.Attr.{Attr}
 use Rattle.nfs_types.specs.declared.wcc.Stamp.{Stamp}
 use Rattle.nfs_types.specs.declared.wcc.Wcc.{Wcc}
+use Rattle.nfs_types.specs.Stamps.{stamp_of}
 use Rattle.world_model.specs.Server.{Holds, Object, Server, Has}
 
 -- ---- what stays
@@ -42,10 +43,6 @@ pub record Looks (s t : Server) (h : List ℕ) : Type 0 where
   pub only : Only (λ other. other ≡ h) s t
 
 -- ---- what replies show
-
--- the length and the times of the last changes (wcc_attr)
-abbrev pub stamp_of : Attr → Stamp
-stamp_of attr = record { size = attr.size; mtime = attr.mtime; ctime = attr.ctime }
 
 -- attributes, where a reply has them, are those of the object
 abbrev pub TrueOf : Server → List ℕ → Option Attr → Type 0

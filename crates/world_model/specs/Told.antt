@@ -30,6 +30,12 @@ Relates None new R = Unit {0}
 Relates (Some old) None R = ⊥
 Relates (Some old) (Some new) R = R old.entries new.entries
 
+-- the same of the two histories with the servers at their moments
+abbrev pub RelatesTold : Option History → Option History → (History → History → Type 0) → Type 0
+RelatesTold None new R = Unit {0}
+RelatesTold (Some old) None R = ⊥
+RelatesTold (Some old) (Some new) R = R old new
+
 -- what is told, where a history is, is lawful
 abbrev pub IsLawful : Option History → Type 0
 IsLawful None = Unit {0}

@@ -31,6 +31,6 @@ pub record Answers (h : List Entry) (n x : ℕ) (bytes : List ℕ) : Type 0 wher
   pub under : HasXid bytes x
   pub waits : Waits h x n
 
--- the records that came from the place n on
+-- an entry that tells of a record that came
 abbrev pub IsDelivered : Entry → Type 0
 IsDelivered e = (bytes : List ℕ) × (e ≡ Delivered bytes)

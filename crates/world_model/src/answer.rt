@@ -64,7 +64,7 @@ pub enum Fault {
     Kind,
     /// A directory has more than 65,536 names.
     Many,
-    /// Want of memory.
+    /// Out of memory.
     Memory,
 }
 

@@ -27,7 +27,7 @@ pub enum Entry {
     Reboot { verf: Verf },
     /// A record came.
     Delivered { bytes: Blob },
-    /// The dial, the sending or the waiting before this entry failed, or no record came in time.
+    /// The dial, the transmission or the waiting before this entry failed, or no record came in time.
     Failed,
     /// The clock was read: milliseconds.
     Clock { ms: u64 },

@@ -140,6 +140,7 @@ pub enum Op {
 }
 
 impl Op {
+    // One arm an operation: longer than other functions, but a split would only hide the table.
     /// An equal operation.
     pub fn copy(&self, alloc: Global) -> Result<Op, Memory>
         ensures { IfOk result (λ op. op ≡ self.now) }
