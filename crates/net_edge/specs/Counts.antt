@@ -15,7 +15,7 @@ abbrev pub CountsFailed : {T : Type 0} → ℕ → ℕ → Result T Failed → T
 CountsFailed old new (Ok x) = new ≡ old
 CountsFailed old new (Err e) = new ≡ next_count old
 
--- of a sink, or a wire that connects or writes; memory is never wanting
+-- of a sink, or a wire that connects or writes; memory never runs out
 abbrev pub CountsFault : {T : Type 0} → ℕ → ℕ → Result T LinkFault → Type 0
 CountsFault old new (Ok x) = new ≡ old
 CountsFault old new (Err faults.Failed) = new ≡ next_count old

@@ -75,7 +75,7 @@ impl<N: Net> Wire for TcpWire<'_, N> {
     ghost use Rattle.std.specs.Prelude.{◌≡◌, ◌≤◌, ◌<◌, None, length, IfOk, IsOk};
     ghost use Rattle.outside.specs.Causes.{HasCause};
     ghost use Rattle.outside.specs.Sink.{TakesSome};
-    ghost use Rattle.outside.specs.Wire.{WireTells, GetsSome, IfGot, HasCauseRead, connected_as, wrote_as, read_as, marked_as};
+    ghost use Rattle.outside.specs.Wire.{WireTells, WireNotes, IsTelling, GetsSome, IfGot, HasCauseRead, connected_as, wrote_as, read_as, marked_as};
     ghost use Rattle.net_edge.specs.Counts.{CountsFault, CountsRead};
 
     ghost told = { λ _. None };
@@ -86,6 +86,13 @@ impl<N: Net> Wire for TcpWire<'_, N> {
     ghost honest = { λ _. ⊥ };
 
     ghost lawful = { λ _ h. absurd h };
+
+    /// No contract can say what a connection gives or takes.
+    fn tells(&self) -> bool
+        ensures { IsTelling None result }
+    {
+        false
+    }
 
     /// Dials the host's addresses in turn, each for at most 15 seconds. A name that can't be looked up is a failure.
     fn connect(&mut self, port: u16) -> Result<(), LinkFault>
@@ -141,7 +148,7 @@ impl<N: Net> Wire for TcpWire<'_, N> {
 
     /// Keeps nothing.
     fn note(&mut self, mark: Mark) -> Result<(), Memory>
-        ensures told { WireTells None None (marked_as mark result) }
+        ensures told { WireNotes None None (marked_as mark result) }
         ensures cause { self.old ≤ self.new }
         ensures same { self.new ≡ self.old }
         ensures ok { IsOk result }

@@ -2,3 +2,4 @@ pub mod Readings
 pub mod Fronts
 pub mod Pieces
 pub mod ReadingExamples
+pub mod Notes

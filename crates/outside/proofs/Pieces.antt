@@ -3,7 +3,7 @@ use Rattle.std.specs.Prelude.{slice_index_or}
 use Rattle.std.proofs.Common.{map, ◌++◌, ◌≡◌, ◌<◌, ◌+◌, ◌-◌, min, ℕ, zero, suc, List, [], ◌∷◌, length, take, drop, get_or, drop-cons, refl, sym, ap, ◌∙◌, arith}
 use Rattle.std.proofs.lemmas.Bool.{eq-eqb, ne_eqb}
 use Rattle.outside.specs.declared.wire.WireEntry.{WireEntry}
-use Rattle.outside.specs.Wire.{WireCall, WireTold, AddsCall}
+use Rattle.outside.specs.Wire.{WireCall, WireTold, AddsCall, NotesCall}
 use Rattle.world_model.specs.History.{no_server}
 use Rattle.outside.specs.MemWire.{alone, in_memory, WireView, IsFilled, IsPartOf, HandsOutPart}
 
@@ -51,6 +51,9 @@ map_last (x ∷ es) e = ap (λ (t : List WireCall). alone x ∷ t) (map_last es 
 abbrev no_server_told : List WireCall → WireTold
 no_server_told cs = record { start = no_server; calls = cs }
 
--- one more call is told
+-- one more call is told, and nothing of the server
+pub notes_alone : (old : List WireEntry) (e : WireEntry) → in_memory (old ++ e ∷ []) ≡ record { start = no_server; calls = (in_memory old).calls ++ record { quiet = []; did = e } ∷ [] }
+notes_alone old e = ap (λ (cs : List WireCall). no_server_told cs) (map_last old e)
+
 pub tells_alone : (old : List WireEntry) (e : WireEntry) → AddsCall (in_memory old) (in_memory (old ++ e ∷ [])) e
-tells_alone old e = record { quiet = []; grown = ap (λ (cs : List WireCall). no_server_told cs) (map_last old e); unseen = refl }
+tells_alone old e = record { quiet = []; grown = notes_alone old e; unseen = refl }

@@ -24,7 +24,7 @@ IfFailed (Ok x) P = Unit {0}
 IfFailed (Err faults.Failed) P = P
 IfFailed (Err faults.Memory) P = Unit {0}
 
--- The count of a sink or a link: it never falls, and it rose where the call failed. Want of memory has no cause.
+-- The count of a sink or a link: it never falls, and it rose where the call failed. Out of memory has no cause.
 pub record HasCause {T : Type 0} (before now : ℕ) (result : Result T LinkFault) : Type 0 where
   pub later : before ≤ now
   pub failed : IfFailed result (Rose before now)

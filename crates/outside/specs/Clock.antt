@@ -2,10 +2,11 @@
 use Rattle.std.specs.Prelude.{◌≡◌, ◌*◌, ◌-◌, ◌^◌, ◌==◌, min, ℕ, zero, suc, List, [], ◌∷◌, ◌++◌, Option, Some, None, if◌then◌else◌}
 use Rattle.outside.specs.Views.{ClockView}
 
--- One more reading. A clock that can't count its readings any more stops telling them.
+-- One more reading. A clock that can't count its readings any more stops telling them, and doesn't begin again.
 abbrev pub ReadsClock : Option (List ℕ) → Option (List ℕ) → ℕ → Type 0
+ReadsClock None new ms = new ≡ None
+ReadsClock (Some old) None ms = Unit {0}
 ReadsClock (Some old) (Some new) ms = new ≡ old ++ ms ∷ []
-ReadsClock old new ms = Unit {0}
 
 -- the reading after so many of a clock that goes on by tick at each, up to the end of its type
 abbrev pub reading : ℕ → ℕ → ℕ

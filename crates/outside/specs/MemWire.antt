@@ -8,8 +8,8 @@ use Rattle.outside.specs.declared.wire.WireRead.TheVariants as reads
 use Rattle.world_model.specs.History.{no_server}
 use Rattle.outside.specs.Wire.{WireCall, WireTold}
 
--- what a caller sees of it: what its calls did, the pieces that weren't handed out whole, how much of the first of them was
--- handed out, the numbers of the calls that fail, how many were made but for notes, and the faults so far
+-- what a caller sees of it: what its calls did, the pieces that weren't handed out whole, how much of the first of them
+-- was handed out, the numbers of the calls that fail, how many were made but for notes, and the faults so far
 pub record WireView : Type 0 where
   pub told : List WireEntry
   pub pieces : List (List ℕ)
@@ -57,7 +57,7 @@ HandsOutPiece old new buf reads.Silent = (old.pieces ≡ []) × HandsOutNothing 
 HandsOutPiece old new buf reads.Failed = HandsOutNothing old new
 HandsOutPiece old new buf reads.Memory = HandsOutNothing old new
 
--- A failure comes exactly where the call is one that is to fail; a failure is told too, so memory may be wanting for it.
+-- A failure comes exactly where the call is one that is to fail; a failure is told too, so memory may run out for it.
 abbrev pub FailsListed : {T : Type 0} → Result T LinkFault → Bool → Type 0
 FailsListed (Ok x) listed = listed ≡ false
 FailsListed (Err faults.Failed) listed = listed ≡ true
@@ -69,7 +69,7 @@ ReadFailsListed reads.Silent listed = listed ≡ false
 ReadFailsListed reads.Failed listed = listed ≡ true
 ReadFailsListed reads.Memory listed = Unit {0}
 
--- A connection puts a piece that was handed out in part back whole; after want of memory it stays in part.
+-- A connection puts a piece that was handed out in part back whole; when out of memory it stays in part.
 abbrev pub PutsBack : {T : Type 0} → WireView → WireView → Result T LinkFault → Type 0
 PutsBack old new (Ok x) = (new.pieces ≡ old.pieces) × (new.at ≡ 0)
 PutsBack old new (Err faults.Failed) = (new.pieces ≡ old.pieces) × (new.at ≡ 0)

@@ -44,7 +44,7 @@ impl HostileLink {
         }
     }
 
-    /// One more record at the end. After want of memory nothing is changed.
+    /// One more record at the end. When out of memory nothing is changed.
     pub fn reply(&mut self, rec: &[u8]) -> Result<(), Memory>
         ensures ok { OnOk result (self.new ≡ record self.old { left = self.old.left ++ rec.now ∷ [] }) }
         ensures err { OnErr result (self.new ≡ self.old) }
@@ -58,9 +58,9 @@ impl HostileLink {
 impl Link for HostileLink {
     ghost use Rattle.std.specs.Prelude.{◌≡◌, ◌≤◌, Some};
     ghost use Rattle.world_model.specs.Told.{Tells};
-    ghost use Rattle.outside.specs.Causes.{HasCauseReceived};
-    ghost use Rattle.outside.specs.Link.{received_as};
-    ghost use Rattle.outside.specs.Hostile.{HandsOut};
+    ghost use Rattle.outside.specs.Causes.{HasCause, HasCauseReceived};
+    ghost use Rattle.outside.specs.Link.{NotesOnly, dialed_as, sent_as, received_as, noted_as};
+    ghost use Rattle.outside.specs.Hostile.{HandsOut, HandsOutNone, NeverFails};
     ghost use Rattle.world_model.specs.History.{history};
 
     ghost told = { λ l. Some (history l.entries) };
@@ -72,14 +72,24 @@ impl Link for HostileLink {
 
     ghost lawful = { λ l h. absurd h };
 
-    fn dial(&mut self, port: u16) -> Result<(), LinkFault> {
+    fn dial(&mut self, port: u16) -> Result<(), LinkFault>
+        ensures told { Tells (Some (history self.old.entries)) (Some (history self.new.entries)) (dialed_as port result) }
+        ensures cause { HasCause self.old.faults self.new.faults result }
+        ensures never { NeverFails result }
+        ensures given { HandsOutNone self.old self.new }
+    {
         if self.entries.push(Entry::Dialed { port }).is_err() {
             return Err(LinkFault::Memory);
         }
         Ok(())
     }
 
-    fn send(&mut self, rec: &[u8]) -> Result<(), LinkFault> {
+    fn send(&mut self, rec: &[u8]) -> Result<(), LinkFault>
+        ensures told { Tells (Some (history self.old.entries)) (Some (history self.new.entries)) (sent_as rec.now result) }
+        ensures cause { HasCause self.old.faults self.new.faults result }
+        ensures never { NeverFails result }
+        ensures given { HandsOutNone self.old self.new }
+    {
         let Ok(bytes) = Blob::copy(self.alloc, rec) else {
             return Err(LinkFault::Memory);
         };
@@ -116,7 +126,11 @@ impl Link for HostileLink {
         Received::Whole
     }
 
-    fn note(&mut self, mark: Mark) -> Result<(), Memory> {
+    fn note(&mut self, mark: Mark) -> Result<(), Memory>
+        ensures told { NotesOnly (Some (history self.old.entries)) (Some (history self.new.entries)) (noted_as mark result) }
+        ensures cause { self.old.faults ≤ self.new.faults }
+        ensures given { HandsOutNone self.old self.new }
+    {
         let entry = match mark {
             Mark::Began { lane, line, op } => Entry::Began { lane, line, op },
             Mark::Answered { lane, line, answer } => Entry::Answered { lane, line, answer },
@@ -127,7 +141,7 @@ impl Link for HostileLink {
     }
 }
 
-/// Adds an entry to those that are told. After want of memory nothing is changed.
+/// Adds an entry to those that are told. When out of memory nothing is changed.
 fn tell(entries: &mut Vec<Entry>, entry: Entry) -> Result<(), Memory>
     ensures ok { OnOk result (entries.new.items ≡ entries.old.items ++ entry ∷ []) }
     ensures err { OnErr result (entries.new.items ≡ entries.old.items) }

@@ -4,7 +4,7 @@ ghost use Rattle.std.specs.Prelude.{◌≤◌, ℕ, Option};
 ghost use Rattle.world_model.specs.History.{History};
 ghost use Rattle.world_model.specs.Told.{Tells, IsLawful};
 ghost use Rattle.outside.specs.Causes.{HasCause, HasCauseReceived};
-ghost use Rattle.outside.specs.Link.{dialed_as, sent_as, received_as, noted_as};
+ghost use Rattle.outside.specs.Link.{NotesOnly, dialed_as, sent_as, received_as, noted_as};
 
 use world_model::Mark;
 use xdr_codec::Memory;
@@ -14,7 +14,7 @@ use xdr_codec::Memory;
 pub enum LinkFault {
     /// The outside failed.
     Failed,
-    /// Want of memory.
+    /// Out of memory.
     Memory,
 }
 
@@ -27,11 +27,12 @@ pub enum Received {
     Silent,
     /// The outside failed.
     Failed,
-    /// Want of memory; no byte that came is lost.
+    /// Out of memory; no byte that came is lost.
     Memory,
 }
 
-/// A way to a server. Between the entries that a call adds, the server may add any number of its own.
+/// A way to a server. Before, between and after the entries that a call adds, the server may add any number of its own,
+/// but none where a mark is noted.
 pub trait Link {
     /// The history, where the link tells it.
     ghost told: { Self → Option History };
@@ -48,7 +49,7 @@ pub trait Link {
         ensures honest { honest self.old → honest self.new }
         ensures cause { HasCause (faults self.old) (faults self.new) result };
 
-    /// Sends a record. After want of memory nothing was sent.
+    /// Sends a record. When out of memory nothing was sent.
     fn send(&mut self, rec: &[u8]) -> Result<(), LinkFault>
         ensures told { Tells (told self.old) (told self.new) (sent_as rec.now result) }
         ensures honest { honest self.old → honest self.new }
@@ -61,9 +62,9 @@ pub trait Link {
         ensures honest { honest self.old → honest self.new }
         ensures cause { HasCauseReceived (faults self.old) (faults self.new) result };
 
-    /// Notes a mark in the history.
+    /// Notes a mark in the history, and nothing else. When out of memory nothing was noted.
     fn note(&mut self, mark: Mark) -> Result<(), Memory>
-        ensures told { Tells (told self.old) (told self.new) (noted_as mark result) }
+        ensures told { NotesOnly (told self.old) (told self.new) (noted_as mark result) }
         ensures honest { honest self.old → honest self.new }
         ensures cause { faults self.old ≤ faults self.new };
 

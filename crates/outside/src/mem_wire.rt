@@ -15,8 +15,8 @@ use world_model::Mark;
 use xdr_codec::{Blob, Memory};
 
 /// A wire that takes each piece whole, and hands out given pieces in order, at most one at a read. It is silent exactly
-/// after the last. The calls that are to fail are given, and no other call fails. It tells its calls, with a server that
-/// has no objects, and isn't honest.
+/// after the last. The calls that are to fail are given, and no other call fails. It tells its calls, with a server
+/// that has no objects, and isn't honest.
 #[derive(Debug, Drop)]
 pub struct MemWire {
     alloc: Global,
@@ -57,7 +57,7 @@ impl MemWire {
         })
     }
 
-    /// One more piece at the end. After want of memory nothing is changed.
+    /// One more piece at the end. When out of memory nothing is changed.
     pub fn piece(&mut self, bytes: &[u8]) -> Result<(), Memory>
         requires { 0 < length bytes.now }
         ensures ok { OnOk result (self.new ≡ record self.old { pieces = self.old.pieces ++ bytes.now ∷ [] }) }
@@ -75,7 +75,7 @@ impl MemWire {
         self.entries.as_slice()
     }
 
-    /// Makes the next call one that missed. After want of memory nothing is changed, and the answer is false.
+    /// Makes the next call one that missed. When out of memory nothing is changed, and the answer is false.
     fn miss(&mut self) -> bool
         ensures yes { OnTrue result (self.new ≡ record self.old { told = self.old.told ++ entries.Missed ∷ []; calls = next_call self.old.calls; faults = min (self.old.faults + 1) 18446744073709551615 }) }
         ensures no { OnFalse result (self.new ≡ self.old) }
@@ -94,7 +94,7 @@ impl Wire for MemWire {
     ghost use Rattle.outside.specs.Causes.{HasCause};
     ghost use Rattle.outside.specs.Sink.{TakesSome};
     ghost use Rattle.outside.specs.Views.{is_to_fail};
-    ghost use Rattle.outside.specs.Wire.{WireTells, GetsSome, IfGot, HasCauseRead, connected_as, wrote_as, read_as, marked_as};
+    ghost use Rattle.outside.specs.Wire.{WireTells, WireNotes, IsTelling, GetsSome, IfGot, HasCauseRead, connected_as, wrote_as, read_as, marked_as};
     ghost use Rattle.outside.specs.MemWire.{in_memory, HandsOutNothing, HandsOutPiece, FailsListed, ReadFailsListed, PutsBack};
 
     ghost told = { λ w. Some (in_memory w.told) };
@@ -105,6 +105,12 @@ impl Wire for MemWire {
     ghost honest = { λ w. ⊥ };
 
     ghost lawful = { λ w h. absurd h };
+
+    fn tells(&self) -> bool
+        ensures { IsTelling (Some (in_memory self.now.told)) result }
+    {
+        true
+    }
 
     #[tactic(auto, using(crate::proofs::Pieces::tells_alone))]
     fn connect(&mut self, port: u16) -> Result<(), LinkFault>
@@ -194,9 +200,9 @@ impl Wire for MemWire {
         WireRead::Got(count)
     }
 
-    #[tactic(auto, using(crate::proofs::Pieces::tells_alone))]
+    #[tactic(auto, using(crate::proofs::Pieces::notes_alone))]
     fn note(&mut self, mark: Mark) -> Result<(), Memory>
-        ensures told { WireTells (Some (in_memory self.old.told)) (Some (in_memory self.new.told)) (marked_as mark result) }
+        ensures told { WireNotes (Some (in_memory self.old.told)) (Some (in_memory self.new.told)) (marked_as mark result) }
         ensures cause { self.old.faults ≤ self.new.faults }
         ensures given { HandsOutNothing self.old self.new }
     {
@@ -207,7 +213,7 @@ impl Wire for MemWire {
     }
 }
 
-/// Adds to what is told. After want of memory nothing is changed, and the answer is false.
+/// Adds to what is told. When out of memory nothing is changed, and the answer is false.
 fn tell(entries: &mut Vec<WireEntry>, entry: WireEntry) -> bool
     ensures yes { OnTrue result (entries.new.items ≡ entries.old.items ++ entry ∷ []) }
     ensures no { OnFalse result (entries.new.items ≡ entries.old.items) }

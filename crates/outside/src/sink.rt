@@ -18,7 +18,7 @@ pub trait Sink {
     ghost faults: { Self → ℕ };
 
     /// Writes the front of the piece, and answers how many bytes it took: at least one of a piece that isn't empty.
-    /// After a failure or want of memory none was taken.
+    /// After a failure or when out of memory none was taken.
     fn write(&mut self, bytes: &[u8]) -> Result<usize, LinkFault>
         ensures takes { IfOk result (TakesSome bytes.now) }
         ensures told { WritesTo (written self.old) (written self.new) bytes.now result }

@@ -4,7 +4,7 @@ ghost use Rattle.std.specs.Prelude.{◌≤◌, ◌<◌, ℕ, Option, length, IfO
 ghost use Rattle.outside.specs.Causes.{HasCause};
 ghost use Rattle.outside.specs.Sink.{TakesSome};
 ghost use Rattle.outside.specs.Reading.{IsLawfulWire};
-ghost use Rattle.outside.specs.Wire.{WireTold, WireTells, GetsSome, IfGot, HasCauseRead, connected_as, wrote_as, read_as, marked_as};
+ghost use Rattle.outside.specs.Wire.{WireTold, WireTells, WireNotes, IsTelling, GetsSome, IfGot, HasCauseRead, connected_as, wrote_as, read_as, marked_as};
 
 use crate::link::LinkFault;
 use world_model::Mark;
@@ -34,12 +34,12 @@ pub enum WireRead {
     Silent,
     /// The outside failed.
     Failed,
-    /// Want of memory; no byte was taken from what came.
+    /// Out of memory; no byte was taken from what came.
     Memory,
 }
 
-/// A stream of bytes to a server and one back. Each call tells one entry of its own, and nothing after want of memory;
-/// what the server did since the call before stands before that entry.
+/// A stream of bytes to a server and one back. Each call tells one entry of its own, and nothing when out of memory;
+/// what the server did since the call before stands before that entry, but not before a mark.
 pub trait Wire {
     /// The calls so far with the server at each moment, where the wire tells them.
     ghost told: { Self → Option WireTold };
@@ -50,6 +50,10 @@ pub trait Wire {
     /// Whether what it tells is what an honest server and network make.
     ghost honest: { Self → Type 0 };
 
+    /// Whether it tells its calls.
+    fn tells(&self) -> bool
+        ensures { IsTelling (told self.now) result };
+
     /// Makes a connection to that port, in place of the one before.
     fn connect(&mut self, port: u16) -> Result<(), LinkFault>
         ensures told { WireTells (told self.old) (told self.new) (connected_as port result) }
@@ -57,7 +61,7 @@ pub trait Wire {
         ensures cause { HasCause (faults self.old) (faults self.new) result };
 
     /// Takes the front of the piece, and answers how many bytes: at least one of a piece that isn't empty. After a
-    /// failure or want of memory none was taken.
+    /// failure or when out of memory none was taken.
     fn write(&mut self, bytes: &[u8]) -> Result<usize, LinkFault>
         ensures takes { IfOk result (TakesSome bytes.now) }
         ensures told { WireTells (told self.old) (told self.new) (wrote_as bytes.now result) }
@@ -73,9 +77,9 @@ pub trait Wire {
         ensures honest { honest self.old → honest self.new }
         ensures cause { HasCauseRead (faults self.old) (faults self.new) result };
 
-    /// Notes a mark among the calls.
+    /// Notes a mark among the calls, and nothing else.
     fn note(&mut self, mark: Mark) -> Result<(), Memory>
-        ensures told { WireTells (told self.old) (told self.new) (marked_as mark result) }
+        ensures told { WireNotes (told self.old) (told self.new) (marked_as mark result) }
         ensures honest { honest self.old → honest self.new }
         ensures cause { faults self.old ≤ faults self.new };
 

@@ -1,14 +1,15 @@
 -- How what a line tells grows.
 use Rattle.std.proofs.Common.{◌≡◌, ◌≤◌, ◌+◌, ◌-◌, drop, take, arith, ℕ, length, slice_set, Bool, true, false, List, [], ◌∷◌, ◌++◌, Option, Some, None, refl, sym, ap, ◌∙◌}
-use Rattle.std.proofs.lemmas.List.{length-append, drop-append-le, take-append-le}
+use Rattle.std.proofs.lemmas.List.{append-nil, length-append, drop-append-le, take-append-le}
+use Rattle.world_model.specs.declared.entry.Mark.{Mark}
 use Rattle.outside.specs.declared.wire.WireEntry.{WireEntry}
 use Rattle.outside.specs.declared.wire.WireEntry.TheVariants.{Connected, Wrote, Read, Noted, Missed}
 use Rattle.rpc_record.specs.declared.kept.Kept.{Kept}
 use Rattle.rpc_record.specs.declared.kept.Adds.{Adds}
 use Rattle.rpc_record.specs.declared.kept.Adds.TheVariants as added
-use Rattle.outside.specs.Wire.{WireCall, WireTold, AddsCall, WireTells}
+use Rattle.outside.specs.Wire.{WireCall, WireTold, AddsCall, WireTells, WireNotes, IsTelling}
 use Rattle.outside.specs.Records.{◌>>=◌, nth_record}
-use Rattle.rpc_record.specs.Stream.{Stream, quietly, shows, delivers, sends, places, called_of, called, replays, calls_in, latest, earlier, begun_at, now_of, Placed, AllPlaced, Goes, Called}
+use Rattle.rpc_record.specs.Stream.{Stream, quietly, shows, delivers, sends, places, called_of, called, replays, calls_in, latest, earlier, begun_at, now_of, if_tells, Placed, AllPlaced, PutsLast, Goes, Called}
 
 abbrev with_more : List WireCall → Stream → Stream
 with_more more s = record s { calls = s.calls ++ more }
@@ -64,6 +65,21 @@ replays_append [] js s t e = ap (replays js) (some_is s t e)
 replays_append (k ∷ ks) js s t e =
     let o = bind_some (called k.call s) (λ u. replays ks (places k.adds u)) t e in
     rw (o.1) (replays_append ks js (places k.adds o.0) t o.2)
+
+-- js is ks with one more place; where the wire doesn't tell its calls, it is empty
+abbrev pub OneMore : Option WireTold → List Kept → Kept → List Kept → Type 0
+OneMore None ks k js = js ≡ []
+OneMore (Some t) ks k js = js ≡ ks ++ k ∷ []
+
+-- after a place was kept
+pub room_more : (told : Option WireTold) (tells : Bool) (ks js : List Kept) (k : Kept) → IsTelling told tells → AllPlaced told ks → js ≡ ks ++ if_tells tells k → OneMore told ks k js
+room_more None tells ks js k is w e = e ∙ ap (λ (b : Bool). ks ++ if_tells b k) is ∙ append-nil ks ∙ w
+room_more (Some t) tells ks js k is w e = e ∙ ap (λ (b : Bool). ks ++ if_tells b k) is
+
+-- after it was filled
+pub put_more : (told : Option WireTold) (tells : Bool) (ks mid js : List Kept) (j k : Kept) → IsTelling told tells → AllPlaced told ks → mid ≡ ks ++ if_tells tells j → PutsLast mid js k → OneMore told ks k js
+put_more None tells ks mid js j k is w e p = p.none (room_more None tells ks mid j is w e)
+put_more (Some t) tells ks mid js j k is w e p = p.last ks j (room_more (Some t) tells ks mid j is w e)
 
 -- what a line is after one more place
 pub record Now (old new : Option WireTold) (ks js : List Kept) (R : Stream → Stream → Type 0) : Type 0 where
@@ -125,13 +141,13 @@ placed_at t ks adds w =
     let k : Kept = record { call = false; adds = adds } in
     ap (λ (n : ℕ). replays (ks ++ k ∷ []) (begun_at n t)) (no_more ks adds) ∙ replays_append ks (k ∷ []) (begun_at (calls_in ks) t) w.now w.is
 
-pub place_now : (old : Option WireTold) (ks : List Kept) (adds : Adds) → AllPlaced old ks
-    → Now old old ks (ks ++ record { call = false; adds = adds } ∷ []) (λ s t. t ≡ places adds s)
-place_now None ks adds w = record { placed = tt; goes = refl }
-place_now (Some t) ks adds w = record {
+pub place_now : (old : Option WireTold) (ks js : List Kept) (adds : Adds) → AllPlaced old ks → OneMore old ks (record { call = false; adds = adds }) js
+    → Now old old ks js (λ s t. t ≡ places adds s)
+place_now None ks js adds w more = record { placed = more; goes = refl }
+place_now (Some t) ks js adds w more = rw more (record {
   placed = record { enough = omega (arith, no_more ks adds, w.enough); now = places adds w.now; is = placed_at t ks adds w; all = places_stay adds w.now ∙ w.all };
   goes = goes_to _ _ w.now (places adds w.now) (λ s t. t ≡ places adds s) w.is (placed_at t ks adds w) refl;
-}
+})
 
 last_call : (cs : List WireCall) (c : WireCall) (adds : Adds) (u : Stream) → cs ≡ []
     → (called_of (cs ++ c ∷ []) u >>= λ t. Some (places adds t)) ≡ Some (places adds (shows c.did (quietly c.quiet (record u { calls = [] }))))
@@ -155,15 +171,15 @@ called_at t new ks own adds w a =
     ∙ last_call w.now.calls c adds (with_more (c ∷ []) w.now) w.all
     ∙ ap (λ (u : Stream). Some (places adds (shows own (quietly a.quiet u)))) (no_calls w.now w.all)
 
-pub call_now : (old new : Option WireTold) (ks : List Kept) (own : WireEntry) (adds : Adds) → AllPlaced old ks → WireTells old new (Some own)
-    → Now old new ks (ks ++ record { call = true; adds = adds } ∷ []) (Called own adds)
-call_now None None ks own adds w e = record { placed = tt; goes = refl }
-call_now None (Some new) ks own adds w e = absurd cc
-call_now (Some t) None ks own adds w e = absurd e
-call_now (Some t) (Some new) ks own adds w a =
+pub call_now : (old new : Option WireTold) (ks js : List Kept) (own : WireEntry) (adds : Adds) → AllPlaced old ks → OneMore old ks (record { call = true; adds = adds }) js → WireTells old new (Some own)
+    → Now old new ks js (Called own adds)
+call_now None None ks js own adds w more e = record { placed = more; goes = refl }
+call_now None (Some new) ks js own adds w more e = absurd cc
+call_now (Some t) None ks js own adds w more e = absurd e
+call_now (Some t) (Some new) ks js own adds w more a =
     let after : Stream = places adds (shows own (quietly a.quiet w.now)) in
     let is = called_at t new ks own adds w a in
-    record {
+    rw more (record {
       placed = record {
         enough = omega (arith, one_more ks adds, w.enough, ap (λ (u : WireTold). length u.calls) a.grown, length-append t.calls (record { quiet = a.quiet; did = own } ∷ []));
         now = after;
@@ -171,14 +187,27 @@ call_now (Some t) (Some new) ks own adds w a =
         all = places_stay adds (shows own (quietly a.quiet w.now)) ∙ shows_stay own (quietly a.quiet w.now) ∙ w.all;
       };
       goes = goes_to _ _ w.now after (Called own adds) w.is is (record { quiet = a.quiet; unseen = a.unseen; is = refl });
-    }
+    })
 
-pub none_now : (old new : Option WireTold) (ks : List Kept) → AllPlaced old ks → WireTells old new None
-    → Now old new ks (ks ++ record { call = false; adds = added.Nothing } ∷ []) (λ s t. t ≡ s)
-none_now None None ks w e = record { placed = tt; goes = refl }
-none_now None (Some new) ks w e = absurd cc
-none_now (Some t) None ks w e = absurd e
-none_now (Some t) (Some new) ks w e = rw e (place_now (Some t) ks added.Nothing w)
+pub none_now : (old new : Option WireTold) (ks js : List Kept) → AllPlaced old ks → OneMore old ks (record { call = false; adds = added.Nothing }) js → WireTells old new None
+    → Now old new ks js (λ s t. t ≡ s)
+none_now None None ks js w more e = record { placed = more; goes = refl }
+none_now None (Some new) ks js w more e = absurd cc
+none_now (Some t) None ks js w more e = absurd e
+none_now (Some t) (Some new) ks js w more e = rw e (place_now (Some t) ks js added.Nothing w more)
+
+-- a mark is noted, and nothing of the server's
+pub note_now : (old new : Option WireTold) (ks js : List Kept) (mark : Mark) → AllPlaced old ks → OneMore old ks (record { call = true; adds = added.Nothing }) js → WireNotes old new (Some (Noted mark))
+    → Now old new ks js (λ s t. t ≡ shows (Noted mark) s)
+note_now None None ks js mark w more e = record { placed = more; goes = refl }
+note_now None (Some new) ks js mark w more e = absurd cc
+note_now (Some t) None ks js mark w more e = absurd e
+note_now (Some t) (Some new) ks js mark w more e =
+    let a : AddsCall t new (Noted mark) = record { quiet = []; grown = e; unseen = refl } in
+    rw more (record {
+      placed = (call_now (Some t) (Some new) ks (ks ++ record { call = true; adds = added.Nothing } ∷ []) (Noted mark) added.Nothing w refl a).placed;
+      goes = goes_to _ _ w.now (shows (Noted mark) w.now) (λ s u. u ≡ shows (Noted mark) s) w.is (called_at t new ks (Noted mark) added.Nothing w a) refl;
+    })
 
 pub set_last : (ks : List Kept) (j k : Kept) → slice_set (ks ++ j ∷ []) (length ks) k ≡ ks ++ k ∷ []
 set_last [] j k = refl

@@ -11,8 +11,8 @@ use Rattle.outside.specs.Link.{received_as}
 use Rattle.rpc_record.specs.declared.kept.Adds.TheVariants as added
 use Rattle.rpc_record.specs.declared.gather.Phase.{Phase}
 use Rattle.rpc_record.specs.declared.gather.Phase.TheVariants as phases
-use Rattle.rpc_record.specs.declared.sending.Sending.{Sending}
-use Rattle.rpc_record.specs.declared.sending.Sending.TheVariants as sendings
+use Rattle.rpc_record.specs.declared.sending.SendState.{SendState}
+use Rattle.rpc_record.specs.declared.sending.SendState.TheVariants as sendings
 use Rattle.outside.specs.Records.{left, nth_record}
 use Rattle.rpc_record.specs.Records.{one_fragment}
 use Rattle.rpc_record.specs.Limits.{found_at}
@@ -23,13 +23,13 @@ use Rattle.rpc_record.specs.declared.kept.Kept.{Kept}
 use Rattle.world_model.specs.History.{History}
 use Rattle.rpc_record.specs.Stream.{Stream, Along, now_of, Goes, Did, told_of}
 
--- What a caller sees: what is known of its streams, the faults of its wire and its own, what became of the records that were sent since the
--- latest connection, and where in a record the bytes that came end
+-- What a caller sees: what is known of its streams, the faults of its wire and its own, what became of the records that
+-- were sent since the latest connection, and where in a record the bytes that came end
 pub record Shown : Type 0 where
   pub now : Option Stream
   pub wire : ℕ
   pub own : ℕ
-  pub sending : Sending
+  pub sending : SendState
   pub phase : Phase
 
 -- what a link is: its wire and what it placed behind the wire's calls, and the rest of what it shows
@@ -38,7 +38,7 @@ pub record Held (W : Type 0) : Type 0 where
   pub kept : List Kept
   pub wire : ℕ
   pub own : ℕ
-  pub sending : Sending
+  pub sending : SendState
   pub phase : Phase
 
 abbrev pub shown_by : {W : Type 0} → (W → Option WireTold) → Held W → Shown
@@ -73,7 +73,7 @@ Follows None w unsent = Unit {0}
 Follows (Some s) w unsent = Keeps s w unsent
 
 -- after a record that went out in part nothing is known of what is left
-abbrev pub partly : Sending → Option (List ℕ)
+abbrev pub partly : SendState → Option (List ℕ)
 partly sendings.Fine = Some []
 partly sendings.Broken = None
 partly sendings.Starved = None
@@ -115,7 +115,8 @@ abbrev pub IfStream : Option Stream → (Stream → Type 0) → Type 0
 IfStream None P = Unit {0}
 IfStream (Some s) P = P s
 
--- why a wait came to nothing: the wire's fault, or a record past the limits, which the link counts as a fault of its own
+-- why a wait came to nothing: the wire's fault, or a record past the limits, which the link counts as a fault of its
+-- own
 pub data FailedWait (old new : Shown) : Type 0 where
   by_wire : Rose old.wire new.wire → FailedWait old new
   by_long : Rose old.own new.own → new.phase ≡ phases.Long → IfStream new.now HoldsLong → FailedWait old new
@@ -183,33 +184,35 @@ abbrev pub Turns : Shown → Shown → List ℕ → Option Received → Type 0
 Turns old new rec None = GoesOn old new
 Turns old new rec (Some result) = Turned old new rec result
 
--- what the connection is good for after a sending that failed, by how much of the record was taken
-abbrev pub left_by : ℕ → LinkFault → Sending
+-- what the connection is good for after a transmission that failed, by how much of the record was taken
+abbrev pub left_by : ℕ → LinkFault → SendState
 left_by zero fault = sendings.Fine
 left_by (suc n) faults.Failed = sendings.Broken
 left_by (suc n) faults.Memory = sendings.Starved
 
 -- So many bytes of a record were taken before its sending failed, and not all.
-pub record TookPart (fault : LinkFault) (sending : Sending) (text : List ℕ) (s t : Stream) : Type 0 where
+pub record TookPart (fault : LinkFault) (sending : SendState) (text : List ℕ) (s t : Stream) : Type 0 where
   pub at : ℕ
   pub part : at < length text
   pub went : t.went ≡ s.went ++ take at text
   pub leaves : sending ≡ left_by at fault
 
--- What a sending wrote where all before it went out whole or not at all: the record as one fragment, or a part of that.
-abbrev pub Writes : {T : Type 0} → List ℕ → Result T LinkFault → Sending → Stream → Stream → Type 0
+-- What a transmission wrote where all before it went out whole or not at all: the record as one fragment, or a part of
+-- that.
+abbrev pub Writes : {T : Type 0} → List ℕ → Result T LinkFault → SendState → Stream → Stream → Type 0
 Writes rec (Ok x) sending s t = (sending ≡ sendings.Fine) × (t.went ≡ s.went ++ one_fragment rec)
 Writes rec (Err fault) sending s t = TookPart fault sending (one_fragment rec) s t
 
--- why a sending failed: the wire's fault, or an earlier record that went out in part on the same connection, which the
--- link counts as a fault of its own
-abbrev pub FailedSend : Sending → Shown → Shown → Type 0
+-- why a transmission failed: the wire's fault, or an earlier record that went out in part on the same connection, which
+-- the link counts as a fault of its own
+abbrev pub FailedSend : SendState → Shown → Shown → Type 0
 FailedSend sendings.Fine old new = Rose old.wire new.wire
 FailedSend sendings.Broken old new = Rose old.own new.own
 FailedSend sendings.Starved old new = ⊥
 
--- After a part of a record went out nothing more is written; the answer is that the link failed, or that memory is wanting.
-abbrev pub SendsIn : {T : Type 0} → Sending → Shown → Shown → List ℕ → Result T LinkFault → Type 0
+-- After a part of a record went out nothing more is written; the answer is that the link failed, or that memory runs
+-- out.
+abbrev pub SendsIn : {T : Type 0} → SendState → Shown → Shown → List ℕ → Result T LinkFault → Type 0
 SendsIn sendings.Fine old new rec result = Goes old.now new.now (Writes rec result new.sending)
 SendsIn sendings.Broken old new rec (Ok x) = ⊥
 SendsIn sendings.Broken old new rec (Err e) = (new.sending ≡ sendings.Broken) × Goes old.now new.now (λ s t. t.went ≡ s.went)
@@ -222,7 +225,7 @@ IfSendFailed (Ok x) P = Unit {0}
 IfSendFailed (Err faults.Failed) P = P
 IfSendFailed (Err faults.Memory) P = Unit {0}
 
--- A sending: what it wrote, its cause, and what stays.
+-- A transmission: what it wrote, its cause, and what stays.
 pub record Sends {T : Type 0} (old new : Shown) (rec : List ℕ) (result : Result T LinkFault) : Type 0 where
   pub wire : old.wire ≤ new.wire
   pub own : old.own ≤ new.own

@@ -1,6 +1,7 @@
 -- The history of a link, from the calls of its wire and what the link placed behind them.
 use Rattle.std.specs.Prelude.{◌≡◌, ◌≤◌, ◌+◌, ◌-◌, ℕ, suc, List, [], ◌∷◌, ◌++◌, take, drop, length, Bool, true, false, Option, Some, None, Result, Ok, Err, ◌==◌, if◌then◌else◌}
 use Rattle.world_model.specs.declared.entry.Entry.TheVariants as entries
+use Rattle.world_model.specs.declared.entry.Mark.{Mark}
 use Rattle.world_model.specs.Entries.{ours}
 use Rattle.world_model.specs.Server.{Server}
 use Rattle.world_model.specs.History.{History}
@@ -106,7 +107,8 @@ abbrev pub now_of : Option WireTold → List Kept → Option Stream
 now_of None ks = None
 now_of (Some t) ks = replays ks (begun_at (calls_in ks) t)
 
--- each call of the wire since then has its place, and no place is without a call
+-- Each call of the wire since then has its place, and no place is without a call. Behind a wire that doesn't tell its calls
+-- nothing is placed.
 pub record Placed (t : WireTold) (ks : List Kept) : Type 0 where
   pub enough : calls_in ks ≤ length t.calls
   pub now : Stream
@@ -114,8 +116,23 @@ pub record Placed (t : WireTold) (ks : List Kept) : Type 0 where
   pub all : now.calls ≡ []
 
 abbrev pub AllPlaced : Option WireTold → List Kept → Type 0
-AllPlaced None ks = Unit {0}
+AllPlaced None ks = ks ≡ []
 AllPlaced (Some t) ks = Placed t ks
+
+-- nothing is kept where the wire doesn't tell its calls
+abbrev pub KeepsNone : Option WireTold → List Kept → Type 0
+KeepsNone None ks = ks ≡ []
+KeepsNone (Some t) ks = Unit {0}
+
+-- a place, where the wire tells its calls
+abbrev pub if_tells : Bool → Kept → List Kept
+if_tells true k = k ∷ []
+if_tells false k = []
+
+-- What stands last is put in place of the last, if there is one.
+pub record PutsLast (old new : List Kept) (k : Kept) : Type 0 where
+  pub last : (ks : List Kept) (j : Kept) → old ≡ ks ++ j ∷ [] → new ≡ ks ++ k ∷ []
+  pub none : old ≡ [] → new ≡ []
 
 -- what a line is: its wire, what it placed behind the wire's calls, and the wire's count
 pub record Along (W : Type 0) : Type 0 where
@@ -143,6 +160,11 @@ pub record Called (did : WireEntry) (places_then : Adds) (s t : Stream) : Type 0
 abbrev pub Did : Option WireEntry → Adds → Stream → Stream → Type 0
 Did None a s t = t ≡ s
 Did (Some did) a s t = Called did a s t
+
+-- what a note did: the mark was added, and nothing of the server's
+abbrev pub Marked : {T E : Type 0} → Mark → Result T E → Stream → Stream → Type 0
+Marked mark (Ok x) s t = t ≡ shows (Noted mark) s
+Marked mark (Err e) s t = t ≡ s
 
 -- after a write: the record where its last bytes were taken, and the part of it where the wire failed
 abbrev pub if_wrote : ℕ → List ℕ → Result ℕ LinkFault → Adds

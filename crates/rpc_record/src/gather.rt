@@ -154,7 +154,7 @@ impl Gather {
         self.clear();
     }
 
-    /// Takes bytes from the front, and answers how many: at least one. After want of memory none was taken.
+    /// Takes bytes from the front, and answers how many: at least one. When out of memory none was taken.
     pub(crate) fn take(&mut self, bytes: &[u8]) -> Result<usize, Memory>
         requires some { 0 < length bytes.now }
         requires on { IsOpen self.old.phase }

@@ -39,7 +39,7 @@ impl Model for Inbox {
     ghost invariant = { λ i. (i.at ≤ i.end) × (i.end ≤ length i.buffer.items) };
 }
 
-/// Makes the buffer where there is none yet. After want of memory there is none, and the answer is false.
+/// Makes the buffer where there is none yet. When out of memory there is none, and the answer is false.
 fn open(buffer: &mut Vec<u8>) -> bool
     ensures { OnTrue result (0 < length buffer.new.items) }
 {
@@ -87,7 +87,7 @@ impl Inbox {
         self.gather.hand_out(rec);
     }
 
-    /// Takes bytes into the record until it ends or none is left. After want of memory the others are kept.
+    /// Takes bytes into the record until it ends or none is left. When out of memory the others are kept.
     pub(crate) fn work(&mut self) -> Result<(), Memory>
         ensures same { (more : List ℕ) → resumes self.old.gather (self.old.unread ++ more) ≡ resumes self.new.gather (self.new.unread ++ more) }
         ensures shut { self.old.gather.phase ≡ phases.Long → self.new.gather.phase ≡ phases.Long }

@@ -7,8 +7,6 @@ mod kept;
 mod line;
 mod sending;
 mod stream_link;
-#[cfg(test)]
-mod tests;
 
-pub use sending::Sending;
+pub use sending::SendState;
 pub use stream_link::StreamLink;

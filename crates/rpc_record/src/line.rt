@@ -4,11 +4,11 @@ ghost use Rattle.std.specs.Prelude.{◌≡◌, ◌<◌, ◌≤◌, ◌∷◌, �
 ghost use Rattle.std.specs.Bool.{OnTrue, OnFalse};
 ghost use Rattle.outside.specs.Causes.{HasCause};
 ghost use Rattle.outside.specs.Sink.{TakesSome};
-ghost use Rattle.outside.specs.Wire.{connected_as, wrote_as, read_as, marked_as, IfGot, GetsSome, HasCauseRead};
+ghost use Rattle.outside.specs.Wire.{connected_as, wrote_as, read_as, IfGot, GetsSome, HasCauseRead};
 ghost use Rattle.rpc_record.specs.declared.kept.Kept.{Kept};
 ghost use Rattle.rpc_record.specs.declared.kept.Adds.TheVariants as added;
 ghost use Rattle.rpc_record.specs.Honest.{HonestOver, EndsRecord, IsOwn, IsFresh};
-ghost use Rattle.rpc_record.specs.Stream.{Goes, Did, places, if_wrote, if_missed, if_dialed, IsBegun, now_in};
+ghost use Rattle.rpc_record.specs.Stream.{Goes, Did, Marked, KeepsNone, PutsLast, places, if_wrote, if_missed, if_dialed, if_tells, IsBegun, now_in};
 
 use crate::kept::{Adds, Kept};
 use outside::{LinkFault, Wire, WireRead};
@@ -19,7 +19,7 @@ use world_model::Mark;
 use xdr_codec::{Blob, Memory};
 
 /// A wire, with what is placed behind its calls. Each call keeps its place before the wire is called, so that nothing
-/// that happened is left without one for want of memory.
+/// that happened is left without one for lack of memory. Over a wire that doesn't tell its calls nothing is kept.
 #[derive(Drop)]
 pub(crate) struct Line<W: Wire> {
     alloc: Global,
@@ -37,20 +37,26 @@ impl<W: Wire> Model for Line<W> {
     ghost invariant = { λ s. AllPlaced (W.told s.wire) s.kept.items };
 }
 
-/// Puts k in place of the last.
+/// Puts k in place of the last, if there is one.
 fn put(kept: &mut Vec<Kept>, k: Kept)
-    requires { 0 < length kept.old.items }
-    ensures { (ks : List Kept) (j : Kept) → kept.old.items ≡ ks ++ j ∷ [] → kept.new.items ≡ ks ++ k ∷ [] }
+    ensures { PutsLast kept.old.items kept.new.items k }
 {
+    if kept.is_empty() {
+        return;
+    }
     let at = kept.len() - 1;
     kept[at] = k;
 }
 
-/// Keeps a place for what comes next. After want of memory nothing is changed, and the answer is false.
-fn room(kept: &mut Vec<Kept>) -> bool
-    ensures yes { OnTrue result (kept.new.items ≡ kept.old.items ++ record { call = false; adds = added.Nothing } ∷ []) }
+/// Keeps a place for what comes next, where the wire tells its calls. When out of memory nothing is changed, and the
+/// answer is false.
+fn room(kept: &mut Vec<Kept>, tells: bool) -> bool
+    ensures yes { OnTrue result (kept.new.items ≡ kept.old.items ++ if_tells tells (record { call = false; adds = added.Nothing })) }
     ensures no { OnFalse result (kept.new.items ≡ kept.old.items) }
 {
+    if !tells {
+        return true;
+    }
     let nothing = Kept {
         call: false,
         adds: Adds::Nothing,
@@ -74,7 +80,7 @@ fn take_bytes(alloc: Global, from: &mut Blob) -> Blob
 
 impl<W: Wire + Drop> Line<W> {
     /// A line over a wire. What the wire did before is no part of it.
-    #[tactic(auto, using(crate::proofs::Begun::fresh_placed, crate::proofs::Begun::fresh_begun))]
+    #[tactic(auto, using(crate::proofs::LineBegins::fresh_placed, crate::proofs::LineBegins::fresh_begun))]
     pub(crate) fn new(alloc: Global, wire: W) -> Line<W>
         ensures begun { IsBegun (W.told wire) (now_in W.told result) }
         ensures honest { IsFresh (W.told wire) → W.honest wire → HonestOver W.told W.honest result }
@@ -94,14 +100,23 @@ impl<W: Wire + Drop> Line<W> {
         self.wire
     }
 
-    /// Places an entry after all that was done. After want of memory nothing is changed, and the answer is false.
+    /// How many places it keeps: none where the wire doesn't tell its calls.
+    pub(crate) fn kept(&self) -> usize
+        ensures untold { KeepsNone (W.told self.now.over) self.now.kept }
+        ensures count { result ≡ length self.now.kept }
+    {
+        self.kept.len()
+    }
+
+    /// Places an entry after all that was done. When out of memory nothing is changed, and the answer is false.
     pub(crate) fn place(&mut self, adds: Adds) -> bool
         ensures yes { OnTrue result (Goes (now_in W.told self.old) (now_in W.told self.new) (λ s t. t ≡ places adds s)) }
         ensures no { OnFalse result (now_in W.told self.new ≡ now_in W.told self.old) }
         ensures honest { IsOwn adds → HonestOver W.told W.honest self.old → HonestOver W.told W.honest self.new }
         ensures faults { self.new.faults ≡ self.old.faults }
     {
-        if !room(&mut self.kept) {
+        let telling = self.wire.tells();
+        if !room(&mut self.kept, telling) {
             return false;
         }
         put(&mut self.kept, Kept { call: false, adds });
@@ -117,7 +132,8 @@ impl<W: Wire + Drop> Line<W> {
         ensures gets { IfGot result (GetsSome buf.new) }
         ensures cause { HasCauseRead self.old.faults self.new.faults result }
     {
-        if !room(&mut self.kept) {
+        let telling = self.wire.tells();
+        if !room(&mut self.kept, telling) {
             return WireRead::Memory;
         }
         let got = self.wire.read(wait_ms, buf);
@@ -131,8 +147,8 @@ impl<W: Wire + Drop> Line<W> {
         got
     }
 
-    /// Writes bytes, the last ones of a record. Where the wire takes them all, the record is placed; where it fails, the
-    /// record is one that was not written whole, and its bytes are taken out of part.
+    /// Writes bytes, the last ones of a record. Where the wire takes them all, the record is placed; where it fails,
+    /// the record is one that was not written whole, and its bytes are taken out of part.
     pub(crate) fn write(&mut self, bytes: &[u8], part: &mut Blob) -> Result<usize, LinkFault>
         ensures now { Goes (now_in W.told self.old) (now_in W.told self.new) (Did (wrote_as bytes.now result) (if_wrote (length bytes.now) part.old result)) }
         ensures honest { EndsRecord (now_in W.told self.old) bytes.now → HonestOver W.told W.honest self.old → HonestOver W.told W.honest self.new }
@@ -140,7 +156,8 @@ impl<W: Wire + Drop> Line<W> {
         ensures part { IfOk result (λ n. part.new ≡ part.old) }
         ensures cause { HasCause self.old.faults self.new.faults result }
     {
-        if !room(&mut self.kept) {
+        let telling = self.wire.tells();
+        if !room(&mut self.kept, telling) {
             return Err(LinkFault::Memory);
         }
         match self.wire.write(bytes) {
@@ -166,7 +183,8 @@ impl<W: Wire + Drop> Line<W> {
         ensures honest { HonestOver W.told W.honest self.old → HonestOver W.told W.honest self.new }
         ensures cause { HasCause self.old.faults self.new.faults result }
     {
-        if !room(&mut self.kept) {
+        let telling = self.wire.tells();
+        if !room(&mut self.kept, telling) {
             return Err(LinkFault::Memory);
         }
         match self.wire.connect(port) {
@@ -186,11 +204,12 @@ impl<W: Wire + Drop> Line<W> {
 
     /// Notes a mark.
     pub(crate) fn note(&mut self, mark: Mark) -> Result<(), Memory>
-        ensures now { Goes (now_in W.told self.old) (now_in W.told self.new) (Did (marked_as mark result) added.Nothing) }
+        ensures now { Goes (now_in W.told self.old) (now_in W.told self.new) (Marked mark result) }
         ensures honest { HonestOver W.told W.honest self.old → HonestOver W.told W.honest self.new }
         ensures cause { self.old.faults ≤ self.new.faults }
     {
-        if !room(&mut self.kept) {
+        let telling = self.wire.tells();
+        if !room(&mut self.kept, telling) {
             return Err(Memory);
         }
         match self.wire.note(mark) {

@@ -9,12 +9,12 @@ use xdr_codec::Memory;
 
 /// What became of the records that were sent on a connection.
 #[derive(Clone, Copy, Debug, PartialEq, Eq)]
-pub enum Sending {
+pub enum SendState {
     /// Each went out whole, or not at all.
     Fine,
     /// The wire failed after it took a part of one.
     Broken,
-    /// Memory was wanting after the wire took a part of one.
+    /// Memory ran out after the wire took a part of one.
     Starved,
 }
 

@@ -1,12 +1,12 @@
 //! A link over a wire.
 
-ghost use Rattle.std.specs.Prelude.{◌≡◌, ◌≤◌, ◌<◌, ◌+◌, ◌∷◌, [], ℕ, List};
+ghost use Rattle.std.specs.Prelude.{◌≡◌, ◌≤◌, ◌<◌, ◌+◌, ◌∷◌, [], ℕ, List, length};
 ghost use Rattle.world_model.specs.Told.{Tells};
-ghost use Rattle.outside.specs.Link.{sent_as, received_as, dialed_as, noted_as};
+ghost use Rattle.outside.specs.Link.{NotesOnly, sent_as, received_as, dialed_as, noted_as};
 ghost use Rattle.outside.specs.Causes.{HasCause, HasCauseReceived};
 ghost use Rattle.rpc_record.specs.declared.gather.Phase.TheVariants as phases;
-ghost use Rattle.rpc_record.specs.declared.sending.Sending.TheVariants as sendings;
-ghost use Rattle.rpc_record.specs.Stream.{Goes, IsBegun};
+ghost use Rattle.rpc_record.specs.declared.sending.SendState.TheVariants as sendings;
+ghost use Rattle.rpc_record.specs.Stream.{Goes, IsBegun, KeepsNone};
 ghost use Rattle.rpc_record.specs.Honest.{HonestOver, IsFresh};
 ghost use Rattle.rpc_record.specs.Shown.{Waits, Turned, Turns, GoesOn, Sends, left_by, shown_by, told_by, line_of};
 
@@ -14,7 +14,7 @@ use crate::gather::Phase;
 use crate::inbox::Inbox;
 use crate::kept::Adds;
 use crate::line::Line;
-use crate::sending::{Sending, framed};
+use crate::sending::{SendState, framed};
 use outside::{Link, LinkFault, Received, Wire, WireRead};
 use std::alloc::Global;
 use std::marker::Model;
@@ -32,7 +32,7 @@ pub struct StreamLink<W: Wire> {
     alloc: Global,
     line: Line<W>,
     inbox: Inbox,
-    sending: Sending,
+    sending: SendState,
     faults: u64,
 }
 
@@ -47,23 +47,23 @@ impl<W: Wire> Model for StreamLink<W> {
     ghost invariant = { λ s. Follows (now_in W.told s.line) s.inbox (partly s.sending) };
 }
 
-/// What a connection is good for after a sending that failed, by how many bytes of the record were taken.
-fn after(at: usize, fault: LinkFault) -> Sending
+/// What a connection is good for after a transmission that failed, by how many bytes of the record were taken.
+fn after(at: usize, fault: LinkFault) -> SendState
     ensures { result ≡ left_by at fault }
 {
     if at == 0 {
-        return Sending::Fine;
+        return SendState::Fine;
     }
     match fault {
-        LinkFault::Failed => Sending::Broken,
-        LinkFault::Memory => Sending::Starved,
+        LinkFault::Failed => SendState::Broken,
+        LinkFault::Memory => SendState::Starved,
     }
 }
 
 impl<W: Wire + Drop> StreamLink<W> {
     /// A link over a wire, with an empty history: what the wire did before is no part of it. Over an honest wire that
     /// did nothing yet the link is honest.
-    #[tactic(auto, using(crate::proofs::Following::begun_follows))]
+    #[tactic(auto, using(crate::proofs::LineSteps::begun_follows))]
     pub fn new(alloc: Global, wire: W) -> StreamLink<W>
         ensures begun { IsBegun (W.told wire) (shown_by W.told result).now }
         ensures honest { IsFresh (W.told wire) → W.honest wire → HonestOver W.told W.honest (line_of result) }
@@ -74,7 +74,7 @@ impl<W: Wire + Drop> StreamLink<W> {
             alloc,
             line: Line::new(alloc, wire),
             inbox: Inbox::new(alloc),
-            sending: Sending::Fine,
+            sending: SendState::Fine,
             faults: 0,
         }
     }
@@ -84,6 +84,15 @@ impl<W: Wire + Drop> StreamLink<W> {
         ensures { W.faults result ≡ self.wire }
     {
         self.line.into_wire()
+    }
+
+    /// How many places it keeps, each for a call of the wire or an entry of its own. Over a wire that doesn't tell its
+    /// calls it keeps none, so that a call takes no memory that stays.
+    pub fn kept(&self) -> usize
+        ensures untold { KeepsNone (W.told self.now.over) self.now.kept }
+        ensures count { result ≡ length self.now.kept }
+    {
+        self.line.kept()
     }
 
     /// Delivers the record that ended.
@@ -112,7 +121,8 @@ impl<W: Wire + Drop> StreamLink<W> {
         Received::Failed
     }
 
-    /// One turn of a wait: it works what came into the record, and ends with it or waits for bytes. None where bytes came.
+    /// One turn of a wait: it works what came into the record, and ends with it or waits for bytes. None where bytes
+    /// came.
     fn turn(&mut self, wait_ms: u32, rec: &mut Vec<u8>) -> Option<Received>
         requires { 15000 ≤ wait_ms }
         ensures turns { Turns (shown_by W.told self.old) (shown_by W.told self.new) rec.new.items result }
@@ -130,7 +140,7 @@ impl<W: Wire + Drop> StreamLink<W> {
     }
 
     /// Waits for a record.
-    #[tactic(auto, using(crate::proofs::Turning::turned_on, crate::proofs::Turning::goes_on_then, crate::proofs::Turning::goes_on_same, crate::proofs::Turning::ended_on))]
+    #[tactic(auto, using(crate::proofs::WaitTurns::turned_on, crate::proofs::WaitTurns::goes_on_then, crate::proofs::WaitTurns::goes_on_same, crate::proofs::WaitTurns::ended_on))]
     fn wait(&mut self, wait_ms: u32, rec: &mut Vec<u8>) -> Received
         requires { 15000 ≤ wait_ms }
         ensures turned { Turned (shown_by W.told self.old) (shown_by W.told self.new) rec.new.items result }
@@ -206,9 +216,9 @@ impl<W: Wire + Drop> StreamLink<W> {
         ensures sends { Sends (shown_by W.told self.old) (shown_by W.told self.new) rec.now result }
     {
         match self.sending {
-            Sending::Fine => self.send_fine(rec),
-            Sending::Broken => self.refuse_send(rec),
-            Sending::Starved => Err(LinkFault::Memory),
+            SendState::Fine => self.send_fine(rec),
+            SendState::Broken => self.refuse_send(rec),
+            SendState::Starved => Err(LinkFault::Memory),
         }
     }
 }
@@ -233,12 +243,12 @@ impl<W: Wire + Drop> Link for StreamLink<W> {
         match self.line.connect(port) {
             Ok(()) => {
                 self.inbox.clear();
-                self.sending = Sending::Fine;
+                self.sending = SendState::Fine;
                 Ok(())
             }
             Err(LinkFault::Failed) => {
                 self.inbox.clear();
-                self.sending = Sending::Fine;
+                self.sending = SendState::Fine;
                 Err(LinkFault::Failed)
             }
             Err(LinkFault::Memory) => Err(LinkFault::Memory),
@@ -266,7 +276,7 @@ impl<W: Wire + Drop> Link for StreamLink<W> {
     }
 
     fn note(&mut self, mark: Mark) -> Result<(), Memory>
-        ensures told { Tells (told_by W.told self.old) (told_by W.told self.new) (noted_as mark result) }
+        ensures told { NotesOnly (told_by W.told self.old) (told_by W.told self.new) (noted_as mark result) }
         ensures honest { HonestOver W.told W.honest (line_of self.old) → HonestOver W.told W.honest (line_of self.new) }
         ensures cause { self.old.wire + self.old.own ≤ self.new.wire + self.new.own }
         ensures notes { Notes (shown_by W.told self.old) (shown_by W.told self.new) }

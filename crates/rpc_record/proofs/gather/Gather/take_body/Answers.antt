@@ -1,6 +1,6 @@
 use Rattle.std.proofs.Common.{◌≡◌, arith, ap, ◌∙◌, refl}
 use Rattle.rpc_record.specs.declared.gather.Phase.TheVariants as phases
-use Rattle.rpc_record.proofs.Gathering.{took_body}
+use Rattle.rpc_record.proofs.GatherLemmas.{took_body}
 use Rattle.rpc_record.specs.Gather.{Gathered, IsGathered}
 use Rattle.rpc_record.proofs.gather.Gather.take_body.Goals as goal
 

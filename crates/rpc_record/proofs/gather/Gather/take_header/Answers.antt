@@ -1,7 +1,7 @@
 use Rattle.std.proofs.Common.{◌≡◌, ◌++◌, ℕ, List, length, take, arith, ap, ◌∙◌, refl}
 use Rattle.byteorder.specs.Endian.{big_number}
 use Rattle.rpc_record.specs.declared.gather.Phase.TheVariants as phases
-use Rattle.rpc_record.proofs.Gathering.{took_header_whole}
+use Rattle.rpc_record.proofs.GatherLemmas.{took_header_whole}
 use Rattle.rpc_record.specs.Gather.{Gathered, IsGathered, begins}
 use Rattle.rpc_record.proofs.gather.Gather.take_header.Goals as goal
 

@@ -1,4 +1,4 @@
-use Rattle.rpc_record.proofs.Honesty.{begins_honest}
+use Rattle.rpc_record.proofs.LineStaysHonest.{begins_honest}
 use Rattle.rpc_record.proofs.line.Line.new.Goals as goal
 
 pub returns-clause-honest : goal.returns-clause-honest

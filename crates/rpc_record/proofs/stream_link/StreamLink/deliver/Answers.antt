@@ -1,7 +1,7 @@
 use Rattle.std.proofs.Common.{◌≡◌, sym, ◌∙◌, refl, arith}
 use Rattle.rpc_record.specs.declared.gather.Phase.TheVariants as phases
-use Rattle.rpc_record.proofs.Turning.{phase_of}
-use Rattle.rpc_record.proofs.Following.{deliver_step, deliver_hears}
+use Rattle.rpc_record.proofs.WaitTurns.{phase_of}
+use Rattle.rpc_record.proofs.LineSteps.{deliver_step, deliver_hears}
 use Rattle.rpc_record.proofs.stream_link.StreamLink.deliver.Goals as goal
 
 pub invariant_of-self-2 : goal.invariant_of-self-2

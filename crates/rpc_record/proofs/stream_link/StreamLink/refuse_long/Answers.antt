@@ -1,8 +1,8 @@
 use Rattle.std.proofs.Common.{◌≡◌, ◌∙◌, refl, arith}
 use Rattle.rpc_record.specs.declared.gather.Phase.TheVariants as phases
 use Rattle.rpc_record.specs.Shown.{FailedWait}
-use Rattle.rpc_record.proofs.Following.{fault_step, holds_long}
-use Rattle.rpc_record.proofs.Turning.{fault_heard, fault_came, phase_of}
+use Rattle.rpc_record.proofs.LineSteps.{fault_step, holds_long}
+use Rattle.rpc_record.proofs.WaitTurns.{fault_heard, fault_came, phase_of}
 use Rattle.rpc_record.proofs.stream_link.StreamLink.refuse_long.Goals as goal
 
 pub returns-clause-turned : goal.returns-clause-turned

@@ -1,4 +1,4 @@
-use Rattle.rpc_record.proofs.Following.{unsent_step}
+use Rattle.rpc_record.proofs.LineSteps.{unsent_step}
 use Rattle.rpc_record.proofs.stream_link.StreamLink.refuse_send.Goals as goal
 
 pub returns-clause-told : goal.returns-clause-told

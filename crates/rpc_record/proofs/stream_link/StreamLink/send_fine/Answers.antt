@@ -1,9 +1,9 @@
 use Rattle.std.proofs.Common.{◌≡◌, drop, ◌∙◌, refl, arith}
-use Rattle.rpc_record.specs.declared.sending.Sending.TheVariants as sendings
+use Rattle.rpc_record.specs.declared.sending.SendState.TheVariants as sendings
 use Rattle.rpc_record.specs.Shown.{shown_by}
-use Rattle.rpc_record.proofs.Turning.{sending_of}
-use Rattle.rpc_record.proofs.Honesty.{ends_record}
-use Rattle.rpc_record.proofs.Writing.{begins_writing, goes_on_writing, ends_writing, fails_writing, starves_writing, nothing_sent}
+use Rattle.rpc_record.proofs.WaitTurns.{sending_of}
+use Rattle.rpc_record.proofs.LineStaysHonest.{ends_record}
+use Rattle.rpc_record.proofs.RecordGoesOut.{begins_writing, goes_on_writing, ends_writing, fails_writing, starves_writing, nothing_sent}
 use Rattle.rpc_record.proofs.stream_link.StreamLink.send_fine.Goals as goal
 
 pub returns-in_default-clause-sends : goal.returns-in_default-clause-sends

@@ -2,8 +2,8 @@ use Rattle.std.proofs.Common.{◌≡◌, ◌≤◌, ◌-◌, length}
 use Rattle.rpc_record.specs.Honest.{HonestOver}
 use Rattle.rpc_record.specs.Stream.{now_in}
 use Rattle.rpc_record.specs.Shown.{shown_by, line_of}
-use Rattle.rpc_record.proofs.Writing.{Writing}
-use Rattle.rpc_record.specs.declared.sending.Sending.TheVariants as sendings
+use Rattle.rpc_record.proofs.RecordGoesOut.{Writing}
+use Rattle.rpc_record.specs.declared.sending.SendState.TheVariants as sendings
 use Rattle.rpc_record.proofs.stream_link.StreamLink.send_fine.Given as goal
 
 abbrev pub invariant-loop-at : goal.invariant-loop-at

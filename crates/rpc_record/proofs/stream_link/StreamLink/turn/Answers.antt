@@ -1,8 +1,8 @@
 use Rattle.std.proofs.Common.{◌≡◌, sym, ◌∙◌, refl}
 use Rattle.rpc_record.specs.declared.gather.Phase.TheVariants as phases
 use Rattle.rpc_record.specs.Shown.{IsDone}
-use Rattle.rpc_record.proofs.Following.{work_step}
-use Rattle.rpc_record.proofs.Turning.{fill_step, fill_turn, turned_on, goes_on_in}
+use Rattle.rpc_record.proofs.LineSteps.{work_step}
+use Rattle.rpc_record.proofs.WaitTurns.{fill_step, fill_turn, turned_on, goes_on_in}
 use Rattle.rpc_record.proofs.stream_link.StreamLink.turn.Goals as goal
 
 pub invariant_of-self-in-Header : goal.invariant_of-self-in-Header

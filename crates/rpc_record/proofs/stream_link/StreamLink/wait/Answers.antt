@@ -1,4 +1,4 @@
-use Rattle.rpc_record.proofs.Turning.{turned_on, goes_on_then}
+use Rattle.rpc_record.proofs.WaitTurns.{turned_on, goes_on_then}
 use Rattle.rpc_record.proofs.stream_link.StreamLink.wait.Goals as goal
 
 pub returns-in-Some-clause-turned : goal.returns-in-Some-clause-turned

@@ -1,4 +1,4 @@
-use Rattle.rpc_record.proofs.Following.{dial_step, dial_failed}
+use Rattle.rpc_record.proofs.LineSteps.{dial_step, dial_failed}
 use Rattle.rpc_record.proofs.stream_link.StreamLinkLink.dial.Goals as goal
 
 pub invariant_of-self : goal.invariant_of-self

@@ -15,9 +15,9 @@ use Rattle.rpc_record.specs.declared.kept.Adds.{Adds}
 use Rattle.rpc_record.specs.declared.kept.Adds.TheVariants as added
 use Rattle.rpc_record.specs.Stream.{Stream, begun, quietly, shows, sends, delivers, places}
 use Rattle.rpc_record.specs.Honest.{Queued, Mirrors, IsOwn}
-use Rattle.rpc_record.proofs.Joins.{left_grow, left_next, nth_is}
-use Rattle.rpc_record.proofs.Lawfuls.{Both, both_steps, both_add, both_failed, both_sent, both_delivered, both_heard, lawful_all, lawful_front, follows_keeps}
-use Rattle.rpc_record.proofs.Splitting.{no_record, split_none, split_one, queue_keeps, queue_more, queue_next}
+use Rattle.rpc_record.proofs.RecordJoins.{left_grow, left_next, nth_is}
+use Rattle.rpc_record.proofs.LawfulAlong.{Both, both_steps, both_add, both_failed, both_sent, both_delivered, both_heard, lawful_all, lawful_front, follows_keeps}
+use Rattle.rpc_record.proofs.SplitRecords.{no_record, split_none, split_one, queue_keeps, queue_more, queue_next}
 
 pub record State (r : Reading) (s : Stream) : Type 0 where
   pub mirrors : Mirrors r s

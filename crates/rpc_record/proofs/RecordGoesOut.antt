@@ -10,13 +10,13 @@ use Rattle.outside.specs.declared.link.LinkFault.TheVariants as faults
 use Rattle.outside.specs.declared.wire.WireEntry.TheVariants.{Wrote, Missed}
 use Rattle.rpc_record.specs.declared.kept.Adds.{Adds}
 use Rattle.rpc_record.specs.declared.kept.Adds.TheVariants as added
-use Rattle.rpc_record.specs.declared.sending.Sending.TheVariants as sendings
+use Rattle.rpc_record.specs.declared.sending.SendState.TheVariants as sendings
 use Rattle.outside.specs.Records.{nth_record}
 use Rattle.rpc_record.specs.Records.{one_fragment}
 use Rattle.rpc_record.specs.Stream.{Stream, Goes, Did, places, sends, delivers, told_of}
 use Rattle.rpc_record.specs.Shown.{Shown, Waiting, Follows, partly, left_by, TookPart, Writes, IfSendFailed, Sends}
-use Rattle.rpc_record.proofs.Joins.{last_part, more_taken, fragment_some}
-use Rattle.rpc_record.proofs.Following.{write_step, whole_step, part_step, no_step, less_known, tells_same, tells_on, after_whole, after_part}
+use Rattle.rpc_record.proofs.RecordJoins.{last_part, more_taken, fragment_some}
+use Rattle.rpc_record.proofs.LineSteps.{write_step, whole_step, part_step, no_step, less_known, tells_same, tells_on, after_whole, after_part}
 
 -- the bytes that were written, behind those before
 abbrev pub WroteMore : List ℕ → Stream → Stream → Type 0
@@ -114,7 +114,7 @@ left_follows now w text zero fault f = f
 left_follows now w text (suc at) faults.Failed f = less_known now w (take (suc at) text) f
 left_follows now w text (suc at) faults.Memory f = less_known now w (take (suc at) text) f
 
--- the sending failed, perhaps after a part was taken
+-- the transmission failed, perhaps after a part was taken
 pub record Unwritten (old : Shown) (new : Option Stream) (w : Waiting) (rec : List ℕ) (at : ℕ) (fault : LinkFault) : Type 0 where
   pub tells : Tells (told_of old.now) (told_of new) (sent_as {T = Unit {0}} rec (Err fault))
   pub follows : Follows new w (partly (left_by at fault))
@@ -139,7 +139,7 @@ starves_writing old now new w rec text at k is e = record {
   took = goes_as _ _ _ _ (took_part faults.Memory text rec at is k.part) (wrote_then old.now now new (take at text) [] _ did_none k.went e);
 }
 
--- ---- what a sending comes to
+-- ---- what a transmission comes to
 
 pub fine_sends : {T : Type 0} (old new : Shown) (rec : List ℕ) (result : Result T LinkFault) → old.sending ≡ sendings.Fine → old.wire ≤ new.wire → new.own ≡ old.own → new.phase ≡ old.phase
     → Goes old.now new.now (Writes rec result new.sending) → IfSendFailed result (Rose old.wire new.wire) → Sends old new rec result

@@ -11,8 +11,8 @@ use Rattle.world_model.proofs.Places.{At-last}
 use Rattle.outside.specs.Records.{joined, record_at, split_next, split_in, split}
 use Rattle.outside.specs.Reading.{adds, all_add}
 use Rattle.rpc_record.specs.Honest.{Queued}
-use Rattle.rpc_record.proofs.Joins.{guard_some, joined_last, joined_next, less_one, record_grow}
-use Rattle.rpc_record.proofs.Lawfuls.{Keeps, all_keeps}
+use Rattle.rpc_record.proofs.RecordJoins.{guard_some, joined_last, joined_next, less_one, record_grow}
+use Rattle.rpc_record.proofs.LawfulAlong.{Keeps, all_keeps}
 
 -- ---- a record at the front
 

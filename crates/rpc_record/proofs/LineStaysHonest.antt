@@ -17,11 +17,11 @@ use Rattle.rpc_record.specs.Stream.{Stream, Along, begun, quietly, shows, places
 use Rattle.rpc_record.specs.Records.{one_fragment}
 use Rattle.rpc_record.specs.Shown.{Waiting, Follows}
 use Rattle.rpc_record.specs.Honest.{Queued, Mirrored, HonestOver, EndsRecord, IsOwn, IsFresh}
-use Rattle.rpc_record.proofs.Replays.{placed_at, called_at}
-use Rattle.rpc_record.proofs.Begun.{begun_is}
-use Rattle.rpc_record.proofs.Joins.{fragment_record}
-use Rattle.rpc_record.proofs.Splitting.{no_record, part_none}
-use Rattle.rpc_record.proofs.Mirroring.{State, Permits, place_state, call_state}
+use Rattle.rpc_record.proofs.Replays.{OneMore, placed_at, called_at}
+use Rattle.rpc_record.proofs.LineBegins.{begun_is}
+use Rattle.rpc_record.proofs.RecordJoins.{fragment_record}
+use Rattle.rpc_record.proofs.SplitRecords.{no_record, part_none}
+use Rattle.rpc_record.proofs.LinkMirrorsWire.{State, Permits, place_state, call_state}
 
 -- what a link tells, along with its wire
 pub record Accords (t : Option WireTold) (now : Option Stream) : Type 0 where
@@ -65,23 +65,23 @@ may_at : (did : WireEntry) (a : Adds) (now : Option Stream) (s : Stream) → now
 may_at did a None s e p = absurd cc
 may_at did a (Some u) s e p = let same : u ≡ s = cc in subst (Permits did a) same p
 
-pub call_along : (old new : Option WireTold) (ks : List Kept) (own : WireEntry) (a : Adds) → AllPlaced old ks → WireTells old new (Some own) → MayPlace own a (now_of old ks)
-    → Accords old (now_of old ks) → IsLawfulWire new → Accords new (now_of new (ks ++ record { call = true; adds = a } ∷ []))
-call_along None None ks own a w e p l n = record { lawful = tt; mirrored = tt }
-call_along None (Some new) ks own a w e p l n = absurd cc
-call_along (Some t) None ks own a w e p l n = absurd e
-call_along (Some t) (Some new) ks own a w e p l n =
+pub call_along : (old new : Option WireTold) (ks js : List Kept) (own : WireEntry) (a : Adds) → AllPlaced old ks → OneMore old ks (record { call = true; adds = a }) js → WireTells old new (Some own) → MayPlace own a (now_of old ks)
+    → Accords old (now_of old ks) → IsLawfulWire new → Accords new (now_of new js)
+call_along None None ks js own a w more e p l n = record { lawful = tt; mirrored = tt }
+call_along None (Some new) ks js own a w more e p l n = absurd cc
+call_along (Some t) None ks js own a w more e p l n = absurd e
+call_along (Some t) (Some new) ks js own a w more e p l n =
     let c : WireCall = record { quiet = e.quiet; did = own } in
     let is = reading_more t new own e in
     let s = state_at t (now_of (Some t) ks) w.now w.is l in
     let after = call_state c a (reading t) w.now (may_at own a (now_of (Some t) ks) w.now w.is p) s (subst (λ (r : Reading). Lawful r.history) is n) in
-    along_at new _ (places a (shows own (quietly e.quiet w.now))) (called_at t new ks own a w e) (subst (λ (r : Reading). State r (places a (shows own (quietly e.quiet w.now)))) (sym is) after)
+    rw more (along_at new _ (places a (shows own (quietly e.quiet w.now))) (called_at t new ks own a w e) (subst (λ (r : Reading). State r (places a (shows own (quietly e.quiet w.now)))) (sym is) after))
 
-pub place_along : (told : Option WireTold) (ks : List Kept) (a : Adds) → AllPlaced told ks → IsOwn a → Accords told (now_of told ks) → IsLawfulWire told
-    → Accords told (now_of told (ks ++ record { call = false; adds = a } ∷ []))
-place_along None ks a w own l n = record { lawful = tt; mirrored = tt }
-place_along (Some t) ks a w own l n =
-    along_at t _ (places a w.now) (placed_at t ks a w) (place_state a (reading t) w.now own (state_at t (now_of (Some t) ks) w.now w.is l) n)
+pub place_along : (told : Option WireTold) (ks js : List Kept) (a : Adds) → AllPlaced told ks → OneMore told ks (record { call = false; adds = a }) js → IsOwn a → Accords told (now_of told ks) → IsLawfulWire told
+    → Accords told (now_of told js)
+place_along None ks js a w more own l n = record { lawful = tt; mirrored = tt }
+place_along (Some t) ks js a w more own l n =
+    rw more (along_at t _ (places a w.now) (placed_at t ks a w) (place_state a (reading t) w.now own (state_at t (now_of (Some t) ks) w.now w.is l) n))
 
 none_told : (old new : Option WireTold) → WireTells old new None → new ≡ old
 none_told None new e = e
@@ -102,32 +102,31 @@ at_wire wire ks faults = record { over = wire; kept = ks; faults = faults }
 abbrev pub IsLaw : {W : Type 0} → (W → Option WireTold) → (W → Type 0) → Type 0
 IsLaw {W = W} told honest = (x : W) → honest x → IsLawfulWire (told x)
 
-pub call_honest : {W : Type 0} (told : W → Option WireTold) (honest : W → Type 0) (law : IsLaw told honest) (x y : W) (ks : List Kept) (f g : ℕ) (own : WireEntry) (a : Adds)
-    → AllPlaced (told x) ks → WireTells (told x) (told y) (Some own) → (honest x → honest y) → MayPlace own a (now_of (told x) ks)
-    → HonestOver told honest (at_wire x ks f) → HonestOver told honest (at_wire y (ks ++ record { call = true; adds = a } ∷ []) g)
-call_honest told honest law x y ks f g own a w e keeps p h =
-    over_of told honest (at_wire y (ks ++ record { call = true; adds = a } ∷ []) g) (keeps h.wire)
-    (call_along (told x) (told y) ks own a w e p (along_of told honest (at_wire x ks f) h) (law y (keeps h.wire)))
+pub call_honest : {W : Type 0} (told : W → Option WireTold) (honest : W → Type 0) (law : IsLaw told honest) (x y : W) (ks js : List Kept) (f g : ℕ) (own : WireEntry) (a : Adds)
+    → AllPlaced (told x) ks → OneMore (told x) ks (record { call = true; adds = a }) js → WireTells (told x) (told y) (Some own) → (honest x → honest y) → MayPlace own a (now_of (told x) ks)
+    → HonestOver told honest (at_wire x ks f) → HonestOver told honest (at_wire y js g)
+call_honest told honest law x y ks js f g own a w more e keeps p h =
+    over_of told honest (at_wire y js g) (keeps h.wire)
+    (call_along (told x) (told y) ks js own a w more e p (along_of told honest (at_wire x ks f) h) (law y (keeps h.wire)))
 
 -- the same where the call wrote no bytes
-pub own_honest : {W : Type 0} (told : W → Option WireTold) (honest : W → Type 0) (law : IsLaw told honest) (x y : W) (ks : List Kept) (f g : ℕ) (own : WireEntry) (a : Adds)
-    → AllPlaced (told x) ks → WireTells (told x) (told y) (Some own) → (honest x → honest y) → IsUnwritten own → IsOwn a
-    → HonestOver told honest (at_wire x ks f) → HonestOver told honest (at_wire y (ks ++ record { call = true; adds = a } ∷ []) g)
-own_honest told honest law x y ks f g own a w e keeps free is h = call_honest told honest law x y ks f g own a w e keeps (own_may own a (now_of (told x) ks) free is) h
+pub own_honest : {W : Type 0} (told : W → Option WireTold) (honest : W → Type 0) (law : IsLaw told honest) (x y : W) (ks js : List Kept) (f g : ℕ) (own : WireEntry) (a : Adds)
+    → AllPlaced (told x) ks → OneMore (told x) ks (record { call = true; adds = a }) js → WireTells (told x) (told y) (Some own) → (honest x → honest y) → IsUnwritten own → IsOwn a
+    → HonestOver told honest (at_wire x ks f) → HonestOver told honest (at_wire y js g)
+own_honest told honest law x y ks js f g own a w more e keeps free is h = call_honest told honest law x y ks js f g own a w more e keeps (own_may own a (now_of (told x) ks) free is) h
 
-pub place_honest : {W : Type 0} (told : W → Option WireTold) (honest : W → Type 0) (law : IsLaw told honest) (x : W) (ks : List Kept) (f : ℕ) (a : Adds)
-    → AllPlaced (told x) ks → IsOwn a
-    → HonestOver told honest (at_wire x ks f) → HonestOver told honest (at_wire x (ks ++ record { call = false; adds = a } ∷ []) f)
-place_honest told honest law x ks f a w own h =
-    over_of told honest (at_wire x (ks ++ record { call = false; adds = a } ∷ []) f) h.wire
-    (place_along (told x) ks a w own (along_of told honest (at_wire x ks f) h) (law x h.wire))
+pub place_honest : {W : Type 0} (told : W → Option WireTold) (honest : W → Type 0) (law : IsLaw told honest) (x : W) (ks js : List Kept) (f : ℕ) (a : Adds)
+    → AllPlaced (told x) ks → OneMore (told x) ks (record { call = false; adds = a }) js → IsOwn a
+    → HonestOver told honest (at_wire x ks f) → HonestOver told honest (at_wire x js f)
+place_honest told honest law x ks js f a w more own h =
+    over_of told honest (at_wire x js f) h.wire
+    (place_along (told x) ks js a w more own (along_of told honest (at_wire x ks f) h) (law x h.wire))
 
-pub none_honest : {W : Type 0} (told : W → Option WireTold) (honest : W → Type 0) (law : IsLaw told honest) (x y : W) (ks : List Kept) (f g : ℕ)
-    → AllPlaced (told x) ks → WireTells (told x) (told y) None → (honest x → honest y)
-    → HonestOver told honest (at_wire x ks f) → HonestOver told honest (at_wire y (ks ++ record { call = false; adds = added.Nothing } ∷ []) g)
-none_honest told honest law x y ks f g w e keeps h =
-    let js : List Kept = ks ++ record { call = false; adds = added.Nothing } ∷ [] in
-    let l : Accords (told x) (now_of (told x) js) = place_along (told x) ks added.Nothing w tt (along_of told honest (at_wire x ks f) h) (law x h.wire) in
+pub none_honest : {W : Type 0} (told : W → Option WireTold) (honest : W → Type 0) (law : IsLaw told honest) (x y : W) (ks js : List Kept) (f g : ℕ)
+    → AllPlaced (told x) ks → OneMore (told x) ks (record { call = false; adds = added.Nothing }) js → WireTells (told x) (told y) None → (honest x → honest y)
+    → HonestOver told honest (at_wire x ks f) → HonestOver told honest (at_wire y js g)
+none_honest told honest law x y ks js f g w more e keeps h =
+    let l : Accords (told x) (now_of (told x) js) = place_along (told x) ks js added.Nothing w more tt (along_of told honest (at_wire x ks f) h) (law x h.wire) in
     over_of told honest (at_wire y js g) (keeps h.wire) (rw (none_told (told x) (told y) e) l)
 
 -- ---- bytes of a record

@@ -14,7 +14,7 @@ pub begun_is : (t : WireTold) → begun_at 0 t ≡ begun (after_calls t.start t.
 begun_is t = rw (none_yet t.calls, all_before t.calls) refl
 
 pub fresh_placed : (told : Option WireTold) → AllPlaced told []
-fresh_placed None = tt
+fresh_placed None = refl
 fresh_placed (Some t) = record { enough = omega arith; now = begun_at 0 t; is = refl; all = none_yet t.calls }
 
 pub fresh_begun : (told : Option WireTold) → IsBegun told (now_of told [])

@@ -13,7 +13,7 @@ use Rattle.rpc_record.specs.declared.gather.Phase.TheVariants as phases
 use Rattle.outside.specs.Records.{nth_record}
 use Rattle.rpc_record.specs.Stream.{Stream, Goes, Did, places, told_of}
 use Rattle.rpc_record.specs.Shown.{Held, Shown, Waiting, Follows, Fills, HasCauseFilled, FailedWait, Because, Stays, Shut, Waits, NextIs, Hears, Heard, Turned, Turns, GoesOn}
-use Rattle.rpc_record.proofs.Following.{After, no_step, work_step, read_step, missed_step, tells_on, tells_same}
+use Rattle.rpc_record.proofs.LineSteps.{After, no_step, work_step, read_step, missed_step, tells_on, tells_same}
 
 -- what came of waiting for bytes
 abbrev pub filled_as : Option Received → List Entry

@@ -1,18 +1,17 @@
 -- What a link tells, and what it goes on keeping, after a step of its line.
-use Rattle.std.proofs.Common.{◌==◌, if◌then◌else◌, ◌≡◌, ℕ, List, [], ◌∷◌, ◌++◌, Option, Some, None, refl, sym, ap, ◌∙◌, append_assoc}
+use Rattle.std.proofs.Common.{◌==◌, if◌then◌else◌, ◌≡◌, ℕ, List, [], ◌∷◌, ◌++◌, Option, Some, None, Result, Ok, Err, refl, sym, ap, ◌∙◌, append_assoc}
 use Rattle.std.proofs.lemmas.Bool.{eq-eqb, ne_eqb}
 use Rattle.std.proofs.lemmas.List.{append-nil}
 use Rattle.world_model.specs.declared.entry.Entry.{Entry}
 use Rattle.world_model.specs.declared.entry.Entry.TheVariants.{Dialed, Sent, Delivered, Failed}
 use Rattle.world_model.specs.declared.entry.Mark.{Mark}
-use Rattle.world_model.specs.declared.entry.Mark.TheVariants as marks
 use Rattle.world_model.specs.Entries.{ours}
 use Rattle.world_model.specs.History.{History}
 use Rattle.world_model.specs.Told.{Adds, Tells}
 use Rattle.world_model.proofs.Histories.{ours-append, adds_then, adds_none}
 use Rattle.outside.specs.Wire.{Step, WireTold, entries_in}
 use Rattle.outside.specs.Reading.{now_at, goes_on, adds, follows}
-use Rattle.outside.specs.Link.{entry_of}
+use Rattle.outside.specs.Link.{NotesOnly, entry_of, noted_as}
 use Rattle.outside.specs.declared.link.Received.TheVariants as received
 use Rattle.outside.specs.declared.wire.WireEntry.TheVariants.{Connected, Wrote, Read, Noted, Missed}
 use Rattle.rpc_record.specs.declared.kept.Adds.TheVariants as added
@@ -22,10 +21,10 @@ use Rattle.outside.specs.Records.{record_at}
 use Rattle.rpc_record.specs.Limits.{Found, found_at}
 use Rattle.rpc_record.specs.Limits as limits
 use Rattle.rpc_record.specs.Gather.{resumes, resumes_in, unbegun}
-use Rattle.rpc_record.specs.Stream.{Stream, places, Goes, Did, told_of, IsBegun}
+use Rattle.rpc_record.specs.Stream.{Stream, places, Goes, Did, Marked, told_of, IsBegun}
 use Rattle.rpc_record.specs.Shown.{Waiting, Keeps, Follows, IfStream, HoldsLong, Hears}
-use Rattle.rpc_record.proofs.Joins.{left_grow, left_next, nth_is, found_is}
-use Rattle.rpc_record.proofs.Lawfuls.{at_old}
+use Rattle.rpc_record.proofs.RecordJoins.{left_grow, left_next, nth_is, found_is}
+use Rattle.rpc_record.proofs.LawfulAlong.{at_old}
 
 -- nothing came yet
 abbrev pub nothing : Waiting
@@ -39,11 +38,6 @@ from_start unread more = refl
 pub record After (old new : Option Stream) (w : Waiting) (unsent : Option (List ℕ)) (es : List Entry) : Type 0 where
   pub follows : Follows new w unsent
   pub tells : Tells (told_of old) (told_of new) es
-
-mark_ours : (mark : Mark) → ours (entry_of mark ∷ []) ≡ entry_of mark ∷ []
-mark_ours (marks.Began lane line op) = refl
-mark_ours (marks.Answered lane line answer) = refl
-mark_ours (marks.Clock ms) = refl
 
 adds_here : (h : History) (e : Entry) → ours (e ∷ []) ≡ e ∷ [] → Adds h (adds h e) (e ∷ [])
 adds_here h e own = record { more = e ∷ []; grown = refl; seen = own; earlier = λ n le. at_old h (now_at h) n le }
@@ -230,13 +224,22 @@ dial_failed (Some s) (Some t) w q port f e = rw e.is (record {
   tells = adds_two e.quiet s.history (Dialed port) Failed e.unseen refl refl;
 })
 
-pub note_step : (old new : Option Stream) (w : Waiting) (q : Option (List ℕ)) (mark : Mark) → Follows old w q → Goes old new (Did (Some (Noted mark)) added.Nothing) → After old new w q (entry_of mark ∷ [])
-note_step None None w q mark f e = record { follows = tt; tells = tt }
-note_step None (Some t) w q mark f e = absurd cc
-note_step (Some s) None w q mark f e = absurd e
-note_step (Some s) (Some t) w q mark f e = rw e.is (record {
+-- what a link is after a note
+pub record HasNoted (old new : Option Stream) (w : Waiting) (unsent : Option (List ℕ)) (es : List Entry) : Type 0 where
+  pub follows : Follows new w unsent
+  pub notes : NotesOnly (told_of old) (told_of new) es
+
+pub note_step : {T E : Type 0} (old new : Option Stream) (w : Waiting) (q : Option (List ℕ)) (mark : Mark) (result : Result T E) → Follows old w q → Goes old new (Marked mark result) → HasNoted old new w q (noted_as mark result)
+note_step None None w q mark result f e = record { follows = tt; notes = tt }
+note_step None (Some t) w q mark result f e = absurd cc
+note_step (Some s) None w q mark result f e = absurd e
+note_step (Some s) (Some t) w q mark (Ok x) f e = rw e (record {
   follows = record { pending = f.pending; came = f.came; reads = f.reads; went = f.went };
-  tells = adds_one e.quiet s.history (entry_of mark) e.unseen (mark_ours mark);
+  notes = record { grown = refl; earlier = λ n le. at_old s.history (now_at s.history) n le };
+})
+note_step (Some s) (Some t) w q mark (Err x) f e = rw e (record {
+  follows = f;
+  notes = record { grown = sym (append-nil s.history.entries); earlier = λ n le. refl };
 })
 
 pub begun_follows : (told : Option WireTold) (now : Option Stream) → IsBegun told now → Follows now nothing (Some [])
