@@ -15,7 +15,7 @@ status_of endings.Served = 0
 status_of endings.Lost = 6
 status_of endings.WriteFault = 5
 
--- a schedule that can't be read from its text: its faulty line, or want of memory
+-- a schedule that can't be read from its text: its faulty line, or out of memory
 abbrev pub refused_as : ScheduleFault → Ending
 refused_as (schedules.Line line) = endings.Schedule line
 refused_as schedules.Memory = endings.Memory

@@ -9,7 +9,7 @@ ghost use Rattle.nfs3.specs.Endings.{status_of, message_of};
 pub enum Ending {
     /// The words are of no known form.
     Usage,
-    /// Want of memory outside a session.
+    /// Out of memory outside a session.
     Memory,
     /// The schedule is faulty at that line; at 0 it can't be read or is too long.
     Schedule(u32),

@@ -5,14 +5,10 @@
 
 mod ending;
 mod export;
-#[cfg(test)]
-mod export_tests;
 mod replay;
 mod run;
 mod schedule_file;
 mod serving;
-#[cfg(test)]
-mod tests;
 
 use crate::ending::{Ending, message};
 use std::alloc::AllocError;

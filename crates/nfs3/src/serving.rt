@@ -59,7 +59,7 @@ impl Serving {
     }
 
     /// Serves one connection after another. It ends well once the calls were answered, and else where no connection can
-    /// be taken, after 65,536 connections or as many records that are no call, or by want of memory.
+    /// be taken, after 65,536 connections or as many records that are no call, or by lack of memory.
     pub fn serve_all<N: Net>(&mut self, listener: &mut LoopbackListener<'_, N>) -> Ending
         ensures served { result ≡ Served → self.new.calls ≡ 0 }
     {

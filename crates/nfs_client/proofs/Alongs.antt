@@ -1,11 +1,16 @@
 -- Calls of a link one after the other.
-use Rattle.std.proofs.Common.{inl, inr, ◌≡◌, ◌≤◌, ℕ, true, List, [], ◌++◌, Option, Some, None, sym, ap, subst, ◌∙◌, append_assoc, arith}
+use Rattle.std.proofs.Common.{inl, inr, ◌≡◌, ◌≤◌, ℕ, true, List, [], ◌∷◌, ◌++◌, Option, Some, None, Result, Ok, Err, refl, sym, ap, subst, ◌∙◌, append_assoc, arith}
 use Rattle.std.proofs.lemmas.List.{append-nil}
 use Rattle.world_model.specs.declared.entry.Entry.{Entry}
+use Rattle.world_model.specs.declared.entry.Mark.{Mark}
+use Rattle.world_model.specs.declared.entry.Mark.TheVariants as marks
 use Rattle.world_model.specs.History.{History}
 use Rattle.world_model.specs.Told.{Adds, Tells}
 use Rattle.outside.specs.Causes.{Rose}
-use Rattle.nfs_client.specs.Session.{fails, FailsBy, Extends, Along}
+use Rattle.outside.specs.Clock.{ReadsClock}
+use Rattle.outside.specs.Link.{NotesOnly, noted_as}
+use Rattle.outside.proofs.Notes.{appends_add, noted_ours}
+use Rattle.nfs_client.specs.Session.{fails, FailsBy, Extends, Along, ReadsAll}
 use Rattle.nfs_client.proofs.Growing.{fails_by}
 
 pub extends_same : (h : List Entry) → Extends h h
@@ -37,6 +42,22 @@ fails_then h k l f g i le le' p q e =
       | inr r ↦ inr (rose_earlier f g i le r)
     ]
 
+-- a mark is no failure
+calm : {T E : Type 0} (mark : Mark) (result : Result T E) → fails (noted_as mark result) ≡ true → ⊥
+calm (marks.Began lane line op) (Ok x) f = cc
+calm (marks.Answered lane line answer) (Ok x) f = cc
+calm (marks.Clock ms) (Ok x) f = cc
+calm mark (Err e) f = cc
+
+-- a note
+pub along_note : {T E : Type 0} (old new : Option History) (before now : ℕ) (R : List Entry → List Entry → Type 0) (mark : Mark) (result : Result T E) → before ≤ now → NotesOnly old new (noted_as mark result)
+    → ((h k : List Entry) → k ≡ h ++ noted_as mark result → R h k) → Along old new before now R
+along_note None new before now R mark result le n step = record { later = le; told = tt }
+along_note (Some a) None before now R mark result le n step = record { later = le; told = absurd n }
+along_note (Some a) (Some b) before now R mark result le n step =
+    let t = appends_add a b (noted_as mark result) (noted_ours mark result) n in
+    record { later = le; told = (record { more = noted_as mark result; is = n.grown }, step a.entries b.entries n.grown, fails_by a b (noted_as mark result) before now t (λ f. absurd (calm mark result f))) }
+
 -- two in a row
 pub along_then : (a b c : Option History) (f g i : ℕ) (R S T : List Entry → List Entry → Type 0) → ((h k l : List Entry) → Extends h k → Extends k l → R h k → S k l → T h l) → Along a b f g R → Along b c g i S → Along a c f i T
 along_then None b c f g i R S T join p q = record { later = omega (arith, p.later, q.later); told = tt }
@@ -61,3 +82,21 @@ along_less (Some a) (Some b) f g R S less p = record { later = p.later; told = (
 pub along_none : (a : Option History) (f : ℕ) (R : List Entry → List Entry → Type 0) → ((h : List Entry) → R h h) → Along a a f f R
 along_none None f R same = record { later = omega arith; told = tt }
 along_none (Some a) f R same = record { later = omega arith; told = (extends_same a.entries, same a.entries, λ e. inl e) }
+
+-- ---- readings of the clock
+
+pub reads_none : (a : Option (List ℕ)) → ReadsAll a a []
+reads_none None = refl
+reads_none (Some x) = sym (append-nil x)
+
+pub reads_one : (a b : Option (List ℕ)) (ms : ℕ) → ReadsClock a b ms → ReadsAll a b (ms ∷ [])
+reads_one None b ms r = r
+reads_one (Some x) None ms r = tt
+reads_one (Some x) (Some y) ms r = r
+
+-- one reading, and others after it
+pub reads_more : (a b c : Option (List ℕ)) (ms : ℕ) (given : List ℕ) → ReadsClock a b ms → ReadsAll b c given → ReadsAll a c (ms ∷ given)
+reads_more None b c ms given r q = subst (λ (t : Option (List ℕ)). ReadsAll t c given) r q
+reads_more (Some x) None c ms given r q = rw q tt
+reads_more (Some x) (Some y) None ms given r q = tt
+reads_more (Some x) (Some y) (Some z) ms given r q = q ∙ ap (λ (t : List ℕ). t ++ given) r ∙ append_assoc x (ms ∷ []) given

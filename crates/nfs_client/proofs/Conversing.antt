@@ -7,7 +7,7 @@ use Rattle.rpc_message.specs.declared.call.CallFault.{CallFault}
 use Rattle.rpc_message.proofs.CallLaws.{call_again}
 use Rattle.xdr_codec.specs.declared.blob.Memory.{Memory}
 use Rattle.world_model.specs.declared.entry.Entry.{Entry}
-use Rattle.world_model.specs.declared.entry.Entry.TheVariants.{Began, Answered, Sent, Delivered}
+use Rattle.world_model.specs.declared.entry.Entry.TheVariants.{Began, Answered, Sent, Delivered, Clock}
 use Rattle.world_model.specs.declared.message.Call.{Call}
 use Rattle.world_model.specs.declared.op.Op.{Op}
 use Rattle.world_model.specs.declared.answer.Answer.{Answer}
@@ -29,15 +29,15 @@ use Rattle.nfs_client.specs.declared.set_up.SetUp.{SetUp}
 use Rattle.nfs_client.specs.declared.session.Ended.{Ended}
 use Rattle.nfs_client.specs.declared.session.Ended.TheVariants as ends
 use Rattle.nfs_client.specs.Calls.{CallsView, SameCalls, fresh_calls}
-use Rattle.nfs_client.specs.Session.{fails, marks, Extends}
+use Rattle.nfs_client.specs.Session.{fails, marks, clocks, Extends}
 use Rattle.nfs_client.specs.Exchange.{SentTrue, IdleTrue, limits_of}
 use Rattle.nfs_client.specs.Putting.{IsBuilt}
 use Rattle.nfs_client.specs.SetUp.{origin_of, SetsUp, SetUpSent, SetUpHalts, IsSetUp, IsUnrefused, IsSetUpCall, IsNumbered, as_mount, as_info, mounts as set_up_mounts, informs as set_up_informs}
-use Rattle.nfs_client.specs.Run.{terms_of, limits_in, SetUpOnce, MountUnrefused, rooted, unheard, Shown, worked, lost_before}
-use Rattle.nfs_client.specs.Working.{ShownOf, IsReady, IsIn, WorksTo, WorkSent, WorksSo, ConversesTo, ConversesSo}
-use Rattle.nfs_client.proofs.Growing.{fails-grow, none_began}
+use Rattle.nfs_client.specs.Run.{terms_of, limits_in, SetUpOnce, SentInTime, MountUnrefused, rooted, unheard, Shown, worked, lost_before}
+use Rattle.nfs_client.specs.Working.{HearsNone, HearsIn, NotedBy, ShownOf, IsReady, IsIn, WorksTo, WorkSent, WorksSo, ConversesTo, ConversesSo}
+use Rattle.nfs_client.proofs.Growing.{fails-grow, none_began, clocks-marks}
 use Rattle.nfs_client.proofs.Sendings.{xid_of_call}
-use Rattle.nfs_client.proofs.Putting.{same_then}
+use Rattle.nfs_client.proofs.Putting.{longer, same_then}
 
 -- ---- the beginning
 
@@ -190,21 +190,36 @@ work_proc (Some v) op c p k l i b x root w spells =
 
 -- ---- how the set-up ends a session
 
-pub set_up_memory : (s : Settings) (first info : ℕ) (op : Op) (c : CallsView) (m : Memory) (k : List Entry) → Opened s (fresh_calls first s.calls s.cred) c info k → ConversesSo (terms_of s first) op (Err m) k
-set_up_memory s first info op c m k o = record { asked = asked_opened s first info op c k o; single = single_opened s first info c k o; comes = inl o.unmarked }
+-- each record was sent before the operation began
+in_time_opened : (op : Op) (k : List Entry) → marks k ≡ [] → SentInTime op k
+in_time_opened op k unmarked i b at = inl (none_before k k i unmarked (record { more = []; is = sym (append-nil k) }) (At-below k i (Sent b) at))
+
+-- the readings that were noted, by the marks
+noted_as_marks : (k es : List Entry) → marks k ≡ es → clocks es ≡ clocks k
+noted_as_marks k es m = sym (clocks-marks k ∙ ap clocks m)
+
+-- and no reading of the clock was noted
+not_noted : (k : List Entry) → marks k ≡ [] → [] ≡ clocks k
+not_noted k unmarked = noted_as_marks k [] unmarked
+
+none_noted : (k : List Entry) → marks k ≡ [] → [] ≡ clocks k ++ []
+none_noted k unmarked = not_noted k unmarked ∙ sym (append-nil (clocks k))
+
+pub set_up_memory : (s : Settings) (first info : ℕ) (op : Op) (c : CallsView) (m : Memory) (k : List Entry) → Opened s (fresh_calls first s.calls s.cred) c info k → ConversesSo (terms_of s first) [] op (Err m) k
+set_up_memory s first info op c m k o = record { asked = asked_opened s first info op c k o; in_time = in_time_opened op k o.unmarked; noted = ([], none_noted k o.unmarked, omega arith); single = single_opened s first info c k o; comes = inl o.unmarked }
 
 pub set_up_refused : (s : Settings) (first info : ℕ) (op : Op) (c : CallsView) (fault : Fault) (k : List Entry) → (fault ≡ faults.Lost → ⊥) → (fault ≡ faults.Memory → ⊥) → Opened s (fresh_calls first s.calls s.cred) c info k → SetUpHalts s (halts.Refused fault) [] k
-    → ConversesSo (terms_of s first) op (Ok (ends.MountRefused fault)) k
+    → ConversesSo (terms_of s first) [] op (Ok (ends.MountRefused fault)) k
 set_up_refused s first info op c faults.Lost k lost memory o h = absurd (lost refl)
 set_up_refused s first info op c faults.Memory k lost memory o h = absurd (memory refl)
 set_up_refused s first info op c faults.Spent k lost memory o h = absurd h
-set_up_refused s first info op c faults.Slot k lost memory o h = record { asked = asked_opened s first info op c k o; single = single_opened s first info c k o; comes = record { path = h.0; mounting = ap origin_of h.1; refused = h.2; unbegun = o.unmarked } }
-set_up_refused s first info op c faults.Mode k lost memory o h = record { asked = asked_opened s first info op c k o; single = single_opened s first info c k o; comes = record { path = h.0; mounting = ap origin_of h.1; refused = h.2; unbegun = o.unmarked } }
-set_up_refused s first info op c faults.Kind k lost memory o h = record { asked = asked_opened s first info op c k o; single = single_opened s first info c k o; comes = record { path = h.0; mounting = ap origin_of h.1; refused = h.2; unbegun = o.unmarked } }
-set_up_refused s first info op c faults.Many k lost memory o h = record { asked = asked_opened s first info op c k o; single = single_opened s first info c k o; comes = record { path = h.0; mounting = ap origin_of h.1; refused = h.2; unbegun = o.unmarked } }
-set_up_refused s first info op c (faults.Nfs n) k lost memory o h = record { asked = asked_opened s first info op c k o; single = single_opened s first info c k o; comes = record { path = h.0; mounting = ap origin_of h.1; refused = h.2; unbegun = o.unmarked } }
-set_up_refused s first info op c (faults.Rpc n) k lost memory o h = record { asked = asked_opened s first info op c k o; single = single_opened s first info c k o; comes = record { path = h.0; mounting = ap origin_of h.1; refused = h.2; unbegun = o.unmarked } }
-set_up_refused s first info op c (faults.Bad n) k lost memory o h = record { asked = asked_opened s first info op c k o; single = single_opened s first info c k o; comes = record { path = h.0; mounting = ap origin_of h.1; refused = h.2; unbegun = o.unmarked } }
+set_up_refused s first info op c faults.Slot k lost memory o h = record { asked = asked_opened s first info op c k o; in_time = in_time_opened op k o.unmarked; noted = not_noted k o.unmarked; single = single_opened s first info c k o; comes = record { path = h.0; mounting = ap origin_of h.1; refused = h.2; unbegun = o.unmarked } }
+set_up_refused s first info op c faults.Mode k lost memory o h = record { asked = asked_opened s first info op c k o; in_time = in_time_opened op k o.unmarked; noted = not_noted k o.unmarked; single = single_opened s first info c k o; comes = record { path = h.0; mounting = ap origin_of h.1; refused = h.2; unbegun = o.unmarked } }
+set_up_refused s first info op c faults.Kind k lost memory o h = record { asked = asked_opened s first info op c k o; in_time = in_time_opened op k o.unmarked; noted = not_noted k o.unmarked; single = single_opened s first info c k o; comes = record { path = h.0; mounting = ap origin_of h.1; refused = h.2; unbegun = o.unmarked } }
+set_up_refused s first info op c faults.Many k lost memory o h = record { asked = asked_opened s first info op c k o; in_time = in_time_opened op k o.unmarked; noted = not_noted k o.unmarked; single = single_opened s first info c k o; comes = record { path = h.0; mounting = ap origin_of h.1; refused = h.2; unbegun = o.unmarked } }
+set_up_refused s first info op c (faults.Nfs n) k lost memory o h = record { asked = asked_opened s first info op c k o; in_time = in_time_opened op k o.unmarked; noted = not_noted k o.unmarked; single = single_opened s first info c k o; comes = record { path = h.0; mounting = ap origin_of h.1; refused = h.2; unbegun = o.unmarked } }
+set_up_refused s first info op c (faults.Rpc n) k lost memory o h = record { asked = asked_opened s first info op c k o; in_time = in_time_opened op k o.unmarked; noted = not_noted k o.unmarked; single = single_opened s first info c k o; comes = record { path = h.0; mounting = ap origin_of h.1; refused = h.2; unbegun = o.unmarked } }
+set_up_refused s first info op c (faults.Bad n) k lost memory o h = record { asked = asked_opened s first info op c k o; in_time = in_time_opened op k o.unmarked; noted = not_noted k o.unmarked; single = single_opened s first info c k o; comes = record { path = h.0; mounting = ap origin_of h.1; refused = h.2; unbegun = o.unmarked } }
 
 -- ---- how the operation ends it
 
@@ -225,12 +240,6 @@ heard_back h more from to call xid bytes le e =
       before = e.before;
     }
 
--- a mount that wasn't refused
-unrefused_on : (s : Settings) (first : ℕ) (k l : List Entry) → Extends k l → IsUnrefused s [] k → MountUnrefused (terms_of s first) l (length k)
-unrefused_on s first k l e (inl r) = rooted r.0 (subst (λ (h : List Entry). Rooted (origin_of s.export) h (length k) r.0) (sym e.is) (Rooted-grow (origin_of s.export) k e.more (length k) r.0 r.1))
-unrefused_on s first k l e (inr none) =
-    unheard (λ path xid bytes heard. none (mount_call path) xid bytes (heard_back k e.more 0 (length k) (mount_call path) xid bytes (omega arith) (subst (λ (h : List Entry). Heard h 0 (length k) (mount_call path) xid bytes) e.is heard)))
-
 -- what the set-up knows: the root and the size, or that the session is lost
 abbrev pub Knows : Settings → Option SetUp → List Entry → Type 0
 Knows s None k = LostShown (fails k ≡ true) k (length k) × IsUnrefused s [] k
@@ -241,6 +250,30 @@ rooted_on s k l from root e le r = Rooted-wide (origin_of s.export) l (length k)
 
 sized_on : (k l : List Entry) (from : ℕ) (root : List ℕ) (size wsize : ℕ) → Extends k l → length k ≤ from → Sized k (length k) root size wsize → Sized l from root size wsize
 sized_on k l from root size wsize e le r = Sized-wide l (length k) from root size wsize le (subst (λ (h : List Entry). Sized h (length k) root size wsize) (sym e.is) (Sized-grow k e.more (length k) root size wsize r))
+
+-- a mount that wasn't refused, where no more was heard
+unrefused_on : (s : Settings) (first : ℕ) (k l : List Entry) → Extends k l → HearsNone k l → IsUnrefused s [] k → MountUnrefused (terms_of s first) l (length l)
+unrefused_on s first k l e deaf (inl r) = rooted r.0 (rooted_on s k l (length l) r.0 e (longer k l e) r.1)
+unrefused_on s first k l e deaf (inr none) =
+    unheard (λ path xid bytes heard. none (mount_call path) xid bytes (heard_back k e.more 0 (length k) (mount_call path) xid bytes (omega arith) (subst (λ (h : List Entry). Heard h 0 (length k) (mount_call path) xid bytes) e.is (heard_by k l path xid bytes deaf heard))))
+  where
+    heard_by : (k l : List Entry) (path : List ℕ) (xid : ℕ) (bytes : List ℕ) → HearsNone k l → Heard l 0 (length l) (mount_call path) xid bytes → Heard l 0 (length k) (mount_call path) xid bytes
+    heard_by k l path xid bytes deaf heard = record {
+      sent_at = heard.sent_at;
+      record_sent = heard.record_sent;
+      got_at = heard.got_at;
+      sent = heard.sent;
+      spells = heard.spells;
+      got = heard.got;
+      after = heard.after;
+      later = heard.later;
+      before = At-below k heard.got_at (Delivered bytes) (deaf heard.got_at bytes heard.got.got);
+    }
+
+-- a mount that was done, or a lost session that heard no more
+mounted_by : (s : Settings) (first : ℕ) (v : Option SetUp) (k l : List Entry) → Extends k l → HearsIn v k l → Knows s v k → MountUnrefused (terms_of s first) l (length l)
+mounted_by s first None k l e deaf known = unrefused_on s first k l e deaf known.1
+mounted_by s first (Some v) k l e deaf known = rooted v.root (rooted_on s k l (length l) v.root e (longer k l e) known.rooted)
 
 -- a call that the put asked for
 put_caused : (s : Settings) (first : ℕ) (v : Option SetUp) (op : Op) (c : CallsView) (p : PutOf) (k l : List Entry) (i : ℕ) (b : List ℕ) → IsPutOf op p → IsIn v p → Extends k l → Knows s v k → SameCalls (fresh_calls first s.calls s.cred) c → WorkSent v op c p k l i b
@@ -266,7 +299,7 @@ limits_same s first wsize c same = ap (λ (n : ℕ). limit_by n c.limit) same.fi
 shown_by : (s : Settings) (first : ℕ) (v : Option SetUp) (c : CallsView) (p : PutOf) (from to : ℕ) (answer : Answer) (k l : List Entry) → IsIn v p → Extends k l → length k ≤ from → Knows s v k → SameCalls (fresh_calls first s.calls s.cred) c → ShownOf v c p from to answer l
     → Shown (fails l ≡ true) (terms_of s first) l from to p answer
 shown_by s first None c p from to answer k l within e le known same w =
-    lost_before (length k) le w (subst (λ (h : List Entry). LostShown (fails h ≡ true) h (length k)) (sym e.is) (LostShown-grow k e.more (length k) (omega arith) (fails-grow k e.more) known.0)) (unrefused_on s first k l e known.1)
+    lost_before (length k) le w (subst (λ (h : List Entry). LostShown (fails h ≡ true) h (length k)) (sym e.is) (LostShown-grow k e.more (length k) (omega arith) (fails-grow k e.more) known.0))
 shown_by s first (Some v) c p from to answer k l within e le known same w =
     worked v.wsize (subst (Rooted (origin_of s.export) l from) (sym within) (rooted_on s k l from v.root e le known.rooted)) (subst (λ (r : List ℕ). Sized l from r s.wsize v.wsize) (sym within) (sized_on k l from v.root s.wsize v.wsize e le known.sized))
     (subst (λ (limits : Limits). AnswerShown (fails l ≡ true) limits l from to p answer) (limits_same s first v.wsize c same) w)
@@ -283,30 +316,55 @@ is_in : (v : Option SetUp) (op : Op) (b : IsBuilt op) → IsIn v (put_in v op b)
 is_in None op b = tt
 is_in (Some v) op b = refl
 
-comes_to : (s : Settings) (first : ℕ) (v : Option SetUp) (op : Op) (c : CallsView) (p : PutOf) (result : Result Ended Memory) (k l : List Entry) → IsPutOf op p → IsIn v p → Extends k l → marks k ≡ [] → Knows s v k → SameCalls (fresh_calls first s.calls s.cred) c → WorksTo v op c p result k l
+abbrev on_marks : List Entry → List Entry → List Entry
+on_marks more t = t ++ more
+
+comes_to : (s : Settings) (first : ℕ) (v : Option SetUp) (ms : ℕ) (op : Op) (c : CallsView) (p : PutOf) (result : Result Ended Memory) (k l : List Entry) → IsPutOf op p → IsIn v p → Extends k l → marks k ≡ [] → Knows s v k → SameCalls (fresh_calls first s.calls s.cred) c → HearsIn v k l → WorksTo v ms op c p result k l
     → ConversesTo (terms_of s first) op result l
-comes_to s first v op c p (Err m) k l put within e unmarked known same w =
-    elim w [ inl q ↦ inl (q ∙ unmarked) | inr q ↦ inr (q ∙ ap (λ (t : List Entry). t ++ Began 1 1 op ∷ []) unmarked) ]
-comes_to s first v op c p (Ok (ends.MountRefused fault)) k l put within e unmarked known same w = absurd w
-comes_to s first v op c p (Ok (ends.Answered answer tally)) k l put within e unmarked known same w = (
+comes_to s first v ms op c p (Err m) k l put within e unmarked known same deaf w =
+    elim w [
+      | inl q ↦ inl (q ∙ unmarked)
+      | inr r ↦ elim r [
+        | inl q ↦ inr (ms, inl (q ∙ ap (on_marks (Clock ms ∷ [])) unmarked))
+        | inr q ↦ inr (ms, inr (q.0 ∙ ap (on_marks (Clock ms ∷ Began 1 1 op ∷ [])) unmarked, q.1))
+      ]
+    ]
+comes_to s first v ms op c p (Ok (ends.MountRefused fault)) k l put within e unmarked known same deaf w = absurd w
+comes_to s first v ms op c p (Ok (ends.Answered answer tally)) k l put within e unmarked known same deaf w = (
   record {
     p = p;
     from = w.from;
     at = w.at;
     by = w.by;
+    ms = ms;
     put = put;
     began = w.began;
     answered = w.answered;
     within = w.within;
-    marks_are = w.marks_are ∙ ap (λ (t : List Entry). t ++ Began 1 1 op ∷ Answered 1 1 answer ∷ []) unmarked;
+    marks_are = w.marks_are ∙ ap (on_marks (Clock ms ∷ Began 1 1 op ∷ Answered 1 1 answer ∷ [])) unmarked;
+    mounted = mounted_by s first v k l e deaf known;
     shown = shown_by s first v c p w.from w.by answer k l within e w.after known same w.shown;
   },
   w.counted,
 )
 
-pub worked_so : (s : Settings) (first info : ℕ) (v : Option SetUp) (op : Op) (c : CallsView) (result : Result Ended Memory) (k l : List Entry) → IsBuilt op → Extends k l → Opened s (fresh_calls first s.calls s.cred) c info k → Knows s v k → IsReady v k c → WorksSo v op c result k l
-    → ConversesSo (terms_of s first) op result l
-worked_so s first info v op c result k l built e o known ready works =
+-- the reading that was given was noted, or memory ran out
+noted_by : (v : Option SetUp) (ms : ℕ) (op : Op) (c : CallsView) (p : PutOf) (result : Result Ended Memory) (k l : List Entry) → marks k ≡ [] → WorksTo v ms op c p result k l → NotedBy (ms ∷ []) result l
+noted_by v ms op c p (Err m) k l unmarked w =
+    elim w [
+      | inl q ↦ (ms ∷ [], ap (λ (t : List ℕ). t ++ ms ∷ []) (not_noted l (q ∙ unmarked)), omega arith)
+      | inr r ↦ elim r [
+        | inl q ↦ ([], noted_as_marks l (Clock ms ∷ []) (q ∙ ap (on_marks (Clock ms ∷ [])) unmarked) ∙ sym (append-nil (clocks l)), omega arith)
+        | inr q ↦ ([], noted_as_marks l (Clock ms ∷ Began 1 1 op ∷ []) (q.0 ∙ ap (on_marks (Clock ms ∷ Began 1 1 op ∷ [])) unmarked) ∙ sym (append-nil (clocks l)), omega arith)
+      ]
+    ]
+noted_by v ms op c p (Ok (ends.MountRefused fault)) k l unmarked w = absurd w
+noted_by v ms op c p (Ok (ends.Answered answer tally)) k l unmarked w =
+    noted_as_marks l (Clock ms ∷ Began 1 1 op ∷ Answered 1 1 answer ∷ []) (w.marks_are ∙ ap (on_marks (Clock ms ∷ Began 1 1 op ∷ Answered 1 1 answer ∷ [])) unmarked)
+
+pub worked_so : (s : Settings) (first info : ℕ) (v : Option SetUp) (ms : ℕ) (op : Op) (c : CallsView) (result : Result Ended Memory) (k l : List Entry) → IsBuilt op → Extends k l → Opened s (fresh_calls first s.calls s.cred) c info k → Knows s v k → IsReady v k c → WorksSo v ms op c result k l
+    → ConversesSo (terms_of s first) (ms ∷ []) op result l
+worked_so s first info v ms op c result k l built e o known ready works =
     let p = put_in v op built in
     let w = works p built.is (is_in v op built) ready in
     let same = same_then o.same w.same in
@@ -319,6 +377,11 @@ worked_so s first info v op c result k l built e o known ready works =
         among = among_by s first w.new l same w.sent;
         once = w.sent.once;
       };
+      in_time = λ i b at. elim (w.sends i b at) [
+        | inl before ↦ inl (none_before k l i o.unmarked e (At-below k i (Sent b) before))
+        | inr next ↦ inr (record { from = next.1.from; began = next.1.began; before = next.1.before; unanswered = next.1.unanswered o.unmarked })
+      ];
+      noted = noted_by v ms op c p result k l o.unmarked w.comes;
       single = single_by l (first + 0) info w.sent.once
           (λ i z b path at t. elim (w.sends i b at) [
             | inl before ↦ mount_number s (fresh_calls first s.calls s.cred) info k i b z path (o.sent i b before) t
@@ -328,7 +391,7 @@ worked_so s first info v op c result k l built e o known ready works =
             | inl before ↦ info_number s (fresh_calls first s.calls s.cred) info k i b z root (o.sent i b before) t
             | inr next ↦ absurd (work_proc v op c p k l i b z root next.1 t)
           ]);
-      comes = comes_to s first v op c p result k l built.is (is_in v op built) e o.unmarked known o.same w.comes;
+      comes = comes_to s first v ms op c p result k l built.is (is_in v op built) e o.unmarked known o.same w.hears w.comes;
     }
 
 -- ---- from what setting up came to
@@ -336,28 +399,28 @@ worked_so s first info v op c result k l built e o known ready works =
 opened_from : (s : Settings) (c new : CallsView) (r : Result SetUp Halt) (k : List Entry) → SameCalls c new → SentTrue k new → (g : SetsUp s c new r [] k) → Opened s c new g.info k
 opened_from s c new r k same t g = opened_by s c new g.info k same g.goes.same g.goes.sends t
 
-pub knows_well : (s : Settings) (first : ℕ) (c : CallsView) (v : SetUp) (op : Op) (result : Result Ended Memory) (h k l : List Entry) → IsBuilt op → SameCalls (fresh_calls first s.calls s.cred) c → h ≡ [] → Extends k l → SetsUp s (fresh_calls first s.calls s.cred) c (Ok v) h k → WorksSo (Some v) op c result k l
-    → ConversesSo (terms_of s first) op result l
-knows_well s first c v op result h k l built same z e g works =
+pub knows_well : (s : Settings) (first : ℕ) (c : CallsView) (v : SetUp) (ms : ℕ) (op : Op) (result : Result Ended Memory) (h k l : List Entry) → IsBuilt op → SameCalls (fresh_calls first s.calls s.cred) c → h ≡ [] → Extends k l → SetsUp s (fresh_calls first s.calls s.cred) c (Ok v) h k → WorksSo (Some v) ms op c result k l
+    → ConversesSo (terms_of s first) (ms ∷ []) op result l
+knows_well s first c v ms op result h k l built same z e g works =
     let f = subst (λ (t : List Entry). SetsUp s (fresh_calls first s.calls s.cred) c (Ok v) t k) z g in
     let x = f.goes.comes (idle_first first s.calls s.cred) in
-    worked_so s first f.info (Some v) op c result k l built e (opened_from s (fresh_calls first s.calls s.cred) c (Ok v) k same x.0.sent f) x.1 x.0 works
+    worked_so s first f.info (Some v) ms op c result k l built e (opened_from s (fresh_calls first s.calls s.cred) c (Ok v) k same x.0.sent f) x.1 x.0 works
 
-pub knows_lost : (s : Settings) (first : ℕ) (c : CallsView) (fault : Fault) (op : Op) (result : Result Ended Memory) (h k l : List Entry) → fault ≡ faults.Lost → IsBuilt op → SameCalls (fresh_calls first s.calls s.cred) c → h ≡ [] → Extends k l
-    → SetsUp s (fresh_calls first s.calls s.cred) c (Err (halts.Refused fault)) h k → WorksSo None op c result k l → ConversesSo (terms_of s first) op result l
-knows_lost s first c fault op result h k l lost built same z e g works =
+pub knows_lost : (s : Settings) (first : ℕ) (c : CallsView) (fault : Fault) (ms : ℕ) (op : Op) (result : Result Ended Memory) (h k l : List Entry) → fault ≡ faults.Lost → IsBuilt op → SameCalls (fresh_calls first s.calls s.cred) c → h ≡ [] → Extends k l
+    → SetsUp s (fresh_calls first s.calls s.cred) c (Err (halts.Refused fault)) h k → WorksSo None ms op c result k l → ConversesSo (terms_of s first) (ms ∷ []) op result l
+knows_lost s first c fault ms op result h k l lost built same z e g works =
     let f = subst (λ (t : List Entry). SetsUp s (fresh_calls first s.calls s.cred) c (Err (halts.Refused faults.Lost)) t k) z (subst (λ (q : Fault). SetsUp s (fresh_calls first s.calls s.cred) c (Err (halts.Refused q)) h k) lost g) in
     let x = f.goes.comes (idle_first first s.calls s.cred) in
-    worked_so s first f.info None op c result k l built e (opened_from s (fresh_calls first s.calls s.cred) c (Err (halts.Refused faults.Lost)) k same x.0 f) x.1 x.0 works
+    worked_so s first f.info None ms op c result k l built e (opened_from s (fresh_calls first s.calls s.cred) c (Err (halts.Refused faults.Lost)) k same x.0 f) x.1 x.0 works
 
 pub knows_refused : (s : Settings) (first : ℕ) (c : CallsView) (fault : Fault) (op : Op) (h k : List Entry) → (fault ≡ faults.Lost → ⊥) → (fault ≡ faults.Memory → ⊥) → SameCalls (fresh_calls first s.calls s.cred) c → h ≡ [] → SetsUp s (fresh_calls first s.calls s.cred) c (Err (halts.Refused fault)) h k
-    → ConversesSo (terms_of s first) op (Ok (ends.MountRefused fault)) k
+    → ConversesSo (terms_of s first) [] op (Ok (ends.MountRefused fault)) k
 knows_refused s first c fault op h k lost memory same z g =
     let f = subst (λ (t : List Entry). SetsUp s (fresh_calls first s.calls s.cred) c (Err (halts.Refused fault)) t k) z g in
     let x = f.goes.comes (idle_first first s.calls s.cred) in
     set_up_refused s first f.info op c fault k lost memory (opened_from s (fresh_calls first s.calls s.cred) c (Err (halts.Refused fault)) k same x.0 f) x.1
 
-pub knows_nothing : (s : Settings) (first : ℕ) (c : CallsView) (halt : Halt) (op : Op) (m : Memory) (h k : List Entry) → SameCalls (fresh_calls first s.calls s.cred) c → h ≡ [] → SetsUp s (fresh_calls first s.calls s.cred) c (Err halt) h k → ConversesSo (terms_of s first) op (Err m) k
+pub knows_nothing : (s : Settings) (first : ℕ) (c : CallsView) (halt : Halt) (op : Op) (m : Memory) (h k : List Entry) → SameCalls (fresh_calls first s.calls s.cred) c → h ≡ [] → SetsUp s (fresh_calls first s.calls s.cred) c (Err halt) h k → ConversesSo (terms_of s first) [] op (Err m) k
 knows_nothing s first c halt op m h k same z g =
     let f = subst (λ (t : List Entry). SetsUp s (fresh_calls first s.calls s.cred) c (Err halt) t k) z g in
     let x = f.goes.comes (idle_first first s.calls s.cred) in

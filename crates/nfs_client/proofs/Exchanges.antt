@@ -134,7 +134,7 @@ exchanged call bytes old new result h k l s a b p q = record {
     came : SendsTo call bytes old new (Ok tt) h k → ComesTo (HeardBy old call) ExchangeHalts new result h l
     came w = answer result w.0 w.1 (b.comes w.0 bytes w.2) (b.keeps new w.3)
 
--- the link was lost, or memory was wanting, when the record was to go out
+-- the link was lost, or memory ran out, when the record was to go out
 pub unsent : (call : Call) (bytes : List ℕ) (old new : CallsView) (halt : Halt) (h k : List Entry) → SpellsCallBy old.cred (old.first + old.made) call bytes → SendsAs call bytes old new (Err halt) h k → Exchanges call old new (Err halt) h k
 unsent call bytes old new halt h k s a = record {
   same = a.same;

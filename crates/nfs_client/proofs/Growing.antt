@@ -1,4 +1,4 @@
--- Failures, marks, sendings and counts of a history, and how they go on as it grows.
+-- Failures, marks, transmissions and counts of a history, and how they go on as it grows.
 use Rattle.std.proofs.Common.{inl, inr, ◌⊎◌, ◌≡◌, ◌≢◌, ◌≤◌, ◌+◌, ◌-◌, ℕ, zero, suc, Bool, true, false, ◌||◌, cond, eqb, List, [], ◌∷◌, ◌++◌, length, Option, Some, Ok, refl, sym, ap, subst, ◌∙◌, append_assoc, arith}
 use Rattle.std.specs.List.{list_any}
 use Rattle.std.proofs.lemmas.Bool.{cases_lt, ne_eqb, eqb-false}
@@ -8,6 +8,7 @@ use Rattle.rpc_message.specs.Call.{call_at}
 use Rattle.world_model.specs.declared.entry.Entry.{Entry}
 use Rattle.world_model.specs.declared.entry.Entry.TheVariants.{Began, Answered, Dialed, Sent, Executed, Foreign, Flushed, Reboot, Delivered, Failed, Clock}
 use Rattle.world_model.specs.declared.op.Op.{Op}
+use Rattle.world_model.specs.declared.answer.Answer.{Answer}
 use Rattle.world_model.specs.Entries.{At, ours}
 use Rattle.world_model.specs.History.{History}
 use Rattle.world_model.specs.Told.{Adds}
@@ -16,7 +17,7 @@ use Rattle.world_model.specs.Counts.{Counted, counts_head, xid_counted, xids_sen
 use Rattle.world_model.proofs.Histories.{ours_after}
 use Rattle.world_model.proofs.Places.{At-back}
 use Rattle.outside.specs.Causes.{Rose}
-use Rattle.nfs_client.specs.Session.{fails, marks, FailsBy}
+use Rattle.nfs_client.specs.Session.{fails, marks, clocks, FailsBy}
 use Rattle.nfs_client.specs.Calls.{one_if}
 
 -- ---- failures
@@ -116,7 +117,7 @@ marks-append (Flushed file from len ∷ xs) ys = marks-append xs ys
 marks-append (Reboot verf ∷ xs) ys = marks-append xs ys
 marks-append (Delivered bytes ∷ xs) ys = marks-append xs ys
 marks-append (Failed ∷ xs) ys = marks-append xs ys
-marks-append (Clock ms ∷ xs) ys = marks-append xs ys
+marks-append (Clock ms ∷ xs) ys = ap (λ (t : List Entry). Clock ms ∷ t) (marks-append xs ys)
 
 -- the marks of a history are the client's own entries
 pub marks-ours : (h : List Entry) → marks h ≡ marks (ours h)
@@ -131,7 +132,7 @@ marks-ours (Flushed file from len ∷ h) = marks-ours h
 marks-ours (Reboot verf ∷ h) = marks-ours h
 marks-ours (Delivered bytes ∷ h) = marks-ours h
 marks-ours (Failed ∷ h) = marks-ours h
-marks-ours (Clock ms ∷ h) = marks-ours h
+marks-ours (Clock ms ∷ h) = ap (λ (t : List Entry). Clock ms ∷ t) (marks-ours h)
 
 -- the marks after a call that adds these entries
 pub marks_after : (a b : History) (es : List Entry) → Adds a b es → marks b.entries ≡ marks a.entries ++ marks es
@@ -180,7 +181,7 @@ rest_unmarked (Flushed file from len) h m = m
 rest_unmarked (Reboot verf) h m = m
 rest_unmarked (Delivered bytes) h m = m
 rest_unmarked Failed h m = m
-rest_unmarked (Clock ms) h m = m
+rest_unmarked (Clock ms) h m = absurd cc
 
 -- where nothing is marked no operation began
 pub none_began : (h : List Entry) (j lane line : ℕ) (op : Op) → marks h ≡ [] → At h j (Began lane line op) → ⊥
@@ -188,7 +189,53 @@ none_began [] j lane line op m at = absurd cc
 none_began (x ∷ h) zero lane line op m at = began_marked x lane line op h (same_entry x (Began lane line op) at) m
 none_began (x ∷ h) (suc j) lane line op m at = none_began h j lane line op (rest_unmarked x h m) at
 
--- ---- sendings
+-- the readings that were noted are those of the marks
+pub clocks-marks : (h : List Entry) → clocks h ≡ clocks (marks h)
+clocks-marks [] = refl
+clocks-marks (Began lane line op ∷ h) = clocks-marks h
+clocks-marks (Answered lane line answer ∷ h) = clocks-marks h
+clocks-marks (Dialed port ∷ h) = clocks-marks h
+clocks-marks (Sent bytes ∷ h) = clocks-marks h
+clocks-marks (Executed xid call reply ∷ h) = clocks-marks h
+clocks-marks (Foreign call reply ∷ h) = clocks-marks h
+clocks-marks (Flushed file from len ∷ h) = clocks-marks h
+clocks-marks (Reboot verf ∷ h) = clocks-marks h
+clocks-marks (Delivered bytes ∷ h) = clocks-marks h
+clocks-marks (Failed ∷ h) = clocks-marks h
+clocks-marks (Clock ms ∷ h) = ap (λ (t : List ℕ). ms ∷ t) (clocks-marks h)
+
+-- a mark stands among the marks
+abbrev HasMark : List Entry → Entry → Type 0
+HasMark es d = (n : ℕ) × At es n d
+
+mark_behind : (x : Entry) (h : List Entry) (d : Entry) → HasMark (marks h) d → HasMark (marks (x ∷ h)) d
+mark_behind (Began lane line op) h d m = (suc m.0, m.1)
+mark_behind (Answered lane line answer) h d m = (suc m.0, m.1)
+mark_behind (Dialed port) h d m = m
+mark_behind (Sent bytes) h d m = m
+mark_behind (Executed xid call reply) h d m = m
+mark_behind (Foreign call reply) h d m = m
+mark_behind (Flushed file from len) h d m = m
+mark_behind (Reboot verf) h d m = m
+mark_behind (Delivered bytes) h d m = m
+mark_behind Failed h d m = m
+mark_behind (Clock ms) h d m = (suc m.0, m.1)
+
+answer_marked : (h : List Entry) (j lane line : ℕ) (a : Answer) → At h j (Answered lane line a) → HasMark (marks h) (Answered lane line a)
+answer_marked [] j lane line a at = absurd cc
+answer_marked (x ∷ h) zero lane line a at = subst (λ (e : Entry). HasMark (marks (e ∷ h)) (Answered lane line a)) (sym (same_entry x (Answered lane line a) at)) (0, refl)
+answer_marked (x ∷ h) (suc j) lane line a at = mark_behind x h (Answered lane line a) (answer_marked h j lane line a at)
+
+-- where no more is marked than that the operation began, none was answered
+pub none_answered : (h : List Entry) (ms : ℕ) (op : Op) (j lane line : ℕ) (a : Answer) → marks h ≡ Clock ms ∷ Began 1 1 op ∷ [] → At h j (Answered lane line a) → ⊥
+none_answered h ms op j lane line a m at = let k = answer_marked h j lane line a at in not_there k.0 (subst (λ (es : List Entry). At es k.0 (Answered lane line a)) m k.1)
+  where
+    not_there : (n : ℕ) → At (Clock ms ∷ Began 1 1 op ∷ []) n (Answered lane line a) → ⊥
+    not_there zero at = absurd cc
+    not_there (suc zero) at = absurd cc
+    not_there (suc (suc n)) at = absurd cc
+
+-- ---- transmissions
 
 -- a record was sent among these entries
 abbrev pub HasSent : List Entry → List ℕ → Type 0

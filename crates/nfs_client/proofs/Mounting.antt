@@ -192,7 +192,7 @@ mount_undialed path c halt h k only d = dial_halted (IsNext c (mount_call path))
 pub mount_unmade : (path : List ℕ) (c : CallsView) (result : Result (Unit {0}) Halt) (h k : List Entry) → Dials result h k → Mounts path c c (Err halts.Memory) h k
 mount_unmade path c result h k d = record { same = d.same; sends = λ i b at. inl (d.sends i b at); comes = λ idle. ((d.idle c idle).sent, tt) }
 
--- the link was lost, or memory was wanting
+-- the link was lost, or memory ran out
 pub mount_lost : (path : List ℕ) (old new : CallsView) (halt : Halt) (dialed : Result (Unit {0}) Halt) (h k l : List Entry) → Extends h k → Extends k l → Dials dialed h k → Exchanges (mount_call path) old new (Err halt) k l → Mounts path old new (Err halt) h l
 mount_lost path old new halt dialed h k l p q d e =
     dialed_then (IsNext old (mount_call path)) (HeardBy old (mount_call path)) ExchangeHalts (MountedSo path) (MountHalts path) old new (Err halt) (Err halt) dialed h k l p d e (λ c. (c.0, mount_halts path halt h k l q d.sends c.1))

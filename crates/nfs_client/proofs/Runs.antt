@@ -1,5 +1,5 @@
 -- What a run comes to: of the words, the script and the session.
-use Rattle.std.proofs.Common.{◌≡◌, ◌≤◌, ℕ, List, [], ◌∷◌, length, take, Option, Some, None, Result, Ok, Err, sym, ap, subst, ◌∙◌, arith}
+use Rattle.std.proofs.Common.{inl, inr, ◌⊎◌, ◌≡◌, ◌≤◌, ℕ, List, [], ◌∷◌, length, take, Option, Some, None, Result, Ok, Err, sym, ap, subst, ◌∙◌, arith}
 use Rattle.std.specs.Prelude.{slice_get, IfSome}
 use Rattle.world_model.specs.declared.op.Op.{Op}
 use Rattle.world_model.specs.declared.op.Op.TheVariants.{Put}
@@ -8,11 +8,16 @@ use Rattle.world_model.specs.Told.{Relates}
 use Rattle.nfs_script.specs.declared.script.ScriptLine.{ScriptLine}
 use Rattle.nfs_script.specs.declared.fault.ScriptFault.{ScriptFault}
 use Rattle.nfs_script.specs.Script.{script_of}
+use Rattle.nfs_script.specs.RefusalText.{refusal_text}
 use Rattle.session_words.specs.declared.settings.Settings.{Settings}
 use Rattle.session_words.specs.Words.{IsCommand}
 use Rattle.nfs_client.specs.Streams.{script_limit, TakesAll}
 use Rattle.nfs_client.specs.Putting.{IsBuilt}
-use Rattle.nfs_client.specs.Run.{SessionBy, one_line, IsDoable, IsScript, unbuilt, fault_in, fault_of, IsFaultOf, AsksFor, RefusesWith, no_script, Refuses, RunIs, session, unbegun, Says}
+use Rattle.nfs_client.specs.Run.{SessionBy, one_line, IsDoable, IsScript, unbuilt, fault_in, fault_of, IsFaultOf, AsksFor, RefusesWith, no_script, whole, cut, Unbegun, Refuses, RefusalIs, RunIs, session, unbegun, Says}
+use Rattle.nfs_client.specs.Reports.{IsEnding}
+use Rattle.nfs_client.specs.Session.{Reads}
+use Rattle.nfs_client.proofs.Alongs.{reads_none}
+use Rattle.nfs_client.proofs.StreamLaws.{appends_none}
 
 -- ---- scripts
 
@@ -68,13 +73,13 @@ pub asks_one : (text : List ℕ) (lines : List ScriptLine) (op : Op) → script_
 asks_one text lines op e one built = record { lines = lines; parsed = e; doable = record { op = op; one = one; built = built } }
 
 -- the operation of a script is what the script asks for
-pub asks_for : (left : Option (List ℕ)) (lines : List ScriptLine) (text items : List ℕ) (op : Op) → script_of text ≡ Ok lines → lines ≡ one_line op → text ≡ items → TakesAll left items → AsksFor left op
-asks_for None lines text items op e one v t = tt
-asks_for (Some l) lines text items op e one v t = ap script_of (sym (v ∙ t)) ∙ e ∙ ap found one
+pub asks_for : (left : Option (List ℕ)) (lines : List ScriptLine) (text items : List ℕ) (op : Op) → script_of text ≡ Ok lines → lines ≡ one_line op → IsBuilt op → text ≡ items → TakesAll left items → AsksFor left op
+asks_for None lines text items op e one built v t = (text, e ∙ ap found one, built)
+asks_for (Some l) lines text items op e one built v t = ap script_of (sym (v ∙ t)) ∙ e ∙ ap found one
 
 -- why a text is refused is why what the source had is refused
 pub fault_for : (left : Option (List ℕ)) (text items : List ℕ) (fault : ScriptFault) → fault ≡ fault_of text → text ≡ items → TakesAll left items → IsFaultOf left fault
-fault_for None text items fault e v t = tt
+fault_for None text items fault e v t = (text, e)
 fault_for (Some l) text items fault e v t = e ∙ ap fault_of (v ∙ t)
 
 pub own_fault : (text : List ℕ) (fault : ScriptFault) → script_of text ≡ Err fault → fault ≡ fault_of text
@@ -85,31 +90,74 @@ later_fault text lines e = sym (ap fault_in e)
 
 -- ---- what a run says
 
-relates_run : (old new : Option History) (cause : Type 0) (words : List (List ℕ)) (left : Option (List ℕ)) (s : Settings) (op : Op) (status : ℕ) (text : List ℕ) → IsCommand words s → AsksFor left op
-    → Relates old new (λ before h. before ≡ [] → SessionBy cause s op h status text) → Relates old new (λ before h. before ≡ [] → RunIs cause words left h status text)
-relates_run None new cause words left s op status text w a r = tt
-relates_run (Some x) None cause words left s op status text w a r = absurd r
-relates_run (Some x) (Some y) cause words left s op status text w a r = λ e. session s op w a (r e)
+relates_run : (old new : Option History) (cause : Type 0) (given : List ℕ) (words : List (List ℕ)) (left : Option (List ℕ)) (s : Settings) (op : Op) (status : ℕ) (text : List ℕ) → IsCommand words s → AsksFor left op
+    → Relates old new (λ before h. before ≡ [] → SessionBy cause given s op h status text) → Relates old new (λ before h. before ≡ [] → RunIs cause given words left h status text)
+relates_run None new cause given words left s op status text w a r = tt
+relates_run (Some x) None cause given words left s op status text w a r = absurd r
+relates_run (Some x) (Some y) cause given words left s op status text w a r = λ e. session s op w a (r e)
 
 -- there was a session
-pub run_says : (v w : Option (List ℕ)) (old new : Option History) (cause : Type 0) (words : List (List ℕ)) (left : Option (List ℕ)) (s : Settings) (op : Op) (status : ℕ) → IsCommand words s → AsksFor left op
-    → Says v w (λ text. Relates old new (λ before h. before ≡ [] → SessionBy cause s op h status text)) → Says v w (λ text. Relates old new (λ before h. before ≡ [] → RunIs cause words left h status text))
-run_says v w old new cause words left s op status c a said = record {
+pub run_says : (v w : Option (List ℕ)) (a b : Option (List ℕ)) (old new : Option History) (cause : Type 0) (words : List (List ℕ)) (left : Option (List ℕ)) (s : Settings) (op : Op) (status : ℕ) → IsCommand words s → AsksFor left op
+    → Says v w (λ text. Reads a b (λ given. Relates old new (λ before h. before ≡ [] → SessionBy cause given s op h status text)))
+    → Says v w (λ text. Reads a b (λ given. Relates old new (λ before h. before ≡ [] → RunIs cause given words left h status text)))
+run_says v w a b old new cause words left s op status c asks said = record {
   text = said.text;
   added = said.added;
-  is = relates_run old new cause words left s op status said.text c a said.is;
+  is = (said.is.0, said.is.1, relates_run old new cause said.is.0 words left s op status said.text c asks said.is.2);
 }
 
-relates_none : (old : Option History) (cause : Type 0) (words : List (List ℕ)) (left : Option (List ℕ)) (fault : ScriptFault) (status : ℕ) (text : List ℕ) → IsFaultOf left fault → RefusesWith fault status text
-    → Relates old old (λ before h. before ≡ [] → RunIs cause words left h status text)
-relates_none None cause words left fault status text f r = tt
-relates_none (Some x) cause words left fault status text f r = λ e. unbegun e (no_script fault f r)
+relates_none : (old : Option History) (cause : Type 0) (words : List (List ℕ)) (left : Option (List ℕ)) (status : ℕ) (text : List ℕ) → Unbegun left status text
+    → Relates old old (λ before h. before ≡ [] → RunIs cause [] words left h status text)
+relates_none None cause words left status text u = tt
+relates_none (Some x) cause words left status text u = λ e. unbegun e u
 
 -- the script was refused
-pub refuse_says : (v w : Option (List ℕ)) (old : Option History) (cause : Type 0) (words : List (List ℕ)) (left : Option (List ℕ)) (fault : ScriptFault) (status : ℕ) → IsFaultOf left fault → Says v w (RefusesWith fault status)
-    → Says v w (λ text. Relates old old (λ before h. before ≡ [] → RunIs cause words left h status text))
-refuse_says v w old cause words left fault status f said = record {
+pub refuse_says : (v w : Option (List ℕ)) (a : Option (List ℕ)) (old : Option History) (cause : Type 0) (words : List (List ℕ)) (left : Option (List ℕ)) (fault : ScriptFault) (status : ℕ) → IsFaultOf left fault → Says v w (RefusesWith fault status)
+    → Says v w (λ text. Reads a a (λ given. Relates old old (λ before h. before ≡ [] → RunIs cause given words left h status text)))
+refuse_says v w a old cause words left fault status f said = record {
   text = said.text;
   added = said.added;
-  is = relates_none old cause words left fault status said.text f said.is;
+  is = ([], reads_none a, relates_none old cause words left status said.text (no_script fault f said.is));
 }
+
+-- nothing was begun, and nothing written
+pub none_says : (v : Option (List ℕ)) (a : Option (List ℕ)) (old : Option History) (cause : Type 0) (words : List (List ℕ)) (left : Option (List ℕ)) (status : ℕ) → Unbegun left status []
+    → Says v v (λ text. Reads a a (λ given. Relates old old (λ before h. before ≡ [] → RunIs cause given words left h status text)))
+none_says v a old cause words left status u = record {
+  text = [];
+  added = appends_none v;
+  is = ([], reads_none a, relates_none old cause words left status [] u);
+}
+
+-- the line that was written at 3
+pub refused_text : (v w left : Option (List ℕ)) (fault : ScriptFault) (status : ℕ) → IsFaultOf left fault → Says v w (RefusesWith fault status) → status ≡ 3 → Says v w (RefusalIs left)
+refused_text v w left fault status f said three = record { text = said.text; added = said.added; is = (fault, f, all_of status said.text three said.is) }
+  where
+    all_of : (status : ℕ) (text : List ℕ) → status ≡ 3 → RefusesWith fault status text → text ≡ refusal_text fault
+    all_of status text three (whole s t) = t
+    all_of status text three (cut s t) = absurd (elim s [ inl five ↦ omega (arith, three, five) | inr seven ↦ omega (arith, three, seven) ])
+
+-- a session that was begun ends with none of these
+pub not_read : (status : ℕ) (P : Type 0) → IsEnding status → (status ≡ 2) ⊎ (status ≡ 4) → P
+not_read status P ending read = absurd (elim read [
+  | inl two ↦ elim ending [
+    | inl a ↦ omega (arith, two, a)
+    | inr r ↦ elim r [
+      | inl a ↦ omega (arith, two, a)
+      | inr q ↦ elim q [
+        | inl a ↦ omega (arith, two, a)
+        | inr t ↦ elim t [ inl a ↦ omega (arith, two, a) | inr o ↦ elim o [ inl a ↦ omega (arith, two, a) | inr a ↦ omega (arith, two, a) ] ]
+      ]
+    ]
+  ]
+  | inr four ↦ elim ending [
+    | inl a ↦ omega (arith, four, a)
+    | inr r ↦ elim r [
+      | inl a ↦ omega (arith, four, a)
+      | inr q ↦ elim q [
+        | inl a ↦ omega (arith, four, a)
+        | inr t ↦ elim t [ inl a ↦ omega (arith, four, a) | inr o ↦ elim o [ inl a ↦ omega (arith, four, a) | inr a ↦ omega (arith, four, a) ] ]
+      ]
+    ]
+  ]
+])

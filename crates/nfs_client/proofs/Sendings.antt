@@ -8,6 +8,7 @@ use Rattle.world_model.specs.declared.entry.Entry.TheVariants.{Began, Answered, 
 use Rattle.world_model.specs.declared.message.Call.{Call}
 use Rattle.world_model.specs.declared.message.Call.TheVariants as calls
 use Rattle.world_model.specs.declared.tally.Tally.{Tally}
+use Rattle.nfs_types.specs.declared.nfs_proc.TheConstants.{GETATTR, LOOKUP, READ, WRITE, COMMIT}
 use Rattle.world_model.specs.Entries.{At, ours}
 use Rattle.world_model.specs.Messages.{HasXid, SpellsCall, head_of}
 use Rattle.world_model.specs.Waiting.{Waits, Drops}
@@ -64,7 +65,7 @@ no_xids which (Clock ms) mute = refl
 tally_same : (h : List Entry) (e : Entry) → NoSending e → tally_of (h ++ e ∷ []) ≡ tally_of h
 tally_same h e mute =
     let same : (which : Counted) → calls_made which (h ++ e ∷ []) ≡ calls_made which h = λ which. count_same which h e (no_xids which e mute) in
-    rw (same Every, same (Only 1), same (Only 3), same (Only 6), same (Only 7), same (Only 21)) refl
+    rw (same Every, same (Only GETATTR), same (Only LOOKUP), same (Only READ), same (Only WRITE), same (Only COMMIT)) refl
 
 pub sent_stays : (h : List Entry) (e : Entry) (c : CallsView) → NoSending e → SentTrue h c → SentTrue (h ++ e ∷ []) c
 sent_stays h e c mute s = record {
@@ -113,12 +114,12 @@ tally_more h x call b s below = by_kind call s
     more other t which = count_more which h b x (head_of x other) t.args refl (call_again (head_of x other) t.args b t.head) (below_sent which h x below)
 
     by_kind : (other : Call) → SpellsCall x other b → tally_of (h ++ Sent b ∷ []) ≡ tally_with (tally_of h) other
-    by_kind (calls.File other) t = let m = more (calls.File other) t in rw (m Every, m (Only 1), m (Only 3), m (Only 6), m (Only 7), m (Only 21)) refl
-    by_kind (calls.Dir other) t = let m = more (calls.Dir other) t in rw (m Every, m (Only 1), m (Only 3), m (Only 6), m (Only 7), m (Only 21)) refl
+    by_kind (calls.File other) t = let m = more (calls.File other) t in rw (m Every, m (Only GETATTR), m (Only LOOKUP), m (Only READ), m (Only WRITE), m (Only COMMIT)) refl
+    by_kind (calls.Dir other) t = let m = more (calls.Dir other) t in rw (m Every, m (Only GETATTR), m (Only LOOKUP), m (Only READ), m (Only WRITE), m (Only COMMIT)) refl
     by_kind (calls.Mount other) t =
         let m = more (calls.Mount other) t in
         let none : (n : ℕ) → n + 0 ≡ n = λ n. omega arith in
-        rw (m Every, m (Only 1), m (Only 3), m (Only 6), m (Only 7), m (Only 21), none (calls_made Every h), none (calls_made (Only 1) h), none (calls_made (Only 3) h), none (calls_made (Only 6) h), none (calls_made (Only 7) h), none (calls_made (Only 21) h)) refl
+        rw (m Every, m (Only GETATTR), m (Only LOOKUP), m (Only READ), m (Only WRITE), m (Only COMMIT), none (calls_made Every h), none (calls_made (Only GETATTR) h), none (calls_made (Only LOOKUP) h), none (calls_made (Only READ) h), none (calls_made (Only WRITE) h), none (calls_made (Only COMMIT) h)) refl
 
 one_xid : (k l : List ℕ) (x y : ℕ) → k ≡ l → HasXid k x → HasXid l y → x ≡ y
 one_xid k l x y e p q = let r : HasXid l x = subst (λ (t : List ℕ). HasXid t x) e p in cc

@@ -1,5 +1,7 @@
 -- What is seen of the calls of a session, and how making a call changes it.
 use Rattle.std.specs.Prelude.{◌≡◌, ◌≤◌, ◌+◌, ◌-◌, ◌^◌, ◌==◌, ℕ, Bool, true, false, if◌then◌else◌}
+use Rattle.nfs_types.specs.declared.program.TheConstants.{NFS_PROGRAM}
+use Rattle.nfs_types.specs.declared.nfs_proc.TheConstants.{GETATTR, LOOKUP, READ, WRITE, COMMIT}
 use Rattle.rpc_message.specs.declared.cred.Cred.{Cred}
 use Rattle.world_model.specs.declared.tally.Tally.{Tally}
 use Rattle.world_model.specs.declared.message.Call.{Call}
@@ -41,16 +43,16 @@ one_if false = 0
 abbrev pub tally_of_proc : Tally → ℕ → Tally
 tally_of_proc t proc = record {
   calls = t.calls + 1;
-  getattr = t.getattr + one_if (proc == 1);
-  lookup = t.lookup + one_if (proc == 3);
-  read = t.read + one_if (proc == 6);
-  write = t.write + one_if (proc == 7);
-  commit = t.commit + one_if (proc == 21);
+  getattr = t.getattr + one_if (proc == GETATTR);
+  lookup = t.lookup + one_if (proc == LOOKUP);
+  read = t.read + one_if (proc == READ);
+  write = t.write + one_if (proc == WRITE);
+  commit = t.commit + one_if (proc == COMMIT);
 }
 
 -- one more call
 abbrev pub tally_with : Tally → Call → Tally
-tally_with t call = if program_of call == 100003 then tally_of_proc t (proc_of call) else t
+tally_with t call = if program_of call == NFS_PROGRAM then tally_of_proc t (proc_of call) else t
 
 abbrev pub counted : CallsView → Call → CallsView
 counted c call = record c { made = c.made + 1; tally = tally_with c.tally call }

@@ -46,8 +46,8 @@ abbrev pub ComesTo : {T : Type 0} → (T → List Entry → List Entry → Type 
 ComesTo Done Halted new (Ok v) h k = IdleTrue k new × Done v h k
 ComesTo Done Halted new (Err halt) h k = SentTrue k new × Halted halt h k
 
--- What calls of a link and of a session's own lead from and to. P is true of each record that was sent on the way; where
--- no call waited before, Done holds at the end, or Halted where there was none.
+-- What calls of a link and of a session's own lead from and to. P is true of each record that was sent on the way;
+-- where no call waited before, Done holds at the end, or Halted where there was none.
 pub record Goes {T : Type 0} (P : List Entry → ℕ → List ℕ → Type 0) (Done : T → List Entry → List Entry → Type 0) (Halted : Halt → List Entry → List Entry → Type 0)
     (old new : CallsView) (result : Result T Halt) (h k : List Entry) : Type 0 where
   pub same : marks k ≡ marks h
@@ -78,7 +78,7 @@ Called Done call old new result h k = Goes (IsNext old call) Done (HaltedAs old 
 abbrev pub HeardBy : CallsView → Call → List ℕ → List Entry → List Entry → Type 0
 HeardBy c call bytes h k = Heard k (length h) (length k) call (c.first + c.made) bytes
 
--- the link was lost, or memory was wanting
+-- the link was lost, or memory ran out
 abbrev pub LinkHalts : Halt → List Entry → List Entry → Type 0
 LinkHalts (halts.Refused faults.Lost) h k = LostShown (fails k ≡ true) k (length k)
 LinkHalts (halts.Refused faults.Memory) h k = Unit {0}
@@ -119,7 +119,7 @@ pub record IsCauseOf (before now : ℕ) (es : List Entry) : Type 0 where
   pub later : before ≤ now
   pub rose : fails es ≡ true → Rose before now
 
--- the record was sent, and its call waits; or the link was lost, or memory was wanting before anything was sent
+-- the record was sent, and its call waits; or the link was lost, or memory ran out before anything was sent
 abbrev pub SendsTo : Call → List ℕ → CallsView → CallsView → Result (Unit {0}) Halt → List Entry → List Entry → Type 0
 SendsTo call bytes old new (Ok u) h k = (at : ℕ) × (length h ≤ at) × WaitsTrue k at (old.first + old.made) bytes 0 × SentTrue k new
 SendsTo call bytes old new (Err (halts.Refused fault)) h k = (fault ≡ faults.Lost) × (fails k ≡ true) × ((at : ℕ) × (length h ≤ at) × WaitsTrue k at (old.first + old.made) bytes 0 × SentTrue k new)
@@ -130,7 +130,7 @@ pub record SendsAs (call : Call) (bytes : List ℕ) (old new : CallsView) (resul
   pub sends : (i : ℕ) (b : List ℕ) → At k i (Sent b) → At h i (Sent b) ⊎ ((length h ≤ i) × (b ≡ bytes))
   pub comes : IdleTrue h old → SpellsCallBy old.cred (old.first + old.made) call bytes → SendsTo call bytes old new result h k
 
--- the record under the xid came; or the link was lost, or memory was wanting
+-- the record under the xid came; or the link was lost, or memory ran out
 abbrev pub ListensTo : ℕ → ℕ → List ℕ → Result (List ℕ) Halt → List Entry → Type 0
 ListensTo at x record_sent (Ok bytes) k = (call : Call) → SpellsCall x call record_sent → Heard k at (length k) call x bytes × ((i y : ℕ) (b : List ℕ) → At k i (Sent b) → HasXid b y → WasAnswered k i y)
 ListensTo at x record_sent (Err (halts.Refused fault)) k = (fault ≡ faults.Lost) × LostShown (fails k ≡ true) k (length k) × ((n : ℕ) × WaitsTrue k at x record_sent n)

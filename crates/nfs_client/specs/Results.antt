@@ -72,7 +72,7 @@ abbrev pub CommitHeard : ℕ → List ℕ → List ℕ → Result (Unit {0}) Fau
 CommitHeard x file rec (Ok u) = (wcc : Wcc) × (verf : Verf) × SpellsReply x (commit_call file) (replies.File (kept.Commit wcc verf)) rec
 CommitHeard x file rec (Err fault) = Refuses x (commit_call file) rec fault
 
--- MNT of the path gave the root, or was refused, or memory was wanting
+-- MNT of the path gave the root, or was refused, or memory ran out
 abbrev pub MountHeard : ℕ → List ℕ → List ℕ → Result (List ℕ) Halt → Type 0
 MountHeard x path rec (Ok root) = (flavors : List ℕ) × SpellsReply x (mount_call path) (replies.Mount (mounts.MntOk root flavors)) rec
 MountHeard x path rec (Err (halts.Refused fault)) = Refuses x (mount_call path) rec fault

@@ -52,7 +52,7 @@ OnlyDialHalts (Err halts.Memory) = Unit {0}
 abbrev pub MountedSo : List ℕ → List ℕ → List Entry → List Entry → Type 0
 MountedSo path root h k = (flavors : List ℕ) × Asked k (length h) (length k) (mount_call path) (replies.Mount (mounted.MntOk root flavors))
 
--- the link was lost, or MNT was refused, or memory was wanting
+-- the link was lost, or MNT was refused, or memory ran out
 abbrev pub MountHalts : List ℕ → Halt → List Entry → List Entry → Type 0
 MountHalts path (halts.Refused faults.Lost) h k = LostShown (fails k ≡ true) k (length k) × NoneHeard h k
 MountHalts path (halts.Refused faults.Spent) h k = ⊥
@@ -109,7 +109,7 @@ pub record IsSetUp (s : Settings) (v : SetUp) (h k : List Entry) : Type 0 where
 abbrev pub IsUnrefused : Settings → List Entry → List Entry → Type 0
 IsUnrefused s h k = ((root : List ℕ) × Rooted (origin_of s.export) k (length k) root) ⊎ NoneHeard h k
 
--- the link was lost, or the mount was refused, or memory was wanting
+-- the link was lost, or the mount was refused, or memory ran out
 abbrev pub SetUpHalts : Settings → Halt → List Entry → List Entry → Type 0
 SetUpHalts s (halts.Refused faults.Lost) h k = LostShown (fails k ≡ true) k (length k) × IsUnrefused s h k
 SetUpHalts s (halts.Refused faults.Spent) h k = ⊥

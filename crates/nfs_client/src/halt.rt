@@ -7,7 +7,7 @@ use world_model::Fault;
 pub enum Halt {
     /// It is refused.
     Refused(Fault),
-    /// Want of memory outside an operation.
+    /// Out of memory outside an operation.
     Memory,
 }
 

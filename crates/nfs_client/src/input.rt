@@ -17,7 +17,7 @@ const PIECE: usize = 4096;
 pub enum ReadFault {
     /// The source failed.
     Failed,
-    /// Want of memory.
+    /// Out of memory.
     Memory,
 }
 

@@ -14,8 +14,6 @@ mod report;
 mod session;
 mod set_up;
 mod status;
-#[cfg(test)]
-mod tests;
 mod top;
 
 pub use top::run;

@@ -2,23 +2,18 @@
 
 ghost use Rattle.std.specs.Prelude.{◌≡◌, ◌==◌, IfOk, OnOk};
 ghost use Rattle.xdr_codec.specs.Spells.{Wrote};
+ghost use Rattle.nfs_types.specs.declared.program.TheConstants.{NFS_PROGRAM};
 ghost use Rattle.world_model.specs.Messages.{SpellsCallBy, SpellsArguments, proc_of, program_of};
 ghost use Rattle.nfs_client.specs.Records.{IsSpellable};
 
 use mount_calls::{mount_proc, write_mount_call};
 use nfs_dir_calls::{dir_proc, write_dir_call};
 use nfs_file_calls::{file_proc, write_file_call};
+use nfs_types::{MOUNT_PROGRAM, NFS_PROGRAM, PROGRAM_VERSION};
 use rpc_message::{CallHead, Cred, write_call};
 use std::alloc::Global;
 use world_model::Call;
 use xdr_codec::{Blob, Memory, Writer};
-
-/// The number of the program NFS (RFC 1813, section 2.1).
-const NFS_PROGRAM: u32 = 100_003;
-/// The number of the program MOUNT (RFC 1813, section 5).
-const MOUNT_PROGRAM: u32 = 100_005;
-/// The version of both.
-const VERSION: u32 = 3;
 
 /// The record of a call under an xid, as this caller.
 pub fn write_record(alloc: Global, cred: &Cred, xid: u32, call: &Call) -> Result<Blob, Memory>
@@ -29,7 +24,7 @@ pub fn write_record(alloc: Global, cred: &Cred, xid: u32, call: &Call) -> Result
     let head = CallHead {
         xid,
         prog: program_of(call),
-        vers: VERSION,
+        vers: PROGRAM_VERSION,
         proc: proc_of(call),
     };
     write_call(&mut writer, &head, cred)?;
@@ -61,7 +56,7 @@ fn program_of(call: &Call) -> u32
 
 /// Whether a call is one of NFS.
 pub fn is_nfs(call: &Call) -> bool
-    ensures { result ≡ (program_of call.now == 100003) }
+    ensures { result ≡ (program_of call.now == NFS_PROGRAM) }
 {
     program_of(call) == NFS_PROGRAM
 }

@@ -4,7 +4,7 @@ ghost use Rattle.std.specs.Prelude.{◌≡◌, ◌≤◌, ◌<◌, ◌+◌, ◌^
 ghost use Rattle.nfs_client.specs.Calls.{SameCalls};
 ghost use Rattle.nfs_client.specs.Putting.{IsBuilt};
 ghost use Rattle.nfs_client.specs.SetUp.{IsOptions};
-ghost use Rattle.nfs_client.specs.Session.{Along};
+ghost use Rattle.nfs_client.specs.Session.{Along, Reads, ReadsOnce};
 ghost use Rattle.nfs_client.specs.Run.{terms_of};
 ghost use Rattle.nfs_client.specs.Working.{IsKnown, BeginsSo, AnswersSo, WorksSo, ConversesSo};
 
@@ -45,7 +45,8 @@ pub fn converse<L: Link, C: Clock>(
     requires calls { 2 ≤ settings.now.calls }
     requires xids { first + settings.now.calls < 2 ^ 32 }
     requires built { IsBuilt op.now }
-    ensures goes { Along (L.told link.old) (L.told link.new) (L.faults link.old) (L.faults link.new) (λ h k. h ≡ [] → ConversesSo (terms_of settings.now first) op.now result k) }
+    ensures goes { Reads (C.readings clock.old) (C.readings clock.new) (λ given.
+        Along (L.told link.old) (L.told link.new) (L.faults link.old) (L.faults link.new) (λ h k. h ≡ [] → ConversesSo (terms_of settings.now first) given op.now result k)) }
     ensures honest { L.honest link.old → L.honest link.new }
 {
     let mut calls = Calls::new(first, settings.calls, settings.cred);
@@ -71,7 +72,8 @@ fn work<L: Link, C: Clock>(
 ) -> Result<Ended, Memory>
     requires built { IsBuilt op.now }
     requires known { IsKnown set_up }
-    ensures goes { Along (L.told link.old) (L.told link.new) (L.faults link.old) (L.faults link.new) (WorksSo set_up op.now calls result) }
+    ensures goes { ReadsOnce (C.readings clock.old) (C.readings clock.new) (λ ms.
+        Along (L.told link.old) (L.told link.new) (L.faults link.old) (L.faults link.new) (WorksSo set_up ms op.now calls result)) }
     ensures honest { L.honest link.old → L.honest link.new }
 {
     let mut calls = calls;
@@ -108,7 +110,8 @@ fn begin<L: Link, C: Clock>(
     link: &mut L,
     clock: &mut C,
 ) -> Result<(), Memory>
-    ensures goes { Along (L.told link.old) (L.told link.new) (L.faults link.old) (L.faults link.new) (BeginsSo op.now result) }
+    ensures goes { ReadsOnce (C.readings clock.old) (C.readings clock.new) (λ ms.
+        Along (L.told link.old) (L.told link.new) (L.faults link.old) (L.faults link.new) (BeginsSo ms op.now result)) }
     ensures honest { L.honest link.old → L.honest link.new }
 {
     let ms = clock.now();

@@ -12,7 +12,7 @@ pub const READ_FAULT: u8 = 4;
 pub const WRITE_FAULT: u8 = 5;
 /// The link is lost.
 pub const LINK_LOST: u8 = 6;
-/// Want of memory outside an operation.
+/// Out of memory outside an operation.
 pub const NO_MEMORY: u8 = 7;
 /// The mount is refused.
 pub const MOUNT_REFUSED: u8 = 8;

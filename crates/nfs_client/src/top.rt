@@ -1,6 +1,6 @@
 //! The top call.
 
-ghost use Rattle.std.specs.Prelude.{◌≡◌, ◌≤◌, ◌<◌, ◌+◌, ◌^◌, ◌⊎◌, [], map, take, IfOk, IfSome, MatchOption};
+ghost use Rattle.std.specs.Prelude.{◌≡◌, ◌≤◌, ◌<◌, ◌+◌, ◌^◌, ◌⊎◌, [], ◌∷◌, map, take, IfOk, IfSome, MatchOption};
 ghost use Rattle.std.specs.Bool.{OnTrue, OnFalse};
 ghost use Rattle.std.specs.String.{string_bytes};
 ghost use Rattle.world_model.specs.Told.{Relates};
@@ -11,7 +11,8 @@ ghost use Rattle.session_words.specs.Words.{IsCommand};
 ghost use Rattle.nfs_client.specs.Putting.{IsBuilt};
 ghost use Rattle.nfs_client.specs.SetUp.{IsOptions};
 ghost use Rattle.nfs_client.specs.Streams.{script_limit};
-ghost use Rattle.nfs_client.specs.Run.{IsXidOption, IsFirst, IsCutOff, IsDoable, IsScript, one_line, Refuses, RefusesWith, RunIs, SessionBy, Says};
+ghost use Rattle.nfs_client.specs.Session.{Reads, ReadsOnce};
+ghost use Rattle.nfs_client.specs.Run.{IsXidOption, IsFirst, IsCutOff, IsDoable, IsScript, one_line, Refuses, RefusesWith, RefusalIs, RunIs, SessionBy, Says};
 ghost use Rattle.nfs_client.specs.Reports.{IsEnding};
 
 use crate::input::{ReadFault, read_script};
@@ -36,10 +37,10 @@ const MOST_BYTES: usize = 65_536;
 /// Runs the script that the source gives, and writes an answer line for each operation. The words say where the files
 /// are and how they are asked for. It answers the status of the session: 0 where each operation went well, 1 where one
 /// was refused, 2 where the words are refused, 3 where the script is, 4 where the source failed, 5 where the sink
-/// failed, 6 where the link is lost, 7 for want of memory outside an operation, 8 where the mount is refused.
+/// failed, 6 where the link is lost, 7 for lack of memory outside an operation, 8 where the mount is refused.
 ///
-/// For now only a script whose one operation is `1 put /NAME OFF HEX` in line 1 is done. Any other that is well formed is
-/// refused as a whole.
+/// For now only a script whose one operation is `1 put /NAME OFF HEX` in line 1 is done. Any other that is well formed
+/// is refused as a whole.
 pub fn run<S: Source, L: Link, C: Clock, K: Sink>(
     alloc: Global,
     words: &[String],
@@ -48,13 +49,20 @@ pub fn run<S: Source, L: Link, C: Clock, K: Sink>(
     clock: &mut C,
     out: &mut K,
 ) -> u8
-    // 2 comes only where the words aren't of their form, and where they aren't only want of memory comes in its place.
+    ensures statuses { result ≤ 8 }
+
+    // 2 comes only where the words aren't of their form, and where they aren't only out of memory comes in its place.
     ensures words { result ≡ 2 → (s : SettingsOf) → IsCommand (map string_bytes words.now) s → ⊥ }
     ensures no_words { ((s : SettingsOf) → IsCommand (map string_bytes words.now) s → ⊥) → (result ≡ 2) ⊎ (result ≡ 7) }
 
-    // 3 comes only where the script's bytes ask for none that can be done, and where they don't no operation is answered.
+    // 3 comes only where the script's bytes ask for none that can be done, and where they don't no operation is
+    // answered.
     ensures script { IfSome (S.left script.old) (λ left. result ≡ 3 → IsScript (take script_limit left) → ⊥) }
     ensures unspelled { IfSome (S.left script.old) (λ left. (IsScript (take script_limit left) → ⊥) → Refuses result) }
+
+    // At 2 and 4 nothing is written, and at 3 the line that says why the script is refused.
+    ensures unread { (result ≡ 2) ⊎ (result ≡ 4) → Says (K.written out.old) (K.written out.new) (λ text. text ≡ []) }
+    ensures refused { result ≡ 3 → Says (K.written out.old) (K.written out.new) (RefusalIs (S.left script.old)) }
 
     // 4 and 5 come only where the outside failed.
     ensures source { result ≡ 4 → Rose (S.faults script.old) (S.faults script.new) }
@@ -63,10 +71,11 @@ pub fn run<S: Source, L: Link, C: Clock, K: Sink>(
     // A link that is honest stays so: what it tells is lawful.
     ensures honest { L.honest link.old → L.honest link.new }
 
-    // What was written is what the history says.
+    // What was written is what the history says, and so are the readings that the clock gave.
     ensures shown { Says (K.written out.old) (K.written out.new) (λ text.
+        Reads (C.readings clock.old) (C.readings clock.new) (λ given.
         Relates (L.told link.old) (L.told link.new) (λ before h. before ≡ [] →
-        RunIs (Rose (L.faults link.old) (L.faults link.new)) (map string_bytes words.now) (S.left script.old) h result text)) }
+        RunIs (Rose (L.faults link.old) (L.faults link.new)) given (map string_bytes words.now) (S.left script.old) h result text))) }
 {
     let settings = match read_words(alloc, words) {
         Ok(settings) => settings,
@@ -172,8 +181,9 @@ fn session<L: Link, C: Clock, K: Sink>(
     ensures sink { result ≡ 5 → Rose (K.faults out.old) (K.faults out.new) }
     ensures honest { L.honest link.old → L.honest link.new }
     ensures shown { Says (K.written out.old) (K.written out.new) (λ text.
+        Reads (C.readings clock.old) (C.readings clock.new) (λ given.
         Relates (L.told link.old) (L.told link.new) (λ before h. before ≡ [] →
-        SessionBy (Rose (L.faults link.old) (L.faults link.new)) settings.now op.now h result text)) }
+        SessionBy (Rose (L.faults link.old) (L.faults link.new)) given settings.now op.now h result text))) }
 {
     let first = first_xid(settings.xid, clock);
     match converse(alloc, settings, first, op, link, clock) {
@@ -185,7 +195,8 @@ fn session<L: Link, C: Clock, K: Sink>(
 /// The xid of the first call: the one that is wanted, or one by the time.
 fn first_xid<C: Clock>(wanted: Option<u32>, clock: &mut C) -> u32
     requires { IsXidOption wanted }
-    ensures { IsFirst wanted result }
+    ensures range { (1 ≤ result) × (result ≤ 2 ^ 31) }
+    ensures read { ReadsOnce (C.readings clock.old) (C.readings clock.new) (λ ms. IsFirst (ms ∷ []) wanted result) }
 {
     let now = clock.now();
     match wanted {

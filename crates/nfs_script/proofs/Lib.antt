@@ -3,3 +3,5 @@ pub mod Bounds
 pub mod Within
 pub mod Hexed
 pub mod Shown
+pub mod ScriptRows
+pub mod LineRows

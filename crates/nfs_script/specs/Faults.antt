@@ -28,7 +28,7 @@ abbrev pub ◌>>=◌ : {E A B : Type 0} → Result A E → (A → Result B E) �
 (Ok x) >>= f = f x
 (Err e) >>= f = Err e
 
--- a reader failed as reading does; want of memory may come at any text
+-- a reader failed as reading does; out of memory may come at any text
 abbrev pub Fails : {Y : Type 0} → LineFault → Result Y Cause → Type 0
 Fails (faults.Refused cause) read = read ≡ Err cause
 Fails faults.Memory read = Unit {0}

@@ -61,7 +61,7 @@ text_fault text = if nat_lt 1048576 (length text) then Some (fault_at 0 causes.L
 abbrev pub script_of : List ℕ → Result (List ScriptLine) ScriptFault
 script_of text = option_map_or (λ fault. Err fault) (text_fault text) (after_lines 0 [] (lines text))
 
--- What came of a text is what it asks for, or its fault. Want of memory may come at any text.
+-- What came of a text is what it asks for, or its fault. Out of memory may come at any text.
 abbrev pub IsParsed : Result (List ScriptLine) ScriptFault → Result (List ScriptLine) ParseFault → Type 0
 IsParsed read (Ok asked) = read ≡ Ok asked
 IsParsed read (Err (faults.Script fault)) = read ≡ Err fault

@@ -10,7 +10,7 @@ use world_model::{Answer, Fault, Value};
 use xdr_codec::{Memory, Writer};
 
 /// Appends the line that answers an operation: its lane, the number of its line and its answer's text, parted by single
-/// spaces, and a line feed. After want of memory the writer begins with what it held.
+/// spaces, and a line feed. When out of memory the writer begins with what it held.
 #[tactic(auto, using(xdr_codec::proofs::Begins::begins_then, std::proofs::Common::append_assoc), unfolding(world_model::specs::Transcript::line_text))]
 pub fn line(out: &mut Writer, lane: u8, number: u32, answer: &Answer) -> Result<(), Memory>
     ensures ok { OnOk result (out.new ≡ out.old ++ line_text lane number answer.now) }

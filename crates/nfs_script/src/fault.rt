@@ -22,7 +22,7 @@ pub enum ParseFault {
     /// The text is no script.
     #[error("line {} is refused with kind {}", .0.line, .0.kind)]
     Script(ScriptFault),
-    /// Want of memory.
+    /// Out of memory.
     #[error("want of memory")]
     Memory,
 }
@@ -95,7 +95,7 @@ impl Cause {
 pub(crate) enum LineFault {
     /// It is refused.
     Refused(Cause),
-    /// Want of memory.
+    /// Out of memory.
     Memory,
 }
 

@@ -9,10 +9,6 @@ mod commands;
 mod fault;
 mod file_commands;
 mod hex_text;
-#[cfg(test)]
-mod line_tests;
-#[cfg(test)]
-mod parse_tests;
 mod path_commands;
 mod refused_mount;
 mod refused_script;

@@ -8,7 +8,7 @@ use crate::answer_line::{write_fault, write_number};
 use world_model::Fault;
 use xdr_codec::{Memory, Writer};
 
-/// Appends the line that says why a mount was refused, and a line feed. After want of memory the writer begins with what
+/// Appends the line that says why a mount was refused, and a line feed. When out of memory the writer begins with what
 /// it held.
 #[tactic(auto, using(xdr_codec::proofs::Begins::begins_then, std::proofs::Common::append_assoc), unfolding(world_model::specs::Transcript::mount_text))]
 pub fn mount_line(out: &mut Writer, fault: Fault) -> Result<(), Memory>

@@ -8,7 +8,7 @@ use crate::answer_line::write_number;
 use crate::fault::ScriptFault;
 use xdr_codec::{Memory, Writer};
 
-/// Appends the line that says why a script was refused, and a line feed. After want of memory the writer begins with what
+/// Appends the line that says why a script was refused, and a line feed. When out of memory the writer begins with what
 /// it held.
 #[tactic(auto, using(xdr_codec::proofs::Begins::begins_then, std::proofs::Common::append_assoc), unfolding(crate::specs::RefusalText::refusal_text))]
 pub fn refusal_line(out: &mut Writer, fault: &ScriptFault) -> Result<(), Memory>

@@ -8,7 +8,7 @@ use crate::answer_line::write_number;
 use world_model::Tally;
 use xdr_codec::{Memory, Writer};
 
-/// Appends the line of a session's calls, and a line feed. After want of memory the writer begins with what it held.
+/// Appends the line of a session's calls, and a line feed. When out of memory the writer begins with what it held.
 #[tactic(auto, using(xdr_codec::proofs::Begins::begins_then, std::proofs::Common::append_assoc), unfolding(world_model::specs::Counts::tally_text))]
 pub fn tally_line(out: &mut Writer, tally: &Tally) -> Result<(), Memory>
     ensures ok { OnOk result (out.new ≡ out.old ++ tally_text tally.now) }

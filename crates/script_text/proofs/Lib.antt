@@ -5,3 +5,4 @@ pub mod Decimals
 pub mod Hexed
 pub mod Decoding
 pub mod Named
+pub mod FormRows

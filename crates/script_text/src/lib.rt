@@ -8,8 +8,6 @@ mod lines;
 mod numbers;
 mod paths;
 mod payloads;
-#[cfg(test)]
-mod tests;
 
 pub use lines::{
     first_line, four_words, is_skipped, is_utf8, next_word, one_word, three_words, two_words,

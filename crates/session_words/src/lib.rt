@@ -5,8 +5,6 @@ mod command;
 mod number;
 mod rows;
 mod settings;
-#[cfg(test)]
-mod tests;
 mod words;
 
 pub use settings::{Export, Settings, WordsFault};

@@ -41,6 +41,6 @@ pub struct Settings {
 pub enum WordsFault {
     /// They aren't of the form.
     Refused,
-    /// Want of memory.
+    /// Out of memory.
     Memory,
 }

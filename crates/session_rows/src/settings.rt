@@ -1,0 +1,66 @@
+//! The settings of command lines.
+
+use crate::case::words_of;
+use rpc_message::Cred;
+use session_words::{Export, Settings, WordsFault, read_words};
+use std::alloc::Global;
+use std::io;
+
+/// Prints the settings of a command line.
+pub fn show(rt: &impl Print, alloc: Global, line: &str) -> io::Result<()> {
+    let Ok(words) = words_of(alloc, line) else {
+        return println!(rt; "  out of memory");
+    };
+    match read_words(alloc, words.as_slice()) {
+        Ok(settings) => show_settings(rt, &settings),
+        Err(WordsFault::Refused) => println!(rt; "  refused"),
+        Err(WordsFault::Memory) => println!(rt; "  out of memory"),
+    }
+}
+
+fn show_settings(rt: &impl Print, settings: &Settings) -> io::Result<()> {
+    show_export(rt, &settings.export)?;
+    print!(rt; " mount {} nfs {}", settings.mount_port, settings.nfs_port)?;
+    match settings.cred {
+        Cred::None => print!(rt; " nobody")?,
+        Cred::Sys { machine, uid, gid } => {
+            print!(rt; " ")?;
+            show_text(rt, machine.bytes())?;
+            print!(rt; " {uid} {gid}")?;
+        }
+    }
+    print!(rt; " rsize {} wsize {}", settings.rsize, settings.wsize)?;
+    match settings.xid {
+        Some(xid) => print!(rt; " calls {} xid {xid}", settings.calls)?,
+        None => print!(rt; " calls {}", settings.calls)?,
+    }
+    println!(rt; "{}", if settings.count { " count" } else { "" })
+}
+
+/// Prints a path as it is, and a root in hex; of more than 16 bytes how many there are.
+fn show_export(rt: &impl Print, export: &Export) -> io::Result<()> {
+    match export {
+        Export::Path(path) => {
+            print!(rt; "  path ")?;
+            show_text(rt, path.bytes())
+        }
+        Export::Root(root) => {
+            print!(rt; "  root ")?;
+            if root.bytes().len() > 16 {
+                return print!(rt; "of {} bytes", root.bytes().len());
+            }
+            for byte in root.bytes() {
+                print!(rt; "{byte:02x}")?;
+            }
+            Ok(())
+        }
+    }
+}
+
+fn show_text(rt: &impl Print, bytes: &[u8]) -> io::Result<()> {
+    match std::str::from_utf8(bytes) {
+        Ok(text) if bytes.len() <= 16 => print!(rt; "{text}"),
+        Ok(_) => print!(rt; "of {} bytes", bytes.len()),
+        Err(_) => print!(rt; "no text"),
+    }
+}
