@@ -4,7 +4,7 @@ use Rattle.std.proofs.lemmas.Bool.{cases_lt}
 use Rattle.nfs_types.specs.declared.wcc.Stamp.{Stamp}
 use Rattle.world_model.specs.declared.entry.Entry.{Entry}
 use Rattle.world_model.specs.Server.{Listed, Bytes, Entries, Object}
-use Rattle.world_model.specs.Steps.{stamp_of}
+use Rattle.nfs_types.specs.Stamps.{stamp_of}
 use Rattle.world_model.specs.Fresh.{Differs, bytes, list, file_stamp, list_stamp, Fresh}
 use Rattle.world_model.specs.declared.message.Call.{Call}
 use Rattle.export_fs.specs.declared.node.Holds.{Holds}
@@ -17,8 +17,8 @@ use Rattle.export_fs.specs.Restart.{after_restart, after_flush}
 use Rattle.export_fs.specs.Seen.{server_of, object_of, entry_of, held_of}
 use Rattle.export_fs.specs.Stamped.{Stamped, Alike, Goes, GoesAt, Proceeds, Proceeding}
 use Rattle.export_fs.specs.Risen.{TakesNew}
-use Rattle.export_fs.proofs.Seeing.{seen_by_place, handle_apart}
-use Rattle.export_fs.proofs.Proceeding.{stamped_after, executed_proceeds, restart_proceeds, flush_proceeds}
+use Rattle.export_fs.proofs.ServerOfExport.{seen_by_place, handle_apart}
+use Rattle.export_fs.proofs.EachCallProceeds.{stamped_after, executed_proceeds, restart_proceeds, flush_proceeds}
 
 -- ---- what an object holds, as the server shows it
 

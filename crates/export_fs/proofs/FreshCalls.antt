@@ -15,7 +15,7 @@ use Rattle.export_fs.specs.Restart.{may_restart, after_restart, after_flush}
 use Rattle.export_fs.specs.Seen.{server_of}
 use Rattle.export_fs.specs.Stamped.{Stamped, Proceeds}
 use Rattle.export_fs.specs.Risen.{TakesNew}
-use Rattle.export_fs.proofs.Proceeding.{stays, executed_proceeds, restart_proceeds, flush_proceeds, placed_proceeds, stamped_after, stamped_new}
+use Rattle.export_fs.proofs.EachCallProceeds.{stays, executed_proceeds, restart_proceeds, flush_proceeds, placed_proceeds, stamped_after, stamped_new}
 use Rattle.export_fs.proofs.Fresh.{changed_above}
 use Rattle.export_fs.proofs.Rises.{rises_executed}
 

@@ -23,7 +23,7 @@ use Rattle.export_fs.specs.Answer.{file_answer, file_refused, dir_answer, dir_re
 use Rattle.export_fs.specs.Executed.{executed}
 use Rattle.export_fs.specs.Seen.{server_of}
 use Rattle.export_fs.specs.Stamped.{Stamped}
-use Rattle.export_fs.proofs.Proceeding.{stamped_executed}
+use Rattle.export_fs.proofs.EachCallProceeds.{stamped_executed}
 use Rattle.export_fs.proofs.Fresh.{fresh_executed, stamp_within}
 
 -- at most one number is taken

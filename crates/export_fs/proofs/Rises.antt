@@ -12,7 +12,7 @@ use Rattle.world_model.specs.declared.message.Call.{Call}
 use Rattle.world_model.specs.declared.message.Call.TheVariants as calls
 use Rattle.world_model.specs.declared.message.Reply.TheVariants as replies
 use Rattle.world_model.specs.Server.{Listed, Entries, Object, Lists}
-use Rattle.world_model.specs.Rising.{Rises, RisesIn, RisesAt}
+use Rattle.world_model.specs.Rising.{NameRow, row_of, plus_rows, Rises, RisesIn, RisesAt}
 use Rattle.export_fs.specs.declared.node.Node.{Node}
 use Rattle.export_fs.specs.Held.{Row}
 use Rattle.export_fs.specs.View.{View}
@@ -26,9 +26,9 @@ use Rattle.export_fs.specs.Executed.{executed}
 use Rattle.export_fs.specs.Seen.{server_of, entry_of}
 use Rattle.export_fs.specs.Stamped.{Stamped, HasRow}
 use Rattle.export_fs.proofs.Cookies.{rises, rising_from, top_above, all_after}
-use Rattle.export_fs.proofs.Passing.{dir_passes}
+use Rattle.export_fs.proofs.RefusalTable.{dir_passes}
 use Rattle.export_fs.proofs.Handles.{place_is}
-use Rattle.export_fs.proofs.Seeing.{seen_by_place}
+use Rattle.export_fs.proofs.ServerOfExport.{seen_by_place}
 use Rattle.export_fs.proofs.Fresh.{held_entries}
 
 -- ---- rows that rise
@@ -49,33 +49,38 @@ rest_above : (low : ℕ) (front rest : List Row) → is_rising low (front ++ res
 rest_above low [] rest h row e = row_above low rest h e.0 row e.1
 rest_above low (g ∷ front) rest h row e = let q = rises low g (front ++ rest) h in omega (arith, rest_above g.cookie front rest q.1 row e)
 
+-- what a page shows of a row
+abbrev name_row : Row → NameRow
+name_row row = record { name = row.name; cookie = row.cookie }
+
 -- those of the front are below each of the rest
-front_below : (low : ℕ) (front rest : List Row) → is_rising low (front ++ rest) ≡ true → (row : Row) → HasRow rest row → All (λ (c : ℕ). c < row.cookie) (map (λ (r : Row). r.cookie) front)
-front_below low [] rest h row e = All-nil (λ (c : ℕ). c < row.cookie)
+front_below : (low : ℕ) (front rest : List Row) → is_rising low (front ++ rest) ≡ true → (row : Row) → HasRow rest row → All (λ (z : NameRow). z.cookie < row.cookie) (map name_row front)
+front_below low [] rest h row e = All-nil (λ (z : NameRow). z.cookie < row.cookie)
 front_below low (f ∷ front) rest h row e =
     let p = rises low f (front ++ rest) h in
-    All-cons (λ (c : ℕ). c < row.cookie) f.cookie (map (λ (r : Row). r.cookie) front) (rest_above f.cookie front rest p.1 row e) (front_below f.cookie front rest p.1 row e)
+    All-cons (λ (z : NameRow). z.cookie < row.cookie) (name_row f) (map name_row front) (rest_above f.cookie front rest p.1 row e) (front_below f.cookie front rest p.1 row e)
 
 front_rises : (low : ℕ) (front rest : List Row) → is_rising low (front ++ rest) ≡ true → is_rising low front ≡ true
 front_rises low [] rest h = refl
 front_rises low (f ∷ front) rest h = let p = rises low f (front ++ rest) h in rising_from low f front p.0 (front_rises f.cookie front rest p.1)
 
-cookies_above : (low : ℕ) (rows : List Row) → is_rising low rows ≡ true → All (λ (c : ℕ). low < c) (map (λ (r : Row). r.cookie) rows)
-cookies_above low [] h = All-nil (λ (c : ℕ). low < c)
+cookies_above : (low : ℕ) (rows : List Row) → is_rising low rows ≡ true → All (λ (z : NameRow). low < z.cookie) (map name_row rows)
+cookies_above low [] h = All-nil (λ (z : NameRow). low < z.cookie)
 cookies_above low (r ∷ rows) h =
     let p = rises low r rows h in
-    All-cons (λ (c : ℕ). low < c) r.cookie (map (λ (z : Row). z.cookie) rows) p.0 (All-weaker (λ (c : ℕ). r.cookie < c) (λ (c : ℕ). low < c) (λ c l. omega arith) (map (λ (z : Row). z.cookie) rows) (cookies_above r.cookie rows p.1))
+    All-cons (λ (z : NameRow). low < z.cookie) (name_row r) (map name_row rows) p.0
+    (All-weaker (λ (z : NameRow). r.cookie < z.cookie) (λ (z : NameRow). low < z.cookie) (λ z l. omega (arith, l, p.0)) (map name_row rows) (cookies_above r.cookie rows p.1))
 
-cookies_rise : (low : ℕ) (rows : List Row) → is_rising low rows ≡ true → AllPairs (λ (c d : ℕ). c < d) (map (λ (r : Row). r.cookie) rows)
+cookies_rise : (low : ℕ) (rows : List Row) → is_rising low rows ≡ true → AllPairs (λ (a b : NameRow). a.cookie < b.cookie) (map name_row rows)
 cookies_rise low [] h = λ i j d l within. absurd (omega arith)
 cookies_rise low (r ∷ rows) h =
     let p = rises low r rows h in
-    AllPairs-cons (λ (c d : ℕ). c < d) r.cookie (map (λ (z : Row). z.cookie) rows) (cookies_above r.cookie rows p.1) (cookies_rise r.cookie rows p.1)
+    AllPairs-cons (λ (a b : NameRow). a.cookie < b.cookie) (name_row r) (map name_row rows) (cookies_above r.cookie rows p.1) (cookies_rise r.cookie rows p.1)
 
-has_cookie : (rows : List Row) (at : ℕ) (row : Row) → slice_get rows at ≡ Some row → Contains (map (λ (r : Row). r.cookie) rows) row.cookie
-has_cookie [] at row e = absurd (cc)
-has_cookie (r ∷ rows) zero row e = let s : r ≡ row = cc in (0, omega arith, ap (λ (z : Row). z.cookie) s)
-has_cookie (r ∷ rows) (suc at) row e = let c = has_cookie rows at row e in (suc c.0, omega (arith, c.1), c.2)
+has_row : (rows : List Row) (at : ℕ) (row : Row) → slice_get rows at ≡ Some row → Contains (map name_row rows) (name_row row)
+has_row [] at row e = absurd (cc)
+has_row (r ∷ rows) zero row e = let s : r ≡ row = cc in (0, omega arith, ap (λ (z : Row). name_row z) s)
+has_row (r ∷ rows) (suc at) row e = let c = has_row rows at row e in (suc c.0, omega (arith, c.1), c.2)
 
 -- ---- the entries after a cookie
 
@@ -117,18 +122,18 @@ record IsFront (all : List Row) (page : List PlusRow) : Type 0 where
   front : List Row
   rest : List Row
   split : all ≡ front ++ rest
-  cookies : map (λ (r : PlusRow). r.cookie) page ≡ map (λ (r : Row). r.cookie) front
+  shown : plus_rows page ≡ map name_row front
   count : length page ≡ length front
 
 no_front : (rows : List Row) → IsFront rows []
-no_front rows = record { front = []; rest = rows; split = refl; cookies = refl; count = refl }
+no_front rows = record { front = []; rest = rows; split = refl; shown = refl; count = refl }
 
 more_front : (nodes : List Node) (row : Row) (rows : List Row) (page : List PlusRow) → IsFront rows page → IsFront (row ∷ rows) (listed nodes row ∷ page)
 more_front nodes row rows page f = record {
   front = row ∷ f.front;
   rest = f.rest;
   split = ap (λ (z : List Row). row ∷ z) f.split;
-  cookies = ap (λ (z : List ℕ). row.cookie ∷ z) f.cookies;
+  shown = ap (λ (z : List NameRow). name_row row ∷ z) f.shown;
   count = ap suc f.count;
 }
 
@@ -161,32 +166,33 @@ no_row [] at row e l = absurd (cc)
 no_row (r ∷ rows) at row e l = omega arith
 
 page_rises : (nodes : List Node) (limit cookie : ℕ) (rows : List Row) → is_rising 0 rows ≡ true
-    → Rises (map entry_of rows) cookie (map (λ (r : PlusRow). r.cookie) (page_of nodes limit (rows_after cookie rows))) (length (page_of nodes limit (rows_after cookie rows)) == length (rows_after cookie rows))
+    → Rises (map entry_of rows) cookie (plus_rows (page_of nodes limit (rows_after cookie rows))) (length (page_of nodes limit (rows_after cookie rows)) == length (rows_after cookie rows))
 page_rises nodes limit cookie rows h =
     let all : List Row = rows_after cookie rows in
     let page : List PlusRow = page_of nodes limit all in
     let p = page_front nodes limit all in
     let up : is_rising cookie (p.front ++ p.rest) ≡ true = subst (λ (z : List Row). is_rising cookie z ≡ true) p.split (after_rises cookie 0 rows h) in
-    let given : List ℕ = map (λ (r : Row). r.cookie) p.front in
-    let finds : (e : Listed) → Lists (map entry_of rows) e → cookie < e.cookie → (row : Row) × (e.cookie ≡ row.cookie) × (HasRow p.front row ⊎ HasRow p.rest row) = λ e l c.
+    let given : List NameRow = map name_row p.front in
+    let finds : (e : Listed) → Lists (map entry_of rows) e → cookie < e.cookie → (row : Row) × (row_of e ≡ name_row row) × (HasRow p.front row ⊎ HasRow p.rest row) = λ e l c.
     let r = row_of_entry rows l.0 e l.1 in
-    let same : e.cookie ≡ r.0.cookie = ap (λ (z : Listed). z.cookie) r.2 in
-    let a = after_has cookie rows r.1.0 r.0 r.1.1 (omega arith) in
+    let same : row_of e ≡ name_row r.0 = ap (λ (z : Listed). row_of z) r.2 in
+    let level : e.cookie ≡ r.0.cookie = ap (λ (z : Listed). z.cookie) r.2 in
+    let a = after_has cookie rows r.1.0 r.0 r.1.1 (omega (arith, c, level)) in
     (r.0, same, split_has p.front p.rest a.0 r.0 (subst (λ (z : List Row). slice_get z a.0 ≡ Some r.0) p.split a.1)) in
-    let P : List ℕ → Type 0 = λ z. Rises (map entry_of rows) cookie z (length page == length all) in
-    subst P (sym p.cookies) (record {
+    let P : List NameRow → Type 0 = λ z. Rises (map entry_of rows) cookie z (length page == length all) in
+    subst P (sym p.shown) (record {
       above = cookies_above cookie p.front (front_rises cookie p.front p.rest up);
       rising = cookies_rise cookie p.front (front_rises cookie p.front p.rest up);
       whole = λ e l c.
           let f = finds e l c in
-          ⊎_elim (λ (a : HasRow p.front f.0). inl (subst (Contains given) (sym f.1) (has_cookie p.front a.0 f.0 a.1)))
-          (λ (b : HasRow p.rest f.0). inr (subst (λ (n : ℕ). All (λ (z : ℕ). z < n) given) (sym f.1) (front_below cookie p.front p.rest up f.0 b)))
+          ⊎_elim (λ (a : HasRow p.front f.0). inl (subst (Contains given) (sym f.1) (has_row p.front a.0 f.0 a.1)))
+          (λ (b : HasRow p.rest f.0). inr (subst (λ (n : ℕ). All (λ (z : NameRow). z.cookie < n) given) (sym (ap (λ (z : NameRow). z.cookie) f.1)) (front_below cookie p.front p.rest up f.0 b)))
           f.2;
       last = λ t e l c.
           let f = finds e l c in
           let same : length page ≡ length all = eqb-true (length page) (length all) t in
           let none : length p.rest ≡ 0 = none_left p.front p.rest (omega (arith, ap length p.split, same, p.count)) in
-          ⊎_elim (λ (a : HasRow p.front f.0). subst (Contains given) (sym f.1) (has_cookie p.front a.0 f.0 a.1)) (λ (b : HasRow p.rest f.0). absurd (no_row p.rest b.0 f.0 b.1 none)) f.2;
+          ⊎_elim (λ (a : HasRow p.front f.0). subst (Contains given) (sym f.1) (has_row p.front a.0 f.0 a.1)) (λ (b : HasRow p.rest f.0). absurd (no_row p.rest b.0 f.0 b.1 none)) f.2;
     })
 
 -- ---- what is listed of a directory that is there
@@ -205,13 +211,13 @@ listed_rows v d dir list s a b =
     (cases_Bool p.node.gone)
 
 lists_rise : (v : View) (d : List ℕ) (cookie limit : ℕ) → Stamped v → is_stale v.nodes d ≡ false
-    → RisesIn (server_of v) d cookie (map (λ (r : PlusRow). r.cookie) (page_of v.nodes limit (rows_after cookie (rows_in (object v.nodes d))))) (length (page_of v.nodes limit (rows_after cookie (rows_in (object v.nodes d)))) == length (rows_after cookie (rows_in (object v.nodes d))))
+    → RisesIn (server_of v) d cookie (plus_rows (page_of v.nodes limit (rows_after cookie (rows_in (object v.nodes d))))) (length (page_of v.nodes limit (rows_after cookie (rows_in (object v.nodes d)))) == length (rows_after cookie (rows_in (object v.nodes d))))
 lists_rise v d cookie limit s stale dir list a b =
     let l = listed_rows v d dir list stale a b in
     let node = l.0 in
     let place = l.1 in
-    let P : List Row → Type 0 = λ z. Rises list cookie (map (λ (r : PlusRow). r.cookie) (page_of v.nodes limit (rows_after cookie z))) (length (page_of v.nodes limit (rows_after cookie z)) == length (rows_after cookie z)) in
-    let Q : List Listed → Type 0 = λ z. Rises z cookie (map (λ (r : PlusRow). r.cookie) (page_of v.nodes limit (rows_after cookie (rows_of node.holds)))) (length (page_of v.nodes limit (rows_after cookie (rows_of node.holds))) == length (rows_after cookie (rows_of node.holds))) in
+    let P : List Row → Type 0 = λ z. Rises list cookie (plus_rows (page_of v.nodes limit (rows_after cookie z))) (length (page_of v.nodes limit (rows_after cookie z)) == length (rows_after cookie z)) in
+    let Q : List Listed → Type 0 = λ z. Rises z cookie (plus_rows (page_of v.nodes limit (rows_after cookie (rows_of node.holds)))) (length (page_of v.nodes limit (rows_after cookie (rows_of node.holds))) == length (rows_after cookie (rows_of node.holds))) in
     subst P (sym l.3) (subst Q (sym l.4) (page_rises v.nodes limit cookie (rows_of node.holds) (s place node l.2).rising))
 
 done_rises : (v : View) (call : DirCall) → Stamped v → dir_refusal v call ≡ 0 → RisesAt (server_of v) (calls.Dir call) (replies.Dir (dir_answer v (after_dir v call) call))

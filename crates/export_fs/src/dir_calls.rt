@@ -191,7 +191,7 @@ impl Tree {
         })
     }
 
-    /// Does a call on a directory that isn't refused. After want of memory nothing is changed.
+    /// Does a call on a directory that isn't refused. When out of memory nothing is changed.
     fn done_dir(&mut self, call: &DirCall) -> Result<DirKept, Memory>
         requires { TargetFits call.now }
         ensures ok { IfOk result (λ reply. (self.new ≡ after_dir self.old call.now) × (reply ≡ dir_answer self.old self.new call.now)) }
@@ -259,8 +259,8 @@ impl Tree {
         }
     }
 
-    /// Executes a call on a directory. After want of memory nothing is changed.
-    #[tactic(auto, using(crate::proofs::Passing::target_fits))]
+    /// Executes a call on a directory. When out of memory nothing is changed.
+    #[tactic(auto, using(crate::proofs::RefusalTable::target_fits))]
     pub(crate) fn execute_dir(&mut self, call: &DirCall) -> Result<DirKept, Memory>
         ensures ok { IfOk result (λ reply. (self.new ≡ (dir_executed self.old call.now).0) × (reply ≡ (dir_executed self.old call.now).1)) }
         ensures err { OnErr result (self.new ≡ self.old) }

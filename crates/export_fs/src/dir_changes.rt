@@ -24,7 +24,7 @@ fn place_or_root(dir: &Handle) -> u32
 }
 
 impl Tree {
-    /// A new object gets a name in the directory at a place. After want of memory nothing is changed.
+    /// A new object gets a name in the directory at a place. When out of memory nothing is changed.
     pub(crate) fn make_at(
         &mut self,
         dir: Option<u32>,
@@ -50,7 +50,7 @@ impl Tree {
         Ok(())
     }
 
-    /// A new object gets a name in a directory. After want of memory nothing is changed.
+    /// A new object gets a name in a directory. When out of memory nothing is changed.
     fn make(&mut self, dir: &Handle, name: &Name, node: Node) -> Result<(), Memory>
         ensures ok { OnOk result (self.new ≡ after.after_making self.old dir.now name.now node) }
         ensures err { OnErr result (self.new ≡ self.old) }
@@ -80,7 +80,7 @@ impl Tree {
         }
     }
 
-    /// CREATE (RFC 1813, section 3.3.8). After want of memory nothing is changed.
+    /// CREATE (RFC 1813, section 3.3.8). When out of memory nothing is changed.
     pub(crate) fn create(
         &mut self,
         dir: &Handle,
@@ -100,7 +100,7 @@ impl Tree {
         }
     }
 
-    /// MKDIR (RFC 1813, section 3.3.9). After want of memory nothing is changed.
+    /// MKDIR (RFC 1813, section 3.3.9). When out of memory nothing is changed.
     pub(crate) fn make_dir(
         &mut self,
         dir: &Handle,
@@ -115,7 +115,7 @@ impl Tree {
         self.make(dir, name, node)
     }
 
-    /// SYMLINK (RFC 1813, section 3.3.10). After want of memory nothing is changed.
+    /// SYMLINK (RFC 1813, section 3.3.10). When out of memory nothing is changed.
     pub(crate) fn make_link(
         &mut self,
         dir: &Handle,
@@ -168,7 +168,7 @@ impl Tree {
         Ok(())
     }
 
-    /// RENAME (RFC 1813, section 3.3.14). After want of memory nothing is changed.
+    /// RENAME (RFC 1813, section 3.3.14). When out of memory nothing is changed.
     pub(crate) fn rename(
         &mut self,
         from_dir: &Handle,
@@ -192,7 +192,7 @@ impl Tree {
         }
     }
 
-    /// LINK (RFC 1813, section 3.3.15). After want of memory nothing is changed.
+    /// LINK (RFC 1813, section 3.3.15). When out of memory nothing is changed.
     pub(crate) fn link(&mut self, file: &Handle, dir: &Handle, name: &Name) -> Result<(), Memory>
         ensures ok { OnOk result (self.new ≡ after.after_linking self.old dir.now name.now (place_of file.now)) }
         ensures err { OnErr result (self.new ≡ self.old) }

@@ -101,7 +101,7 @@ impl Directory {
         self.entries.next(cookie)
     }
 
-    /// Gives the name to the object at a place, with the next cookie; what had the name loses it. After want of memory,
+    /// Gives the name to the object at a place, with the next cookie; what had the name loses it. When out of memory,
     /// or where no cookie is left, it is as it was.
     pub(crate) fn put(&mut self, name: &Name, place: u32) -> Result<(), Memory>
         ensures ok { OnOk result (self.new ≡ with_row name.now place self.old) }

@@ -73,7 +73,7 @@ impl Entries {
         }
     }
 
-    /// One more entry. After want of memory it is as it was.
+    /// One more entry. When out of memory it is as it was.
     #[tactic(auto, using(crate::proofs::Cookies::insert_last, crate::proofs::Cookies::rising_last))]
     pub(crate) fn add(&mut self, row: Row) -> Result<(), Memory>
         requires { top 0 self.old < row.cookie }

@@ -45,7 +45,7 @@ impl Model for Export {
 }
 
 impl Export {
-    /// An export with an empty root directory, which was made as change 1. Memory is want of memory.
+    /// An export with an empty root directory, which was made as change 1. Memory means out of memory.
     pub fn new(alloc: Global) -> Result<Export, Memory>
         ensures empty { IfOk result (λ e. e ≡ record { nodes = new_dir 0 1 keeps_all ∷ []; counter = 1; reboots = 0 }) }
     {
@@ -64,10 +64,10 @@ impl Export {
     }
 
     /// Executes a call: the export is then as the call leaves it, and the reply tells of it (RFC 1813, section 3.3).
-    /// A call that is refused changes nothing. Memory is want of memory, and then nothing is changed.
+    /// A call that is refused changes nothing. Memory means out of memory, and then nothing is changed.
     ///
-    /// Each call that has a spelling is what a server may do. What changes takes a stamp that was never given, and cookies
-    /// rise. The reply has a spelling.
+    /// Each call that has a spelling is what a server may do. What changes takes a stamp that was never given, and
+    /// cookies rise. The reply has a spelling.
     pub fn execute(&mut self, call: &Call) -> Result<Reply, Memory>
         ensures ok { IfOk result (λ reply. (self.new ≡ (executed self.old call.now).0) × (reply ≡ (executed self.old call.now).1)) }
         ensures spelled { IfOk result HasSpellingReply }
@@ -90,8 +90,8 @@ impl Export {
         self.tree.reboot()
     }
 
-    /// So many bytes of a file from an offset become stable, as far as they are there, also those of a file that lost its
-    /// last name. A handle of no file changes nothing. Memory is want of memory, and then nothing is changed.
+    /// So many bytes of a file from an offset become stable, as far as they are there, also those of a file that lost
+    /// its last name. A handle of no file changes nothing. Memory means out of memory, and then nothing is changed.
     pub fn flush(&mut self, file: &Handle, from: u64, len: u64) -> Result<(), Memory>
         ensures ok { OnOk result (self.new ≡ after_flush self.old file.now from len) }
         ensures err { OnErr result (self.new ≡ self.old) }
@@ -103,7 +103,7 @@ impl Export {
 
     /// Places a file with these bytes, all of them stable, or a directory at the end of the path, as one change. It is
     /// false, and nothing is changed, exactly where the path is the root, its directory isn't there, the name is there
-    /// or is `.` or `..`, or no change has a number left. Memory is want of memory, and then nothing is changed.
+    /// or is `.` or `..`, or no change has a number left. Memory means out of memory, and then nothing is changed.
     pub fn place(&mut self, path: &Path, file: Option<&[u8]>) -> Result<bool, Memory>
         ensures made { IfOk result (λ made. made ≡ is_some (placed self.old path.now (option_copied file.entry))) }
         ensures after { OnOk result (self.new ≡ unwrap_or (placed self.old path.now (option_copied file.entry)) self.old) }

@@ -62,7 +62,7 @@ impl FileBytes {
         self.bytes.as_slice() == self.stable.as_slice()
     }
 
-    /// Fills the bytes with zeros up to a size, and where `firm` says so the stable ones too. After want of memory it
+    /// Fills the bytes with zeros up to a size, and where `firm` says so the stable ones too. When out of memory it
     /// is as it was.
     fn grow(&mut self, size: usize, firm: bool) -> Result<(), Memory>
         ensures ok { OnOk result (self.new ≡ record { bytes = filled size self.old.bytes; stable = if firm then filled size self.old.stable else self.old.stable }) }
@@ -79,7 +79,7 @@ impl FileBytes {
         Ok(())
     }
 
-    /// Cuts the bytes to a size, or fills them with zeros up to it, the stable ones too. After want of memory it is as
+    /// Cuts the bytes to a size, or fills them with zeros up to it, the stable ones too. When out of memory it is as
     /// it was.
     pub(crate) fn resize(&mut self, size: usize) -> Result<(), Memory>
         ensures ok { OnOk result (self.new ≡ record { bytes = resized size self.old.bytes; stable = resized size self.old.stable }) }
@@ -112,7 +112,7 @@ impl FileBytes {
         Ok(())
     }
 
-    /// So many of the bytes from an offset become stable. After want of memory it is as it was.
+    /// So many of the bytes from an offset become stable. When out of memory it is as it was.
     #[tactic(auto, using(crate::proofs::Puts::put_filled))]
     pub(crate) fn keep(&mut self, from: usize, count: usize) -> Result<(), Memory>
         ensures ok { OnOk result (self.new ≡ record self.old { stable = put_at from (part from count self.old.bytes) self.old.stable }) }
@@ -127,7 +127,7 @@ impl FileBytes {
         Ok(())
     }
 
-    /// What a COMMIT makes stable (RFC 1813, section 3.3.21): a count of 0 means all to the end. After want of memory it
+    /// What a COMMIT makes stable (RFC 1813, section 3.3.21): a count of 0 means all to the end. When out of memory it
     /// is as it was.
     pub(crate) fn commit(&mut self, from: usize, count: usize) -> Result<(), Memory>
         ensures ok { OnOk result (self.new ≡ record self.old { stable = put_at from (committed_part from count self.old.bytes) self.old.stable }) }
@@ -157,7 +157,7 @@ pub(crate) fn part(bytes: &[u8], from: usize, count: usize) -> &[u8]
     front
 }
 
-/// Fills the bytes with zeros up to a size. After want of memory they are as they were.
+/// Fills the bytes with zeros up to a size. When out of memory they are as they were.
 fn fill(bytes: &mut Vec<u8>, size: usize) -> Result<(), Memory>
     ensures ok { OnOk result (bytes.new.items ≡ filled size bytes.old.items) }
     ensures err { OnErr result (bytes.new.items ≡ bytes.old.items) }

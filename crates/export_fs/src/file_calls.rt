@@ -103,7 +103,7 @@ impl Tree {
         }
     }
 
-    /// SETATTR of the object at a place (RFC 1813, section 3.3.2). After want of memory nothing is changed.
+    /// SETATTR of the object at a place (RFC 1813, section 3.3.2). When out of memory nothing is changed.
     pub(crate) fn set_attr(&mut self, place: Option<u32>, set: &SetAttr) -> Result<(), Memory>
         ensures ok { OnOk result (self.new ≡ after_set_attr self.old place set.now) }
         ensures err { OnErr result (self.new ≡ self.old) }
@@ -141,7 +141,7 @@ impl Tree {
         })
     }
 
-    /// WRITE (RFC 1813, section 3.3.7). After want of memory nothing is changed.
+    /// WRITE (RFC 1813, section 3.3.7). When out of memory nothing is changed.
     fn write(&mut self, file: &Handle, offset: u64, how: u32, bytes: &[u8]) -> Result<(), Memory>
         ensures ok { OnOk result (self.new ≡ after_write self.old file.now offset how bytes.now) }
         ensures err { OnErr result (self.new ≡ self.old) }
@@ -195,7 +195,7 @@ impl Tree {
         })
     }
 
-    /// Does a call on a file that isn't refused. After want of memory nothing is changed.
+    /// Does a call on a file that isn't refused. When out of memory nothing is changed.
     fn done_file(&mut self, call: &FileCall) -> Result<FileKept, Memory>
         ensures ok { IfOk result (λ reply. (self.new ≡ after_file self.old call.now) × (reply ≡ file_answer self.old self.new call.now)) }
         ensures err { OnErr result (self.new ≡ self.old) }
@@ -273,7 +273,7 @@ impl Tree {
         }
     }
 
-    /// Executes a call on a file. After want of memory nothing is changed.
+    /// Executes a call on a file. When out of memory nothing is changed.
     pub(crate) fn execute_file(&mut self, call: &FileCall) -> Result<FileKept, Memory>
         ensures ok { IfOk result (λ reply. (self.new ≡ (file_executed self.old call.now).0) × (reply ≡ (file_executed self.old call.now).1)) }
         ensures err { OnErr result (self.new ≡ self.old) }

@@ -8,8 +8,6 @@ mod dir_refusal;
 mod directory;
 mod entries;
 mod export;
-#[cfg(test)]
-mod export_tests;
 mod file_bytes;
 mod file_calls;
 mod file_refusal;
@@ -23,13 +21,7 @@ mod places;
 mod placing;
 mod restart;
 mod row;
-#[cfg(test)]
-mod sample;
 mod status;
-#[cfg(test)]
-mod status_tests;
-#[cfg(test)]
-mod tests;
 mod tree;
 
 pub use export::Export;

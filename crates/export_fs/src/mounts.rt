@@ -88,7 +88,7 @@ pub fn handles_fit(call: &Call)
 
 impl Tree {
     /// Executes a call: the export is then as the call leaves it, and the reply tells of it (RFC 1813, section 3.3).
-    /// A call that is refused changes nothing. Memory is want of memory, and then nothing is changed.
+    /// A call that is refused changes nothing. Memory means out of memory, and then nothing is changed.
     ///
     /// The reply has a spelling. A sound export stays sound, and does what a server may do at each call that has a
     /// spelling. What changes takes a stamp that was never given, and cookies rise.

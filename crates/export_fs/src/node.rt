@@ -238,7 +238,7 @@ impl Node {
         }
     }
 
-    /// SETATTR (RFC 1813, section 3.3.2). After want of memory it is as it was.
+    /// SETATTR (RFC 1813, section 3.3.2). When out of memory it is as it was.
     pub(crate) fn set_attr(&mut self, number: u32, set: &SetAttr) -> Result<(), Memory>
         ensures ok { OnOk result (self.new ≡ changes.with_set number set.now self.old) }
         ensures err { OnErr result (self.new ≡ self.old) }
@@ -254,7 +254,7 @@ impl Node {
         Ok(())
     }
 
-    /// WRITE (RFC 1813, section 3.3.7). After want of memory it is as it was.
+    /// WRITE (RFC 1813, section 3.3.7). When out of memory it is as it was.
     pub(crate) fn write(
         &mut self,
         number: u32,
@@ -271,7 +271,7 @@ impl Node {
         Ok(())
     }
 
-    /// COMMIT (RFC 1813, section 3.3.21). After want of memory it is as it was.
+    /// COMMIT (RFC 1813, section 3.3.21). When out of memory it is as it was.
     pub(crate) fn commit(&mut self, offset: usize, count: usize) -> Result<(), Memory>
         ensures ok { OnOk result (self.new ≡ changes.committed offset count self.old) }
         ensures err { OnErr result (self.new ≡ self.old) }
@@ -279,7 +279,7 @@ impl Node {
         self.holds.commit(offset, count)
     }
 
-    /// A range becomes stable by itself. After want of memory it is as it was.
+    /// A range becomes stable by itself. When out of memory it is as it was.
     pub(crate) fn flush(&mut self, start: usize, count: usize) -> Result<(), Memory>
         ensures ok { OnOk result (self.new ≡ restarts.flushed start count self.old) }
         ensures err { OnErr result (self.new ≡ self.old) }
@@ -287,7 +287,7 @@ impl Node {
         self.holds.flush(start, count)
     }
 
-    /// A name enters, where it is a directory. After want of memory it is as it was.
+    /// A name enters, where it is a directory. When out of memory it is as it was.
     pub(crate) fn enter(&mut self, number: u32, name: &Name, place: u32) -> Result<(), Memory>
         ensures ok { OnOk result (self.new ≡ changes.entered number name.now place self.old) }
         ensures err { OnErr result (self.new ≡ self.old) }
@@ -365,7 +365,7 @@ impl Node {
 }
 
 impl Holds {
-    /// Cuts a file to a size, or fills it with zeros. After want of memory it is as it was.
+    /// Cuts a file to a size, or fills it with zeros. When out of memory it is as it was.
     fn resize(&mut self, size: usize) -> Result<(), Memory>
         ensures ok { OnOk result (self.new ≡ changes.sized size self.old) }
         ensures err { OnErr result (self.new ≡ self.old) }
@@ -376,7 +376,7 @@ impl Holds {
         }
     }
 
-    /// Puts bytes into a file. After want of memory it is as it was.
+    /// Puts bytes into a file. When out of memory it is as it was.
     fn write(&mut self, offset: usize, how: u32, bytes: &[u8]) -> Result<(), Memory>
         ensures ok { OnOk result (self.new ≡ changes.with_bytes offset how bytes.now self.old) }
         ensures err { OnErr result (self.new ≡ self.old) }
@@ -387,7 +387,7 @@ impl Holds {
         }
     }
 
-    /// Makes what a COMMIT speaks of stable. After want of memory it is as it was.
+    /// Makes what a COMMIT speaks of stable. When out of memory it is as it was.
     fn commit(&mut self, offset: usize, count: usize) -> Result<(), Memory>
         ensures ok { OnOk result (self.new ≡ changes.with_stable offset count self.old) }
         ensures err { OnErr result (self.new ≡ self.old) }
@@ -398,7 +398,7 @@ impl Holds {
         }
     }
 
-    /// Makes a range of a file stable. After want of memory it is as it was.
+    /// Makes a range of a file stable. When out of memory it is as it was.
     fn flush(&mut self, start: usize, count: usize) -> Result<(), Memory>
         ensures ok { OnOk result (self.new ≡ restarts.with_part start count self.old) }
         ensures err { OnErr result (self.new ≡ self.old) }
@@ -409,7 +409,7 @@ impl Holds {
         }
     }
 
-    /// Gives a name in a directory. After want of memory it is as it was.
+    /// Gives a name in a directory. When out of memory it is as it was.
     fn put_name(&mut self, name: &Name, place: u32) -> Result<(), Memory>
         ensures ok { OnOk result (self.new ≡ changes.with_name name.now place self.old) }
         ensures err { OnErr result (self.new ≡ self.old) }

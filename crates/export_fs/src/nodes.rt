@@ -1,7 +1,7 @@
 //! The objects of the export in order of making.
 
 ghost use Rattle.std.specs.Prelude.{◌≡◌, ◌-◌, ◌∷◌, ◌++◌, [], length, take, option_copied, option_map, OnOk, OnErr, Some, IfSome, ◌≤◌};
-ghost use Rattle.world_model.specs.Steps.{stamp_of};
+ghost use Rattle.nfs_types.specs.Stamps.{stamp_of};
 ghost use Rattle.export_fs.specs.Parts.{live, at_place, object, kind_at, kind, attr_at, attr, parent_in, bytes_in, text_in};
 ghost use Rattle.export_fs.specs.Names.{named_at, named, is_below};
 ghost use Rattle.export_fs.specs.Refusals.{is_stale};
@@ -196,7 +196,7 @@ impl Nodes {
         at == top
     }
 
-    /// One more object. After want of memory they are as they were.
+    /// One more object. When out of memory they are as they were.
     pub(crate) fn push(&mut self, node: Node) -> Result<(), Memory>
         ensures ok { OnOk result (self.new ≡ self.old ++ node ∷ []) }
         ensures err { OnErr result (self.new ≡ self.old) }
@@ -213,7 +213,7 @@ impl Nodes {
     }
 }
 
-/// Changes of the object at a place, where one is given and there is one. After want of memory it is as it was.
+/// Changes of the object at a place, where one is given and there is one. When out of memory it is as it was.
 impl Nodes {
     /// SETATTR (RFC 1813, section 3.3.2).
     pub(crate) fn set_attr(

@@ -41,7 +41,7 @@ impl Tree {
         }
     }
 
-    /// A new object gets the name in the directory at a place. After want of memory nothing is changed.
+    /// A new object gets the name in the directory at a place. When out of memory nothing is changed.
     fn put(&mut self, dir: u32, name: &Name, file: Option<&[u8]>) -> Result<(), Memory>
         ensures ok { OnOk result (self.new ≡ placings.after_placing self.old dir name.now (option_copied file.entry)) }
         ensures err { OnErr result (self.new ≡ self.old) }
@@ -53,7 +53,7 @@ impl Tree {
 
     /// Places a file with these bytes, all of them stable, or a directory at the end of the path, as one change. It is
     /// false, and nothing is changed, exactly where the path is the root, its directory isn't there, the name is there
-    /// or is `.` or `..`, or no change has a number left. Memory is want of memory, and then nothing is changed.
+    /// or is `.` or `..`, or no change has a number left. Memory means out of memory, and then nothing is changed.
     pub(crate) fn place(&mut self, path: &Path, file: Option<&[u8]>) -> Result<bool, Memory>
         ensures made { IfOk result (λ made. made ≡ is_some (placings.placed self.old path.now (option_copied file.entry))) }
         ensures after { OnOk result (self.new ≡ unwrap_or (placings.placed self.old path.now (option_copied file.entry)) self.old) }

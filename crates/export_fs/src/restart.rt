@@ -53,7 +53,7 @@ impl Tree {
     }
 
     /// So many bytes of a file from an offset become stable, as far as they are there, also of one whose last name is
-    /// gone. A handle of no file changes nothing. Memory is want of memory, and then nothing is changed.
+    /// gone. A handle of no file changes nothing. Memory means out of memory, and then nothing is changed.
     pub(crate) fn flush(&mut self, file: &Handle, from: u64, len: u64) -> Result<(), Memory>
         ensures ok { OnOk result (self.new ≡ restarts.after_flush self.old file.now from len) }
         ensures err { OnErr result (self.new ≡ self.old) }

@@ -49,7 +49,7 @@ impl Model for Tree {
 }
 
 impl Tree {
-    /// An empty root directory, which was made as change 1. Memory is want of memory.
+    /// An empty root directory, which was made as change 1. Memory means out of memory.
     pub(crate) fn new(alloc: Global) -> Result<Tree, Memory>
         ensures empty { IfOk result (λ e. e ≡ record { nodes = new_dir 0 1 keeps_all ∷ []; counter = 1; reboots = 0 }) }
         ensures sound { IfOk result Sound }

@@ -49,7 +49,7 @@ found_executed bytes rec list (Some reply) all e = kept_executed rec list (bytes
 pub keeps_few : (new : KeptReply) (old : List KeptReply) → length (keeps new old) ≤ 64
 keeps_few new old = let list = under_others new.xid old ++ new ∷ [] in let e = length-drop (length list - 64) list in omega (arith, e)
 
--- what is kept meets its rule, also after want of memory
+-- what is kept meets its rule, also when out of memory
 pub kept_after : {T E : Type 0} (result : Result T E) (new : KeptReply) (old now : List KeptReply) → IsKept new → (length old ≤ 64) × All IsKept old
     → OnOk result (now ≡ keeps new old) → OnErr result (now ≡ old) → (length now ≤ 64) × All IsKept now
 kept_after (Ok x) new old now k rule e same =

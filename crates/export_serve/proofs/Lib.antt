@@ -5,3 +5,4 @@ pub mod RowsLaws
 pub mod Executing
 pub mod Refused
 pub mod Stepping
+pub mod SpellingRows

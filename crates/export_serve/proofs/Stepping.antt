@@ -28,7 +28,7 @@ pub served_steps : (rec : List ℕ) (old new : ServiceView) (of : ℕ) (served :
 served_steps rec old new of served e s = λ xid call a k.
     subst (λ (c : Call). Serves (server_of old.export) c (executed old.export c).1 (server_of new.export)) (same_call of xid served call (sym e ∙ a)) s
 
--- What is left after want of memory in the midst of a call: all as it was, or the step of the call.
+-- What is left when out of memory in the midst of a call: all as it was, or the step of the call.
 pub left_by_memory : {A : Type 0} (result : Result A Memory) (rec : List ℕ) (old new : ServiceView) (of : ℕ) (served : Call) → asked_at rec ≡ askings.Serve of served → reply_kept rec old.kept ≡ None
     → (new ≡ old) ⊎ (new ≡ record old { export = after old.export served }) → OnErr result (LeftByMemory rec old new)
 left_by_memory (Ok x) rec old new of served a k left = tt

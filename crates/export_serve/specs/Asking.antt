@@ -1,8 +1,10 @@
--- What a record asks for (RFC 5531, section 9, and RFC 1813): nothing, a call that is refused, or a call of NFS or MOUNT.
+-- What a record asks for (RFC 5531, section 9, and RFC 1813): nothing, a call that is refused, or a call of NFS or
+-- MOUNT.
 use Rattle.std.specs.Prelude.{◌≡◌, ℕ, List, ◌==◌, ◌||◌, Bool, not, Option, Some, None, Result, Ok, Err, if◌then◌else◌}
 use Rattle.xdr_codec.specs.declared.reader.XdrFault.{XdrFault}
 use Rattle.xdr_codec.specs.declared.codec_fault.CodecFault.{CodecFault}
 use Rattle.xdr_codec.specs.declared.codec_fault.CodecFault.TheVariants as faults
+use Rattle.nfs_types.specs.declared.program.TheConstants.{NFS_PROGRAM, MOUNT_PROGRAM}
 use Rattle.mount_calls.specs.declared.call.MountCall.{MountCall}
 use Rattle.nfs_dir_calls.specs.declared.call.DirCall.{DirCall}
 use Rattle.nfs_file_calls.specs.declared.call.FileCall.{FileCall}
@@ -26,11 +28,11 @@ use Rattle.export_serve.specs.Refusals.{refusal_reply, refusal_bytes}
 
 -- NFS or MOUNT
 abbrev pub is_program : ℕ → Bool
-is_program prog = (prog == 100003) || (prog == 100005)
+is_program prog = (prog == NFS_PROGRAM) || (prog == MOUNT_PROGRAM)
 
 -- a procedure of NFS, 0 to 21, or one of MOUNT that the export has: 0, 1, 3 and 5
 abbrev pub is_served : ℕ → ℕ → Bool
-is_served prog proc = if prog == 100005 then is_mount_proc proc else (is_dir_proc proc || is_file_proc proc)
+is_served prog proc = if prog == MOUNT_PROGRAM then is_mount_proc proc else (is_dir_proc proc || is_file_proc proc)
 
 -- ---- what reading gives
 
@@ -49,10 +51,10 @@ file_read (Err fault) = None
 -- the call of a procedure of a program that the arguments spell, where they spell one
 abbrev pub arguments_at : ℕ → ℕ → List ℕ → Option Call
 arguments_at prog proc args =
-    if prog == 100005 then mount_read (mount_call_at proc args) else
+    if prog == MOUNT_PROGRAM then mount_read (mount_call_at proc args) else
     (if is_dir_proc proc then dir_read (dir_call_at proc args) else file_read (file_call_at proc args))
 
--- what a function gave is that call: want of memory is free
+-- what a function gave is that call: out of memory is free
 abbrev pub GivesCallOf : Result Call CodecFault → Option Call → Type 0
 GivesCallOf (Ok call) read = read ≡ Some call
 GivesCallOf (Err faults.Memory) read = Unit {0}

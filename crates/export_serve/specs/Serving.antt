@@ -54,7 +54,7 @@ pub record Stepped (rec : List ℕ) (old new : ServiceView) : Type 0 where
   pub unkept : reply_kept rec old.kept ≡ None
   pub is : new ≡ record old { export = after old.export call }
 
--- What want of memory leaves: all as it was, or that step.
+-- What out of memory leaves: all as it was, or that step.
 abbrev pub LeftByMemory : List ℕ → ServiceView → ServiceView → Type 0
 LeftByMemory rec old new = (new ≡ old) ⊎ Stepped rec old new
 

@@ -2,6 +2,7 @@
 
 ghost use Rattle.std.specs.Prelude.{◌≡◌, ℕ, true, false, IfOk};
 ghost use Rattle.xdr_codec.specs.Whole.{FindsOwned};
+ghost use Rattle.nfs_types.specs.declared.program.TheConstants.{NFS_PROGRAM, MOUNT_PROGRAM};
 ghost use Rattle.mount_calls.specs.Calls.{IsMountProc, mount_call_at};
 ghost use Rattle.nfs_dir_calls.specs.Calls.{IsDirProc, is_dir_proc, dir_call_at};
 ghost use Rattle.nfs_file_calls.specs.Calls.{IsFileProc, file_call_at};
@@ -17,19 +18,11 @@ use crate::request::Asked;
 use mount_calls::{is_mount_proc, read_mount_call};
 use nfs_dir_calls::{is_dir_proc, read_dir_call};
 use nfs_file_calls::{is_file_proc, read_file_call};
+use nfs_types::{MOUNT_PROGRAM, NFS_PROGRAM, PROGRAM_VERSION};
 use rpc_message::{CallFault, CallHead, read_call, xid_of};
 use std::alloc::Global;
 use world_model::Call;
 use xdr_codec::{CodecFault, Memory};
-
-/// The number of the program NFS (RFC 1813, section 2.1).
-const NFS: u32 = 100_003;
-
-/// The number of the program MOUNT (RFC 1813, section 5.1.1).
-const MOUNT: u32 = 100_005;
-
-/// The version of both.
-const VERSION: u32 = 3;
 
 /// What a record asks for. It is no call exactly where `read_call` answers NotCall or Xdr. A call is refused exactly
 /// where it is of another version of RPC than 2 (RPC_MISMATCH with 2 and 2), its program isn't served (PROG_UNAVAIL),
@@ -80,7 +73,7 @@ fn head_asks(alloc: Global, head: &CallHead, args: &[u8]) -> Result<Asked, Memor
     if !is_program(head.prog) {
         return refused_as(alloc, head.xid, Refusal::Program);
     }
-    if head.vers != VERSION {
+    if head.vers != PROGRAM_VERSION {
         return refused_as(alloc, head.xid, Refusal::Version);
     }
     if !is_served(head.prog, head.proc) {
@@ -99,14 +92,14 @@ fn head_asks(alloc: Global, head: &CallHead, args: &[u8]) -> Result<Asked, Memor
 fn is_program(prog: u32) -> bool
     ensures { result ≡ is_program prog }
 {
-    prog == NFS || prog == MOUNT
+    prog == NFS_PROGRAM || prog == MOUNT_PROGRAM
 }
 
 /// Whether the program has that procedure here.
 fn is_served(prog: u32, proc: u32) -> bool
     ensures { result ≡ is_served prog proc }
 {
-    if prog == MOUNT {
+    if prog == MOUNT_PROGRAM {
         return is_mount_proc(proc);
     }
     is_dir_proc(proc) || is_file_proc(proc)
@@ -120,7 +113,7 @@ fn call_of(alloc: Global, prog: u32, proc: u32, args: &[u8]) -> Result<Call, Cod
     ensures spelled { FindsOwned (SpellsCallOf prog proc) args.now result }
     ensures writable { IfOk result HasSpellingCall }
 {
-    if prog == MOUNT {
+    if prog == MOUNT_PROGRAM {
         return mount_call(alloc, proc, args);
     }
     if is_dir_proc(proc) {
@@ -132,7 +125,7 @@ fn call_of(alloc: Global, prog: u32, proc: u32, args: &[u8]) -> Result<Call, Cod
 fn mount_call(alloc: Global, proc: u32, args: &[u8]) -> Result<Call, CodecFault>
     requires { IsMountProc proc }
     ensures exact { GivesCallOf result (mount_read (mount_call_at proc args.now)) }
-    ensures spelled { FindsOwned (SpellsCallOf 100005 proc) args.now result }
+    ensures spelled { FindsOwned (SpellsCallOf MOUNT_PROGRAM proc) args.now result }
     ensures writable { IfOk result HasSpellingCall }
 {
     match read_mount_call(alloc, proc, args) {
@@ -144,7 +137,7 @@ fn mount_call(alloc: Global, proc: u32, args: &[u8]) -> Result<Call, CodecFault>
 fn dir_call(alloc: Global, proc: u32, args: &[u8]) -> Result<Call, CodecFault>
     requires { IsDirProc proc }
     ensures exact { GivesCallOf result (dir_read (dir_call_at proc args.now)) }
-    ensures spelled { FindsOwned (SpellsCallOf 100003 proc) args.now result }
+    ensures spelled { FindsOwned (SpellsCallOf NFS_PROGRAM proc) args.now result }
     ensures writable { IfOk result HasSpellingCall }
 {
     match read_dir_call(alloc, proc, args) {
@@ -157,7 +150,7 @@ fn file_call(alloc: Global, proc: u32, args: &[u8]) -> Result<Call, CodecFault>
     requires known { IsFileProc proc }
     requires other { is_dir_proc proc ≡ false }
     ensures exact { GivesCallOf result (file_read (file_call_at proc args.now)) }
-    ensures spelled { FindsOwned (SpellsCallOf 100003 proc) args.now result }
+    ensures spelled { FindsOwned (SpellsCallOf NFS_PROGRAM proc) args.now result }
     ensures writable { IfOk result HasSpellingCall }
 {
     match read_file_call(alloc, proc, args) {

@@ -55,7 +55,7 @@ impl KeptReplies {
         reply_among(&self.replies, rec)
     }
 
-    /// Keeps one more in place of an older one under its xid; of more than 64 the oldest goes. After want of memory
+    /// Keeps one more in place of an older one under its xid; of more than 64 the oldest goes. When out of memory
     /// nothing is changed.
     pub fn keep(&mut self, new: KeptReply) -> Result<(), Memory>
         requires { IsKept new }

@@ -16,8 +16,3 @@ pub use asking::asked;
 pub use request::Asked;
 pub use service::Service;
 pub use spelling::spelled;
-
-#[cfg(test)]
-mod service_tests;
-#[cfg(test)]
-mod tests;

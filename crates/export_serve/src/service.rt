@@ -20,8 +20,8 @@ use std::marker::Model;
 use world_model::Call;
 use xdr_codec::{Blob, Memory};
 
-/// An export that answers records, and the last 64 replies that it gave: a call that comes again, as one whose reply was
-/// lost, is answered so and isn't executed again.
+/// An export that answers records, and the last 64 replies that it gave: a call that comes again, as one whose reply
+/// was lost, is answered so and isn't executed again.
 #[derive(Drop)]
 pub struct Service {
     alloc: Global,
@@ -50,10 +50,10 @@ impl Service {
     }
 
     /// Answers a record; None exactly where it is no call. A record equal to one whose reply is kept executes nothing,
-    /// and that reply is the answer. Any other call is refused exactly where `asked` says so, or else executed, as one step
-    /// of a server, and its reply is kept.
+    /// and that reply is the answer. Any other call is refused exactly where `asked` says so, or else executed, as one
+    /// step of a server, and its reply is kept.
     ///
-    /// After want of memory on a record whose reply wasn't kept, the export may have taken the step of that call, and
+    /// When out of memory on a record whose reply wasn't kept, the export may have taken the step of that call, and
     /// no reply to it is kept; all else is as it was.
     pub fn serve(&mut self, rec: &[u8]) -> Result<Option<Blob>, Memory>
         ensures left { OnOk result (self.new ≡ (served rec.now self.old).0) }
@@ -73,8 +73,8 @@ impl Service {
         }
     }
 
-    /// Executes the call that the record asks for, and keeps the reply. After want of memory the call may be executed, and
-    /// its reply isn't kept.
+    /// Executes the call that the record asks for, and keeps the reply. When out of memory the call may be executed,
+    /// and its reply isn't kept.
     fn execute(&mut self, rec: &[u8], xid: u32, call: &Call) -> Result<Blob, Memory>
         requires spelled { HasSpellingCall call.now }
         requires asks { asked_at rec.now ≡ Serve xid call.now }

@@ -9,7 +9,7 @@ use Rattle.script_text.specs.Lines.{one, two, three, four}
 use Rattle.script_text.specs.Numbers.{number_of, is_numeral, is_within}
 use Rattle.script_text.specs.Paths.{path_of}
 use Rattle.script_text.specs.Payloads.{contents_of}
-use Rattle.world_link.specs.declared.directive.Sending.{Sending}
+use Rattle.world_link.specs.declared.directive.RequestId.{RequestId}
 use Rattle.world_link.specs.declared.directive.Directive.{Directive}
 use Rattle.world_link.specs.declared.directive.Directive.TheVariants as directives
 use Rattle.world_link.specs.declared.event.Event.{Event}
@@ -63,7 +63,7 @@ lose_limits words = and_then_limits _ (two words) (λ w. map_limits (λ s. direc
 mute_limits : (words : List (List ℕ)) → MayLimit (lines.mute_of words)
 mute_limits words = and_then_limits _ (two words) (λ w. map_limits (λ s. directives.Mute s) (lines.sending_of w.0 w.1) (λ n. tt))
 
-held_limits : (s turn : Option Sending) → MayLimit (lines.held s turn)
+held_limits : (s turn : Option RequestId) → MayLimit (lines.held s turn)
 held_limits None turn = tt
 held_limits (Some s) None = tt
 held_limits (Some s) (Some turn) = tt
@@ -71,7 +71,7 @@ held_limits (Some s) (Some turn) = tt
 hold_limits : (words : List (List ℕ)) → MayLimit (lines.hold_of words)
 hold_limits words = and_then_limits _ (four words) (λ w. held_limits (lines.sending_of w.0 w.1) (lines.sending_of w.2 w.3))
 
-repeated_limits : (s turn : Option Sending) → MayLimit (lines.repeated s turn)
+repeated_limits : (s turn : Option RequestId) → MayLimit (lines.repeated s turn)
 repeated_limits None turn = tt
 repeated_limits (Some s) None = tt
 repeated_limits (Some s) (Some turn) = tt
@@ -79,7 +79,7 @@ repeated_limits (Some s) (Some turn) = tt
 late_limits : (words : List (List ℕ)) → MayLimit (lines.late_of words)
 late_limits words = and_then_limits _ (four words) (λ w. repeated_limits (lines.sending_of w.0 w.1) (lines.sending_of w.2 w.3))
 
-answered_limits : (s : Option Sending) (status : Option ℕ) → MayLimit (lines.answered s status)
+answered_limits : (s : Option RequestId) (status : Option ℕ) → MayLimit (lines.answered s status)
 answered_limits None status = tt
 answered_limits (Some s) None = tt
 answered_limits (Some s) (Some status) = cond_both (s.proc == 0) None (Some (directives.Answer s status)) MayLimit (λ e. tt) (λ e. tt)
@@ -98,7 +98,7 @@ counts digits =
     (λ e. leb-true 1 (digits_value 10 digits) (and_parts (nat_le 1 (digits_value 10 digits)) (nat_le (digits_value 10 digits) 4294967295) (and_parts (is_numeral digits) (is_within 1 4294967295 (digits_value 10 digits)) e).1).0)
     (λ e. tt)
 
-limited_limits : (s : Option Sending) (most : Option ℕ) → IsCount most → MayLimit (lines.limited s most)
+limited_limits : (s : Option RequestId) (most : Option ℕ) → IsCount most → MayLimit (lines.limited s most)
 limited_limits None most c = tt
 limited_limits (Some s) None c = tt
 limited_limits (Some s) (Some most) c = c
@@ -106,7 +106,7 @@ limited_limits (Some s) (Some most) c = c
 limit_limits : (words : List (List ℕ)) → MayLimit (lines.limit_of words)
 limit_limits words = and_then_limits _ (three words) (λ w. limited_limits (lines.sending_of w.0 w.1) (lines.count_of w.2) (counts w.2))
 
-happens_before_limits : (s : Option Sending) (event : Option Event) → MayLimit (lines.happens_before s event)
+happens_before_limits : (s : Option RequestId) (event : Option Event) → MayLimit (lines.happens_before s event)
 happens_before_limits None event = tt
 happens_before_limits (Some s) None = tt
 happens_before_limits (Some s) (Some event) = tt
@@ -116,7 +116,7 @@ before_limits [] = tt
 before_limits (proc ∷ []) = tt
 before_limits (proc ∷ k ∷ words) = happens_before_limits (lines.sending_of proc k) (event_of words)
 
-happens_after_limits : (s : Option Sending) (event : Option Event) → MayLimit (lines.happens_after s event)
+happens_after_limits : (s : Option RequestId) (event : Option Event) → MayLimit (lines.happens_after s event)
 happens_after_limits None event = tt
 happens_after_limits (Some s) None = tt
 happens_after_limits (Some s) (Some event) = tt
@@ -162,7 +162,7 @@ line_limits (command ∷ words) = either_limits (lines.start_of command words) (
 pub none_bounded : IsBounded no_plan
 none_bounded s = tt
 
-destined_bounded : (plan : PlanView) (s : Sending) (fate : FateView) → IsBound fate.limit → IsBounded plan → IsBounded (destined plan s fate)
+destined_bounded : (plan : PlanView) (s : RequestId) (fate : FateView) → IsBound fate.limit → IsBounded plan → IsBounded (destined plan s fate)
 destined_bounded plan s fate m b other = cond_both (is_same s other) fate (plan.fate other) (λ (f : FateView). IsBound f.limit) (λ e. m) (λ e. b other)
 
 pub planned_bounded : (plan : PlanView) (d : Directive) → Limits d → IsBounded plan → IsBounded (planned plan d)

@@ -16,7 +16,7 @@ abbrev pub BeginsBy : Result ReadView ℕ → World → ℕ → Type 0
 BeginsBy (Ok read) world tick = BeginsAs read world tick
 BeginsBy (Err n) world tick = ⊥
 
--- A text that is read begins a world, or its first fault is named. Want of memory may come at any text.
+-- A text that is read begins a world, or its first fault is named. Out of memory may come at any text.
 abbrev pub Begins : Result ReadView ℕ → Result (World × ℕ) ScheduleFault → Type 0
 Begins read (Ok begun) = BeginsBy read begun.0 begun.1
 Begins read (Err (faults.Line n)) = read ≡ Err n

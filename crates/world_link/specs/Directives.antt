@@ -7,7 +7,7 @@ use Rattle.script_text.specs.Numbers.{number_of}
 use Rattle.script_text.specs.Payloads.{contents_of}
 use Rattle.script_text.specs.Paths.{path_of}
 use Rattle.world_link.specs.declared.event.Event.{Event}
-use Rattle.world_link.specs.declared.directive.Sending.{Sending}
+use Rattle.world_link.specs.declared.directive.RequestId.{RequestId}
 use Rattle.world_link.specs.declared.directive.Directive.{Directive}
 use Rattle.world_link.specs.declared.directive.Directive.TheVariants as directives
 use Rattle.world_link.specs.Procedures.{proc_of}
@@ -19,12 +19,12 @@ use Rattle.world_link.specs.Events.{event_of}
 abbrev pub count_of : List ℕ → Option ℕ
 count_of digits = number_of 1 4294967295 digits
 
-abbrev pub sent : Option ℕ → Option ℕ → Option Sending
+abbrev pub sent : Option ℕ → Option ℕ → Option RequestId
 sent (Some proc) (Some k) = Some (record { proc = proc; k = k })
 sent proc k = None
 
--- the sending that a procedure's name and a count name
-abbrev pub sending_of : List ℕ → List ℕ → Option Sending
+-- the transmission that a procedure's name and a count name
+abbrev pub sending_of : List ℕ → List ℕ → Option RequestId
 sending_of proc k = sent (proc_of proc) (count_of k)
 
 -- ---- what holds from the start
@@ -61,63 +61,63 @@ start_of command words =
     (if bytes_eq command (codes "mnt") then mount_of words else
     (if bytes_eq command (codes "nodial") then no_dial_of words else None))))
 
--- ---- what becomes of a sending
+-- ---- what becomes of a transmission
 
--- a sending
+-- a transmission
 abbrev pub lose_of : List (List ℕ) → Option Directive
 lose_of words = option_and_then (λ w. option_map (λ s. directives.Lose s) (sending_of w.0 w.1)) (two words)
 
--- a sending
+-- a transmission
 abbrev pub mute_of : List (List ℕ) → Option Directive
 mute_of words = option_and_then (λ w. option_map (λ s. directives.Mute s) (sending_of w.0 w.1)) (two words)
 
-abbrev pub held : Option Sending → Option Sending → Option Directive
+abbrev pub held : Option RequestId → Option RequestId → Option Directive
 held (Some s) (Some turn) = Some (directives.Hold s turn)
 held s turn = None
 
--- a sending, and the one whose turn its reply waits for
+-- a transmission, and the one whose turn its reply waits for
 abbrev pub hold_of : List (List ℕ) → Option Directive
 hold_of words = option_and_then (λ w. held (sending_of w.0 w.1) (sending_of w.2 w.3)) (four words)
 
-abbrev pub repeated : Option Sending → Option Sending → Option Directive
+abbrev pub repeated : Option RequestId → Option RequestId → Option Directive
 repeated (Some s) (Some turn) = Some (directives.Late s turn)
 repeated s turn = None
 
--- a sending, and the one at whose turn a further copy of it is executed
+-- a transmission, and the one at whose turn a further copy of it is executed
 abbrev pub late_of : List (List ℕ) → Option Directive
 late_of words = option_and_then (λ w. repeated (sending_of w.0 w.1) (sending_of w.2 w.3)) (four words)
 
 -- NULL has no status to be answered with
-abbrev pub answered : Option Sending → Option ℕ → Option Directive
+abbrev pub answered : Option RequestId → Option ℕ → Option Directive
 answered (Some s) (Some status) = if s.proc == 0 then None else Some (directives.Answer s status)
 answered s status = None
 
--- a sending and a status
+-- a transmission and a status
 abbrev pub answer_of : List (List ℕ) → Option Directive
 answer_of words = option_and_then (λ w. answered (sending_of w.0 w.1) (count_of w.2)) (three words)
 
-abbrev pub limited : Option Sending → Option ℕ → Option Directive
+abbrev pub limited : Option RequestId → Option ℕ → Option Directive
 limited (Some s) (Some most) = Some (directives.Limit s most)
 limited s most = None
 
--- a sending, and the most bytes that it handles
+-- a transmission, and the most bytes that it handles
 abbrev pub limit_of : List (List ℕ) → Option Directive
 limit_of words = option_and_then (λ w. limited (sending_of w.0 w.1) (count_of w.2)) (three words)
 
-abbrev pub happens_before : Option Sending → Option Event → Option Directive
+abbrev pub happens_before : Option RequestId → Option Event → Option Directive
 happens_before (Some s) (Some event) = Some (directives.Before s event)
 happens_before s event = None
 
--- a sending, and the words of an event
+-- a transmission, and the words of an event
 abbrev pub before_of : List (List ℕ) → Option Directive
 before_of (proc ∷ k ∷ words) = happens_before (sending_of proc k) (event_of words)
 before_of words = None
 
-abbrev pub happens_after : Option Sending → Option Event → Option Directive
+abbrev pub happens_after : Option RequestId → Option Event → Option Directive
 happens_after (Some s) (Some event) = Some (directives.After s event)
 happens_after s event = None
 
--- a sending, and the words of an event
+-- a transmission, and the words of an event
 abbrev pub after_of : List (List ℕ) → Option Directive
 after_of (proc ∷ k ∷ words) = happens_after (sending_of proc k) (event_of words)
 after_of words = None

@@ -1,12 +1,12 @@
--- What a schedule makes of each sending.
+-- What a schedule makes of each transmission.
 use Rattle.std.specs.Prelude.{ℕ, List, [], Bool, false, Option, None}
-use Rattle.world_link.specs.declared.directive.Sending.{Sending}
+use Rattle.world_link.specs.declared.directive.RequestId.{RequestId}
 use Rattle.world_link.specs.declared.event.Event.{Event}
 
--- of one sending, in the order of its turn
+-- of one transmission, in the order of its turn
 pub record FateView : Type 0 where
   -- further copies of these are executed first
-  pub late : List Sending
+  pub late : List RequestId
   pub before : List Event
   pub lost : Bool
   -- a status that it is answered with, and a bound on the bytes that it handles
@@ -15,7 +15,7 @@ pub record FateView : Type 0 where
   pub after : List Event
   pub muted : Bool
   -- its reply is ready once each of these had its turn
-  pub held : List Sending
+  pub held : List RequestId
 
 -- it is executed and answered in its turn
 abbrev pub no_fate : FateView

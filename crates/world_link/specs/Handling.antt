@@ -12,7 +12,7 @@ use Rattle.export_serve.specs.declared.request.Asked.{Asked}
 use Rattle.export_serve.specs.declared.request.Asked.TheVariants as askings
 use Rattle.export_serve.specs.Asking.{asked_at}
 use Rattle.export_serve.specs.Spelling.{reply_bytes}
-use Rattle.world_link.specs.declared.directive.Sending.{Sending}
+use Rattle.world_link.specs.declared.directive.RequestId.{RequestId}
 use Rattle.world_link.specs.declared.manner.Manner.{Manner}
 use Rattle.world_link.specs.Refused.{status_for, refused_by}
 use Rattle.world_link.specs.View.{ServerView}
@@ -64,11 +64,11 @@ abbrev pub copied_record : ServerView → Option (List ℕ) → ServerView
 copied_record v None = v
 copied_record v (Some bytes) = readied (done plain v (asked_at bytes)).0 (done plain v (asked_at bytes)).1
 
--- of a sending that wasn't made there is no copy
-abbrev pub copied : ServerView → Sending → ServerView
+-- of a transmission that wasn't made there is no copy
+abbrev pub copied : ServerView → RequestId → ServerView
 copied v s = copied_record v (v.sent s)
 
 -- in order
-abbrev pub all_copied : ServerView → List Sending → ServerView
+abbrev pub all_copied : ServerView → List RequestId → ServerView
 all_copied v [] = v
 all_copied v (s ∷ more) = all_copied (copied v s) more

@@ -1,30 +1,30 @@
 -- Replies that wait for turns, and turns that were had.
 use Rattle.std.specs.Prelude.{ℕ, ◌+◌, ◌==◌, List, [], ◌∷◌, ◌++◌, Bool, Option, Some, None, nat_le, slice_index, slice_set, if◌then◌else◌}
 use Rattle.std.specs.List.{list_all}
-use Rattle.world_link.specs.declared.directive.Sending.{Sending}
+use Rattle.world_link.specs.declared.directive.RequestId.{RequestId}
 
--- a reply, and the sendings before whose turns it isn't ready
+-- a reply, and the transmissions before whose turns it isn't ready
 pub record HeldView : Type 0 where
   pub bytes : List ℕ
-  pub waits : List Sending
+  pub waits : List RequestId
 
 -- The next sending of a procedure, by the counts of those before it. A schedule can't name one after the last count.
-abbrev pub next_of : List ℕ → ℕ → Option Sending
+abbrev pub next_of : List ℕ → ℕ → Option RequestId
 next_of counts proc = if slice_index counts proc == 4294967295 then None else Some (record { proc = proc; k = slice_index counts proc + 1 })
 
--- that sending was the last one of its procedure
-abbrev pub counted : List ℕ → Sending → List ℕ
+-- that transmission was the last one of its procedure
+abbrev pub counted : List ℕ → RequestId → List ℕ
 counted counts s = slice_set counts s.proc s.k
 
-abbrev pub counted_if : List ℕ → Option Sending → List ℕ
+abbrev pub counted_if : List ℕ → Option RequestId → List ℕ
 counted_if counts None = counts
 counted_if counts (Some s) = counted counts s
 
--- turns go in order of sending, so the last one that had its turn tells of those before it
-abbrev pub is_past : List ℕ → Sending → Bool
+-- turns go in order of transmission, so the last one that had its turn tells of those before it
+abbrev pub is_past : List ℕ → RequestId → Bool
 is_past turns s = nat_le s.k (slice_index turns s.proc)
 
-abbrev pub are_past : List ℕ → List Sending → Bool
+abbrev pub are_past : List ℕ → List RequestId → Bool
 are_past turns sendings = list_all (λ s. is_past turns s) sendings
 
 -- what is ready and what is still held after some turns, in order

@@ -13,7 +13,7 @@ use Rattle.export_fs.specs.Sound.{Sound}
 use Rattle.export_fs.specs.Stamped.{Stamped}
 use Rattle.export_serve.specs.Asking.{IsSound}
 use Rattle.export_serve.specs.declared.request.Asked.{Asked}
-use Rattle.world_link.specs.declared.directive.Sending.{Sending}
+use Rattle.world_link.specs.declared.directive.RequestId.{RequestId}
 use Rattle.world_link.specs.declared.waiting.Waiting.{Waiting}
 use Rattle.world_link.specs.Holding.{HeldView}
 use Rattle.world_link.specs.Plans.{PlanView}
@@ -57,7 +57,7 @@ pub record IsHonest (start : View) (v : ServerView) : Type 0 where
   pub export : v.export ≡ replayed start v.entries
   pub lawful : Lawful (told_of start v.entries)
   pub pages : PagesRise replayed start v.entries
-  pub sent : (s : Sending) (rec : List ℕ) → v.sent s ≡ Some rec → IsSent v.entries rec
+  pub sent : (s : RequestId) (rec : List ℕ) → v.sent s ≡ Some rec → IsSent v.entries rec
   pub ready : Every (IsAnswer v.entries) v.ready
   pub held : Every (λ (h : HeldView). IsAnswer v.entries h.bytes) v.held
 
@@ -73,7 +73,7 @@ pub record MayStand (start : View) (v : ServerView) (e : Entry) : Type 0 where
 
 -- bounds that a plan gives
 abbrev pub IsBounded : PlanView → Type 0
-IsBounded plan = (s : Sending) → IsBound (plan.fate s).limit
+IsBounded plan = (s : RequestId) → IsBound (plan.fate s).limit
 
 -- An honest world: also each record that waits for its turn was sent.
 pub record IsHonestWorld (w : WorldView) : Type 0 where

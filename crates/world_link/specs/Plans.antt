@@ -1,6 +1,6 @@
 -- A schedule as data: what its lines ask for, by what they speak of.
 use Rattle.std.specs.Prelude.{ℕ, [], ◌∷◌, ◌++◌, ◌==◌, ◌&&◌, Bool, true, false, Option, Some, None, if◌then◌else◌}
-use Rattle.world_link.specs.declared.directive.Sending.{Sending}
+use Rattle.world_link.specs.declared.directive.RequestId.{RequestId}
 use Rattle.world_link.specs.declared.directive.Directive.{Directive}
 use Rattle.world_link.specs.declared.directive.Directive.TheVariants.{Tick, Place, Mount, NoDial, Before, After, Lose, Mute, Hold, Late, Answer, Limit}
 use Rattle.world_link.specs.Fates.{FateView, no_fate}
@@ -12,17 +12,17 @@ pub record PlanView : Type 0 where
   pub mount : Option ℕ
   -- whether a dial fails, counted from 1
   pub fails : ℕ → Bool
-  pub fate : Sending → FateView
+  pub fate : RequestId → FateView
 
 -- nothing is planned
 abbrev pub no_plan : PlanView
 no_plan = record { tick = 0; mount = None; fails = λ k. false; fate = λ s. no_fate }
 
-abbrev pub is_same : Sending → Sending → Bool
+abbrev pub is_same : RequestId → RequestId → Bool
 is_same s other = (s.proc == other.proc) && (s.k == other.k)
 
--- the sending has this fate, and each other the one it had
-abbrev pub destined : PlanView → Sending → FateView → PlanView
+-- the transmission has this fate, and each other the one it had
+abbrev pub destined : PlanView → RequestId → FateView → PlanView
 destined plan s fate = record plan { fate = λ other. if is_same s other then fate else plan.fate other }
 
 -- The plan with one line more. The last status, bound and tick hold; copies, events and waits are kept in the order of

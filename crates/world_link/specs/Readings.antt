@@ -53,7 +53,7 @@ read_of text = if nat_lt 1048576 (length text) then Err 0 else after_lines 0 not
 abbrev pub read_view : Schedule → ReadView
 read_view schedule = record { plan = shown schedule.plan; export = schedule.export }
 
--- What comes of a text is what is read, or its first fault. Want of memory may come at any text.
+-- What comes of a text is what is read, or its first fault. Out of memory may come at any text.
 abbrev pub IsRead : Result ReadView ℕ → Result Schedule ScheduleFault → Type 0
 IsRead read (Ok schedule) = read ≡ Ok (read_view schedule)
 IsRead read (Err (faults.Line n)) = read ≡ Err n

@@ -7,7 +7,7 @@ use Rattle.world_link.specs.declared.plan.Plan.{Plan}
 use Rattle.world_link.specs.Fates.{no_fate}
 use Rattle.world_link.specs.Plans.{PlanView}
 
--- what is said of a sending, and that nothing is
+-- what is said of a transmission, and that nothing is
 abbrev pub shown : Plan → PlanView
 shown plan = record {
   tick = plan.tick;

@@ -23,25 +23,25 @@ Silences old new received.Silent = new ≡ silent old
 Silences old new received.Failed = ⊥
 Silences old new received.Memory = Unit {0}
 
--- want of memory changes nothing
+-- out of memory changes nothing
 abbrev pub LeftByMemory : WorldView → WorldView → Received → Type 0
 LeftByMemory old new received.Memory = new ≡ old
 LeftByMemory old new result = Unit {0}
 
--- A dial fails exactly where the plan says so; want of memory changes nothing.
+-- A dial fails exactly where the plan says so; out of memory changes nothing.
 abbrev pub Dials : {T : Type 0} → WorldView → WorldView → ℕ → Result T LinkFault → Type 0
 Dials old new port (Ok x) = (fails_next old ≡ false) × (new ≡ after_dial old port)
 Dials old new port (Err faults.Failed) = (fails_next old ≡ true) × (new ≡ after_failed_dial old port)
 Dials old new port (Err faults.Memory) = new ≡ old
 
--- Sending never fails; want of memory changes nothing.
+-- Sending never fails; out of memory changes nothing.
 abbrev pub Sends : {T : Type 0} → WorldView → WorldView → List ℕ → Result T LinkFault → Type 0
 Sends old new rec (Ok x) = new ≡ after_send old rec
 Sends old new rec (Err faults.Failed) = ⊥
 Sends old new rec (Err faults.Memory) = new ≡ old
 
--- Sendings have their turns until a reply is ready, and the first one that is came. Waiting never fails, and is silent
--- exactly where no reply is ready then, so no sending is without its turn. Want of memory may come in the midst.
+-- Transmissions have their turns until a reply is ready, and the first one that is came. Waiting never fails, and is
+-- silent exactly where no reply is ready then, so no sending is without its turn. Out of memory may come in the midst.
 abbrev pub Receives : WorldView → WorldView → List ℕ → Received → Type 0
 Receives old new rec received.Whole = Hands (after_turns old) new rec received.Whole
 Receives old new rec received.Silent = Hands (after_turns old) new rec received.Silent × (new.waiting ≡ [])

@@ -1,4 +1,4 @@
--- The turn of a sending, and what waiting for a record gives.
+-- The turn of a transmission, and what waiting for a record gives.
 use Rattle.std.specs.Prelude.{◌≡◌, ◌+◌, ◌-◌, ◌^◌, ◌==◌, ℕ, List, [], ◌∷◌, ◌++◌, Bool, false, Option, Some, None, min, if◌then◌else◌}
 use Rattle.outside.specs.declared.link.Received.{Received}
 use Rattle.outside.specs.declared.link.Received.TheVariants as received
@@ -9,7 +9,7 @@ use Rattle.nfs_dir_calls.specs.Calls.{dir_proc}
 use Rattle.export_serve.specs.declared.request.Asked.{Asked}
 use Rattle.export_serve.specs.declared.request.Asked.TheVariants as askings
 use Rattle.export_serve.specs.Asking.{asked_at}
-use Rattle.world_link.specs.declared.directive.Sending.{Sending}
+use Rattle.world_link.specs.declared.directive.RequestId.{RequestId}
 use Rattle.world_link.specs.declared.manner.Manner.{Manner}
 use Rattle.world_link.specs.declared.waiting.Waiting.{Waiting}
 use Rattle.world_link.specs.Fates.{FateView, no_fate}
@@ -22,19 +22,19 @@ use Rattle.world_link.specs.Happening.{all_happened}
 -- ---- sending
 
 -- which sending a record is: the next of its procedure, where it asks for a call of NFS
-abbrev pub name_of : List ℕ → Asked → Option Sending
+abbrev pub name_of : List ℕ → Asked → Option RequestId
 name_of counts (askings.Serve xid (calls.File call)) = next_of counts (file_proc call)
 name_of counts (askings.Serve xid (calls.Dir call)) = next_of counts (dir_proc call)
 name_of counts asked = None
 
-abbrev pub noted_as : (Sending → Option (List ℕ)) → Option Sending → List ℕ → Sending → Option (List ℕ)
+abbrev pub noted_as : (RequestId → Option (List ℕ)) → Option RequestId → List ℕ → RequestId → Option (List ℕ)
 noted_as sent None rec = sent
 noted_as sent (Some s) rec = λ other. if is_same s other then Some rec else sent other
 
-abbrev pub taken : ServerView → Option Sending → List ℕ → ServerView
+abbrev pub taken : ServerView → Option RequestId → List ℕ → ServerView
 taken v name rec = record v { entries = v.entries ++ Sent rec ∷ []; sent = noted_as v.sent name rec }
 
-abbrev pub sent_as : WorldView → Option Sending → List ℕ → WorldView
+abbrev pub sent_as : WorldView → Option RequestId → List ℕ → WorldView
 sent_as w name rec = record w {
   server = taken w.server name rec;
   waiting = w.waiting ++ record { name = name; bytes = rec } ∷ [];
@@ -47,7 +47,7 @@ after_send w rec = sent_as w (name_of w.counts (asked_at rec)) rec
 
 -- ---- a turn
 
-abbrev pub fate_of : PlanView → Option Sending → FateView
+abbrev pub fate_of : PlanView → Option RequestId → FateView
 fate_of plan None = no_fate
 fate_of plan (Some s) = plan.fate s
 
@@ -55,7 +55,7 @@ abbrev pub manner_of : PlanView → FateView → Manner
 manner_of plan fate = record { lost = fate.lost; mount = plan.mount; answer = fate.answer; limit = fate.limit }
 
 -- a reply is held until these turns
-abbrev pub held : ServerView → List ℕ → List Sending → ServerView
+abbrev pub held : ServerView → List ℕ → List RequestId → ServerView
 held v bytes waits = record v { held = v.held ++ record { bytes = bytes; waits = waits } ∷ [] }
 
 -- its own reply is ready unless it is muted; it is held while a turn that it waits for hasn't come
@@ -63,7 +63,7 @@ abbrev pub replied : FateView → List ℕ → ServerView → Option (List ℕ) 
 replied fate turns v None = v
 replied fate turns v (Some bytes) = if fate.muted then v else (if are_past turns fate.held then readied v (Some bytes) else held v bytes fate.held)
 
--- replies that waited for these turns are ready, in order of sending
+-- replies that waited for these turns are ready, in order of transmission
 abbrev pub released : List ℕ → ServerView → ServerView
 released turns v = record v { ready = (released_of turns v.ready v.held).0; held = (released_of turns v.ready v.held).1 }
 
@@ -80,10 +80,10 @@ abbrev pub own_turn : Manner → FateView → List ℕ → ServerView → List �
 own_turn manner fate turns v rec = concluded fate turns (done manner (prepared fate v) (asked_at rec))
 
 -- the server after the turn of a record
-abbrev pub served_as : PlanView → FateView → List ℕ → Option Sending → ServerView → List ℕ → ServerView
+abbrev pub served_as : PlanView → FateView → List ℕ → Option RequestId → ServerView → List ℕ → ServerView
 served_as plan fate turns name v rec = released (counted_if turns name) (own_turn (manner_of plan fate) fate turns v rec)
 
--- the world after the turn of a sending, which is the first of those that wait
+-- the world after the turn of a transmission, which is the first of those that wait
 abbrev pub turned : WorldView → Waiting → List Waiting → WorldView
 turned w next more = record w {
   server = served_as w.plan (fate_of w.plan next.name) w.turns next.name w.server next.bytes;

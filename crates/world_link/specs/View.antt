@@ -4,7 +4,7 @@ use Rattle.std.specs.Ordering.{nat_cmp, ordering_then}
 use Rattle.std.specs.BTreeMap as tree
 use Rattle.world_model.specs.declared.entry.Entry.{Entry}
 use Rattle.export_fs.specs.View.{View}
-use Rattle.world_link.specs.declared.directive.Sending.{Sending}
+use Rattle.world_link.specs.declared.directive.RequestId.{RequestId}
 use Rattle.world_link.specs.declared.server.Server.{Server}
 use Rattle.world_link.specs.declared.waiting.Waiting.{Waiting}
 use Rattle.world_link.specs.declared.world.World.{World}
@@ -17,8 +17,8 @@ pub record ServerView : Type 0 where
   pub export : View
   pub entries : List Entry
   -- the records that were sent, by their names
-  pub sent : Sending → Option (List ℕ)
-  -- replies, the first one first, and replies that wait for turns, in order of sending
+  pub sent : RequestId → Option (List ℕ)
+  -- replies, the first one first, and replies that wait for turns, in order of transmission
   pub ready : List (List ℕ)
   pub held : List HeldView
 
@@ -29,7 +29,7 @@ pub record WorldView : Type 0 where
   pub server : ServerView
   -- the records without their turns, the oldest first
   pub waiting : List Waiting
-  -- by procedure: how many sendings there were, and how many had their turns
+  -- by procedure: how many transmissions there were, and how many had their turns
   pub counts : List ℕ
   pub turns : List ℕ
   pub dials : ℕ

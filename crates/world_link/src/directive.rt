@@ -15,14 +15,14 @@ use xdr_codec::{Blob, Memory};
 
 /// A sending of a procedure of NFS.
 #[derive(Clone, Copy, Debug, PartialEq, Eq, PartialOrd, Ord)]
-pub struct Sending {
+pub struct RequestId {
     /// The number of the procedure (RFC 1813, section 3).
     pub proc: u32,
     /// Which sending of it, counted from 1, with those that repeat a call.
     pub k: u32,
 }
 
-/// What a line of a schedule asks for. Sendings, dials, statuses and bounds are 1 or above.
+/// What a line of a schedule asks for. Transmissions, dials, statuses and bounds are 1 or above.
 #[derive(Debug, Drop)]
 pub enum Directive {
     /// So many milliseconds go by from one reading of the clock to the next.
@@ -33,22 +33,22 @@ pub enum Directive {
     Mount(u32),
     /// That dial fails, counted from 1.
     NoDial(u32),
-    /// The event happens just before the sending's turn.
-    Before(Sending, Event),
-    /// The event happens just after the sending is executed.
-    After(Sending, Event),
-    /// The sending isn't executed.
-    Lose(Sending),
-    /// The sending is executed, and its reply never comes.
-    Mute(Sending),
-    /// The reply of the sending isn't ready before that turn.
-    Hold { sending: Sending, turn: Sending },
-    /// A further copy of the sending is executed just before that turn.
-    Late { sending: Sending, turn: Sending },
-    /// The sending is answered with this status and changes nothing. It isn't one of NULL.
-    Answer { sending: Sending, status: u32 },
-    /// The sending, a READ or WRITE, handles at most so many bytes.
-    Limit { sending: Sending, most: u32 },
+    /// The event happens just before the transmission's turn.
+    Before(RequestId, Event),
+    /// The event happens just after the transmission is executed.
+    After(RequestId, Event),
+    /// The transmission isn't executed.
+    Lose(RequestId),
+    /// The transmission is executed, and its reply never comes.
+    Mute(RequestId),
+    /// The reply of the transmission isn't ready before that turn.
+    Hold { sending: RequestId, turn: RequestId },
+    /// A further copy of the transmission is executed just before that turn.
+    Late { sending: RequestId, turn: RequestId },
+    /// The transmission is answered with this status and changes nothing. It isn't one of NULL.
+    Answer { sending: RequestId, status: u32 },
+    /// The transmission, a READ or WRITE, handles at most so many bytes.
+    Limit { sending: RequestId, most: u32 },
 }
 
 /// What a line's words ask for. None exactly where they are of no form.
@@ -86,7 +86,7 @@ fn start(alloc: Global, command: &[u8], line: &[u8]) -> Result<Option<Directive>
     Ok(None)
 }
 
-/// What becomes of a sending.
+/// What becomes of a transmission.
 fn turn(alloc: Global, command: &[u8], line: &[u8]) -> Result<Option<Directive>, Memory>
     ensures { IfOk result (λ d. d ≡ turn_of command.now (words line.now)) }
 {
@@ -263,13 +263,13 @@ fn after(alloc: Global, line: &[u8]) -> Result<Option<Directive>, Memory>
     }
 }
 
-/// The sending that a procedure's name and a count name.
-fn sending_named(proc: &[u8], k: &[u8]) -> Option<Sending>
+/// The transmission that a procedure's name and a count name.
+fn sending_named(proc: &[u8], k: &[u8]) -> Option<RequestId>
     ensures { result ≡ sending_of proc.now k.now }
 {
     let proc = proc_named(proc)?;
     let k = count(k)?;
-    Some(Sending { proc, k })
+    Some(RequestId { proc, k })
 }
 
 /// A number of 32 bits that isn't 0.

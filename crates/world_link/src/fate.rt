@@ -1,26 +1,26 @@
-//! What a schedule makes of one sending.
+//! What a schedule makes of one transmission.
 
 ghost use Rattle.std.specs.Prelude.{◌≡◌, ◌++◌, [], ◌∷◌, true, Some, OnOk};
 ghost use Rattle.world_link.specs.Fates.{no_fate};
 
-use crate::directive::Sending;
+use crate::directive::RequestId;
 use crate::event::Event;
 use std::alloc::Global;
 use std::marker::Model;
 use xdr_codec::Memory;
 
-/// What a schedule makes of one sending, in the order of its turn. Where nothing is said it is executed in its turn, and
-/// its reply is ready then.
+/// What a schedule makes of one transmission, in the order of its turn. Where nothing is said it is executed in its
+/// turn, and its reply is ready then.
 #[derive(Drop)]
 pub struct Fate {
-    late: Vec<Sending>,
+    late: Vec<RequestId>,
     before: Vec<Event>,
     lost: bool,
     answer: Option<u32>,
     limit: Option<u32>,
     after: Vec<Event>,
     muted: bool,
-    held: Vec<Sending>,
+    held: Vec<RequestId>,
 }
 
 impl Model for Fate {
@@ -32,7 +32,7 @@ impl Model for Fate {
 }
 
 impl Fate {
-    /// Nothing is said of the sending.
+    /// Nothing is said of the transmission.
     pub(crate) fn new(alloc: Global) -> Fate
         ensures { result ≡ no_fate }
     {
@@ -48,8 +48,8 @@ impl Fate {
         }
     }
 
-    /// The sendings of which a further copy is executed first, in order.
-    pub fn late(&self) -> &[Sending]
+    /// The transmissions of which a further copy is executed first, in order.
+    pub fn late(&self) -> &[RequestId]
         ensures { result.now ≡ self.now.late }
     {
         self.late.as_slice()
@@ -97,15 +97,15 @@ impl Fate {
         self.muted
     }
 
-    /// The sendings before whose turns its reply isn't ready.
-    pub fn held(&self) -> &[Sending]
+    /// The transmissions before whose turns its reply isn't ready.
+    pub fn held(&self) -> &[RequestId]
         ensures { result.now ≡ self.now.held }
     {
         self.held.as_slice()
     }
 
-    /// A further copy of the sending is executed first, after those before.
-    pub(crate) fn add_late(&mut self, sending: Sending) -> Result<(), Memory>
+    /// A further copy of the transmission is executed first, after those before.
+    pub(crate) fn add_late(&mut self, sending: RequestId) -> Result<(), Memory>
         ensures { OnOk result (self.new ≡ record self.old { late = self.old.late ++ sending ∷ [] }) }
     {
         self.late.push(sending)?;
@@ -156,8 +156,8 @@ impl Fate {
         self.muted = true;
     }
 
-    /// Its reply isn't ready before the turn of that sending.
-    pub(crate) fn add_held(&mut self, turn: Sending) -> Result<(), Memory>
+    /// Its reply isn't ready before the turn of that transmission.
+    pub(crate) fn add_held(&mut self, turn: RequestId) -> Result<(), Memory>
         ensures { OnOk result (self.new ≡ record self.old { held = self.old.held ++ turn ∷ [] }) }
     {
         self.held.push(turn)?;

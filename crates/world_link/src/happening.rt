@@ -212,7 +212,7 @@ impl Server {
         }
     }
 
-    /// Executes a call of another client, and tells it. It is true where the call made a file. After want of memory
+    /// Executes a call of another client, and tells it. It is true where the call made a file. When out of memory
     /// nothing is changed.
     fn execute_foreign(&mut self, call: Call) -> Result<bool, Memory>
         requires { HandlesAreBytes call → IsSpelled call }

@@ -3,17 +3,17 @@
 ghost use Rattle.std.specs.Prelude.{◌≡◌, IfOk};
 ghost use Rattle.world_link.specs.Holding.{are_past};
 
-use crate::directive::Sending;
-use crate::tally::Tally;
+use crate::directive::RequestId;
+use crate::tally::RequestCounts;
 use std::alloc::Global;
 use std::marker::Model;
 use xdr_codec::{Blob, Memory};
 
-/// A reply that isn't ready before the turns of some sendings.
+/// A reply that isn't ready before the turns of some transmissions.
 #[derive(Drop)]
 pub(crate) struct Held {
     bytes: Blob,
-    waits: Vec<Sending>,
+    waits: Vec<RequestId>,
 }
 
 impl Model for Held {
@@ -25,8 +25,8 @@ impl Model for Held {
 }
 
 impl Held {
-    /// The reply, and the sendings before whose turns it isn't ready.
-    pub(crate) fn new(alloc: Global, bytes: Blob, waits: &[Sending]) -> Result<Held, Memory>
+    /// The reply, and the transmissions before whose turns it isn't ready.
+    pub(crate) fn new(alloc: Global, bytes: Blob, waits: &[RequestId]) -> Result<Held, Memory>
         ensures { IfOk result (λ held. held ≡ record { bytes = bytes; waits = waits.now }) }
     {
         Ok(Held {
@@ -36,7 +36,7 @@ impl Held {
     }
 
     /// Whether each of the turns was had.
-    pub(crate) fn is_due(&self, turns: &Tally) -> bool
+    pub(crate) fn is_due(&self, turns: &RequestCounts) -> bool
         ensures { result ≡ are_past turns.now.counts self.now.waits }
     {
         turns.are_past(self.waits.as_slice())

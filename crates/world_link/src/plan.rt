@@ -6,22 +6,22 @@ ghost use Rattle.world_link.specs.Plans.{no_plan, destined, planned};
 ghost use Rattle.world_link.specs.Shown.{shown};
 ghost use Rattle.world_link.specs.declared.directive.Directive.TheVariants as directives;
 
-use crate::directive::{Directive, Sending};
+use crate::directive::{Directive, RequestId};
 use crate::event::Event;
 use crate::fate::Fate;
 use std::alloc::Global;
 use std::collections::{BTreeMap, BTreeSet};
 use xdr_codec::Memory;
 
-/// What the lines of a schedule ask for, but for the objects at the start: the clock, MNT, the dials, and what becomes of
-/// each sending.
+/// What the lines of a schedule ask for, but for the objects at the start: the clock, MNT, the dials, and what becomes
+/// of each transmission.
 #[derive(Drop)]
 pub struct Plan {
     alloc: Global,
     tick: u32,
     mount: Option<u32>,
     failing: BTreeSet<u32>,
-    fates: BTreeMap<Sending, Fate>,
+    fates: BTreeMap<RequestId, Fate>,
 }
 
 impl Plan {
@@ -59,14 +59,14 @@ impl Plan {
         self.failing.contains(&k)
     }
 
-    /// What becomes of a sending. None where nothing is said of it.
-    pub fn fate(&self, sending: &Sending) -> Option<&Fate>
+    /// What becomes of a transmission. None where nothing is said of it.
+    pub fn fate(&self, sending: &RequestId) -> Option<&Fate>
         ensures { MatchOption result ((shown self.now).fate sending.now ≡ no_fate) (λ f. f.now ≡ (shown self.now).fate sending.now) }
     {
         self.fates.get(sending)
     }
 
-    /// Takes over what a line asks for. After want of memory the plan may lack what was said of a sending.
+    /// Takes over what a line asks for. When out of memory the plan may lack what was said of a transmission.
     pub(crate) fn add(&mut self, directive: Directive) -> Result<(), Memory>
         ensures { OnOk result (shown self.new ≡ planned (shown self.old) directive) }
     {
@@ -102,7 +102,7 @@ impl Plan {
         Ok(())
     }
 
-    fn before(&mut self, sending: Sending, event: Event) -> Result<(), Memory>
+    fn before(&mut self, sending: RequestId, event: Event) -> Result<(), Memory>
         ensures { OnOk result (shown self.new ≡ planned (shown self.old) (directives.Before sending event)) }
     {
         let mut fate = self.take(&sending);
@@ -110,7 +110,7 @@ impl Plan {
         self.put(sending, fate)
     }
 
-    fn after(&mut self, sending: Sending, event: Event) -> Result<(), Memory>
+    fn after(&mut self, sending: RequestId, event: Event) -> Result<(), Memory>
         ensures { OnOk result (shown self.new ≡ planned (shown self.old) (directives.After sending event)) }
     {
         let mut fate = self.take(&sending);
@@ -118,7 +118,7 @@ impl Plan {
         self.put(sending, fate)
     }
 
-    fn lose(&mut self, sending: Sending) -> Result<(), Memory>
+    fn lose(&mut self, sending: RequestId) -> Result<(), Memory>
         ensures { OnOk result (shown self.new ≡ planned (shown self.old) (directives.Lose sending)) }
     {
         let mut fate = self.take(&sending);
@@ -126,7 +126,7 @@ impl Plan {
         self.put(sending, fate)
     }
 
-    fn mute(&mut self, sending: Sending) -> Result<(), Memory>
+    fn mute(&mut self, sending: RequestId) -> Result<(), Memory>
         ensures { OnOk result (shown self.new ≡ planned (shown self.old) (directives.Mute sending)) }
     {
         let mut fate = self.take(&sending);
@@ -134,7 +134,7 @@ impl Plan {
         self.put(sending, fate)
     }
 
-    fn hold(&mut self, sending: Sending, turn: Sending) -> Result<(), Memory>
+    fn hold(&mut self, sending: RequestId, turn: RequestId) -> Result<(), Memory>
         ensures { OnOk result (shown self.new ≡ planned (shown self.old) (directives.Hold sending turn)) }
     {
         let mut fate = self.take(&sending);
@@ -142,7 +142,7 @@ impl Plan {
         self.put(sending, fate)
     }
 
-    fn repeat(&mut self, sending: Sending, turn: Sending) -> Result<(), Memory>
+    fn repeat(&mut self, sending: RequestId, turn: RequestId) -> Result<(), Memory>
         ensures { OnOk result (shown self.new ≡ planned (shown self.old) (directives.Late sending turn)) }
     {
         let mut fate = self.take(&turn);
@@ -150,7 +150,7 @@ impl Plan {
         self.put(turn, fate)
     }
 
-    fn answer(&mut self, sending: Sending, status: u32) -> Result<(), Memory>
+    fn answer(&mut self, sending: RequestId, status: u32) -> Result<(), Memory>
         ensures { OnOk result (shown self.new ≡ planned (shown self.old) (directives.Answer sending status)) }
     {
         let mut fate = self.take(&sending);
@@ -158,7 +158,7 @@ impl Plan {
         self.put(sending, fate)
     }
 
-    fn limit(&mut self, sending: Sending, most: u32) -> Result<(), Memory>
+    fn limit(&mut self, sending: RequestId, most: u32) -> Result<(), Memory>
         ensures { OnOk result (shown self.new ≡ planned (shown self.old) (directives.Limit sending most)) }
     {
         let mut fate = self.take(&sending);
@@ -166,8 +166,8 @@ impl Plan {
         self.put(sending, fate)
     }
 
-    /// Takes out what is said of a sending.
-    fn take(&mut self, sending: &Sending) -> Fate
+    /// Takes out what is said of a transmission.
+    fn take(&mut self, sending: &RequestId) -> Fate
         ensures taken { result ≡ (shown self.old).fate sending.now }
         ensures left { shown self.new ≡ destined (shown self.old) sending.now no_fate }
     {
@@ -177,8 +177,8 @@ impl Plan {
         }
     }
 
-    /// Puts in what is said of a sending.
-    fn put(&mut self, sending: Sending, fate: Fate) -> Result<(), Memory>
+    /// Puts in what is said of a transmission.
+    fn put(&mut self, sending: RequestId, fate: Fate) -> Result<(), Memory>
         ensures { OnOk result (shown self.new ≡ destined (shown self.old) sending fate) }
     {
         self.fates.insert(sending, fate)?;

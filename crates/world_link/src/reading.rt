@@ -23,7 +23,7 @@ const MOST_BYTES: usize = 1_048_576;
 /// What a schedule begins a world with.
 #[derive(Drop)]
 pub struct Schedule {
-    /// What becomes of sendings and dials, the clock's tick and the status of MNT.
+    /// What becomes of transmissions and dials, the clock's tick and the status of MNT.
     pub plan: Plan,
     /// The export with the objects of the start.
     pub export: Export,

@@ -18,7 +18,7 @@ pub enum ScheduleFault {
     /// The first line that isn't of the form, counted from 1; 0 where the text has more than 1,048,576 bytes.
     #[error("line {0} isn't of the form of a schedule")]
     Line(u32),
-    /// Want of memory.
+    /// Out of memory.
     #[error("want of memory")]
     Memory,
 }

@@ -14,7 +14,7 @@ ghost use Rattle.world_link.specs.Going.{Goes};
 ghost use Rattle.world_link.specs.Honest.{IsAsked, IsBound, IsAnswer, MayAnswer, StaysHonest};
 ghost use Rattle.world_link.specs.View.{served};
 
-use crate::directive::Sending;
+use crate::directive::RequestId;
 use crate::held::Held;
 use crate::manner::{Manner, PLAIN};
 use crate::refused::refused_by;
@@ -36,16 +36,16 @@ pub(crate) struct Server {
     pub(crate) export: Export,
     pub(crate) entries: Vec<Entry>,
     /// The records that were sent, by their names.
-    pub(crate) sent: BTreeMap<Sending, Blob>,
+    pub(crate) sent: BTreeMap<RequestId, Blob>,
     /// The replies that are ready, the first one first.
     pub(crate) ready: VecDeque<Blob>,
-    /// The replies that wait for turns, in order of sending.
+    /// The replies that wait for turns, in order of transmission.
     pub(crate) held: Vec<Held>,
 }
 
 impl Server {
     /// Handles what a record asks for, and gives the record of the reply, where there is one.
-    #[tactic(auto, using(crate::proofs::Honestly::asked_serve))]
+    #[tactic(auto, using(crate::proofs::TurnStaysHonest::asked_serve))]
     pub(crate) fn handle(&mut self, manner: &Manner, asked: Asked) -> Result<Option<Blob>, Memory>
         ensures done { IfOk result (λ reply. (served self.new, reply) ≡ handling.done manner.now (served self.old) asked) }
         ensures goes { Goes (served self.old) (served self.new) }
@@ -70,7 +70,7 @@ impl Server {
         }
     }
 
-    /// Answers a call, and tells it. After want of memory the call may be executed and told, with its reply lost.
+    /// Answers a call, and tells it. When out of memory the call may be executed and told, with its reply lost.
     fn serve(&mut self, manner: &Manner, xid: u32, call: Call) -> Result<Blob, Memory>
         ensures told { OnOk result (served self.new ≡ handling.tells (served self.old) xid call (handling.answered_as manner.now self.old.export call)) }
         ensures reply { IfOk result (λ bytes. bytes ≡ reply_bytes xid (handling.answered_as manner.now self.old.export call).1) }
@@ -88,8 +88,9 @@ impl Server {
         bytes
     }
 
-    /// A further copy of a sending is executed plainly, and its reply is ready. A sending that wasn't made has none.
-    fn copy(&mut self, sending: &Sending) -> Result<(), Memory>
+    /// A further copy of a transmission is executed plainly, and its reply is ready. A transmission that wasn't made
+    /// has none.
+    fn copy(&mut self, sending: &RequestId) -> Result<(), Memory>
         ensures ok { OnOk result (served self.new ≡ handling.copied (served self.old) sending.now) }
         ensures goes { Goes (served self.old) (served self.new) }
         ensures stays { StaysHonest (served self.old) (served self.new) }
@@ -105,7 +106,7 @@ impl Server {
     }
 
     /// The copies are executed in order.
-    pub(crate) fn copy_all(&mut self, sendings: &[Sending]) -> Result<(), Memory>
+    pub(crate) fn copy_all(&mut self, sendings: &[RequestId]) -> Result<(), Memory>
         ensures ok { OnOk result (served self.new ≡ handling.all_copied (served self.old) sendings.now) }
         ensures goes { Goes (served self.old) (served self.new) }
         ensures stays { StaysHonest (served self.old) (served self.new) }
@@ -116,7 +117,7 @@ impl Server {
         Ok(())
     }
 
-    /// A reply is ready, where there is one. After want of memory nothing is changed.
+    /// A reply is ready, where there is one. When out of memory nothing is changed.
     pub(crate) fn make_ready(&mut self, reply: Option<Blob>) -> Result<(), Memory>
         ensures ok { OnOk result (served self.new ≡ handling.readied (served self.old) reply) }
         ensures err { OnErr result (served self.new ≡ served self.old) }

@@ -1,4 +1,4 @@
-//! The turn of a sending at the server.
+//! The turn of a transmission at the server.
 
 ghost use Rattle.std.specs.Prelude.{◌≡◌, position, IfOk, OnOk, OnErr};
 ghost use Rattle.world_link.specs.Holding.{are_past};
@@ -11,18 +11,18 @@ ghost use Rattle.world_link.specs.Honest.{IsBound, IsSent, MayAnswer, StaysHones
 ghost use Rattle.world_link.specs.Shown.{shown};
 ghost use Rattle.world_link.specs.View.{served};
 
-use crate::directive::Sending;
+use crate::directive::RequestId;
 use crate::fate::Fate;
 use crate::held::Held;
 use crate::manner::Manner;
 use crate::plan::Plan;
 use crate::server::Server;
-use crate::tally::Tally;
+use crate::tally::RequestCounts;
 use export_serve::asked;
 use xdr_codec::{Blob, Memory};
 
 /// What becomes of a record: what the plan says of its name, and `nothing` where it has none or nothing is said.
-pub(crate) fn fate_of<'a>(plan: &'a Plan, name: Option<Sending>, nothing: &'a Fate) -> &'a Fate
+pub(crate) fn fate_of<'a>(plan: &'a Plan, name: Option<RequestId>, nothing: &'a Fate) -> &'a Fate
     requires { nothing.now ≡ no_fate }
     ensures { result.now ≡ turning.fate_of (shown plan.entry.now) name }
 {
@@ -48,12 +48,12 @@ pub(crate) fn manner_of(plan: &Plan, fate: &Fate) -> Manner
 }
 
 impl Server {
-    /// The turn of a record, but for the replies that wait for it. After want of memory it may be done in part.
+    /// The turn of a record, but for the replies that wait for it. When out of memory it may be done in part.
     pub(crate) fn turn(
         &mut self,
         fate: &Fate,
         manner: &Manner,
-        turns: &Tally,
+        turns: &RequestCounts,
         rec: &[u8],
     ) -> Result<(), Memory>
         ensures ok { OnOk result (served self.new ≡ turning.own_turn manner.now fate.now turns.now.counts (served self.old) rec.now) }
@@ -79,7 +79,12 @@ impl Server {
     }
 
     /// The reply is ready, or it is held, or it never comes.
-    fn reply(&mut self, fate: &Fate, turns: &Tally, reply: Option<Blob>) -> Result<(), Memory>
+    fn reply(
+        &mut self,
+        fate: &Fate,
+        turns: &RequestCounts,
+        reply: Option<Blob>,
+    ) -> Result<(), Memory>
         ensures ok { OnOk result (served self.new ≡ turning.replied fate.now turns.now.counts (served self.old) reply) }
         ensures goes { Goes (served self.old) (served self.new) }
         ensures stays { MayAnswer (served self.old).entries reply → StaysHonest (served self.old) (served self.new) }
@@ -96,7 +101,7 @@ impl Server {
         self.hold(bytes, fate.held())
     }
 
-    fn hold(&mut self, bytes: Blob, waits: &[Sending]) -> Result<(), Memory>
+    fn hold(&mut self, bytes: Blob, waits: &[RequestId]) -> Result<(), Memory>
         ensures ok { OnOk result (served self.new ≡ turning.held (served self.old) bytes waits.now) }
         ensures goes { Goes (served self.old) (served self.new) }
         ensures err { OnErr result (served self.new ≡ served self.old) }
@@ -106,9 +111,9 @@ impl Server {
         Ok(())
     }
 
-    /// The replies that waited for these turns are ready, in order of sending. After want of memory those that aren't
-    /// ready yet are still held.
-    pub(crate) fn release(&mut self, turns: &Tally) -> Result<(), Memory>
+    /// The replies that waited for these turns are ready, in order of transmission. When out of memory those that
+    /// aren't ready yet are still held.
+    pub(crate) fn release(&mut self, turns: &RequestCounts) -> Result<(), Memory>
         ensures ok { OnOk result (served self.new ≡ turning.released turns.now.counts (served self.old)) }
         ensures goes { Goes (served self.old) (served self.new) }
         ensures stays { StaysHonest (served self.old) (served self.new) }
@@ -122,7 +127,7 @@ impl Server {
     }
 
     /// The place of the first reply that waits for none but these turns.
-    fn first_due(&self, turns: &Tally) -> Option<usize>
+    fn first_due(&self, turns: &RequestCounts) -> Option<usize>
         ensures { result ≡ position (λ held. are_past turns.now.counts held.waits) self.now.held.items }
     {
         self.held.iter().position(|held| held.is_due(turns))

@@ -1,12 +1,12 @@
 //! Records that wait for their turns.
 
-use crate::directive::Sending;
+use crate::directive::RequestId;
 use xdr_codec::Blob;
 
 /// A record that was sent and had no turn yet.
 #[derive(Drop)]
 pub(crate) struct Waiting {
     /// Which sending of its procedure it is, where it is a call of NFS.
-    pub(crate) name: Option<Sending>,
+    pub(crate) name: Option<RequestId>,
     pub(crate) bytes: Blob,
 }

@@ -10,11 +10,11 @@ ghost use Rattle.world_link.specs.Starting.{begun};
 ghost use Rattle.world_link.specs.Shown.{shown};
 ghost use Rattle.world_link.specs.View.{seen, served};
 
-use crate::directive::Sending;
+use crate::directive::RequestId;
 use crate::fate::Fate;
 use crate::plan::Plan;
 use crate::server::Server;
-use crate::tally::{NONE_YET, Tally};
+use crate::tally::{NONE_YET, RequestCounts};
 use crate::turning::{fate_of, manner_of};
 use crate::waiting::Waiting;
 use export_fs::Export;
@@ -30,9 +30,9 @@ use xdr_codec::{Blob, Memory};
 /// The number of the last dial that a schedule can name.
 const LAST_DIAL: u32 = 4_294_967_295;
 
-/// A link to a simulated server that does what a schedule says, and tells its history. A sending waits for its turn,
-/// which it has when the client waits and no reply is ready. A dial fails exactly where the schedule says so, a sending
-/// never, and waiting is silent exactly where no reply is ready and no sending is without its turn.
+/// A link to a simulated server that does what a schedule says, and tells its history. A transmission waits for its
+/// turn, which it has when the client waits and no reply is ready. A dial fails exactly where the schedule says so, a
+/// transmission never, and waiting is silent exactly where no reply is ready and no sending is without its turn.
 #[derive(Drop)]
 pub struct World {
     alloc: Global,
@@ -42,9 +42,9 @@ pub struct World {
     server: Server,
     /// The records that were sent and had no turn yet, the oldest first.
     waiting: VecDeque<Waiting>,
-    /// The last sendings that were made, and the last ones that had their turns.
-    sendings: Tally,
-    turns: Tally,
+    /// The last transmissions that were made, and the last ones that had their turns.
+    sendings: RequestCounts,
+    turns: RequestCounts,
     dials: u32,
     faults: u64,
 }
@@ -83,7 +83,7 @@ impl World {
         server.export
     }
 
-    /// Puts a record after those that wait, and tells that it was sent. After want of memory nothing is changed.
+    /// Puts a record after those that wait, and tells that it was sent. When out of memory nothing is changed.
     fn take(&mut self, rec: &[u8]) -> Result<(), Memory>
         ensures ok { OnOk result (seen self.new ≡ turning.after_send (seen self.old) rec.now) }
         ensures err { OnErr result (seen self.new ≡ seen self.old) }
@@ -101,7 +101,7 @@ impl World {
         Ok(())
     }
 
-    /// Gives the oldest sending its turn, if there is one. After want of memory the turn may be done in part.
+    /// Gives the oldest sending its turn, if there is one. When out of memory the turn may be done in part.
     fn turn(&mut self) -> Result<(), Memory>
         ensures ok { OnOk result (steps.TurnsFirst (seen self.old) (seen self.new) (seen self.old).waiting) }
         ensures goes { GoesOn (seen self.old) (seen self.new) }
@@ -121,7 +121,7 @@ impl World {
         self.server.release(&self.turns)
     }
 
-    /// Gives sendings their turns until a reply is ready or no sending is left.
+    /// Gives transmissions their turns until a reply is ready or no sending is left.
     fn turn_all(&mut self) -> Result<(), Memory>
         ensures ok { OnOk result (seen self.new ≡ turning.after_turns (seen self.old)) }
         ensures goes { GoesOn (seen self.old) (seen self.new) }
@@ -222,7 +222,7 @@ impl World {
         tell(&mut self.server.entries, entry)
     }
 
-    /// Tells a dial that succeeds. After want of memory nothing is changed.
+    /// Tells a dial that succeeds. When out of memory nothing is changed.
     fn connect(&mut self, port: u16) -> Result<(), Memory>
         ensures ok { OnOk result (seen self.new ≡ turning.after_dial (seen self.old) port) }
         ensures err { OnErr result (seen self.new ≡ seen self.old) }
@@ -232,7 +232,7 @@ impl World {
         Ok(())
     }
 
-    /// Tells a dial that fails, and counts it. After want of memory nothing is changed.
+    /// Tells a dial that fails, and counts it. When out of memory nothing is changed.
     fn fail_to_connect(&mut self, port: u16) -> Result<(), Memory>
         ensures ok { OnOk result (seen self.new ≡ turning.after_failed_dial (seen self.old) port) }
         ensures rose { OnOk result (Rose self.old.faults self.new.faults) }
@@ -249,8 +249,8 @@ impl World {
 }
 
 impl Server {
-    /// A record was sent. After want of memory nothing is changed.
-    fn take(&mut self, name: Option<Sending>, rec: Blob) -> Result<(), Memory>
+    /// A record was sent. When out of memory nothing is changed.
+    fn take(&mut self, name: Option<RequestId>, rec: Blob) -> Result<(), Memory>
         ensures ok { OnOk result (served self.new ≡ turning.taken (served self.old) name rec) }
         ensures err { OnErr result (served self.new ≡ served self.old) }
     {
@@ -260,8 +260,8 @@ impl Server {
         Ok(())
     }
 
-    /// The record has the name, where it has one. After want of memory nothing is changed.
-    fn keep_if(&mut self, name: Option<Sending>, rec: &[u8]) -> Result<(), Memory>
+    /// The record has the name, where it has one. When out of memory nothing is changed.
+    fn keep_if(&mut self, name: Option<RequestId>, rec: &[u8]) -> Result<(), Memory>
         ensures ok { OnOk result (served self.new ≡ record (served self.old) { sent = turning.noted_as (served self.old).sent name rec.now }) }
         ensures room { self.new.entries ≡ self.old.entries }
         ensures err { OnErr result (served self.new ≡ served self.old) }
@@ -272,8 +272,8 @@ impl Server {
         }
     }
 
-    /// The record has the name. After want of memory nothing is changed.
-    fn keep(&mut self, name: Sending, rec: &[u8]) -> Result<(), Memory>
+    /// The record has the name. When out of memory nothing is changed.
+    fn keep(&mut self, name: RequestId, rec: &[u8]) -> Result<(), Memory>
         ensures ok { OnOk result (served self.new ≡ record (served self.old) { sent = turning.noted_as (served self.old).sent (Some name) rec.now }) }
         ensures room { self.new.entries ≡ self.old.entries }
         ensures err { OnErr result (served self.new ≡ served self.old) }
@@ -285,7 +285,7 @@ impl Server {
 }
 
 /// Which sending a record is that asks for this.
-fn name_of(sendings: &Tally, asked: &Asked) -> Option<Sending>
+fn name_of(sendings: &RequestCounts, asked: &Asked) -> Option<RequestId>
     ensures { result ≡ turning.name_of sendings.now.counts asked.now }
 {
     match asked {
@@ -299,7 +299,7 @@ fn name_of(sendings: &Tally, asked: &Asked) -> Option<Sending>
     }
 }
 
-/// Adds an entry to those that are told. After want of memory nothing is changed.
+/// Adds an entry to those that are told. When out of memory nothing is changed.
 fn tell(entries: &mut Vec<Entry>, entry: Entry) -> Result<(), Memory>
     ensures ok { OnOk result (entries.new.items ≡ entries.old.items ++ entry ∷ []) }
     ensures err { OnErr result (entries.new.items ≡ entries.old.items) }
@@ -311,7 +311,7 @@ fn tell(entries: &mut Vec<Entry>, entry: Entry) -> Result<(), Memory>
 impl Link for World {
     ghost use Rattle.std.specs.Prelude.{◌≡◌, ◌≤◌, Some};
     ghost use Rattle.outside.specs.Causes.{HasCause, HasCauseReceived};
-    ghost use Rattle.outside.specs.Link.{dialed_as, sent_as, received_as, noted_as};
+    ghost use Rattle.outside.specs.Link.{NotesOnly, dialed_as, sent_as, received_as, noted_as};
     ghost use Rattle.world_model.specs.Told.{Tells};
     ghost use Rattle.world_link.specs.Honest.{IsHonestWorld};
     ghost use Rattle.world_link.specs.Replay.{told};
@@ -358,7 +358,7 @@ impl Link for World {
     }
 
     fn note(&mut self, mark: Mark) -> Result<(), Memory>
-        ensures told { Tells (Some (told (seen self.old))) (Some (told (seen self.new))) (noted_as mark result) }
+        ensures told { NotesOnly (Some (told (seen self.old))) (Some (told (seen self.new))) (noted_as mark result) }
         ensures honest { IsHonestWorld (seen self.old) → IsHonestWorld (seen self.new) }
         ensures cause { self.old.faults ≤ self.new.faults }
         ensures exact { steps.Notes (seen self.old) (seen self.new) mark result }

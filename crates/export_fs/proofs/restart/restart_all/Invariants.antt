@@ -1,4 +1,4 @@
-use Rattle.export_fs.proofs.Restarting.{IsRestarting}
+use Rattle.export_fs.proofs.RestartInOrder.{IsRestarting}
 use Rattle.export_fs.proofs.restart.restart_all.Given as goal
 
 abbrev pub invariant-loop-node : goal.invariant-loop-node

@@ -2,7 +2,7 @@ use Rattle.std.proofs.Common.{◌≡◌, sym, ◌∙◌, rules, tests, bytes_eq}
 use Rattle.std.proofs.lemmas.Iterator.{YieldsList-from_slice}
 use Rattle.std.proofs.lemmas.Iterator.Search.{position_from_yields_List}
 use Rattle.world_link.specs.Procedures.{proc_of}
-use Rattle.world_link.proofs.Procedural.{in_table}
+use Rattle.world_link.proofs.ProcedureNames.{in_table}
 use Rattle.world_link.proofs.procedures.proc_named.Goals as goal
 
 pub returns-in-Some : goal.returns-in-Some

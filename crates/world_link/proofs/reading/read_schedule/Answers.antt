@@ -1,5 +1,5 @@
 use Rattle.std.proofs.Common.{◌∙◌, arith, rules}
-use Rattle.world_link.proofs.ReadOn.{stops, goes_on, ends}
+use Rattle.world_link.proofs.NextLine.{stops, goes_on, ends}
 use Rattle.world_link.proofs.reading.read_schedule.Goals as goal
 
 pub returns-then-not-branch : goal.returns-then-not-branch

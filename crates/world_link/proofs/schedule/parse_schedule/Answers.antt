@@ -1,4 +1,4 @@
-use Rattle.world_link.proofs.Beginnings.{begins_honest}
+use Rattle.world_link.proofs.WorldBegins.{begins_honest}
 use Rattle.world_link.proofs.schedule.parse_schedule.Goals as goal
 
 pub returns-clause-honest : goal.returns-clause-honest

@@ -2,7 +2,7 @@
 use Rattle.std.proofs.Common.{rules, ◌≡◌, ◌+◌, ◌++◌, ◌∷◌, []}
 use Rattle.export_fs.specs.Held.{Row}
 use Rattle.export_fs.specs.Names.{without}
-use Rattle.export_fs.proofs.Keeping.{entered, not_entered, kept_same}
+use Rattle.export_fs.proofs.DirectoryKeepsNames.{entered, not_entered, kept_same}
 use Rattle.export_fs.proofs.directory.Directory.put.Goals as goal
 
 pub invariant_of-self-in-Err : goal.invariant_of-self-in-Err

@@ -1,6 +1,6 @@
 -- What had the name goes from both maps.
 use Rattle.std.proofs.Common.{rules}
-use Rattle.export_fs.proofs.Keeping.{removed}
+use Rattle.export_fs.proofs.DirectoryKeepsNames.{removed}
 use Rattle.export_fs.proofs.directory.Directory.remove.Goals as goal
 
 pub invariant_of-self : goal.invariant_of-self

@@ -3,7 +3,7 @@ use Rattle.std.proofs.Common.{rules}
 use Rattle.export_fs.specs.Parts.{object, rows_in}
 use Rattle.export_fs.specs.Pages.{rows_after, page_of}
 use Rattle.std.proofs.Common.{length}
-use Rattle.export_fs.proofs.Paging.{page_step}
+use Rattle.export_fs.proofs.PageGrows.{page_step}
 use Rattle.export_fs.proofs.nodes.Nodes.page.Goals as goal
 
 pub loop-next-preserved : goal.loop-next-preserved

@@ -1,6 +1,6 @@
 use Rattle.export_fs.proofs.FreshCalls.{stamped_call, fresh_call, rises_call}
-use Rattle.export_fs.proofs.Honest.{sound_call, serves_call}
-use Rattle.export_fs.proofs.SpelledLaws.{replies_spelled}
+use Rattle.export_fs.proofs.ExportContract.{sound_call, serves_call}
+use Rattle.export_fs.proofs.RepliesEncode.{replies_spelled}
 use Rattle.export_fs.proofs.tree.Tree.execute.Goals as goal
 
 pub returns-clause-spelled : goal.returns-clause-spelled

@@ -1,6 +1,6 @@
 use Rattle.std.proofs.Common.{rules}
 use Rattle.export_fs.proofs.FreshCalls.{stamped_flushed, fresh_flush}
-use Rattle.export_fs.proofs.Honest.{sound_flush, flushes_range}
+use Rattle.export_fs.proofs.ExportContract.{sound_flush, flushes_range}
 use Rattle.export_fs.proofs.tree.Tree.flush.Goals as goal
 
 pub returns-clause-ok : goal.returns-clause-ok

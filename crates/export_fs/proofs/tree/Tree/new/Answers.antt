@@ -1,6 +1,6 @@
 use Rattle.std.proofs.Common.{rules}
 use Rattle.export_fs.proofs.FreshCalls.{stamped_first}
-use Rattle.export_fs.proofs.Honest.{sound_new}
+use Rattle.export_fs.proofs.ExportContract.{sound_new}
 use Rattle.export_fs.proofs.tree.Tree.new.Goals as goal
 
 pub returns-clause-empty : goal.returns-clause-empty

@@ -2,8 +2,8 @@
 use Rattle.std.proofs.Common.{rules, ◌≡◌, Option, IfOk, OnOk, is_some, unwrap_or, option_copied, sym, subst}
 use Rattle.export_fs.specs.View.{View}
 use Rattle.export_fs.proofs.FreshCalls.{stamped_place}
-use Rattle.export_fs.proofs.Honest.{sound_place}
-use Rattle.export_fs.proofs.Placed.{placed_is}
+use Rattle.export_fs.proofs.ExportContract.{sound_place}
+use Rattle.export_fs.proofs.PathPlaces.{placed_is}
 use Rattle.export_fs.proofs.tree.Tree.place.Goals as goal
 
 pub returns-in-Some-clause-made : goal.returns-in-Some-clause-made

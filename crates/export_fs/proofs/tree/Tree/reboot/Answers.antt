@@ -1,7 +1,7 @@
 -- What a restart makes of the export is what the clause `after` says.
 use Rattle.std.proofs.Common.{rules, sym}
 use Rattle.export_fs.proofs.FreshCalls.{stamped_reboot, fresh_reboot}
-use Rattle.export_fs.proofs.Honest.{sound_restart, restarts_later}
+use Rattle.export_fs.proofs.ExportContract.{sound_restart, restarts_later}
 use Rattle.export_fs.proofs.tree.Tree.reboot.Goals as goal
 
 pub returns-clause-done : goal.returns-clause-done

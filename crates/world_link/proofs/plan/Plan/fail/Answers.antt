@@ -1,6 +1,6 @@
 use Rattle.std.proofs.Common.{ℕ, Bool, ap}
 use Rattle.world_link.specs.Shown.{shown}
-use Rattle.world_link.proofs.Fated.{failing}
+use Rattle.world_link.proofs.FateMap.{failing}
 use Rattle.world_link.proofs.plan.Plan.fail.Goals as goal
 
 pub returns : goal.returns

@@ -1,6 +1,6 @@
 use Rattle.std.proofs.Common.{◌++◌, ◌∷◌, []}
 use Rattle.world_link.specs.Fates.{FateView}
-use Rattle.world_link.proofs.Fated.{redestined}
+use Rattle.world_link.proofs.FateMap.{redestined}
 use Rattle.world_link.proofs.plan.Plan.hold.Goals as goal
 
 pub returns : goal.returns

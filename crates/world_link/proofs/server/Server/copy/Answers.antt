@@ -1,6 +1,6 @@
 use Rattle.std.proofs.Common.{rules}
-use Rattle.world_link.proofs.Honestly.{copied_stays, copied_part, ready_result_stays}
-use Rattle.world_link.proofs.Turns.{copied_is}
+use Rattle.world_link.proofs.TurnStaysHonest.{copied_stays, copied_part, ready_result_stays}
+use Rattle.world_link.proofs.TurnParts.{copied_is}
 use Rattle.world_link.proofs.server.Server.copy.Goals as goal
 
 pub returns-in_ok-reply-in-Some-clause-ok : goal.returns-in_ok-reply-in-Some-clause-ok

@@ -1,7 +1,7 @@
 use Rattle.std.proofs.Common.{rules, ◌∙◌}
-use Rattle.world_link.proofs.Goings.{then_goes}
-use Rattle.world_link.proofs.Honestly.{then_stays}
-use Rattle.world_link.proofs.Walks.{copied_next}
+use Rattle.world_link.proofs.ServerEntriesOnly.{then_goes}
+use Rattle.world_link.proofs.TurnStaysHonest.{then_stays}
+use Rattle.world_link.proofs.StepsInOrder.{copied_next}
 use Rattle.world_link.proofs.server.Server.copy_all.Goals as goal
 
 pub returns-in_err-copy-clause-goes : goal.returns-in_err-copy-clause-goes

@@ -1,5 +1,5 @@
-use Rattle.world_link.proofs.Goings.{then_goes}
-use Rattle.world_link.proofs.Honestly.{then_stays}
+use Rattle.world_link.proofs.ServerEntriesOnly.{then_goes}
+use Rattle.world_link.proofs.TurnStaysHonest.{then_stays}
 use Rattle.world_link.proofs.server.Server.create.Goals as goal
 
 pub returns-then-not-is_empty-clause-goes : goal.returns-then-not-is_empty-clause-goes

@@ -1,6 +1,6 @@
 use Rattle.std.proofs.Common.{rules, refl}
-use Rattle.world_link.proofs.Honestly.{foreign_stays, left_stays}
-use Rattle.world_link.proofs.Goings.{foreign_goes}
+use Rattle.world_link.proofs.TurnStaysHonest.{foreign_stays, left_stays}
+use Rattle.world_link.proofs.ServerEntriesOnly.{foreign_goes}
 use Rattle.world_link.proofs.server.Server.execute_foreign.Goals as goal
 
 pub returns-clause-goes : goal.returns-clause-goes

@@ -1,7 +1,7 @@
 use Rattle.std.proofs.Common.{rules, refl}
 use Rattle.world_model.specs.declared.entry.Entry.TheVariants.{Flushed}
-use Rattle.world_link.proofs.Honestly.{flushed_stays, left_stays}
-use Rattle.world_link.proofs.Goings.{one_goes}
+use Rattle.world_link.proofs.TurnStaysHonest.{flushed_stays, left_stays}
+use Rattle.world_link.proofs.ServerEntriesOnly.{one_goes}
 use Rattle.world_link.proofs.server.Server.flush_file.Goals as goal
 
 pub returns-clause-goes : goal.returns-clause-goes

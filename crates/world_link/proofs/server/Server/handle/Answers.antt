@@ -1,4 +1,4 @@
-use Rattle.world_link.proofs.Honestly.{refused_answers}
+use Rattle.world_link.proofs.TurnStaysHonest.{refused_answers}
 use Rattle.world_link.proofs.server.Server.handle.Goals as goal
 
 pub returns-in-Ok-clause-answers : goal.returns-in-Ok-clause-answers

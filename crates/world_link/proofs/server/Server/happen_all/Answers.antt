@@ -1,7 +1,7 @@
 use Rattle.std.proofs.Common.{rules, ◌∙◌}
-use Rattle.world_link.proofs.Goings.{then_goes}
-use Rattle.world_link.proofs.Honestly.{then_stays}
-use Rattle.world_link.proofs.Walks.{happened_on}
+use Rattle.world_link.proofs.ServerEntriesOnly.{then_goes}
+use Rattle.world_link.proofs.TurnStaysHonest.{then_stays}
+use Rattle.world_link.proofs.StepsInOrder.{happened_on}
 use Rattle.world_link.proofs.server.Server.happen_all.Goals as goal
 
 pub returns-in_err-happen-clause-goes : goal.returns-in_err-happen-clause-goes

@@ -1,5 +1,5 @@
 use Rattle.std.proofs.Common.{rules, ◌∙◌}
-use Rattle.world_link.proofs.Lasts.{last_is}
+use Rattle.world_link.proofs.LastNames.{last_is}
 use Rattle.world_link.proofs.server.Server.last_in.Goals as goal
 
 pub returns-in-Some : goal.returns-in-Some

@@ -1,6 +1,6 @@
 use Rattle.std.proofs.Common.{rules, refl}
-use Rattle.world_link.proofs.Honestly.{left_stays, restarted_stays, unstarted_stays}
-use Rattle.world_link.proofs.Goings.{restart_goes}
+use Rattle.world_link.proofs.TurnStaysHonest.{left_stays, restarted_stays, unstarted_stays}
+use Rattle.world_link.proofs.ServerEntriesOnly.{restart_goes}
 use Rattle.world_link.proofs.server.Server.reboot.Goals as goal
 
 pub returns-then-reboot-clause-goes : goal.returns-then-reboot-clause-goes

@@ -1,6 +1,6 @@
 use Rattle.std.proofs.Common.{rules, refl, ap, ◌∙◌, List, ℕ, ◌++◌, ◌∷◌, []}
-use Rattle.world_link.proofs.Goings.{then_goes, quiet_goes}
-use Rattle.world_link.proofs.Honestly.{then_stays, moved_stays}
+use Rattle.world_link.proofs.ServerEntriesOnly.{then_goes, quiet_goes}
+use Rattle.world_link.proofs.TurnStaysHonest.{then_stays, moved_stays}
 use Rattle.world_link.proofs.Releases.{releases_parts, all_released}
 use Rattle.world_link.specs.View.{served}
 use Rattle.world_link.proofs.server.Server.release.Goals as goal

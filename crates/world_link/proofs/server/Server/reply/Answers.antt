@@ -1,7 +1,7 @@
 use Rattle.std.proofs.Common.{Some, subst}
 use Rattle.world_link.specs.Honest.{MayAnswer}
 use Rattle.world_link.specs.View.{served}
-use Rattle.world_link.proofs.Honestly.{ready_result_stays, held_result_stays}
+use Rattle.world_link.proofs.TurnStaysHonest.{ready_result_stays, held_result_stays}
 use Rattle.world_link.proofs.server.Server.reply.Goals as goal
 
 pub returns-then-are_past-clause-stays : goal.returns-then-are_past-clause-stays

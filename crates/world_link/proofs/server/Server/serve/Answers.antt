@@ -1,6 +1,6 @@
 use Rattle.std.proofs.Common.{rules, refl}
-use Rattle.world_link.proofs.Honestly.{left_stays, told_stays, told_answers}
-use Rattle.world_link.proofs.Goings.{told_goes}
+use Rattle.world_link.proofs.TurnStaysHonest.{left_stays, told_stays, told_answers}
+use Rattle.world_link.proofs.ServerEntriesOnly.{told_goes}
 use Rattle.world_link.proofs.server.Server.serve.Goals as goal
 
 pub returns-clause-goes : goal.returns-clause-goes

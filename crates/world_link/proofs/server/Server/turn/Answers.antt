@@ -1,5 +1,5 @@
-use Rattle.world_link.proofs.Goings.{then_goes}
-use Rattle.world_link.proofs.Honestly.{then_stays, sent_goes, answer_goes}
+use Rattle.world_link.proofs.ServerEntriesOnly.{then_goes}
+use Rattle.world_link.proofs.TurnStaysHonest.{then_stays, sent_goes, answer_goes}
 use Rattle.world_link.proofs.server.Server.turn.Goals as goal
 
 pub returns-in_err-happen_all-clause-goes : goal.returns-in_err-happen_all-clause-goes

@@ -1,8 +1,8 @@
 use Rattle.std.proofs.Common.{◌≡◌, ◌<◌, length, get_or, inl, inr, refl, rules}
 use Rattle.world_link.specs.View.{seen}
-use Rattle.world_link.proofs.Goings.{then_goes, on_goes}
-use Rattle.world_link.proofs.Honestly.{same_stays}
-use Rattle.world_link.proofs.Worldly.{turn_stays}
+use Rattle.world_link.proofs.ServerEntriesOnly.{then_goes, on_goes}
+use Rattle.world_link.proofs.TurnStaysHonest.{same_stays}
+use Rattle.world_link.proofs.WorldKeepsContract.{turn_stays}
 use Rattle.world_link.proofs.world.World.turn.Goals as goal
 
 pub returns-clause-goes : goal.returns-clause-goes

@@ -1,6 +1,6 @@
 use Rattle.std.proofs.Common.{rules, ◌∙◌}
-use Rattle.world_link.proofs.Goings.{then_goes_on}
-use Rattle.world_link.proofs.Walks.{turns_go_on, turns_done}
+use Rattle.world_link.proofs.ServerEntriesOnly.{then_goes_on}
+use Rattle.world_link.proofs.StepsInOrder.{turns_go_on, turns_done}
 use Rattle.world_link.specs.View.{seen}
 use Rattle.world_link.proofs.world.World.turn_all.Goals as goal
 

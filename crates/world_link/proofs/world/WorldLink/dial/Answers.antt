@@ -1,5 +1,5 @@
-use Rattle.world_link.proofs.Linked.{dials_adds}
-use Rattle.world_link.proofs.Worldly.{dials_honest}
+use Rattle.world_link.proofs.WorldTellsCalls.{dials_adds}
+use Rattle.world_link.proofs.WorldKeepsContract.{dials_honest}
 use Rattle.world_link.specs.View.{seen}
 use Rattle.world_link.proofs.world.WorldLink.dial.Goals as goal
 

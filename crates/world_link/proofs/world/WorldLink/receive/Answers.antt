@@ -1,5 +1,5 @@
-use Rattle.world_link.proofs.Linked.{receives_adds}
-use Rattle.world_link.proofs.Worldly.{hands_honest}
+use Rattle.world_link.proofs.WorldTellsCalls.{receives_adds}
+use Rattle.world_link.proofs.WorldKeepsContract.{hands_honest}
 use Rattle.world_link.proofs.world.WorldLink.receive.Goals as goal
 
 pub returns-clause-told : goal.returns-clause-told

@@ -1,5 +1,5 @@
-use Rattle.world_link.proofs.Linked.{sends_adds}
-use Rattle.world_link.proofs.Worldly.{sends_honest}
+use Rattle.world_link.proofs.WorldTellsCalls.{sends_adds}
+use Rattle.world_link.proofs.WorldKeepsContract.{sends_honest}
 use Rattle.world_link.proofs.world.WorldLink.send.Goals as goal
 
 pub returns-clause-told : goal.returns-clause-told

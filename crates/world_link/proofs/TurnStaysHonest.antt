@@ -1,0 +1,196 @@
+-- What the parts of a turn keep of an honest world.
+use Rattle.std.proofs.Common.{◌≡◌, ◌≤◌, ℕ, Bool, true, false, List, [], ◌∷◌, ◌++◌, length, get_or, position, Option, Some, None, Result, Ok, Err, refl, sym, ap, subst, ◌∙◌, arith, if◌then◌else◌, IfOk, ◌==◌}
+use Rattle.std.specs.Prelude.{OnOk, OnErr}
+use Rattle.std.specs.List.{remove}
+use Rattle.std.proofs.lemmas.Bool.{eqb-true}
+use Rattle.xdr_codec.specs.Bytes.{IsBytes}
+use Rattle.nfs_types.specs.declared.verf.Verf.{Verf}
+use Rattle.nfs_file_calls.specs.declared.call.FileCall.{FileCall}
+use Rattle.nfs_file_calls.specs.declared.call.FileCall.TheVariants as files
+use Rattle.world_model.specs.declared.entry.Entry.{Entry}
+use Rattle.world_model.specs.declared.entry.Entry.TheVariants as entries
+use Rattle.world_model.specs.declared.message.Call.{Call}
+use Rattle.world_model.specs.declared.message.Call.TheVariants as calls
+use Rattle.world_model.specs.declared.message.Reply.{Reply}
+use Rattle.world_model.specs.Lawful.{IsReplied}
+use Rattle.world_model.specs.Messages.{SpellsReply}
+use Rattle.world_model.specs.Rules.{most_bytes}
+use Rattle.world_model.proofs.Places.{At-below, At-last, length_last}
+use Rattle.export_fs.specs.View.{View}
+use Rattle.export_fs.specs.Executed.{executed}
+use Rattle.export_fs.specs.Finding.{file_size}
+use Rattle.export_fs.specs.Parts.{verifier, kind, bytes_in, object}
+use Rattle.export_fs.specs.Restart.{may_restart, after_restart, after_flush}
+use Rattle.export_fs.specs.Spelled.{IsFileSpelled, IsSpelled, HandlesAreBytes}
+use Rattle.export_fs.specs.Spelling.{HasSpellingCall}
+use Rattle.export_serve.specs.declared.request.Asked.{Asked}
+use Rattle.export_serve.specs.declared.request.Asked.TheVariants as askings
+use Rattle.export_serve.specs.Asking.{IsSound}
+use Rattle.export_serve.specs.Spelling.{RepliesTo}
+use Rattle.export_serve.proofs.Refused.{spells_refusal}
+use Rattle.world_link.specs.declared.directive.RequestId.{RequestId}
+use Rattle.world_link.specs.declared.manner.Manner.{Manner}
+use Rattle.world_link.specs.Going.{Goes}
+use Rattle.world_link.specs.Handling.{answered_as, readied}
+use Rattle.world_link.specs.Holding.{HeldView, are_past}
+use Rattle.world_link.specs.Honest.{IsSent, IsAsked, IsAnswer, MayAnswer, IsBound, IsHonest, StaysHonest, MayStand}
+use Rattle.world_link.specs.Replay.{stepped, stepped_by}
+use Rattle.world_link.specs.Turning.{held}
+use Rattle.world_link.specs.View.{ServerView}
+use Rattle.world_link.proofs.ServerEntriesOnly.{first_of_two}
+use Rattle.world_link.proofs.Releases.{due_there}
+use Rattle.world_link.proofs.Replays.{executed_stepped, answered_stepped}
+use Rattle.world_link.proofs.RepliesFit.{answered_replies}
+use Rattle.world_link.proofs.EntriesKeepHonest.{sent_on, answer_on, honest_more, told_stands, foreign_stands, restart_stands, flushed_stands, honest_ready, honest_held, honest_moved}
+
+-- ---- steps
+
+pub same_stays : (old new : ServerView) → new ≡ old → StaysHonest old new
+same_stays old new e = record { stays = λ start h. subst (IsHonest start) (sym e) h }
+
+pub then_stays : (a b c : ServerView) → StaysHonest a b → StaysHonest b c → StaysHonest a c
+then_stays a b c p q = record { stays = λ start h. q.stays start (p.stays start h) }
+
+-- neither the export nor what is told is changed
+pub left_stays : (old new : ServerView) → new ≡ record old { export = new.export; entries = new.entries } → new.export ≡ old.export → new.entries ≡ old.entries → StaysHonest old new
+left_stays old new shape export entries =
+    same_stays old new (shape ∙ ap (λ (z : View). record old { export = z; entries = new.entries }) export ∙ ap (λ (es : List Entry). record old { export = old.export; entries = es }) entries)
+
+-- an entry was told, and the export took its step
+grown_stays : (old new : ServerView) (e : Entry) (w : View) → new ≡ record old { export = new.export; entries = new.entries } → new.entries ≡ old.entries ++ e ∷ [] → new.export ≡ w → w ≡ stepped old.export e
+    → ((start : View) → IsHonest start old → MayStand start old e) → StaysHonest old new
+grown_stays old new e w shape grown is step may =
+    let all : new ≡ record old { export = w; entries = old.entries ++ e ∷ [] } = shape ∙ ap (λ (z : View). record old { export = z; entries = new.entries }) is ∙ ap (λ (es : List Entry). record old { export = w; entries = es }) grown in
+    record { stays = λ start h. subst (IsHonest start) (sym all) (honest_more start old e w step h (may start h)) }
+
+-- ---- calls
+
+file_spelled : (call : FileCall) → HandlesAreBytes (calls.File call) → HasSpellingCall (calls.File call) → IsFileSpelled call
+file_spelled files.Null b k = tt
+file_spelled (files.GetAttr file) b k = b
+file_spelled (files.SetAttr file set guard) b k = b
+file_spelled (files.Access file bits) b k = b
+file_spelled (files.Read file offset count) b k = b
+file_spelled (files.Write file offset how bytes) b k = (b, k.0)
+file_spelled (files.FsStat file) b k = b
+file_spelled (files.FsInfo file) b k = b
+file_spelled (files.PathConf file) b k = b
+file_spelled (files.Commit file offset count) b k = b
+
+spelled_of : (call : Call) → HandlesAreBytes call → HasSpellingCall call → IsSpelled call
+spelled_of (calls.File call) b k = file_spelled call b k
+spelled_of (calls.Dir call) b k = b
+spelled_of (calls.Mount call) b k = tt
+
+-- a call of the client was answered, and it was told
+pub told_stays : (old new : ServerView) (manner : Manner) (xid : ℕ) (call : Call) (reply : Reply) → reply ≡ (answered_as manner old.export call).1 → new ≡ record old { export = new.export; entries = new.entries } → new.entries ≡ old.entries ++ entries.Executed xid call reply ∷ []
+    → new.export ≡ (answered_as manner old.export call).0 → HandlesAreBytes call → IsBound manner.limit → IsAsked old.entries (askings.Serve xid call) → StaysHonest old new
+told_stays old new manner xid call reply r shape grown is b m a =
+    grown_stays old new (entries.Executed xid call reply) (answered_as manner old.export call).0 shape grown is (sym (answered_stepped manner old.export call) ∙ ap (stepped_by old.export call) (sym r))
+    (λ start h. subst (λ (z : Reply). MayStand start old (entries.Executed xid call z)) (sym r) (told_stands start old manner xid call a.bytes h m (spelled_of call b a.sound.1) a.sent a.sound.0))
+
+-- the record of its reply answers
+pub told_answers : {E : Type 0} (old new : List Entry) (manner : Manner) (v : View) (xid : ℕ) (call : Call) (reply : Reply) (result : Result (List ℕ) E) → reply ≡ (answered_as manner v call).1 → new ≡ old ++ entries.Executed xid call reply ∷ []
+    → IfOk result (λ bytes. (c : Call) → RepliesTo c reply → SpellsReply xid c reply bytes) → IfOk result (λ bytes. length bytes ≤ most_bytes) → IfOk result (IsAnswer new)
+told_answers old new manner v xid call reply (Err e) r grown spells short = tt
+told_answers old new manner v xid call reply (Ok bytes) r grown spells short =
+    subst (λ (es : List Entry). IsAnswer es bytes) (sym grown) (record {
+      most = short;
+      is = IsReplied.replied (length old) xid call reply (omega (arith, length_last old (entries.Executed xid call reply))) (At-last old (entries.Executed xid call reply)) (spells call (subst (RepliesTo call) (sym r) (answered_replies manner v call)));
+    })
+
+-- a call of another client was executed, and it was told
+pub foreign_stays : (old new : ServerView) (call : Call) (reply : Reply) → reply ≡ (executed old.export call).1 → new ≡ record old { export = new.export; entries = new.entries } → new.entries ≡ old.entries ++ entries.Foreign call reply ∷ [] → new.export ≡ (executed old.export call).0 → IsSpelled call → StaysHonest old new
+foreign_stays old new call reply r shape grown is b =
+    grown_stays old new (entries.Foreign call reply) (executed old.export call).0 shape grown is (sym (executed_stepped old.export call) ∙ ap (stepped_by old.export call) (sym r))
+    (λ start h. subst (λ (z : Reply). MayStand start old (entries.Foreign call z)) (sym r) (foreign_stands start old call h b))
+
+-- a restart that was made, and it was told
+pub restarted_stays : (old new : ServerView) (made : Bool) (verf : Verf) → made ≡ may_restart old.export → new.export ≡ (if may_restart old.export then after_restart old.export else old.export) → made ≡ true → new ≡ record old { export = new.export; entries = new.entries } → new.entries ≡ old.entries ++ entries.Reboot verf ∷ [] → verf ≡ verifier new.export → StaysHonest old new
+restarted_stays old new made verf d f t shape grown v =
+    let is : new.export ≡ after_restart old.export = f ∙ first_of_two (may_restart old.export) (after_restart old.export) old.export (sym d ∙ t) in
+    let known : verf ≡ verifier (after_restart old.export) = v ∙ ap verifier is in
+    grown_stays old new (entries.Reboot verf) (after_restart old.export) shape grown is refl (λ start h. subst (λ (z : Verf). MayStand start old (entries.Reboot z)) (sym known) (restart_stands start old h (sym d ∙ t)))
+
+second_of_two : (b : Bool) (x y : View) → b ≡ false → (if b then x else y) ≡ y
+second_of_two true x y e = absurd cc
+second_of_two false x y e = refl
+
+-- no restart was made
+pub unstarted_stays : (old new : ServerView) (made : Bool) → made ≡ may_restart old.export → new.export ≡ (if may_restart old.export then after_restart old.export else old.export) → made ≡ false → new ≡ record old { export = new.export; entries = new.entries } → new.entries ≡ old.entries → StaysHonest old new
+unstarted_stays old new made d f t shape same = left_stays old new shape (f ∙ second_of_two (may_restart old.export) (after_restart old.export) old.export (sym d ∙ t)) same
+
+sized_file : (v : View) (file : List ℕ) (size : ℕ) → file_size v file ≡ Some size → kind v.nodes file ≡ 1
+sized_file v file size e = by_kind (kind v.nodes file == 1) refl e
+  where
+    by_kind : (b : Bool) → (kind v.nodes file == 1) ≡ b → (if b then Some (length (bytes_in (object v.nodes file))) else None) ≡ Some size → kind v.nodes file ≡ 1
+    by_kind true q e = eqb-true (kind v.nodes file) 1 q
+    by_kind false q e = absurd (cc)
+
+-- a file became stable, and it was told
+pub flushed_stays : (old new : ServerView) (file : List ℕ) (size : ℕ) → new ≡ record old { export = new.export; entries = new.entries } → new.entries ≡ old.entries ++ entries.Flushed file 0 size ∷ [] → new.export ≡ after_flush old.export file 0 size → IsBytes file → file_size old.export file ≡ Some size → StaysHonest old new
+flushed_stays old new file size shape grown is b s =
+    grown_stays old new (entries.Flushed file 0 size) (after_flush old.export file 0 size) shape grown is refl (λ start h. flushed_stands start old file size h b (sized_file old.export file size s))
+
+-- ---- what a record asks for
+
+-- a call that is to be executed was asked for
+pub asked_serve : (es : List Entry) (asked : Asked) (xid : ℕ) (call : Call) → asked ≡ askings.Serve xid call → IsAsked es asked → IsAsked es (askings.Serve xid call)
+asked_serve es asked xid call q a = subst (IsAsked es) q a
+
+-- a refusal of what was sent answers it
+pub refused_answers : (es : List Entry) (asked : Asked) (xid : ℕ) (bytes short : List ℕ) → asked ≡ askings.Refuse xid bytes → short ≡ bytes → length short ≤ most_bytes → IsAsked es asked → IsAnswer es short
+refused_answers es asked xid bytes short q same most a =
+    let s : IsSound a.bytes (askings.Refuse xid bytes) = subst (IsSound a.bytes) q a.sound in
+    let r = spells_refusal xid bytes s.1 in
+    record {
+      most = most;
+      is = subst (IsReplied es (length es)) (sym same) (IsReplied.refused a.sent.0 xid r.0 a.bytes (At-below es a.sent.0 (entries.Sent a.bytes) a.sent.1) a.sent.1 s.0 r.1);
+    }
+
+-- ---- copies
+
+asked_copy : (v : ServerView) (s : RequestId) (rec : List ℕ) (asked : Asked) (start : View) → v.sent s ≡ Some rec → IsSound rec asked → IsHonest start v → IsAsked v.entries asked
+asked_copy v s rec asked start q sound h = record { bytes = rec; sent = h.sent s rec q; sound = sound }
+
+pub copied_stays : (old mid new : ServerView) (s : RequestId) (rec : List ℕ) (asked : Asked) (reply : Option (List ℕ)) → old.sent s ≡ Some rec → IsSound rec asked → (IsAsked old.entries asked → StaysHonest old mid) → (IsAsked old.entries asked → MayAnswer mid.entries reply)
+    → (MayAnswer mid.entries reply → StaysHonest mid new) → StaysHonest old new
+copied_stays old mid new s rec asked reply q sound first answers second =
+    record { stays = λ start h. (second (answers (asked_copy old s rec asked start q sound h))).stays start ((first (asked_copy old s rec asked start q sound h)).stays start h) }
+
+pub copied_part : (old mid : ServerView) (s : RequestId) (rec : List ℕ) (asked : Asked) → old.sent s ≡ Some rec → IsSound rec asked → (IsAsked old.entries asked → StaysHonest old mid) → StaysHonest old mid
+copied_part old mid s rec asked q sound first = record { stays = λ start h. (first (asked_copy old s rec asked start q sound h)).stays start h }
+
+-- ---- replies
+
+ready_stays : (old new : ServerView) (bytes : List ℕ) → new ≡ record old { ready = old.ready ++ bytes ∷ [] } → IsAnswer old.entries bytes → StaysHonest old new
+ready_stays old new bytes e a = record { stays = λ start h. subst (IsHonest start) (sym e) (honest_ready start old bytes a h) }
+
+held_stays : (old new : ServerView) (x : HeldView) → new ≡ record old { held = old.held ++ x ∷ [] } → IsAnswer old.entries x.bytes → StaysHonest old new
+held_stays old new x e a = record { stays = λ start h. subst (IsHonest start) (sym e) (honest_held start old x a h) }
+
+-- a reply is made ready, where there is one
+pub ready_result_stays : {T E : Type 0} (old new : ServerView) (reply : Option (List ℕ)) (result : Result T E) → OnOk result (new ≡ readied old reply) → OnErr result (new ≡ old) → MayAnswer old.entries reply → StaysHonest old new
+ready_result_stays old new reply (Err e) done left a = same_stays old new left
+ready_result_stays old new None (Ok x) done left a = same_stays old new done
+ready_result_stays old new (Some bytes) (Ok x) done left a = ready_stays old new bytes done a
+
+pub held_result_stays : {T E : Type 0} (old new : ServerView) (bytes : List ℕ) (waits : List RequestId) (result : Result T E) → OnOk result (new ≡ held old bytes waits) → OnErr result (new ≡ old) → IsAnswer old.entries bytes → StaysHonest old new
+held_result_stays old new bytes waits (Err e) done left a = same_stays old new left
+held_result_stays old new bytes waits (Ok x) done left a = held_stays old new (record { bytes = bytes; waits = waits }) done a
+
+pub moved_stays : (turns : List ℕ) (v w : ServerView) (place : ℕ) (d : HeldView) (due : Option ℕ) → due ≡ position (λ (x : HeldView). are_past turns x.waits) v.held → due ≡ Some place → d ≡ get_or v.held place d
+    → w.ready ≡ v.ready ++ d.bytes ∷ [] → w.held ≡ remove v.held place → w ≡ record v { ready = w.ready; held = w.held } → StaysHonest v w
+moved_stays turns v w place d due p q is r k e =
+    let ready : w.ready ≡ v.ready ++ (get_or v.held place d).bytes ∷ [] = r ∙ ap (λ (x : HeldView). v.ready ++ x.bytes ∷ []) is in
+    let all : w ≡ record v { ready = v.ready ++ (get_or v.held place d).bytes ∷ []; held = remove v.held place } = e ∙ ap (λ (t : List (List ℕ)). record v { ready = t; held = w.held }) ready ∙ ap (λ (t : List HeldView). record v { ready = v.ready ++ (get_or v.held place d).bytes ∷ []; held = t }) k in
+    record { stays = λ start h. subst (IsHonest start) (sym all) (honest_moved start v place d (due_there turns v.held due place p q) h) }
+
+-- ---- from one part of a turn to the next
+
+pub sent_goes : (old new : ServerView) (rec : List ℕ) → Goes old new → IsSent old.entries rec → IsSent new.entries rec
+sent_goes old new rec g s = subst (λ (es : List Entry). IsSent es rec) (sym g.grown) (sent_on old.entries g.more rec s)
+
+pub answer_goes : (old new : ServerView) (reply : Option (List ℕ)) → Goes old new → MayAnswer old.entries reply → MayAnswer new.entries reply
+answer_goes old new None g a = tt
+answer_goes old new (Some bytes) g a = subst (λ (es : List Entry). IsAnswer es bytes) (sym g.grown) (answer_on old.entries g.more bytes a)

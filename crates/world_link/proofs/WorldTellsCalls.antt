@@ -1,0 +1,59 @@
+-- What the calls of the world add to what it tells.
+use Rattle.std.proofs.Common.{◌≡◌, ℕ, List, [], ◌∷◌, ◌++◌, Result, Ok, Err, refl, sym, ap, ◌∙◌, append_assoc}
+use Rattle.std.proofs.lemmas.List.{append-nil}
+use Rattle.outside.specs.declared.link.LinkFault.{LinkFault}
+use Rattle.outside.specs.declared.link.LinkFault.TheVariants as faults
+use Rattle.outside.specs.declared.link.Received.{Received}
+use Rattle.outside.specs.declared.link.Received.TheVariants as received
+use Rattle.outside.specs.Link.{Appends, dialed_as, sent_as, received_as, noted_as, entry_of}
+use Rattle.outside.proofs.Notes.{mark_ours}
+use Rattle.world_model.specs.declared.entry.Entry.{Entry}
+use Rattle.world_model.specs.declared.entry.Entry.TheVariants.{Sent, Dialed, Delivered, Failed}
+use Rattle.world_model.specs.declared.entry.Mark.{Mark}
+use Rattle.world_model.specs.Entries.{ours}
+use Rattle.world_model.specs.Told.{Adds}
+use Rattle.world_model.proofs.Histories.{adds_then}
+use Rattle.world_link.specs.Going.{GoesOn}
+use Rattle.world_link.specs.Replay.{told}
+use Rattle.world_link.specs.Steps.{Dials, Sends, Notes, LeftByMemory}
+use Rattle.world_link.specs.Turning.{Hands}
+use Rattle.world_link.specs.View.{WorldView}
+use Rattle.world_link.proofs.ServerEntriesOnly.{adds, goes_adds, quiet_goes, on_goes}
+
+same_adds : (old new : WorldView) → new ≡ old → Adds (told old) (told new) []
+same_adds old new e = goes_adds old new (on_goes old new (quiet_goes _ _ (ap (λ (w : WorldView). w.server.entries) e) (ap (λ (w : WorldView). w.server.export) e)) (ap (λ (w : WorldView). w.start) e) (ap (λ (w : WorldView). w.faults) e))
+
+-- these entries, which are the client's
+tells : (old new : WorldView) (es : List Entry) → ours es ≡ es → new.start ≡ old.start → new.server.entries ≡ old.server.entries ++ es → Adds (told old) (told new) es
+tells old new es quiet s e = adds old new es es s e quiet
+
+pub dials_adds : {T : Type 0} (old new : WorldView) (port : ℕ) (result : Result T LinkFault) → Dials old new port result → Adds (told old) (told new) (dialed_as port result)
+dials_adds old new port (Ok x) h = tells old new (Dialed port ∷ []) refl (ap (λ (w : WorldView). w.start) h.1) (ap (λ (w : WorldView). w.server.entries) h.1)
+dials_adds old new port (Err faults.Failed) h =
+    tells old new (Dialed port ∷ Failed ∷ []) refl (ap (λ (w : WorldView). w.start) h.1) (ap (λ (w : WorldView). w.server.entries) h.1 ∙ append_assoc old.server.entries (Dialed port ∷ []) (Failed ∷ []))
+dials_adds old new port (Err faults.Memory) h = same_adds old new h
+
+pub sends_adds : {T : Type 0} (old new : WorldView) (rec : List ℕ) (result : Result T LinkFault) → Sends old new rec result → Adds (told old) (told new) (sent_as rec result)
+sends_adds old new rec (Ok x) h = tells old new (Sent rec ∷ []) refl (ap (λ (w : WorldView). w.start) h) (ap (λ (w : WorldView). w.server.entries) h)
+sends_adds old new rec (Err faults.Failed) h = absurd h
+sends_adds old new rec (Err faults.Memory) h = same_adds old new h
+
+pub notes_append : {T E : Type 0} (old new : WorldView) (mark : Mark) (result : Result T E) → Notes old new mark result → Appends (told old) (told new) (noted_as mark result)
+notes_append old new mark (Ok x) h = record {
+  grown = ap (λ (w : WorldView). w.server.entries) h;
+  earlier = (tells old new (entry_of mark ∷ []) (mark_ours mark) (ap (λ (w : WorldView). w.start) h) (ap (λ (w : WorldView). w.server.entries) h)).earlier;
+}
+notes_append old new mark (Err e) h = record {
+  grown = ap (λ (w : WorldView). w.server.entries) h ∙ sym (append-nil old.server.entries);
+  earlier = (same_adds old new h).earlier;
+}
+
+hands_adds : (old new : WorldView) (rec : List ℕ) (result : Received) → Hands old new rec result → LeftByMemory old new result → Adds (told old) (told new) (received_as rec result)
+hands_adds old new rec received.Whole h m = tells old new (Delivered rec ∷ []) refl (ap (λ (w : WorldView). w.start) h.2) (ap (λ (w : WorldView). w.server.entries) h.2)
+hands_adds old new rec received.Silent h m = tells old new (Failed ∷ []) refl (ap (λ (w : WorldView). w.start) h.1) (ap (λ (w : WorldView). w.server.entries) h.1)
+hands_adds old new rec received.Failed h m = absurd h
+hands_adds old new rec received.Memory h m = same_adds old new m
+
+-- turns, and then the first reply that is ready
+pub receives_adds : (old mid new : WorldView) (rec : List ℕ) (result : Received) → GoesOn old mid → Hands mid new rec result → LeftByMemory mid new result → Adds (told old) (told new) (received_as rec result)
+receives_adds old mid new rec result g h m = adds_then _ _ _ [] _ (goes_adds old mid g) (hands_adds mid new rec result h m)
