@@ -1,0 +1,3 @@
+mod Readings
+mod Sayings
+mod Rows

@@ -1,0 +1,3 @@
+pub mod LaneFiles
+pub mod Coming
+pub mod Repeats

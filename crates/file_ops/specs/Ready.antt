@@ -1,0 +1,9 @@
+-- What must hold where an operation on a file makes a step.
+use Rattle.std.specs.Prelude.{ℕ, ◌+◌, ◌≤◌}
+use Rattle.write_back.specs.Files.{Pending, IsNewest}
+use Rattle.file_ops.specs.SlotFiles.{IsUnused}
+
+-- The next number of a write is above those of all pending bytes, and nothing is in flight under the next xid or a later one.
+pub record IsReady (xid seq : ℕ) (back : Pending) : Type 0 where
+  pub numbers : IsNewest (seq + 1) back
+  pub xids : (other : ℕ) → xid ≤ other → IsUnused other back

@@ -1,0 +1,125 @@
+//! The bytes of a file from the start of a page on.
+
+ghost use Rattle.std.specs.Prelude.{◌≡◌, ◌<◌, ◌+◌, ◌^◌, ◌/◌, IfOk};
+ghost use Rattle.file_ops.specs.Gather.{most_asked};
+ghost use Rattle.file_ops.specs.Base.{nothing_of, pages_size, place_after, is_whole, with_more};
+
+use std::alloc::Global;
+use std::marker::Model;
+use xdr_codec::Memory;
+
+/// How many bytes a page has.
+pub(crate) const PAGE: u64 = 4096;
+
+/// The bytes of a file from the start of the first page that meets a range on, as far as they are known. They are at
+/// most those of the pages that meet the range, and the memory of these is taken at once.
+#[derive(Drop)]
+pub struct Base {
+    start: u64,
+    limit: u64,
+    bytes: Vec<u8>,
+}
+
+impl Model for Base {
+    ghost use Rattle.std.specs.Prelude.{◌≤◌, ◌<◌, ◌+◌, ◌^◌, length};
+    ghost use Rattle.std.specs.Vec.{vec_capacity};
+    ghost use Rattle.file_ops.specs.Base.{Bytes};
+
+    ghost Value = { Bytes };
+
+    ghost view = { λ b. record { start = b.start; limit = b.limit; bytes = b.bytes.items } };
+
+    ghost invariant = { λ b. (length b.bytes.items ≤ b.limit) × (b.limit ≤ vec_capacity b.bytes) × (b.start + b.limit < 2 ^ 64) };
+}
+
+impl Base {
+    /// No bytes of the pages that meet a range. Out of memory is told too where these end past all places.
+    pub(crate) fn new(alloc: Global, offset: u64, count: u32) -> Result<Base, Memory>
+        ensures { IfOk result (λ b. b ≡ nothing_of offset count) }
+    {
+        let inside = offset % PAGE;
+        let start = offset - inside;
+        let limit = pages_size(inside, count);
+        if start.checked_add(limit).is_none() {
+            return Err(Memory);
+        }
+        Ok(Base {
+            start,
+            limit,
+            bytes: Vec::with_capacity(alloc, limit as usize)?,
+        })
+    }
+
+    /// Where the bytes begin in the file.
+    pub(crate) fn start(&self) -> u64
+        ensures { result ≡ self.now.start }
+    {
+        self.start
+    }
+
+    /// Where the bytes end in the file.
+    pub(crate) fn end(&self) -> u64
+        ensures { result ≡ place_after self.now }
+    {
+        self.start + self.bytes.len() as u64
+    }
+
+    /// Whether all pages are there.
+    pub(crate) fn is_whole(&self) -> bool
+        ensures { result ≡ is_whole self.now }
+    {
+        self.bytes.len() as u64 >= self.limit
+    }
+
+    /// How many pages there may be.
+    pub(crate) fn page_count(&self) -> u64
+        ensures count { result ≡ self.now.limit / 4096 }
+        ensures small { result < 2 ^ 52 }
+    {
+        self.limit / PAGE
+    }
+
+    /// How many bytes a READ may ask for that may ask for so many: those that the pages lack, at most.
+    pub(crate) fn most_asked(&self, rsize: u32) -> u32
+        ensures { result ≡ most_asked rsize self.now }
+    {
+        (self.limit - self.bytes.len() as u64).min(u64::from(rsize)) as u32
+    }
+
+    /// Where such a READ ends.
+    pub(crate) fn end_of(&self, rsize: u32) -> u64
+        ensures { result ≡ place_after self.now + most_asked rsize self.now }
+    {
+        let most = (self.limit - self.bytes.len() as u64).min(u64::from(rsize));
+        self.start + (self.bytes.len() as u64 + most)
+    }
+
+    /// The bytes.
+    pub(crate) fn bytes(&self) -> &[u8]
+        ensures { result.now ≡ self.now.bytes }
+    {
+        self.bytes.as_slice()
+    }
+
+    /// Puts more bytes after them, as many as there may be.
+    pub(crate) fn put(&mut self, more: &[u8])
+        ensures { self.new ≡ with_more more.now self.old }
+    {
+        let room = self.limit as usize - self.bytes.len();
+        let size = more.len().min(room);
+        let Ok(()) = self.bytes.extend_from_slice(&more[..size]) else {
+            unreachable!();
+        };
+    }
+}
+
+/// How many bytes the pages have that meet a range, which begins so far inside of a page.
+fn pages_size(inside: u64, count: u32) -> u64
+    requires { inside < 4096 }
+    ensures { result ≡ pages_size inside count }
+{
+    if count == 0 {
+        return 0;
+    }
+    (inside + u64::from(count)).div_ceil(PAGE) * PAGE
+}

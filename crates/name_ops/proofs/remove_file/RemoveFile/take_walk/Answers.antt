@@ -1,0 +1,11 @@
+use Rattle.std.proofs.Common.{refl}
+use Rattle.name_ops.proofs.remove_file.RemoveFile.take_walk.Goals as goal
+
+pub returns : goal.returns
+returns c = record {
+  step = c.took-step.result;
+  walked = record c.args.self.now { walk = c.took-step.new.self };
+  takes = c.took-step.ensures;
+  walked_is = refl;
+  follows = c.follow.ensures;
+}

@@ -1,0 +1,130 @@
+//! RENAME, and what follows its reply.
+
+ghost use Rattle.std.specs.Prelude.{◌≡◌, None};
+ghost use Rattle.client_shelf.specs.Coming.{reply_of};
+ghost use Rattle.name_cache.specs.Names.{without_dir};
+ghost use Rattle.name_ops.specs.Busy.{goes_again, repeats_after};
+ghost use Rattle.name_ops.specs.Changing.{answer_of, told_busy};
+ghost use Rattle.name_ops.specs.Moving.{move_call, unmoved, moved_told, RenewsBoth};
+
+use crate::busy::{again, is_busy};
+use crate::learning::renew;
+use attr_cache::AttrCache;
+use client_shelf::{Came, Shelf, Turn};
+use nfs_dir_calls::{DirCall, DirReply};
+use nfs_types::{Attr, Handle, Name};
+use world_model::{Answer, Call, Fault, Value};
+
+/// What a reply to RENAME tells.
+#[derive(Clone, Copy, Debug)]
+pub struct Moved {
+    /// The attributes of the directory that had the name, where the reply gives them.
+    pub from: Option<Attr>,
+    /// Those of the directory that has the new name.
+    pub to: Option<Attr>,
+    /// Why nothing was renamed, if nothing was.
+    pub refusal: Option<Fault>,
+}
+
+impl Moved {
+    /// No reply of this call came.
+    fn refused(fault: Fault) -> Moved
+        ensures { result ≡ unmoved fault }
+    {
+        Moved {
+            from: None,
+            to: None,
+            refusal: Some(fault),
+        }
+    }
+
+    /// The answer of the operation.
+    pub(crate) fn answer(&self) -> Answer
+        ensures { result ≡ answer_of self.now.refusal }
+    {
+        match self.refusal {
+            None => Answer::Done(Value::Nothing),
+            Some(fault) => Answer::Refused(fault),
+        }
+    }
+
+    /// Whether it was refused because the server is busy.
+    fn is_busy(&self) -> bool
+        ensures { result ≡ told_busy self.now.refusal }
+    {
+        match self.refusal {
+            None => false,
+            Some(fault) => is_busy(&fault),
+        }
+    }
+}
+
+/// The call.
+pub(crate) fn move_call(from_dir: Handle, from: Name, to_dir: Handle, to: Name) -> Call
+    ensures { result ≡ move_call from_dir from to_dir to }
+{
+    Call::Dir(DirCall::Rename {
+        from_dir,
+        from,
+        to_dir,
+        to,
+    })
+}
+
+/// What the reply tells.
+pub(crate) fn moved_told(came: &Came<'_>) -> Moved
+    ensures { result ≡ moved_told (reply_of came.now) }
+{
+    match came {
+        Came::Dir(reply) => match reply {
+            DirReply::Rename { from, to } => Moved {
+                from: from.after,
+                to: to.after,
+                refusal: None,
+            },
+            DirReply::RenameFail { status, from, to } => Moved {
+                from: from.after,
+                to: to.after,
+                refusal: Some(Fault::Nfs(status.0)),
+            },
+            _ => Moved::refused(Fault::Bad(2)),
+        },
+        Came::File(_) => Moved::refused(Fault::Bad(2)),
+        Came::Refused(fault) => Moved::refused(*fault),
+    }
+}
+
+/// The names of both directories are dropped, and their attributes learnt or forgotten. Whether the call, which the step
+/// with the turn `sent` made, is made again.
+pub(crate) fn move_names(
+    from: &Handle,
+    to: &Handle,
+    told: &Moved,
+    sent: Turn,
+    turn: Turn,
+    shelf: &mut Shelf,
+) -> bool
+    ensures told { result ≡ goes_again (told_busy told.now.refusal) sent turn shelf.old.repeats }
+    ensures attrs { RenewsBoth from.now told.now.from to.now told.now.to sent.now shelf.old.attrs shelf.new.attrs }
+    ensures frame { shelf.new ≡ record shelf.old { attrs = shelf.new.attrs; names = without_dir to.now (without_dir from.now shelf.old.names); repeats = repeats_after (told_busy told.now.refusal) sent turn shelf.old.repeats } }
+{
+    shelf.names.drop_dir(from);
+    shelf.names.drop_dir(to);
+    renew_both(from, &told.from, to, &told.to, sent.now, &mut shelf.attrs);
+    again(told.is_busy(), sent, turn, &mut shelf.repeats)
+}
+
+/// The attributes of one directory, and then those of the other.
+fn renew_both(
+    from: &Handle,
+    from_attr: &Option<Attr>,
+    to: &Handle,
+    to_attr: &Option<Attr>,
+    now: u64,
+    attrs: &mut AttrCache,
+)
+    ensures { RenewsBoth from.now from_attr.now to.now to_attr.now now attrs.old attrs.new }
+{
+    renew(attrs, from, from_attr, now);
+    renew(attrs, to, to_attr, now);
+}

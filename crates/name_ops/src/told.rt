@@ -1,0 +1,79 @@
+//! What a reply to a call that changes a directory tells.
+
+ghost use Rattle.std.specs.Prelude.{◌≡◌, None, Some};
+ghost use Rattle.name_ops.specs.Changing.{done, failed, refused_by, answer_of, told_busy};
+
+use crate::busy::is_busy;
+use nfs_types::{Attr, Handle, Status, Wcc};
+use world_model::{Answer, Fault, Value};
+
+/// What a reply to a call that changes a directory tells.
+#[derive(Clone, Copy, Debug)]
+pub struct Told {
+    /// The object that got a name, where its file handle is known.
+    pub object: Option<Handle>,
+    /// Its attributes, where the reply gives them.
+    pub attr: Option<Attr>,
+    /// The directory's attributes after the call, where the reply gives them.
+    pub dir: Option<Attr>,
+    /// Why nothing was changed, if nothing was.
+    pub refusal: Option<Fault>,
+}
+
+impl Told {
+    /// The call was executed, and no object got a name.
+    pub(crate) fn done(wcc: &Wcc) -> Told
+        ensures { result ≡ done wcc.now }
+    {
+        Told {
+            object: None,
+            attr: None,
+            dir: wcc.after,
+            refusal: None,
+        }
+    }
+
+    /// The server refused the call.
+    pub(crate) fn failed(status: Status, wcc: &Wcc) -> Told
+        ensures { result ≡ failed status wcc.now }
+    {
+        Told {
+            object: None,
+            attr: None,
+            dir: wcc.after,
+            refusal: Some(Fault::Nfs(status.0)),
+        }
+    }
+
+    /// No reply of this call came.
+    pub(crate) fn refused(fault: Fault) -> Told
+        ensures { result ≡ refused_by fault }
+    {
+        Told {
+            object: None,
+            attr: None,
+            dir: None,
+            refusal: Some(fault),
+        }
+    }
+
+    /// The answer of the operation.
+    pub(crate) fn answer(&self) -> Answer
+        ensures { result ≡ answer_of self.now.refusal }
+    {
+        match self.refusal {
+            None => Answer::Done(Value::Nothing),
+            Some(fault) => Answer::Refused(fault),
+        }
+    }
+
+    /// Whether it was refused because the server is busy.
+    pub(crate) fn is_busy(&self) -> bool
+        ensures { result ≡ told_busy self.now.refusal }
+    {
+        match self.refusal {
+            None => false,
+            Some(fault) => is_busy(&fault),
+        }
+    }
+}

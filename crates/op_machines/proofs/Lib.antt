@@ -1,0 +1,5 @@
+mod Still
+mod Fit
+mod Leaves
+mod Unsent
+mod Numbers

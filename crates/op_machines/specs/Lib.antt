@@ -1,0 +1,4 @@
+pub mod Fits
+pub mod MayStep
+pub mod Steps
+pub mod Laws
