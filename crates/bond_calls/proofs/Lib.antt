@@ -1,0 +1,2 @@
+pub mod CallsWait
+pub mod RepliesTell

@@ -1,0 +1,152 @@
+-- What a reply gave of a file at one moment is true at every moment of its stamp.
+use Rattle.std.proofs.Common.{inl, inr, ◌⊎◌, ◌≡◌, ◌<◌, ◌≤◌, ◌+◌, ℕ, zero, suc, Bool, List, [], ◌∷◌, length, take, Option, Some, slice_get, sym, ap, subst, ◌∙◌, arith}
+use Rattle.std.proofs.lemmas.Bool.{cases_lt}
+use Rattle.std.proofs.lemmas.Option.{slice_get_within}
+use Rattle.nfs_types.specs.declared.attr.Attr.{Attr}
+use Rattle.nfs_types.specs.declared.verf.Verf.{Verf}
+use Rattle.nfs_types.specs.declared.wcc.Stamp.{Stamp}
+use Rattle.nfs_types.specs.declared.wcc.Wcc.{Wcc}
+use Rattle.nfs_types.specs.Stamps.{stamp_of}
+use Rattle.nfs_file_calls.specs.declared.call.FileCall.{FileCall}
+use Rattle.nfs_file_calls.specs.declared.call.FileCall.TheVariants as files
+use Rattle.nfs_file_calls.specs.declared.owned.FileKept.{FileKept}
+use Rattle.nfs_file_calls.specs.declared.owned.FileKept.TheVariants as replies
+use Rattle.world_model.specs.declared.entry.Entry.TheVariants.{Executed}
+use Rattle.world_model.specs.declared.message.Call.TheVariants as calls
+use Rattle.world_model.specs.declared.message.Reply.TheVariants as answers
+use Rattle.world_model.specs.Bytes.{put_at}
+use Rattle.world_model.specs.FileService.{Puts, ReadsBytes, Writes}
+use Rattle.world_model.specs.Fresh.{Fresh}
+use Rattle.world_model.specs.History.{History}
+use Rattle.world_model.specs.Lawful.{Lawful}
+use Rattle.world_model.specs.Server.{Object, Server}
+use Rattle.world_model.specs.Service.{Serves, refused, broken_off, done}
+use Rattle.world_model.specs.Steps.{TrueOf, TrueStamp}
+use Rattle.world_model.proofs.Stamps.{bytes_of_stamp}
+use Rattle.bond_reads.proofs.Bytes.{get_take, put_here, put_beside, part_stands}
+use Rattle.bond_reads.specs.Kept.{HasStamp, Done, Leads, KeptByte, read, written, beside}
+
+pub same_bytes : (t : History) → Lawful t → Fresh t → (m n : ℕ) (f : List ℕ) (s : Stamp) (now later : List ℕ) → HasStamp t m f s now → HasStamp t n f s later → now ≡ later
+same_bytes t l fresh m n f s now later a b = by (cases_lt m n)
+  where
+    by : (m < n) ⊎ (n ≤ m) → now ≡ later
+    by (inl lt) = bytes_of_stamp t l fresh m n (omega (arith, lt)) b.moment f a.file b.file now a.stable later b.stable a.is b.is a.holds b.holds (a.stamp ∙ sym b.stamp)
+    by (inr le) = sym (bytes_of_stamp t l fresh n m le a.moment f b.file a.file later b.stable now a.stable b.is a.is b.holds a.holds (b.stamp ∙ sym a.stamp))
+
+-- at some moment the file had the stamp, and this byte
+record Seen (t : History) (f : List ℕ) (s : Stamp) (i v : ℕ) : Type 0 where
+  n : ℕ
+  now : List ℕ
+  has : HasStamp t n f s now
+  byte : slice_get now i ≡ Some v
+
+everywhere : (t : History) → Lawful t → Fresh t → (f : List ℕ) (s : Stamp) (i v : ℕ) → Seen t f s i v → (n : ℕ) (now : List ℕ) → HasStamp t n f s now → slice_get now i ≡ Some v
+everywhere t l fresh f s i v w n now has = subst (λ (z : List ℕ). slice_get z i ≡ Some v) (same_bytes t l fresh w.n n f s w.now now w.has has) w.byte
+
+some_is : (a b : Object) → Some a ≡ Some b → a ≡ b
+some_is a b e = cc
+
+-- the stamp of the object that has these attributes
+stamp_there : (s : Server) (f : List ℕ) (attr : Attr) (stamp : Stamp) (o : Object) → TrueOf s f (Some attr) → s.object f ≡ Some o → stamp_of attr ≡ stamp → stamp_of o.attr ≡ stamp
+stamp_there s f attr stamp o shows is e = ap (λ (z : Object). stamp_of z.attr) (some_is o shows.0 (sym is ∙ shows.1)) ∙ ap stamp_of shows.2 ∙ e
+
+stamp_before : (s : Server) (f : List ℕ) (stamp : Stamp) (o : Object) → TrueStamp s f (Some stamp) → s.object f ≡ Some o → stamp_of o.attr ≡ stamp
+stamp_before s f stamp o shows is = ap (λ (z : Object). stamp_of z.attr) (some_is o shows.0 (sym is ∙ shows.1)) ∙ shows.2
+
+-- what a server does that answers a READ, a WRITE or a SETATTR with status 0
+reads : (s t : Server) (f : List ℕ) (offset count counted : ℕ) (attr : Option Attr) (eof : Bool) (bytes : List ℕ) → Serves s (calls.File (files.Read f offset count)) (answers.File (replies.Read attr counted eof bytes)) t
+    → ReadsBytes s t f offset count attr counted eof bytes
+reads s t f offset count counted attr eof bytes (refused r same) = absurd r
+reads s t f offset count counted attr eof bytes (broken_off g at how given status wcc is answer w) = absurd (cc is)
+reads s t f offset count counted attr eof bytes (done d) = d
+
+writes : (s t : Server) (f : List ℕ) (offset how counted committed : ℕ) (bytes : List ℕ) (wcc : Wcc) (verf : Verf) → Serves s (calls.File (files.Write f offset how bytes)) (answers.File (replies.Write wcc counted committed verf)) t
+    → Writes s t f offset how bytes wcc counted committed verf
+writes s t f offset how counted committed bytes wcc verf (refused r same) = absurd r
+writes s t f offset how counted committed bytes wcc verf (broken_off g at other given status w is answer p) = absurd (cc answer)
+writes s t f offset how counted committed bytes wcc verf (done d) = d
+
+-- what was executed was served
+serves : (t : History) → Lawful t → (call : FileCall) (reply : FileKept) (d : Done t call reply) → Serves (t.at d.0) (calls.File call) (answers.File reply) (t.at (suc d.0))
+serves t l call reply d = (l.entries d.0 (Executed d.1 (calls.File call) (answers.File reply)) d.2).1
+
+later : (t : History) (call : FileCall) (reply : FileKept) (d : Done t call reply) → suc d.0 ≤ length t.entries
+later t call reply d = let r = slice_get_within t.entries d.0 (Executed d.1 (calls.File call) (answers.File reply)) d.2 in omega (arith, r)
+
+-- before and after a call that makes these bytes of those
+put_before : (t : History) (n : ℕ) (f : List ℕ) (s : Stamp) (wcc : Wcc) (now stable next steady : List ℕ) → suc n ≤ length t.entries → Puts (t.at n) (t.at (suc n)) f now stable next steady → TrueStamp (t.at n) f wcc.before → wcc.before ≡ Some s
+    → HasStamp t n f s now
+put_before t n f s wcc now stable next steady le p shows is = record {
+  file = p.file;
+  stable = stable;
+  moment = omega (arith, le);
+  is = p.turns.has.is;
+  holds = p.held;
+  stamp = stamp_before (t.at n) f s p.file (subst (λ (z : Option Stamp). TrueStamp (t.at n) f z) is shows) p.turns.has.is;
+}
+
+put_after : (t : History) (n : ℕ) (f : List ℕ) (s : Stamp) (found : Option Attr) (attr : Attr) (now stable next steady : List ℕ) → suc n ≤ length t.entries → Puts (t.at n) (t.at (suc n)) f now stable next steady → TrueOf (t.at (suc n)) f found
+    → found ≡ Some attr → stamp_of attr ≡ s → HasStamp t (suc n) f s next
+put_after t n f s found attr now stable next steady le p shows is e = record {
+  file = p.turns.new;
+  stable = steady;
+  moment = le;
+  is = p.turns.is;
+  holds = p.turns.becomes.holds;
+  stamp = stamp_there (t.at (suc n)) f attr s p.turns.new (subst (λ (z : Option Attr). TrueOf (t.at (suc n)) f z) is shows) p.turns.is e;
+}
+
+length_take : (n : ℕ) (xs : List ℕ) → length (take n xs) ≤ n
+length_take zero xs = omega arith
+length_take (suc n) [] = omega arith
+length_take (suc n) (x ∷ xs) = let r = length_take n xs in omega (arith, r)
+
+beside_taken : (offset counted i : ℕ) (bytes : List ℕ) → (i < offset) ⊎ (offset + counted ≤ i) → (i < offset) ⊎ (offset + length (take counted bytes) ≤ i)
+beside_taken offset counted i bytes (inl lt) = inl lt
+beside_taken offset counted i bytes (inr le) = let r = length_take counted bytes in inr (omega (arith, r, le))
+
+seen_read : (t : History) → Lawful t → (f : List ℕ) (s : Stamp) (i v offset count counted k : ℕ) (attr : Attr) (eof : Bool) (bytes : List ℕ) → Done t (files.Read f offset count) (replies.Read (Some attr) counted eof bytes) → stamp_of attr ≡ s
+    → i ≡ offset + k → slice_get bytes k ≡ Some v → Seen t f s i v
+seen_read t l f s i v offset count counted k attr eof bytes d e place byte =
+    let r = reads (t.at d.0) (t.at (suc d.0)) f offset count counted (Some attr) eof bytes (serves t l _ _ d) in
+    record {
+      n = suc d.0;
+      now = r.now;
+      has = record {
+        file = r.puts.turns.new;
+        stable = r.stable;
+        moment = later t _ _ d;
+        is = r.puts.turns.is;
+        holds = r.puts.turns.becomes.holds;
+        stamp = stamp_there (t.at (suc d.0)) f attr s r.puts.turns.new r.shows r.puts.turns.is e;
+      };
+      byte = ap (λ (z : ℕ). slice_get r.now z) place ∙ part_stands offset counted r.now k v (ap (λ (z : List ℕ). slice_get z k) (sym r.is) ∙ byte);
+    }
+
+seen_written : (t : History) → Lawful t → (f : List ℕ) (old s : Stamp) (i v offset how counted committed k : ℕ) (bytes : List ℕ) (wcc : Wcc) (verf : Verf) → Done t (files.Write f offset how bytes) (replies.Write wcc counted committed verf)
+    → Leads wcc old s → i ≡ offset + k → k < counted → slice_get bytes k ≡ Some v → Seen t f s i v
+seen_written t l f old s i v offset how counted committed k bytes wcc verf d leads place lt byte =
+    let w = writes (t.at d.0) (t.at (suc d.0)) f offset how counted committed bytes wcc verf (serves t l _ _ d) in
+    record {
+      n = suc d.0;
+      now = put_at offset (take counted bytes) w.now;
+      has = put_after t d.0 f s wcc.after leads.attr w.now w.stable _ _ (later t _ _ d) w.puts w.shows.after leads.after leads.is;
+      byte = ap (λ (z : ℕ). slice_get (put_at offset (take counted bytes) w.now) z) place ∙ put_here offset (take counted bytes) w.now k v (get_take counted bytes k lt ∙ byte);
+    }
+
+seen_beside : (t : History) → Lawful t → (f : List ℕ) (old s : Stamp) (i v offset how counted committed : ℕ) (bytes : List ℕ) (wcc : Wcc) (verf : Verf) → ((n : ℕ) (now : List ℕ) → HasStamp t n f old now → slice_get now i ≡ Some v)
+    → Done t (files.Write f offset how bytes) (replies.Write wcc counted committed verf) → Leads wcc old s → (i < offset) ⊎ (offset + counted ≤ i) → Seen t f s i v
+seen_beside t l f old s i v offset how counted committed bytes wcc verf was d leads apart =
+    let w = writes (t.at d.0) (t.at (suc d.0)) f offset how counted committed bytes wcc verf (serves t l _ _ d) in
+    let before = put_before t d.0 f old wcc w.now w.stable _ _ (later t _ _ d) w.puts w.shows.before leads.before in
+    record {
+      n = suc d.0;
+      now = put_at offset (take counted bytes) w.now;
+      has = put_after t d.0 f s wcc.after leads.attr w.now w.stable _ _ (later t _ _ d) w.puts w.shows.after leads.after leads.is;
+      byte = put_beside offset (take counted bytes) w.now i v (beside_taken offset counted i bytes apart) (was d.0 w.now before);
+    }
+
+pub true_byte : (t : History) → Lawful t → Fresh t → (f : List ℕ) (s : Stamp) (i v : ℕ) → KeptByte t f s i v → (n : ℕ) (now : List ℕ) → HasStamp t n f s now → slice_get now i ≡ Some v
+true_byte t l fresh f _ _ _ (read s i v offset count counted k attr eof bytes d e place byte) = everywhere t l fresh f s i v (seen_read t l f s i v offset count counted k attr eof bytes d e place byte)
+true_byte t l fresh f _ _ _ (written old s i v offset how counted committed k bytes wcc verf d leads place lt byte) = everywhere t l fresh f s i v (seen_written t l f old s i v offset how counted committed k bytes wcc verf d leads place lt byte)
+true_byte t l fresh f _ _ _ (beside old s i v offset how counted committed bytes wcc verf had d leads apart) = everywhere t l fresh f s i v (seen_beside t l f old s i v offset how counted committed bytes wcc verf (true_byte t l fresh f old i v had) d leads apart)
