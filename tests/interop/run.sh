@@ -7,6 +7,7 @@ set -u
 
 here=$(dirname -- "$(readlink -f -- "${BASH_SOURCE[0]}")")
 nfs3=$here/../../bin/nfs3
+. "$here/../lib.sh"
 nfs_port=22049
 mount_port=22048
 export_port=22050
@@ -15,34 +16,10 @@ sizes=(1 2 3 511 513 4095 4097 65535 65536)
 offsets=(0 1 1000000)
 limits=(512 65536)
 
-passed=0
-failed=0
 writes=0
 started=()
 work=$(mktemp -d -t nfs3-interop.XXXXXX)
 chmod 755 "$work"
-
-# Counts a check: the status that the command before it ended with, and its name. (The status comes first: a name that
-# asks a command would change it.)
-count() {
-    if [ "$1" -eq 0 ]; then
-        passed=$((passed + 1))
-    else
-        failed=$((failed + 1))
-        echo "failed: $2"
-    fi
-}
-
-# Ends a process that this script started, by force where it hasn't ended after ten seconds.
-end() {
-    kill "$1" 2>/dev/null
-    for _ in $(seq 100); do
-        kill -0 "$1" 2>/dev/null || break
-        sleep 0.1
-    done
-    kill -9 "$1" 2>/dev/null
-    wait "$1" 2>/dev/null
-}
 
 end_all() {
     for process in "${started[@]}"; do
@@ -55,15 +32,6 @@ end_all() {
 stop() {
     echo "interop: $1"
     exit 1
-}
-
-# Waits at most 30 seconds until the command succeeds.
-await() {
-    for _ in $(seq 300); do
-        "$@" >/dev/null 2>&1 && return 0
-        sleep 0.1
-    done
-    return 1
 }
 
 install_programs() {
@@ -280,8 +248,7 @@ main() {
     try_streams
     try_export
     read_capture
-    echo "$passed passed, $failed failed"
-    [ "$failed" -eq 0 ]
+    sum_up
 }
 
 main "$@"

@@ -6,22 +6,11 @@ set -u
 
 here=$(dirname -- "$(readlink -f -- "${BASH_SOURCE[0]}")")
 nfs3=$here/../../bin/nfs3
+. "$here/../lib.sh"
 port=20491
 
-passed=0
-failed=0
 work=$(mktemp -d -t nfs3-session.XXXXXX)
 server=
-
-# Counts a check: the status that the command before it ended with, and its name.
-count() {
-    if [ "$1" -eq 0 ]; then
-        passed=$((passed + 1))
-    else
-        failed=$((failed + 1))
-        echo "failed: $2"
-    fi
-}
 
 # Ends what is still running, and removes the files.
 end_all() {
@@ -73,6 +62,21 @@ try_an_empty_export() {
     ended 0
 }
 
+# A connection on which nothing comes is closed after 15 seconds, and the next one is served.
+try_a_silent_connection() {
+    printf 'file /a 6869\n' >"$work/schedule"
+    serve 5 "$work/schedule"
+    exec 7<>"/dev/tcp/127.0.0.1/$port"
+    (
+        sleep 16
+        printf '1 put /a 0 6a6b6c' | "$nfs3" run 127.0.0.1 /srv --mount-port "$port" --nfs-port "$port"
+    ) >"$work/after" 2>&1
+    [ "$(cat "$work/after")" = '1 1 ok' ]
+    count $? "after a silent connection the next one is served: $(cat "$work/after")"
+    exec 7>&-
+    ended 0
+}
+
 # What a command says on standard error, and its status.
 refused() {
     local answer
@@ -84,6 +88,10 @@ refused() {
 try_refusals() {
     refused $'nfs3: usage\n2' 0 5
     refused $'nfs3: usage\n2' "$port" 0
+    refused $'nfs3: usage\n2' 65536 5
+    refused $'nfs3: usage\n2' "$port" 4294967296
+    refused $'nfs3: usage\n2' "+$port" 5
+    refused $'nfs3: usage\n2' "$port"
     refused $'nfs3: schedule 0\n9' "$port" 5 "$work/missing"
     printf 'dir /d\nfile /none/a 61\n' >"$work/faulty"
     refused $'nfs3: schedule 2\n9' "$port" 5 "$work/faulty"
@@ -102,6 +110,6 @@ trap end_all EXIT
 }
 try_a_put
 try_an_empty_export
+try_a_silent_connection
 try_refusals
-echo "$passed passed, $failed failed"
-[ "$failed" -eq 0 ]
+sum_up
