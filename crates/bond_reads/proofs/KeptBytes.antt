@@ -1,5 +1,5 @@
 -- What a reply gave of a file at one moment is true at every moment of its stamp.
-use Rattle.std.proofs.Common.{inl, inr, ◌⊎◌, ◌≡◌, ◌<◌, ◌≤◌, ◌+◌, ℕ, zero, suc, Bool, List, [], ◌∷◌, length, take, Option, Some, slice_get, sym, ap, subst, ◌∙◌, arith}
+use Rattle.std.proofs.Common.{inl, inr, ◌⊎◌, ◌≡◌, ◌<◌, ◌≤◌, ◌+◌, ℕ, zero, suc, Bool, List, [], ◌∷◌, length, take, Option, Some, slice_get, refl, sym, ap, subst, ◌∙◌, arith}
 use Rattle.std.proofs.lemmas.Bool.{cases_lt}
 use Rattle.std.proofs.lemmas.Option.{slice_get_within}
 use Rattle.nfs_types.specs.declared.attr.Attr.{Attr}
@@ -7,6 +7,8 @@ use Rattle.nfs_types.specs.declared.verf.Verf.{Verf}
 use Rattle.nfs_types.specs.declared.wcc.Stamp.{Stamp}
 use Rattle.nfs_types.specs.declared.wcc.Wcc.{Wcc}
 use Rattle.nfs_types.specs.Stamps.{stamp_of}
+use Rattle.nfs_types.specs.declared.set_attr.SetAttr.{SetAttr}
+use Rattle.nfs_types.specs.declared.time.Time.{Time}
 use Rattle.nfs_file_calls.specs.declared.call.FileCall.{FileCall}
 use Rattle.nfs_file_calls.specs.declared.call.FileCall.TheVariants as files
 use Rattle.nfs_file_calls.specs.declared.owned.FileKept.{FileKept}
@@ -14,17 +16,17 @@ use Rattle.nfs_file_calls.specs.declared.owned.FileKept.TheVariants as replies
 use Rattle.world_model.specs.declared.entry.Entry.TheVariants.{Executed}
 use Rattle.world_model.specs.declared.message.Call.TheVariants as calls
 use Rattle.world_model.specs.declared.message.Reply.TheVariants as answers
-use Rattle.world_model.specs.Bytes.{put_at}
-use Rattle.world_model.specs.FileService.{Puts, ReadsBytes, Writes}
+use Rattle.world_model.specs.Bytes.{put_at, resized}
+use Rattle.world_model.specs.FileService.{Puts, ReadsBytes, Writes, HoldsSized, SetsAttr}
 use Rattle.world_model.specs.Fresh.{Fresh}
 use Rattle.world_model.specs.History.{History}
 use Rattle.world_model.specs.Lawful.{Lawful}
-use Rattle.world_model.specs.Server.{Object, Server}
+use Rattle.world_model.specs.Server.{Bytes, Entries, Text, Holds, Object, Server}
 use Rattle.world_model.specs.Service.{Serves, refused, broken_off, done}
-use Rattle.world_model.specs.Steps.{TrueOf, TrueStamp}
+use Rattle.world_model.specs.Steps.{TrueOf, TrueStamp, TrueWcc}
 use Rattle.world_model.proofs.Stamps.{bytes_of_stamp}
-use Rattle.bond_reads.proofs.Bytes.{get_take, put_here, put_beside, part_stands}
-use Rattle.bond_reads.specs.Kept.{HasStamp, Done, Leads, KeptByte, read, written, beside}
+use Rattle.bond_reads.proofs.Bytes.{get_take, put_here, put_beside, part_stands, resized_keeps}
+use Rattle.bond_reads.specs.Kept.{HasStamp, Done, Leads, Given, Written, Sized, KeptByte, read, written, beside, below}
 
 pub same_bytes : (t : History) → Lawful t → Fresh t → (m n : ℕ) (f : List ℕ) (s : Stamp) (now later : List ℕ) → HasStamp t m f s now → HasStamp t n f s later → now ≡ later
 same_bytes t l fresh m n f s now later a b = by (cases_lt m n)
@@ -66,6 +68,11 @@ writes s t f offset how counted committed bytes wcc verf (refused r same) = absu
 writes s t f offset how counted committed bytes wcc verf (broken_off g at other given status w is answer p) = absurd (cc answer)
 writes s t f offset how counted committed bytes wcc verf (done d) = d
 
+sets : (s t : Server) (f : List ℕ) (set : SetAttr) (guard : Option Time) (wcc : Wcc) → Serves s (calls.File (files.SetAttr f set guard)) (answers.File (replies.SetAttr wcc)) t → SetsAttr s t f set × TrueWcc s t f wcc
+sets s t f set guard wcc (refused r same) = absurd r
+sets s t f set guard wcc (broken_off g at other given status w is answer p) = absurd (cc answer)
+sets s t f set guard wcc (done d) = d
+
 -- what was executed was served
 serves : (t : History) → Lawful t → (call : FileCall) (reply : FileKept) (d : Done t call reply) → Serves (t.at d.0) (calls.File call) (answers.File reply) (t.at (suc d.0))
 serves t l call reply d = (l.entries d.0 (Executed d.1 (calls.File call) (answers.File reply)) d.2).1
@@ -105,10 +112,10 @@ beside_taken : (offset counted i : ℕ) (bytes : List ℕ) → (i < offset) ⊎ 
 beside_taken offset counted i bytes (inl lt) = inl lt
 beside_taken offset counted i bytes (inr le) = let r = length_take counted bytes in inr (omega (arith, r, le))
 
-seen_read : (t : History) → Lawful t → (f : List ℕ) (s : Stamp) (i v offset count counted k : ℕ) (attr : Attr) (eof : Bool) (bytes : List ℕ) → Done t (files.Read f offset count) (replies.Read (Some attr) counted eof bytes) → stamp_of attr ≡ s
-    → i ≡ offset + k → slice_get bytes k ≡ Some v → Seen t f s i v
-seen_read t l f s i v offset count counted k attr eof bytes d e place byte =
-    let r = reads (t.at d.0) (t.at (suc d.0)) f offset count counted (Some attr) eof bytes (serves t l _ _ d) in
+seen_read : (t : History) → Lawful t → (f : List ℕ) (s : Stamp) (i v offset k : ℕ) (bytes : List ℕ) → Given t f offset bytes s → i ≡ offset + k → slice_get bytes k ≡ Some v → Seen t f s i v
+seen_read t l f s i v offset k bytes g place byte =
+    let d = g.done in
+    let r = reads (t.at d.0) (t.at (suc d.0)) f offset g.count g.counted (Some g.attr) g.eof bytes (serves t l _ _ d) in
     record {
       n = suc d.0;
       now = r.now;
@@ -118,35 +125,73 @@ seen_read t l f s i v offset count counted k attr eof bytes d e place byte =
         moment = later t _ _ d;
         is = r.puts.turns.is;
         holds = r.puts.turns.becomes.holds;
-        stamp = stamp_there (t.at (suc d.0)) f attr s r.puts.turns.new r.shows r.puts.turns.is e;
+        stamp = stamp_there (t.at (suc d.0)) f g.attr s r.puts.turns.new r.shows r.puts.turns.is g.is;
       };
-      byte = ap (λ (z : ℕ). slice_get r.now z) place ∙ part_stands offset counted r.now k v (ap (λ (z : List ℕ). slice_get z k) (sym r.is) ∙ byte);
+      byte = ap (λ (z : ℕ). slice_get r.now z) place ∙ part_stands offset g.counted r.now k v (ap (λ (z : List ℕ). slice_get z k) (sym r.is) ∙ byte);
     }
 
-seen_written : (t : History) → Lawful t → (f : List ℕ) (old s : Stamp) (i v offset how counted committed k : ℕ) (bytes : List ℕ) (wcc : Wcc) (verf : Verf) → Done t (files.Write f offset how bytes) (replies.Write wcc counted committed verf)
-    → Leads wcc old s → i ≡ offset + k → k < counted → slice_get bytes k ≡ Some v → Seen t f s i v
-seen_written t l f old s i v offset how counted committed k bytes wcc verf d leads place lt byte =
-    let w = writes (t.at d.0) (t.at (suc d.0)) f offset how counted committed bytes wcc verf (serves t l _ _ d) in
+seen_written : (t : History) → Lawful t → (f : List ℕ) (old s : Stamp) (i v offset counted k : ℕ) (bytes : List ℕ) → Written t f offset counted bytes old s → i ≡ offset + k → k < counted → slice_get bytes k ≡ Some v → Seen t f s i v
+seen_written t l f old s i v offset counted k bytes g place lt byte =
+    let d = g.done in
+    let w = writes (t.at d.0) (t.at (suc d.0)) f offset g.how counted g.committed bytes g.wcc g.verf (serves t l _ _ d) in
     record {
       n = suc d.0;
       now = put_at offset (take counted bytes) w.now;
-      has = put_after t d.0 f s wcc.after leads.attr w.now w.stable _ _ (later t _ _ d) w.puts w.shows.after leads.after leads.is;
+      has = put_after t d.0 f s g.wcc.after g.leads.attr w.now w.stable _ _ (later t _ _ d) w.puts w.shows.after g.leads.after g.leads.is;
       byte = ap (λ (z : ℕ). slice_get (put_at offset (take counted bytes) w.now) z) place ∙ put_here offset (take counted bytes) w.now k v (get_take counted bytes k lt ∙ byte);
     }
 
-seen_beside : (t : History) → Lawful t → (f : List ℕ) (old s : Stamp) (i v offset how counted committed : ℕ) (bytes : List ℕ) (wcc : Wcc) (verf : Verf) → ((n : ℕ) (now : List ℕ) → HasStamp t n f old now → slice_get now i ≡ Some v)
-    → Done t (files.Write f offset how bytes) (replies.Write wcc counted committed verf) → Leads wcc old s → (i < offset) ⊎ (offset + counted ≤ i) → Seen t f s i v
-seen_beside t l f old s i v offset how counted committed bytes wcc verf was d leads apart =
-    let w = writes (t.at d.0) (t.at (suc d.0)) f offset how counted committed bytes wcc verf (serves t l _ _ d) in
-    let before = put_before t d.0 f old wcc w.now w.stable _ _ (later t _ _ d) w.puts w.shows.before leads.before in
+seen_beside : (t : History) → Lawful t → (f : List ℕ) (old s : Stamp) (i v offset counted : ℕ) (bytes : List ℕ) → ((n : ℕ) (now : List ℕ) → HasStamp t n f old now → slice_get now i ≡ Some v)
+    → Written t f offset counted bytes old s → (i < offset) ⊎ (offset + counted ≤ i) → Seen t f s i v
+seen_beside t l f old s i v offset counted bytes was g apart =
+    let d = g.done in
+    let w = writes (t.at d.0) (t.at (suc d.0)) f offset g.how counted g.committed bytes g.wcc g.verf (serves t l _ _ d) in
+    let before = put_before t d.0 f old g.wcc w.now w.stable _ _ (later t _ _ d) w.puts w.shows.before g.leads.before in
     record {
       n = suc d.0;
       now = put_at offset (take counted bytes) w.now;
-      has = put_after t d.0 f s wcc.after leads.attr w.now w.stable _ _ (later t _ _ d) w.puts w.shows.after leads.after leads.is;
+      has = put_after t d.0 f s g.wcc.after g.leads.attr w.now w.stable _ _ (later t _ _ d) w.puts w.shows.after g.leads.after g.leads.is;
       byte = put_beside offset (take counted bytes) w.now i v (beside_taken offset counted i bytes apart) (was d.0 w.now before);
     }
 
+seen_below : (t : History) → Lawful t → (f : List ℕ) (old s : Stamp) (i v size : ℕ) → ((n : ℕ) (now : List ℕ) → HasStamp t n f old now → slice_get now i ≡ Some v) → Sized t f size old s → i < size → Seen t f s i v
+seen_below t l f old s i v size was g lt = by w.0.object.holds refl (subst (λ (z : Option ℕ). HoldsSized z w.0.object.holds w.0.later) g.is w.0.sized)
+  where
+    d : Done t (files.SetAttr f g.set g.guard) (replies.SetAttr g.wcc)
+    d = g.done
+
+    w : SetsAttr (t.at d.0) (t.at (suc d.0)) f g.set × TrueWcc (t.at d.0) (t.at (suc d.0)) f g.wcc
+    w = sets (t.at d.0) (t.at (suc d.0)) f g.set g.guard g.wcc (serves t l _ _ d)
+
+    before : (now stable : List ℕ) → w.0.object.holds ≡ Bytes now stable → HasStamp t d.0 f old now
+    before now stable is = record {
+      file = w.0.object;
+      stable = stable;
+      moment = let le = later t _ _ d in omega (arith, le);
+      is = w.0.turns.has.is;
+      holds = is;
+      stamp = stamp_before (t.at d.0) f old w.0.object (subst (λ (z : Option Stamp). TrueStamp (t.at d.0) f z) g.leads.before w.1.before) w.0.turns.has.is;
+    }
+
+    by : (h : Holds) → w.0.object.holds ≡ h → HoldsSized (Some size) h w.0.later → Seen t f s i v
+    by (Bytes now stable) is sized = record {
+      n = suc d.0;
+      now = resized size now;
+      has = record {
+        file = w.0.turns.new;
+        stable = resized size stable;
+        moment = later t _ _ d;
+        is = w.0.turns.is;
+        holds = w.0.turns.becomes.holds ∙ sized;
+        stamp = stamp_there (t.at (suc d.0)) f g.leads.attr s w.0.turns.new (subst (λ (z : Option Attr). TrueOf (t.at (suc d.0)) f z) g.leads.after w.1.after) w.0.turns.is g.leads.is;
+      };
+      byte = resized_keeps size now i v lt (was d.0 now (before now stable is));
+    }
+    by (Entries list) is sized = absurd sized
+    by (Text text) is sized = absurd sized
+
 pub true_byte : (t : History) → Lawful t → Fresh t → (f : List ℕ) (s : Stamp) (i v : ℕ) → KeptByte t f s i v → (n : ℕ) (now : List ℕ) → HasStamp t n f s now → slice_get now i ≡ Some v
-true_byte t l fresh f _ _ _ (read s i v offset count counted k attr eof bytes d e place byte) = everywhere t l fresh f s i v (seen_read t l f s i v offset count counted k attr eof bytes d e place byte)
-true_byte t l fresh f _ _ _ (written old s i v offset how counted committed k bytes wcc verf d leads place lt byte) = everywhere t l fresh f s i v (seen_written t l f old s i v offset how counted committed k bytes wcc verf d leads place lt byte)
-true_byte t l fresh f _ _ _ (beside old s i v offset how counted committed bytes wcc verf had d leads apart) = everywhere t l fresh f s i v (seen_beside t l f old s i v offset how counted committed bytes wcc verf (true_byte t l fresh f old i v had) d leads apart)
+true_byte t l fresh f _ _ _ (read s i v offset k bytes g place byte) = everywhere t l fresh f s i v (seen_read t l f s i v offset k bytes g place byte)
+true_byte t l fresh f _ _ _ (written old s i v offset counted k bytes g place lt byte) = everywhere t l fresh f s i v (seen_written t l f old s i v offset counted k bytes g place lt byte)
+true_byte t l fresh f _ _ _ (beside old s i v offset counted bytes had g apart) = everywhere t l fresh f s i v (seen_beside t l f old s i v offset counted bytes (true_byte t l fresh f old i v had) g apart)
+true_byte t l fresh f _ _ _ (below old s i v size had g lt) = everywhere t l fresh f s i v (seen_below t l f old s i v size (true_byte t l fresh f old i v had) g lt)
