@@ -46,6 +46,20 @@ length_resized size old =
 pub resized_keeps : (size : ℕ) (old : List ℕ) (i b : ℕ) → i < size → slice_get old i ≡ Some b → slice_get (resized size old) i ≡ Some b
 resized_keeps size old i b lt e = get_take size (filled size old) i lt ∙ get_front old (replicate (size - length old) 0) i (slice_get_within old i b e) ∙ e
 
+zeros : (n k : ℕ) → k < n → slice_get {X = ℕ} (replicate n 0) k ≡ Some 0
+zeros zero k lt = absurd (omega (arith, lt))
+zeros (suc n) zero lt = refl
+zeros (suc n) (suc k) lt = zeros n k (omega (arith, lt))
+
+-- between the end of the list and the size are zeros
+pub resized_zero : (size : ℕ) (old : List ℕ) (i : ℕ) → length old ≤ i → i < size → slice_get (resized size old) i ≡ Some 0
+resized_zero size old i le lt =
+    let split : i ≡ length old + (i - length old) = omega (arith, le) in
+    get_take size (filled size old) i lt
+    ∙ ap (λ z. slice_get (old ++ replicate (size - length old) 0) z) split
+    ∙ get_back old (replicate (size - length old) 0) (length old) (i - length old) refl
+    ∙ zeros (size - length old) (i - length old) (omega (arith, le, lt))
+
 placed : (offset x : ℕ) (xs old : List ℕ) → put_at offset (x ∷ xs) old ≡ resized offset old ++ ((x ∷ xs) ++ drop (offset + length (x ∷ xs)) old)
 placed offset x xs old = append_assoc (resized offset old) (x ∷ xs) (drop (offset + length (x ∷ xs)) old)
 
@@ -81,3 +95,10 @@ put_beside offset xs old i b o e = elim o [ inl lt ↦ put_below offset xs old i
 
 pub part_stands : (offset count : ℕ) (now : List ℕ) (k y : ℕ) → slice_get (part offset count now) k ≡ Some y → slice_get now (offset + k) ≡ Some y
 part_stands offset count now k y e = sym (get_drop offset now k) ∙ sym (get_take count (drop offset now) k (taken_below count (drop offset now) k y e)) ∙ e
+
+-- between the end of the list and the bytes that are put past it are zeros
+pub put_gap : (offset : ℕ) (xs old : List ℕ) (i : ℕ) → 0 < length xs → length old ≤ i → i < offset → slice_get (put_at offset xs old) i ≡ Some 0
+put_gap offset [] old i some le lt = absurd (omega (arith, some))
+put_gap offset (x ∷ xs) old i some le lt =
+    let l = length_resized offset old in
+    ap (λ (z : List ℕ). slice_get z i) (placed offset x xs old) ∙ get_front (resized offset old) ((x ∷ xs) ++ drop (offset + length (x ∷ xs)) old) i (omega (arith, l, lt)) ∙ resized_zero offset old i le lt

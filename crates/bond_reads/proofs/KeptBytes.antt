@@ -1,5 +1,5 @@
 -- What a reply gave of a file at one moment is true at every moment of its stamp.
-use Rattle.std.proofs.Common.{inl, inr, ◌⊎◌, ◌≡◌, ◌<◌, ◌≤◌, ◌+◌, ℕ, zero, suc, Bool, List, [], ◌∷◌, length, take, Option, Some, slice_get, refl, sym, ap, subst, ◌∙◌, arith}
+use Rattle.std.proofs.Common.{inl, inr, ◌⊎◌, ◌≡◌, ◌<◌, ◌≤◌, ◌+◌, ℕ, zero, suc, Bool, List, [], ◌∷◌, length, take, Option, Some, slice_get, refl, sym, ap, subst, ◌∙◌, arith, length-take}
 use Rattle.std.proofs.lemmas.Bool.{cases_lt}
 use Rattle.std.proofs.lemmas.Option.{slice_get_within}
 use Rattle.nfs_types.specs.declared.attr.Attr.{Attr}
@@ -21,12 +21,12 @@ use Rattle.world_model.specs.FileService.{Puts, ReadsBytes, Writes, HoldsSized, 
 use Rattle.world_model.specs.Fresh.{Fresh}
 use Rattle.world_model.specs.History.{History}
 use Rattle.world_model.specs.Lawful.{Lawful}
-use Rattle.world_model.specs.Server.{Bytes, Entries, Text, Holds, Object, Server}
+use Rattle.world_model.specs.Server.{Bytes, Entries, Text, Holds, Object, Server, IsSound, file, directory, other}
 use Rattle.world_model.specs.Service.{Serves, refused, broken_off, done}
 use Rattle.world_model.specs.Steps.{TrueOf, TrueStamp, TrueWcc}
 use Rattle.world_model.proofs.Stamps.{bytes_of_stamp}
-use Rattle.bond_reads.proofs.Bytes.{get_take, put_here, put_beside, part_stands, resized_keeps}
-use Rattle.bond_reads.specs.Kept.{HasStamp, Done, Leads, Given, Written, Sized, KeptByte, read, written, beside, below}
+use Rattle.bond_reads.proofs.Bytes.{get_take, put_here, put_beside, part_stands, resized_keeps, resized_zero, put_gap}
+use Rattle.bond_reads.specs.Kept.{HasStamp, Done, Given, Written, Sized, KeptByte, read, written, beside, below, gap, grown}
 
 pub same_bytes : (t : History) → Lawful t → Fresh t → (m n : ℕ) (f : List ℕ) (s : Stamp) (now later : List ℕ) → HasStamp t m f s now → HasStamp t n f s later → now ≡ later
 same_bytes t l fresh m n f s now later a b = by (cases_lt m n)
@@ -65,12 +65,12 @@ reads s t f offset count counted attr eof bytes (done d) = d
 writes : (s t : Server) (f : List ℕ) (offset how counted committed : ℕ) (bytes : List ℕ) (wcc : Wcc) (verf : Verf) → Serves s (calls.File (files.Write f offset how bytes)) (answers.File (replies.Write wcc counted committed verf)) t
     → Writes s t f offset how bytes wcc counted committed verf
 writes s t f offset how counted committed bytes wcc verf (refused r same) = absurd r
-writes s t f offset how counted committed bytes wcc verf (broken_off g at other given status w is answer p) = absurd (cc answer)
+writes s t f offset how counted committed bytes wcc verf (broken_off g at way given status w is answer p) = absurd (cc answer)
 writes s t f offset how counted committed bytes wcc verf (done d) = d
 
 sets : (s t : Server) (f : List ℕ) (set : SetAttr) (guard : Option Time) (wcc : Wcc) → Serves s (calls.File (files.SetAttr f set guard)) (answers.File (replies.SetAttr wcc)) t → SetsAttr s t f set × TrueWcc s t f wcc
 sets s t f set guard wcc (refused r same) = absurd r
-sets s t f set guard wcc (broken_off g at other given status w is answer p) = absurd (cc answer)
+sets s t f set guard wcc (broken_off g at way given status w is answer p) = absurd (cc answer)
 sets s t f set guard wcc (done d) = d
 
 -- what was executed was served
@@ -154,8 +154,15 @@ seen_beside t l f old s i v offset counted bytes was g apart =
       byte = put_beside offset (take counted bytes) w.now i v (beside_taken offset counted i bytes apart) (was d.0 w.now before);
     }
 
-seen_below : (t : History) → Lawful t → (f : List ℕ) (old s : Stamp) (i v size : ℕ) → ((n : ℕ) (now : List ℕ) → HasStamp t n f old now → slice_get now i ≡ Some v) → Sized t f size old s → i < size → Seen t f s i v
-seen_below t l f old s i v size was g lt = by w.0.object.holds refl (subst (λ (z : Option ℕ). HoldsSized z w.0.object.holds w.0.later) g.is w.0.sized)
+-- before and after a SETATTR that sets the size of a file
+record Resized (t : History) (f : List ℕ) (size : ℕ) (old s : Stamp) : Type 0 where
+  n : ℕ
+  now : List ℕ
+  before : HasStamp t n f old now
+  after : HasStamp t (suc n) f s (resized size now)
+
+resized_so : (t : History) → Lawful t → (f : List ℕ) (old s : Stamp) (size : ℕ) → Sized t f size old s → Resized t f size old s
+resized_so t l f old s size g = by w.0.object.holds refl (subst (λ (z : Option ℕ). HoldsSized z w.0.object.holds w.0.later) g.is w.0.sized)
   where
     d : Done t (files.SetAttr f g.set g.guard) (replies.SetAttr g.wcc)
     d = g.done
@@ -163,21 +170,19 @@ seen_below t l f old s i v size was g lt = by w.0.object.holds refl (subst (λ (
     w : SetsAttr (t.at d.0) (t.at (suc d.0)) f g.set × TrueWcc (t.at d.0) (t.at (suc d.0)) f g.wcc
     w = sets (t.at d.0) (t.at (suc d.0)) f g.set g.guard g.wcc (serves t l _ _ d)
 
-    before : (now stable : List ℕ) → w.0.object.holds ≡ Bytes now stable → HasStamp t d.0 f old now
-    before now stable is = record {
-      file = w.0.object;
-      stable = stable;
-      moment = let le = later t _ _ d in omega (arith, le);
-      is = w.0.turns.has.is;
-      holds = is;
-      stamp = stamp_before (t.at d.0) f old w.0.object (subst (λ (z : Option Stamp). TrueStamp (t.at d.0) f z) g.leads.before w.1.before) w.0.turns.has.is;
-    }
-
-    by : (h : Holds) → w.0.object.holds ≡ h → HoldsSized (Some size) h w.0.later → Seen t f s i v
+    by : (h : Holds) → w.0.object.holds ≡ h → HoldsSized (Some size) h w.0.later → Resized t f size old s
     by (Bytes now stable) is sized = record {
-      n = suc d.0;
-      now = resized size now;
-      has = record {
+      n = d.0;
+      now = now;
+      before = record {
+        file = w.0.object;
+        stable = stable;
+        moment = let le = later t _ _ d in omega (arith, le);
+        is = w.0.turns.has.is;
+        holds = is;
+        stamp = stamp_before (t.at d.0) f old w.0.object (subst (λ (z : Option Stamp). TrueStamp (t.at d.0) f z) g.leads.before w.1.before) w.0.turns.has.is;
+      };
+      after = record {
         file = w.0.turns.new;
         stable = resized size stable;
         moment = later t _ _ d;
@@ -185,13 +190,51 @@ seen_below t l f old s i v size was g lt = by w.0.object.holds refl (subst (λ (
         holds = w.0.turns.becomes.holds ∙ sized;
         stamp = stamp_there (t.at (suc d.0)) f g.leads.attr s w.0.turns.new (subst (λ (z : Option Attr). TrueOf (t.at (suc d.0)) f z) g.leads.after w.1.after) w.0.turns.is g.leads.is;
       };
-      byte = resized_keeps size now i v lt (was d.0 now (before now stable is));
     }
     by (Entries list) is sized = absurd sized
     by (Text text) is sized = absurd sized
+
+seen_below : (t : History) → Lawful t → (f : List ℕ) (old s : Stamp) (i v size : ℕ) → ((n : ℕ) (now : List ℕ) → HasStamp t n f old now → slice_get now i ≡ Some v) → Sized t f size old s → i < size → Seen t f s i v
+seen_below t l f old s i v size was g lt =
+    let r = resized_so t l f old s size g in
+    record { n = suc r.n; now = resized size r.now; has = r.after; byte = resized_keeps size r.now i v lt (was r.n r.now r.before) }
+
+-- the size in a file's stamp is the number of its bytes
+same_now : (a b c d : List ℕ) → Bytes a b ≡ Bytes c d → a ≡ c
+same_now a b c d e = cc
+
+size_of : (o : Object) (now stable : List ℕ) → IsSound o → o.holds ≡ Bytes now stable → o.attr.size ≡ length now
+size_of o now stable (file now_too stable_too e kind size fits) held = size ∙ ap length (same_now now_too stable_too now stable (sym e ∙ held))
+size_of o now stable (directory entries e kind cookies) held = absurd (cc (sym e ∙ held))
+size_of o now stable (other text e a b) held = absurd (cc (sym e ∙ held))
+
+size_there : (t : History) → Lawful t → (n : ℕ) (f : List ℕ) (s : Stamp) (now : List ℕ) → HasStamp t n f s now → s.size ≡ length now
+size_there t l n f s now h = ap (λ (z : Stamp). z.size) (sym h.stamp) ∙ size_of h.file now h.stable (l.servers n h.moment f h.file h.is) h.holds
+
+seen_gap : (t : History) → Lawful t → (f : List ℕ) (old s : Stamp) (i offset counted : ℕ) (bytes : List ℕ) → Written t f offset counted bytes old s → 1 ≤ counted → old.size ≤ i → i < offset → Seen t f s i 0
+seen_gap t l f old s i offset counted bytes g some le lt =
+    let d = g.done in
+    let w = writes (t.at d.0) (t.at (suc d.0)) f offset g.how counted g.committed bytes g.wcc g.verf (serves t l _ _ d) in
+    let before = put_before t d.0 f old g.wcc w.now w.stable _ _ (later t _ _ d) w.puts w.shows.before g.leads.before in
+    let size = size_there t l d.0 f old w.now before in
+    let long = length-take counted bytes in
+    record {
+      n = suc d.0;
+      now = put_at offset (take counted bytes) w.now;
+      has = put_after t d.0 f s g.wcc.after g.leads.attr w.now w.stable _ _ (later t _ _ d) w.puts w.shows.after g.leads.after g.leads.is;
+      byte = put_gap offset (take counted bytes) w.now i (omega (arith, long, w.most, some)) (omega (arith, size, le)) lt;
+    }
+
+seen_grown : (t : History) → Lawful t → (f : List ℕ) (old s : Stamp) (i size : ℕ) → Sized t f size old s → old.size ≤ i → i < size → Seen t f s i 0
+seen_grown t l f old s i size g le lt =
+    let r = resized_so t l f old s size g in
+    let long = size_there t l r.n f old r.now r.before in
+    record { n = suc r.n; now = resized size r.now; has = r.after; byte = resized_zero size r.now i (omega (arith, long, le)) lt }
 
 pub true_byte : (t : History) → Lawful t → Fresh t → (f : List ℕ) (s : Stamp) (i v : ℕ) → KeptByte t f s i v → (n : ℕ) (now : List ℕ) → HasStamp t n f s now → slice_get now i ≡ Some v
 true_byte t l fresh f _ _ _ (read s i v offset k bytes g place byte) = everywhere t l fresh f s i v (seen_read t l f s i v offset k bytes g place byte)
 true_byte t l fresh f _ _ _ (written old s i v offset counted k bytes g place lt byte) = everywhere t l fresh f s i v (seen_written t l f old s i v offset counted k bytes g place lt byte)
 true_byte t l fresh f _ _ _ (beside old s i v offset counted bytes had g apart) = everywhere t l fresh f s i v (seen_beside t l f old s i v offset counted bytes (true_byte t l fresh f old i v had) g apart)
 true_byte t l fresh f _ _ _ (below old s i v size had g lt) = everywhere t l fresh f s i v (seen_below t l f old s i v size (true_byte t l fresh f old i v had) g lt)
+true_byte t l fresh f _ _ _ (gap old s i v offset counted bytes g some le lt is) = everywhere t l fresh f s i v (subst (λ (z : ℕ). Seen t f s i z) (sym is) (seen_gap t l f old s i offset counted bytes g some le lt))
+true_byte t l fresh f _ _ _ (grown old s i v size g le lt is) = everywhere t l fresh f s i v (subst (λ (z : ℕ). Seen t f s i z) (sym is) (seen_grown t l f old s i size g le lt))
