@@ -49,20 +49,20 @@ some_is : (a b : Object) → Some a ≡ Some b → a ≡ b
 some_is a b e = cc
 
 -- the stamp of the object that has these attributes
-stamp_there : (s : Server) (f : List ℕ) (attr : Attr) (stamp : Stamp) (o : Object) → TrueOf s f (Some attr) → s.object f ≡ Some o → stamp_of attr ≡ stamp → stamp_of o.attr ≡ stamp
+pub stamp_there : (s : Server) (f : List ℕ) (attr : Attr) (stamp : Stamp) (o : Object) → TrueOf s f (Some attr) → s.object f ≡ Some o → stamp_of attr ≡ stamp → stamp_of o.attr ≡ stamp
 stamp_there s f attr stamp o shows is e = ap (λ (z : Object). stamp_of z.attr) (some_is o shows.0 (sym is ∙ shows.1)) ∙ ap stamp_of shows.2 ∙ e
 
 stamp_before : (s : Server) (f : List ℕ) (stamp : Stamp) (o : Object) → TrueStamp s f (Some stamp) → s.object f ≡ Some o → stamp_of o.attr ≡ stamp
 stamp_before s f stamp o shows is = ap (λ (z : Object). stamp_of z.attr) (some_is o shows.0 (sym is ∙ shows.1)) ∙ shows.2
 
 -- what a server does that answers a READ, a WRITE or a SETATTR with status 0
-reads : (s t : Server) (f : List ℕ) (offset count counted : ℕ) (attr : Option Attr) (eof : Bool) (bytes : List ℕ) → Serves s (calls.File (files.Read f offset count)) (answers.File (replies.Read attr counted eof bytes)) t
+pub reads : (s t : Server) (f : List ℕ) (offset count counted : ℕ) (attr : Option Attr) (eof : Bool) (bytes : List ℕ) → Serves s (calls.File (files.Read f offset count)) (answers.File (replies.Read attr counted eof bytes)) t
     → ReadsBytes s t f offset count attr counted eof bytes
 reads s t f offset count counted attr eof bytes (refused r same) = absurd r
 reads s t f offset count counted attr eof bytes (broken_off g at how given status wcc is answer w) = absurd (cc is)
 reads s t f offset count counted attr eof bytes (done d) = d
 
-writes : (s t : Server) (f : List ℕ) (offset how counted committed : ℕ) (bytes : List ℕ) (wcc : Wcc) (verf : Verf) → Serves s (calls.File (files.Write f offset how bytes)) (answers.File (replies.Write wcc counted committed verf)) t
+pub writes : (s t : Server) (f : List ℕ) (offset how counted committed : ℕ) (bytes : List ℕ) (wcc : Wcc) (verf : Verf) → Serves s (calls.File (files.Write f offset how bytes)) (answers.File (replies.Write wcc counted committed verf)) t
     → Writes s t f offset how bytes wcc counted committed verf
 writes s t f offset how counted committed bytes wcc verf (refused r same) = absurd r
 writes s t f offset how counted committed bytes wcc verf (broken_off g at way given status w is answer p) = absurd (cc answer)
@@ -74,14 +74,14 @@ sets s t f set guard wcc (broken_off g at way given status w is answer p) = absu
 sets s t f set guard wcc (done d) = d
 
 -- what was executed was served
-serves : (t : History) → Lawful t → (call : FileCall) (reply : FileKept) (d : Done t call reply) → Serves (t.at d.0) (calls.File call) (answers.File reply) (t.at (suc d.0))
+pub serves : (t : History) → Lawful t → (call : FileCall) (reply : FileKept) (d : Done t call reply) → Serves (t.at d.0) (calls.File call) (answers.File reply) (t.at (suc d.0))
 serves t l call reply d = (l.entries d.0 (Executed d.1 (calls.File call) (answers.File reply)) d.2).1
 
-later : (t : History) (call : FileCall) (reply : FileKept) (d : Done t call reply) → suc d.0 ≤ length t.entries
+pub later : (t : History) (call : FileCall) (reply : FileKept) (d : Done t call reply) → suc d.0 ≤ length t.entries
 later t call reply d = let r = slice_get_within t.entries d.0 (Executed d.1 (calls.File call) (answers.File reply)) d.2 in omega (arith, r)
 
 -- before and after a call that makes these bytes of those
-put_before : (t : History) (n : ℕ) (f : List ℕ) (s : Stamp) (wcc : Wcc) (now stable next steady : List ℕ) → suc n ≤ length t.entries → Puts (t.at n) (t.at (suc n)) f now stable next steady → TrueStamp (t.at n) f wcc.before → wcc.before ≡ Some s
+pub put_before : (t : History) (n : ℕ) (f : List ℕ) (s : Stamp) (wcc : Wcc) (now stable next steady : List ℕ) → suc n ≤ length t.entries → Puts (t.at n) (t.at (suc n)) f now stable next steady → TrueStamp (t.at n) f wcc.before → wcc.before ≡ Some s
     → HasStamp t n f s now
 put_before t n f s wcc now stable next steady le p shows is = record {
   file = p.file;
@@ -92,7 +92,7 @@ put_before t n f s wcc now stable next steady le p shows is = record {
   stamp = stamp_before (t.at n) f s p.file (subst (λ (z : Option Stamp). TrueStamp (t.at n) f z) is shows) p.turns.has.is;
 }
 
-put_after : (t : History) (n : ℕ) (f : List ℕ) (s : Stamp) (found : Option Attr) (attr : Attr) (now stable next steady : List ℕ) → suc n ≤ length t.entries → Puts (t.at n) (t.at (suc n)) f now stable next steady → TrueOf (t.at (suc n)) f found
+pub put_after : (t : History) (n : ℕ) (f : List ℕ) (s : Stamp) (found : Option Attr) (attr : Attr) (now stable next steady : List ℕ) → suc n ≤ length t.entries → Puts (t.at n) (t.at (suc n)) f now stable next steady → TrueOf (t.at (suc n)) f found
     → found ≡ Some attr → stamp_of attr ≡ s → HasStamp t (suc n) f s next
 put_after t n f s found attr now stable next steady le p shows is e = record {
   file = p.turns.new;
@@ -155,13 +155,13 @@ seen_beside t l f old s i v offset counted bytes was g apart =
     }
 
 -- before and after a SETATTR that sets the size of a file
-record Resized (t : History) (f : List ℕ) (size : ℕ) (old s : Stamp) : Type 0 where
-  n : ℕ
-  now : List ℕ
-  before : HasStamp t n f old now
-  after : HasStamp t (suc n) f s (resized size now)
+pub record Resized (t : History) (f : List ℕ) (size : ℕ) (old s : Stamp) : Type 0 where
+  pub n : ℕ
+  pub now : List ℕ
+  pub before : HasStamp t n f old now
+  pub after : HasStamp t (suc n) f s (resized size now)
 
-resized_so : (t : History) → Lawful t → (f : List ℕ) (old s : Stamp) (size : ℕ) → Sized t f size old s → Resized t f size old s
+pub resized_so : (t : History) → Lawful t → (f : List ℕ) (old s : Stamp) (size : ℕ) → Sized t f size old s → Resized t f size old s
 resized_so t l f old s size g = by w.0.object.holds refl (subst (λ (z : Option ℕ). HoldsSized z w.0.object.holds w.0.later) g.is w.0.sized)
   where
     d : Done t (files.SetAttr f g.set g.guard) (replies.SetAttr g.wcc)

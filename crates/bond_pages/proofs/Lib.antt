@@ -1,0 +1,2 @@
+pub mod OfferedPage
+pub mod TruePages
