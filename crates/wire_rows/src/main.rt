@@ -3,6 +3,7 @@
 //!
 //! - `file-call`, `file-reply`, `dir-call`, `dir-reply`, `mount-call` or `mount-reply` and the number of a procedure;
 //! - `rpc-call`, `rpc-call-of-user` or `rpc-reply` and the xid;
+//! - `port-call` and the xid, `port-reply` and any number, and `port-answer` and the port that a server is on;
 //! - `dir-page` or `plus-page`, a page of a listing, and `name` or `handle`, with any number.
 //!
 //! After what the record holds stands `same true` where it is written again to the same bytes, and `short true` where
@@ -15,6 +16,7 @@ mod files;
 mod messages;
 mod mounts;
 mod pages;
+mod ports;
 
 use nfs_types::{Handle, Name};
 use std::alloc::Global;
@@ -34,6 +36,9 @@ fn record(rt: &impl Print, alloc: Global, kind: &str, number: u32, bytes: &[u8])
         "rpc-reply" => messages::reply(rt, alloc, bytes),
         "dir-page" => pages::dir_page(rt, alloc, bytes),
         "plus-page" => pages::plus_page(rt, alloc, bytes),
+        "port-call" => ports::call(rt, alloc, number, bytes),
+        "port-reply" => ports::reply(rt, bytes),
+        "port-answer" => ports::answered(rt, alloc, number, bytes),
         "name" => println!(rt; "{}", Name::make(bytes).is_some()),
         "handle" => println!(rt; "{}", Handle::make(bytes).is_some()),
         _ => println!(rt; "no such kind"),
