@@ -4,7 +4,7 @@ use Rattle.std.specs.Prelude.{◌≡◌, ℕ, List, ◌==◌, ◌||◌, Bool, no
 use Rattle.xdr_codec.specs.declared.reader.XdrFault.{XdrFault}
 use Rattle.xdr_codec.specs.declared.codec_fault.CodecFault.{CodecFault}
 use Rattle.xdr_codec.specs.declared.codec_fault.CodecFault.TheVariants as faults
-use Rattle.nfs_types.specs.declared.program.TheConstants.{NFS_PROGRAM, MOUNT_PROGRAM}
+use Rattle.nfs_types.specs.declared.program.TheConstants.{NFS_PROGRAM, MOUNT_PROGRAM, PROGRAM_VERSION}
 use Rattle.mount_calls.specs.declared.call.MountCall.{MountCall}
 use Rattle.nfs_dir_calls.specs.declared.call.DirCall.{DirCall}
 use Rattle.nfs_file_calls.specs.declared.call.FileCall.{FileCall}
@@ -74,7 +74,7 @@ served_as xid None = refused_as xid refusals.Arguments
 abbrev pub head_asks : CallHead → List ℕ → Asked
 head_asks head args =
     if not (is_program head.prog) then refused_as head.xid refusals.Program else
-    (if not (head.vers == 3) then refused_as head.xid refusals.Version else
+    (if not (head.vers == PROGRAM_VERSION) then refused_as head.xid refusals.Version else
     (if not (is_served head.prog head.proc) then refused_as head.xid refusals.Procedure else
     served_as head.xid (arguments_at head.prog head.proc args)))
 

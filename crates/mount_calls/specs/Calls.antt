@@ -6,20 +6,21 @@ use Rattle.xdr_codec.specs.Reading.{◌>>=◌, opaque_at}
 use Rattle.xdr_codec.specs.Spelling.{opaque_bytes}
 use Rattle.xdr_codec.specs.Spells.{SpellsOpaque}
 use Rattle.xdr_codec.specs.Whole.{whole_at}
+use Rattle.nfs_types.specs.declared.mount_proc.TheConstants.{NULL, MNT, UMNT, EXPORT}
 use Rattle.mount_calls.specs.Lists.{nothing_at, SpellsNothing}
 use Rattle.mount_calls.specs.declared.call.MountCall.{MountCall}
 use Rattle.mount_calls.specs.declared.call.MountCall.TheVariants as calls
 
 -- the procedure that a call names
 abbrev pub mount_proc : MountCall → ℕ
-mount_proc calls.Null = 0
-mount_proc (calls.Mnt path) = 1
-mount_proc (calls.Umnt path) = 3
-mount_proc calls.Export = 5
+mount_proc calls.Null = NULL
+mount_proc (calls.Mnt path) = MNT
+mount_proc (calls.Umnt path) = UMNT
+mount_proc calls.Export = EXPORT
 
 -- one of these procedures
 abbrev pub is_mount_proc : ℕ → Bool
-is_mount_proc proc = (proc == 0) || (proc == 1) || (proc == 3) || (proc == 5)
+is_mount_proc proc = (proc == NULL) || (proc == MNT) || (proc == UMNT) || (proc == EXPORT)
 
 abbrev pub IsMountProc : ℕ → Type 0
 IsMountProc proc = IsTrue (is_mount_proc proc)
@@ -41,10 +42,10 @@ export_call_at args = whole_at nothing_at args >>= λ v. Ok calls.Export
 -- the call of a procedure, from all of the bytes
 abbrev pub mount_call_at : ℕ → List ℕ → Result MountCall XdrFault
 mount_call_at proc args =
-    if proc == 0 then null_call_at args else
-    (if proc == 1 then mnt_call_at args else
-    (if proc == 3 then umnt_call_at args else
-    (if proc == 5 then export_call_at args else Err BadValue)))
+    if proc == NULL then null_call_at args else
+    (if proc == MNT then mnt_call_at args else
+    (if proc == UMNT then umnt_call_at args else
+    (if proc == EXPORT then export_call_at args else Err BadValue)))
 
 -- ---- spelling
 

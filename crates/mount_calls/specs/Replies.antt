@@ -8,6 +8,7 @@ use Rattle.xdr_codec.specs.Spells.{◌⨾◌, SpellsU32}
 use Rattle.xdr_codec.specs.Whole.{ended, whole_at}
 use Rattle.nfs_types.specs.Fields.{handle_at, handle_bytes}
 use Rattle.nfs_types.specs.Spells.{SpellsHandle}
+use Rattle.nfs_types.specs.declared.mount_proc.TheConstants.{NULL, MNT, UMNT, EXPORT}
 use Rattle.mount_calls.specs.declared.reply.MountReply.{MountReply}
 use Rattle.mount_calls.specs.declared.reply.MountReply.TheVariants as replies
 use Rattle.mount_calls.specs.Lists.{nothing_at, SpellsNothing}
@@ -48,10 +49,10 @@ export_reply_at results = whole_at exports_at results >>= λ list. Ok (replies.E
 -- the reply of a procedure, from all of the bytes
 abbrev pub mount_reply_at : ℕ → List ℕ → Result MountReply XdrFault
 mount_reply_at proc results =
-    if proc == 0 then null_reply_at results else
-    (if proc == 1 then mnt_reply_at results else
-    (if proc == 3 then umnt_reply_at results else
-    (if proc == 5 then export_reply_at results else Err BadValue)))
+    if proc == NULL then null_reply_at results else
+    (if proc == MNT then mnt_reply_at results else
+    (if proc == UMNT then umnt_reply_at results else
+    (if proc == EXPORT then export_reply_at results else Err BadValue)))
 
 -- ---- spelling
 

@@ -6,6 +6,7 @@ ghost use Rattle.xdr_codec.specs.Whole.{GivesOwned, FindsOwned};
 ghost use Rattle.mount_calls.specs.Calls.{mount_proc, is_mount_proc, IsMountProc, mount_call_at, null_call_at, mnt_call_at, umnt_call_at, export_call_at, mount_call_bytes, HasSpellingCall, SpellsMountArgs, SpellsMountCall};
 
 use crate::text::{PATH_MAX, read_text};
+use nfs_types::mount_proc::{EXPORT, MNT, NULL, UMNT};
 use std::alloc::Global;
 use xdr_codec::{Blob, CodecFault, Memory, Reader, Writer, XdrFault};
 
@@ -32,7 +33,7 @@ pub enum MountCall {
 pub fn is_mount_proc(proc: u32) -> bool
     ensures { result ≡ is_mount_proc proc }
 {
-    matches!(proc, 0 | 1 | 3 | 5)
+    matches!(proc, NULL | MNT | UMNT | EXPORT)
 }
 
 /// The number of the procedure that a call names.
@@ -41,10 +42,10 @@ pub fn mount_proc(call: &MountCall) -> u32
     ensures known { IsMountProc result }
 {
     match call {
-        MountCall::Null => 0,
-        MountCall::Mnt { .. } => 1,
-        MountCall::Umnt { .. } => 3,
-        MountCall::Export => 5,
+        MountCall::Null => NULL,
+        MountCall::Mnt { .. } => MNT,
+        MountCall::Umnt { .. } => UMNT,
+        MountCall::Export => EXPORT,
     }
 }
 
@@ -64,10 +65,10 @@ fn call_of(alloc: Global, proc: u32, args: &[u8]) -> Result<MountCall, CodecFaul
     ensures { GivesOwned result (mount_call_at proc args.now) }
 {
     match proc {
-        0 => null_call(args),
-        1 => mnt_call(alloc, args),
-        3 => umnt_call(alloc, args),
-        5 => export_call(args),
+        NULL => null_call(args),
+        MNT => mnt_call(alloc, args),
+        UMNT => umnt_call(alloc, args),
+        EXPORT => export_call(args),
         _ => Err(CodecFault::Xdr(XdrFault::BadValue)),
     }
 }

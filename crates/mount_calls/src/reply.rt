@@ -11,6 +11,7 @@ ghost use Rattle.mount_calls.specs.Replies.{mount_reply_at, null_reply_at, mnt_r
 
 use crate::exports::{ExportList, read_exports, write_exports};
 use crate::flavors::{Flavors, read_flavors, write_flavors};
+use nfs_types::mount_proc::{EXPORT, MNT, NULL, UMNT};
 use nfs_types::{Handle, read_handle};
 use std::alloc::Global;
 use xdr_codec::{CodecFault, Memory, Reader, Writer, XdrFault};
@@ -62,10 +63,10 @@ fn reply_of(alloc: Global, proc: u32, results: &[u8]) -> Result<MountReply, Code
     ensures { GivesOwned result (mount_reply_at proc results.now) }
 {
     match proc {
-        0 => null_reply(results),
-        1 => mnt_reply(alloc, results),
-        3 => umnt_reply(results),
-        5 => export_reply(alloc, results),
+        NULL => null_reply(results),
+        MNT => mnt_reply(alloc, results),
+        UMNT => umnt_reply(results),
+        EXPORT => export_reply(alloc, results),
         _ => Err(CodecFault::Xdr(XdrFault::BadValue)),
     }
 }

@@ -6,6 +6,7 @@ use Rattle.xdr_codec.specs.Spelling.{u32_bytes, u64_bytes, opaque_bytes}
 use Rattle.xdr_codec.specs.Spells.{◌⨾◌, SpellsU32, SpellsU64, SpellsOpaque}
 use Rattle.nfs_types.specs.Fields.{handle_bytes, set_attr_bytes, verf_bytes}
 use Rattle.nfs_types.specs.Spells.{SpellsHandle, SpellsVerf, SpellsSetAttr}
+use Rattle.nfs_types.specs.declared.nfs_proc.TheConstants.{LOOKUP, READLINK, CREATE, MKDIR, SYMLINK, MKNOD, REMOVE, RMDIR, RENAME, LINK, READDIR, READDIRPLUS}
 use Rattle.nfs_dir_calls.specs.declared.call.DirCall.{DirCall}
 use Rattle.nfs_dir_calls.specs.declared.call.DirCall.TheVariants as calls
 use Rattle.nfs_dir_calls.specs.Places.{place_bytes, SpellsPlace}
@@ -25,25 +26,27 @@ use Rattle.nfs_dir_calls.specs.ReadDirPlus.{readdirplus_call_at}
 
 -- the procedures of these calls
 abbrev pub is_dir_proc : ℕ → Bool
-is_dir_proc proc = proc == 3 || proc == 5 || proc == 8 || proc == 9 || proc == 10 || proc == 11 || proc == 12 || proc == 13 || proc == 14 || proc == 15 || proc == 16 || proc == 17
+is_dir_proc proc =
+    proc == LOOKUP || proc == READLINK || proc == CREATE || proc == MKDIR || proc == SYMLINK || proc == MKNOD || proc == REMOVE || proc == RMDIR
+    || proc == RENAME || proc == LINK || proc == READDIR || proc == READDIRPLUS
 
 abbrev pub IsDirProc : ℕ → Type 0
 IsDirProc proc = IsTrue (is_dir_proc proc)
 
 -- the number of a call's procedure
 abbrev pub dir_proc : DirCall → ℕ
-dir_proc (calls.Lookup dir name) = 3
-dir_proc (calls.ReadLink file) = 5
-dir_proc (calls.Create dir name making) = 8
-dir_proc (calls.MkDir dir name set) = 9
-dir_proc (calls.SymLink dir name set target) = 10
-dir_proc (calls.MkNod dir name node) = 11
-dir_proc (calls.Remove dir name) = 12
-dir_proc (calls.RmDir dir name) = 13
-dir_proc (calls.Rename from_dir «from» to_dir to) = 14
-dir_proc (calls.Link file dir name) = 15
-dir_proc (calls.ReadDir dir cookie verf count) = 16
-dir_proc (calls.ReadDirPlus dir cookie verf dircount maxcount) = 17
+dir_proc (calls.Lookup dir name) = LOOKUP
+dir_proc (calls.ReadLink file) = READLINK
+dir_proc (calls.Create dir name making) = CREATE
+dir_proc (calls.MkDir dir name set) = MKDIR
+dir_proc (calls.SymLink dir name set target) = SYMLINK
+dir_proc (calls.MkNod dir name node) = MKNOD
+dir_proc (calls.Remove dir name) = REMOVE
+dir_proc (calls.RmDir dir name) = RMDIR
+dir_proc (calls.Rename from_dir «from» to_dir to) = RENAME
+dir_proc (calls.Link file dir name) = LINK
+dir_proc (calls.ReadDir dir cookie verf count) = READDIR
+dir_proc (calls.ReadDirPlus dir cookie verf dircount maxcount) = READDIRPLUS
 
 -- the arguments that spell a call
 abbrev pub SpellsDirCall : DirCall → List ℕ → Type 0
@@ -58,7 +61,8 @@ SpellsDirCall (calls.RmDir dir name) = SpellsPlace dir name
 SpellsDirCall (calls.Rename from_dir «from» to_dir to) = SpellsPlace from_dir «from» ⨾ SpellsPlace to_dir to
 SpellsDirCall (calls.Link file dir name) = SpellsHandle file ⨾ SpellsPlace dir name
 SpellsDirCall (calls.ReadDir dir cookie verf count) = SpellsHandle dir ⨾ SpellsU64 cookie ⨾ SpellsVerf verf ⨾ SpellsU32 count
-SpellsDirCall (calls.ReadDirPlus dir cookie verf dircount maxcount) = SpellsHandle dir ⨾ SpellsU64 cookie ⨾ SpellsVerf verf ⨾ SpellsU32 dircount ⨾ SpellsU32 maxcount
+SpellsDirCall (calls.ReadDirPlus dir cookie verf dircount maxcount) =
+    SpellsHandle dir ⨾ SpellsU64 cookie ⨾ SpellsVerf verf ⨾ SpellsU32 dircount ⨾ SpellsU32 maxcount
 
 -- a call of that procedure, and arguments that spell it
 pub record SpellsDirCallOf (proc : ℕ) (call : DirCall) (args : List ℕ) : Type 0 where
@@ -68,18 +72,18 @@ pub record SpellsDirCallOf (proc : ℕ) (call : DirCall) (args : List ℕ) : Typ
 -- what the arguments of a procedure give
 abbrev pub dir_call_at : ℕ → List ℕ → Result DirCall XdrFault
 dir_call_at proc args =
-    if proc == 3 then lookup_call_at args else
-    (if proc == 5 then readlink_call_at args else
-    (if proc == 8 then create_call_at args else
-    (if proc == 9 then mkdir_call_at args else
-    (if proc == 10 then symlink_call_at args else
-    (if proc == 11 then mknod_call_at args else
-    (if proc == 12 then remove_call_at args else
-    (if proc == 13 then rmdir_call_at args else
-    (if proc == 14 then rename_call_at args else
-    (if proc == 15 then link_call_at args else
-    (if proc == 16 then readdir_call_at args else
-    (if proc == 17 then readdirplus_call_at args else
+    if proc == LOOKUP then lookup_call_at args else
+    (if proc == READLINK then readlink_call_at args else
+    (if proc == CREATE then create_call_at args else
+    (if proc == MKDIR then mkdir_call_at args else
+    (if proc == SYMLINK then symlink_call_at args else
+    (if proc == MKNOD then mknod_call_at args else
+    (if proc == REMOVE then remove_call_at args else
+    (if proc == RMDIR then rmdir_call_at args else
+    (if proc == RENAME then rename_call_at args else
+    (if proc == LINK then link_call_at args else
+    (if proc == READDIR then readdir_call_at args else
+    (if proc == READDIRPLUS then readdirplus_call_at args else
     Err BadValue)))))))))))
 
 -- a call that has a spelling
@@ -110,4 +114,5 @@ dir_call_bytes (calls.RmDir dir name) = place_bytes dir name
 dir_call_bytes (calls.Rename from_dir «from» to_dir to) = place_bytes from_dir «from» ++ place_bytes to_dir to
 dir_call_bytes (calls.Link file dir name) = handle_bytes file ++ place_bytes dir name
 dir_call_bytes (calls.ReadDir dir cookie verf count) = handle_bytes dir ++ u64_bytes cookie ++ verf_bytes verf ++ u32_bytes count
-dir_call_bytes (calls.ReadDirPlus dir cookie verf dircount maxcount) = handle_bytes dir ++ u64_bytes cookie ++ verf_bytes verf ++ u32_bytes dircount ++ u32_bytes maxcount
+dir_call_bytes (calls.ReadDirPlus dir cookie verf dircount maxcount) =
+    handle_bytes dir ++ u64_bytes cookie ++ verf_bytes verf ++ u32_bytes dircount ++ u32_bytes maxcount

@@ -8,6 +8,7 @@ use Rattle.xdr_codec.specs.Arms.{SpellsStatus}
 use Rattle.nfs_types.specs.declared.attr.Attr.{Attr}
 use Rattle.nfs_types.specs.declared.wcc.Wcc.{Wcc}
 use Rattle.nfs_types.specs.Spells.{SpellsHandle, SpellsOptAttr, SpellsWcc, SpellsVerf}
+use Rattle.nfs_types.specs.declared.nfs_proc.TheConstants.{LOOKUP, READLINK, CREATE, MKDIR, SYMLINK, MKNOD, REMOVE, RMDIR, RENAME, LINK, READDIR, READDIRPLUS}
 use Rattle.nfs_dir_calls.specs.declared.keeping.DirKept.{DirKept}
 use Rattle.nfs_dir_calls.specs.declared.keeping.DirKept.TheVariants as kept
 use Rattle.nfs_dir_calls.specs.Failures.{IsFailure, attr_failure_bytes, wcc_failure_bytes}
@@ -90,18 +91,18 @@ pub record SpellsDirReply (proc : ℕ) (reply : DirKept) (results : List ℕ) : 
 -- what the results of a procedure give
 abbrev pub dir_reply_at : ℕ → List ℕ → Result DirKept XdrFault
 dir_reply_at proc results =
-    if proc == 3 then lookup_at results else
-    (if proc == 5 then readlink_at results else
-    (if proc == 8 then create_at results else
-    (if proc == 9 then mkdir_at results else
-    (if proc == 10 then symlink_at results else
-    (if proc == 11 then mknod_at results else
-    (if proc == 12 then remove_at results else
-    (if proc == 13 then rmdir_at results else
-    (if proc == 14 then rename_at results else
-    (if proc == 15 then link_at results else
-    (if proc == 16 then readdir_at results else
-    (if proc == 17 then readdirplus_at results else
+    if proc == LOOKUP then lookup_at results else
+    (if proc == READLINK then readlink_at results else
+    (if proc == CREATE then create_at results else
+    (if proc == MKDIR then mkdir_at results else
+    (if proc == SYMLINK then symlink_at results else
+    (if proc == MKNOD then mknod_at results else
+    (if proc == REMOVE then remove_at results else
+    (if proc == RMDIR then rmdir_at results else
+    (if proc == RENAME then rename_at results else
+    (if proc == LINK then link_at results else
+    (if proc == READDIR then readdir_at results else
+    (if proc == READDIRPLUS then readdirplus_at results else
     Err BadValue)))))))))))
 
 -- a reply that has a spelling

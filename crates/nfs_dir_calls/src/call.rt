@@ -13,6 +13,10 @@ use crate::{
     create, link, lookup, mkdir, mknod, readdir, readdirplus, readlink, remove, rename, rmdir,
     symlink,
 };
+use nfs_types::nfs_proc::{
+    CREATE, LINK, LOOKUP, MKDIR, MKNOD, READDIR, READDIRPLUS, READLINK, REMOVE, RENAME, RMDIR,
+    SYMLINK,
+};
 use nfs_types::{Handle, Name, SetAttr, Verf, write_handle};
 use std::alloc::Global;
 use xdr_codec::{Blob, CodecFault, Memory, Reader, Writer, XdrFault};
@@ -102,7 +106,21 @@ pub enum DirCall {
 pub fn is_dir_proc(proc: u32) -> bool
     ensures { IsTrue result ↔ IsDirProc proc }
 {
-    matches!(proc, 3 | 5 | 8..=17)
+    matches!(
+        proc,
+        LOOKUP
+            | READLINK
+            | CREATE
+            | MKDIR
+            | SYMLINK
+            | MKNOD
+            | REMOVE
+            | RMDIR
+            | RENAME
+            | LINK
+            | READDIR
+            | READDIRPLUS
+    )
 }
 
 /// The number of a call's procedure.
@@ -111,18 +129,18 @@ pub fn dir_proc(call: &DirCall) -> u32
     ensures known { IsDirProc result }
 {
     match call {
-        DirCall::Lookup { .. } => 3,
-        DirCall::ReadLink { .. } => 5,
-        DirCall::Create { .. } => 8,
-        DirCall::MkDir { .. } => 9,
-        DirCall::SymLink { .. } => 10,
-        DirCall::MkNod { .. } => 11,
-        DirCall::Remove { .. } => 12,
-        DirCall::RmDir { .. } => 13,
-        DirCall::Rename { .. } => 14,
-        DirCall::Link { .. } => 15,
-        DirCall::ReadDir { .. } => 16,
-        DirCall::ReadDirPlus { .. } => 17,
+        DirCall::Lookup { .. } => LOOKUP,
+        DirCall::ReadLink { .. } => READLINK,
+        DirCall::Create { .. } => CREATE,
+        DirCall::MkDir { .. } => MKDIR,
+        DirCall::SymLink { .. } => SYMLINK,
+        DirCall::MkNod { .. } => MKNOD,
+        DirCall::Remove { .. } => REMOVE,
+        DirCall::RmDir { .. } => RMDIR,
+        DirCall::Rename { .. } => RENAME,
+        DirCall::Link { .. } => LINK,
+        DirCall::ReadDir { .. } => READDIR,
+        DirCall::ReadDirPlus { .. } => READDIRPLUS,
     }
 }
 
@@ -144,18 +162,18 @@ fn call_of(alloc: Global, proc: u32, args: &[u8]) -> Result<DirCall, CodecFault>
     ensures { GivesOwned result (dir_call_at proc args.now) }
 {
     match proc {
-        3 => Ok(lookup::read_call(args)?),
-        5 => Ok(readlink::read_call(args)?),
-        8 => Ok(create::read_call(args)?),
-        9 => Ok(mkdir::read_call(args)?),
-        10 => symlink::read_call(alloc, args),
-        11 => Ok(mknod::read_call(args)?),
-        12 => Ok(remove::read_call(args)?),
-        13 => Ok(rmdir::read_call(args)?),
-        14 => Ok(rename::read_call(args)?),
-        15 => Ok(link::read_call(args)?),
-        16 => Ok(readdir::read_call(args)?),
-        17 => Ok(readdirplus::read_call(args)?),
+        LOOKUP => Ok(lookup::read_call(args)?),
+        READLINK => Ok(readlink::read_call(args)?),
+        CREATE => Ok(create::read_call(args)?),
+        MKDIR => Ok(mkdir::read_call(args)?),
+        SYMLINK => symlink::read_call(alloc, args),
+        MKNOD => Ok(mknod::read_call(args)?),
+        REMOVE => Ok(remove::read_call(args)?),
+        RMDIR => Ok(rmdir::read_call(args)?),
+        RENAME => Ok(rename::read_call(args)?),
+        LINK => Ok(link::read_call(args)?),
+        READDIR => Ok(readdir::read_call(args)?),
+        READDIRPLUS => Ok(readdirplus::read_call(args)?),
         _ => Err(CodecFault::Xdr(XdrFault::BadValue)),
     }
 }

@@ -133,8 +133,8 @@ impl<'a> DirPage<'a> {
         page_of(bytes)
     }
 
-    /// The same entries.
-    fn again(&self) -> DirPage<'a>
+    /// The same entries, from where this page stands, for a caller that has it by reference. No byte is copied.
+    pub fn again(&self) -> DirPage<'a>
         ensures { result ≡ self.now }
     {
         DirPage {

@@ -156,8 +156,8 @@ impl<'a> PlusPage<'a> {
         page_of(bytes)
     }
 
-    /// The same entries.
-    fn again(&self) -> PlusPage<'a>
+    /// The same entries, from where this page stands, for a caller that has it by reference. No byte is copied.
+    pub fn again(&self) -> PlusPage<'a>
         ensures { result ≡ self.now }
     {
         PlusPage {

@@ -17,6 +17,10 @@ use crate::{
     create, link, lookup, mkdir, mknod, readdir, readdirplus, readlink, remove, rename, rmdir,
     symlink,
 };
+use nfs_types::nfs_proc::{
+    CREATE, LINK, LOOKUP, MKDIR, MKNOD, READDIR, READDIRPLUS, READLINK, REMOVE, RENAME, RMDIR,
+    SYMLINK,
+};
 use nfs_types::{Attr, Handle, Status, Verf, Wcc};
 use xdr_codec::{Memory, Reader, Writer, XdrFault};
 
@@ -173,18 +177,18 @@ fn reply_of<'a>(proc: u32, results: &'a [u8]) -> Result<DirReply<'a>, XdrFault>
     ensures { Gives kept_of result (dir_reply_at proc results.entry.now) }
 {
     match proc {
-        3 => lookup::read_reply(results),
-        5 => readlink::read_reply(results),
-        8 => create::read_reply(results),
-        9 => mkdir::read_reply(results),
-        10 => symlink::read_reply(results),
-        11 => mknod::read_reply(results),
-        12 => remove::read_reply(results),
-        13 => rmdir::read_reply(results),
-        14 => rename::read_reply(results),
-        15 => link::read_reply(results),
-        16 => readdir::read_reply(results),
-        17 => readdirplus::read_reply(results),
+        LOOKUP => lookup::read_reply(results),
+        READLINK => readlink::read_reply(results),
+        CREATE => create::read_reply(results),
+        MKDIR => mkdir::read_reply(results),
+        SYMLINK => symlink::read_reply(results),
+        MKNOD => mknod::read_reply(results),
+        REMOVE => remove::read_reply(results),
+        RMDIR => rmdir::read_reply(results),
+        RENAME => rename::read_reply(results),
+        LINK => link::read_reply(results),
+        READDIR => readdir::read_reply(results),
+        READDIRPLUS => readdirplus::read_reply(results),
         _ => Err(XdrFault::BadValue),
     }
 }

@@ -6,6 +6,7 @@ use Rattle.xdr_codec.specs.Reading.{◌>>=◌}
 use Rattle.xdr_codec.specs.Whole.{whole_at}
 use Rattle.nfs_types.specs.Fields.{handle_at, handle_bytes}
 use Rattle.nfs_types.specs.Spells.{SpellsHandle}
+use Rattle.nfs_types.specs.declared.nfs_proc.TheConstants.{NULL, GETATTR, SETATTR, ACCESS, READ, WRITE, FSSTAT, FSINFO, PATHCONF, COMMIT}
 use Rattle.nfs_file_calls.specs.declared.call.FileCall.{FileCall}
 use Rattle.nfs_file_calls.specs.declared.call.FileCall.TheVariants as calls
 use Rattle.nfs_file_calls.specs.Attributes.{nothing_at, SpellsNothing, set_attr_args_at, set_attr_args_bytes, SpellsSetAttrArgs, access_args_at, access_args_bytes, SpellsAccessArgs}
@@ -13,21 +14,22 @@ use Rattle.nfs_file_calls.specs.Transfer.{write_args_at, write_args_bytes, Spell
 
 -- the procedure that a call names
 abbrev pub file_proc : FileCall → ℕ
-file_proc calls.Null = 0
-file_proc (calls.GetAttr file) = 1
-file_proc (calls.SetAttr file set guard) = 2
-file_proc (calls.Access file bits) = 4
-file_proc (calls.Read file offset count) = 6
-file_proc (calls.Write file offset how bytes) = 7
-file_proc (calls.FsStat file) = 18
-file_proc (calls.FsInfo file) = 19
-file_proc (calls.PathConf file) = 20
-file_proc (calls.Commit file offset count) = 21
+file_proc calls.Null = NULL
+file_proc (calls.GetAttr file) = GETATTR
+file_proc (calls.SetAttr file set guard) = SETATTR
+file_proc (calls.Access file bits) = ACCESS
+file_proc (calls.Read file offset count) = READ
+file_proc (calls.Write file offset how bytes) = WRITE
+file_proc (calls.FsStat file) = FSSTAT
+file_proc (calls.FsInfo file) = FSINFO
+file_proc (calls.PathConf file) = PATHCONF
+file_proc (calls.Commit file offset count) = COMMIT
 
 -- one of these procedures
 abbrev pub is_file_proc : ℕ → Bool
 is_file_proc proc =
-    (proc == 0) || (proc == 1) || (proc == 2) || (proc == 4) || (proc == 6) || (proc == 7) || (proc == 18) || (proc == 19) || (proc == 20) || (proc == 21)
+    (proc == NULL) || (proc == GETATTR) || (proc == SETATTR) || (proc == ACCESS) || (proc == READ) || (proc == WRITE) || (proc == FSSTAT) || (proc == FSINFO)
+    || (proc == PATHCONF) || (proc == COMMIT)
 
 abbrev pub IsFileProc : ℕ → Type 0
 IsFileProc proc = IsTrue (is_file_proc proc)
@@ -67,16 +69,16 @@ commit_call_at args = whole_at range_args_at args >>= λ v. Ok (calls.Commit v.f
 -- the call of a procedure, from all of the bytes
 abbrev pub file_call_at : ℕ → List ℕ → Result FileCall XdrFault
 file_call_at proc args =
-    if proc == 0 then null_call_at args else
-    (if proc == 1 then get_attr_call_at args else
-    (if proc == 2 then set_attr_call_at args else
-    (if proc == 4 then access_call_at args else
-    (if proc == 6 then read_call_at args else
-    (if proc == 7 then write_call_at args else
-    (if proc == 18 then fs_stat_call_at args else
-    (if proc == 19 then fs_info_call_at args else
-    (if proc == 20 then path_conf_call_at args else
-    (if proc == 21 then commit_call_at args else Err BadValue)))))))))
+    if proc == NULL then null_call_at args else
+    (if proc == GETATTR then get_attr_call_at args else
+    (if proc == SETATTR then set_attr_call_at args else
+    (if proc == ACCESS then access_call_at args else
+    (if proc == READ then read_call_at args else
+    (if proc == WRITE then write_call_at args else
+    (if proc == FSSTAT then fs_stat_call_at args else
+    (if proc == FSINFO then fs_info_call_at args else
+    (if proc == PATHCONF then path_conf_call_at args else
+    (if proc == COMMIT then commit_call_at args else Err BadValue)))))))))
 
 -- ---- spelling
 

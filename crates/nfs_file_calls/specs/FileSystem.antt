@@ -31,11 +31,24 @@ fs_stat_done_at bytes = do
   ffiles ← u64_at tfiles.1
   afiles ← u64_at ffiles.1
   invarsec ← u32_at afiles.1
-  Ok (record { attr = attr.0; tbytes = tbytes.0; fbytes = fbytes.0; abytes = abytes.0; tfiles = tfiles.0; ffiles = ffiles.0; afiles = afiles.0; invarsec = invarsec.0 }, invarsec.1)
+  Ok (
+    record {
+      attr = attr.0;
+      tbytes = tbytes.0;
+      fbytes = fbytes.0;
+      abytes = abytes.0;
+      tfiles = tfiles.0;
+      ffiles = ffiles.0;
+      afiles = afiles.0;
+      invarsec = invarsec.0;
+    },
+    invarsec.1,
+  )
 
 abbrev pub SpellsFsStatDone : FsStatDone → List ℕ → Type 0
 SpellsFsStatDone v =
-    SpellsOptAttr v.attr ⨾ SpellsU64 v.tbytes ⨾ SpellsU64 v.fbytes ⨾ SpellsU64 v.abytes ⨾ SpellsU64 v.tfiles ⨾ SpellsU64 v.ffiles ⨾ SpellsU64 v.afiles ⨾ SpellsU32 v.invarsec
+    SpellsOptAttr v.attr ⨾ SpellsU64 v.tbytes ⨾ SpellsU64 v.fbytes ⨾ SpellsU64 v.abytes ⨾ SpellsU64 v.tfiles ⨾ SpellsU64 v.ffiles ⨾ SpellsU64 v.afiles
+    ⨾ SpellsU32 v.invarsec
 
 -- a total, what is free and what is available
 unfoldable pub amounts_bytes : ℕ → ℕ → ℕ → List ℕ
@@ -74,7 +87,22 @@ fs_info_done_at bytes = do
   maxfilesize ← u64_at dtpref.1
   time_delta ← time_at maxfilesize.1
   properties ← u32_at time_delta.1
-  Ok (record { attr = attr.0; rtmax = rtmax.0; rtpref = rtpref.0; rtmult = rtmult.0; wtmax = wtmax.0; wtpref = wtpref.0; wtmult = wtmult.0; dtpref = dtpref.0; maxfilesize = maxfilesize.0; time_delta = time_delta.0; properties = properties.0 }, properties.1)
+  Ok (
+    record {
+      attr = attr.0;
+      rtmax = rtmax.0;
+      rtpref = rtpref.0;
+      rtmult = rtmult.0;
+      wtmax = wtmax.0;
+      wtpref = wtpref.0;
+      wtmult = wtmult.0;
+      dtpref = dtpref.0;
+      maxfilesize = maxfilesize.0;
+      time_delta = time_delta.0;
+      properties = properties.0;
+    },
+    properties.1,
+  )
 
 abbrev pub SpellsFsInfoDone : FsInfoDone → List ℕ → Type 0
 SpellsFsInfoDone v =
@@ -113,11 +141,23 @@ path_conf_done_at bytes = do
   chown_restricted ← flag_at no_trunc.1
   case_insensitive ← flag_at chown_restricted.1
   case_preserving ← flag_at case_insensitive.1
-  Ok (record { attr = attr.0; linkmax = linkmax.0; name_max = name_max.0; no_trunc = no_trunc.0; chown_restricted = chown_restricted.0; case_insensitive = case_insensitive.0; case_preserving = case_preserving.0 }, case_preserving.1)
+  Ok (
+    record {
+      attr = attr.0;
+      linkmax = linkmax.0;
+      name_max = name_max.0;
+      no_trunc = no_trunc.0;
+      chown_restricted = chown_restricted.0;
+      case_insensitive = case_insensitive.0;
+      case_preserving = case_preserving.0;
+    },
+    case_preserving.1,
+  )
 
 abbrev pub SpellsPathConfDone : PathConfDone → List ℕ → Type 0
 SpellsPathConfDone v =
-    SpellsOptAttr v.attr ⨾ SpellsU32 v.linkmax ⨾ SpellsU32 v.name_max ⨾ SpellsFlag v.no_trunc ⨾ SpellsFlag v.chown_restricted ⨾ SpellsFlag v.case_insensitive ⨾ SpellsFlag v.case_preserving
+    SpellsOptAttr v.attr ⨾ SpellsU32 v.linkmax ⨾ SpellsU32 v.name_max ⨾ SpellsFlag v.no_trunc ⨾ SpellsFlag v.chown_restricted ⨾ SpellsFlag v.case_insensitive
+    ⨾ SpellsFlag v.case_preserving
 
 -- the four rules
 unfoldable pub rules_bytes : Bool → Bool → Bool → Bool → List ℕ

@@ -12,6 +12,7 @@ use Rattle.nfs_types.specs.declared.attr.Attr.{Attr}
 use Rattle.nfs_types.specs.declared.wcc.Wcc.{Wcc}
 use Rattle.nfs_types.specs.Fields.{attr_at, attr_bytes, opt_attr_at, opt_attr_bytes, wcc_at, wcc_bytes}
 use Rattle.nfs_types.specs.Spells.{SpellsAttr, SpellsOptAttr, SpellsWcc}
+use Rattle.nfs_types.specs.declared.nfs_proc.TheConstants.{NULL, GETATTR, SETATTR, ACCESS, READ, WRITE, FSSTAT, FSINFO, PATHCONF, COMMIT}
 use Rattle.nfs_file_calls.specs.declared.reply.FileReply.{FileReply}
 use Rattle.nfs_file_calls.specs.declared.reply.FileReply.TheVariants as replies
 use Rattle.nfs_file_calls.specs.declared.owned.FileKept.{FileKept}
@@ -35,9 +36,11 @@ kept_of (replies.Write wcc count committed verf) = kept.Write wcc count committe
 kept_of (replies.WriteFail status wcc) = kept.WriteFail status wcc
 kept_of (replies.FsStat attr tbytes fbytes abytes tfiles ffiles afiles invarsec) = kept.FsStat attr tbytes fbytes abytes tfiles ffiles afiles invarsec
 kept_of (replies.FsStatFail status attr) = kept.FsStatFail status attr
-kept_of (replies.FsInfo attr rtmax rtpref rtmult wtmax wtpref wtmult dtpref maxfilesize time_delta properties) = kept.FsInfo attr rtmax rtpref rtmult wtmax wtpref wtmult dtpref maxfilesize time_delta properties
+kept_of (replies.FsInfo attr rtmax rtpref rtmult wtmax wtpref wtmult dtpref maxfilesize time_delta properties) =
+    kept.FsInfo attr rtmax rtpref rtmult wtmax wtpref wtmult dtpref maxfilesize time_delta properties
 kept_of (replies.FsInfoFail status attr) = kept.FsInfoFail status attr
-kept_of (replies.PathConf attr linkmax name_max no_trunc chown_restricted case_insensitive case_preserving) = kept.PathConf attr linkmax name_max no_trunc chown_restricted case_insensitive case_preserving
+kept_of (replies.PathConf attr linkmax name_max no_trunc chown_restricted case_insensitive case_preserving) =
+    kept.PathConf attr linkmax name_max no_trunc chown_restricted case_insensitive case_preserving
 kept_of (replies.PathConfFail status attr) = kept.PathConfFail status attr
 kept_of (replies.Commit wcc verf) = kept.Commit wcc verf
 kept_of (replies.CommitFail status wcc) = kept.CommitFail status wcc
@@ -135,16 +138,16 @@ commit_reply_at results = whole_at (arms_at commit_done_at wcc_at) results >>= �
 -- the reply to a procedure, from all of the bytes
 abbrev pub file_reply_at : ℕ → List ℕ → Result FileKept XdrFault
 file_reply_at proc results =
-    if proc == 0 then null_reply_at results else
-    (if proc == 1 then get_attr_reply_at results else
-    (if proc == 2 then set_attr_reply_at results else
-    (if proc == 4 then access_reply_at results else
-    (if proc == 6 then read_reply_at results else
-    (if proc == 7 then write_reply_at results else
-    (if proc == 18 then fs_stat_reply_at results else
-    (if proc == 19 then fs_info_reply_at results else
-    (if proc == 20 then path_conf_reply_at results else
-    (if proc == 21 then commit_reply_at results else Err BadValue)))))))))
+    if proc == NULL then null_reply_at results else
+    (if proc == GETATTR then get_attr_reply_at results else
+    (if proc == SETATTR then set_attr_reply_at results else
+    (if proc == ACCESS then access_reply_at results else
+    (if proc == READ then read_reply_at results else
+    (if proc == WRITE then write_reply_at results else
+    (if proc == FSSTAT then fs_stat_reply_at results else
+    (if proc == FSINFO then fs_info_reply_at results else
+    (if proc == PATHCONF then path_conf_reply_at results else
+    (if proc == COMMIT then commit_reply_at results else Err BadValue)))))))))
 
 -- ---- spelling
 
@@ -159,13 +162,46 @@ SpellsFileResults (kept.Access attr bits) = SpellsU32 0 ⨾ SpellsAccessDone (re
 SpellsFileResults (kept.AccessFail status attr) = SpellsStatus SpellsOptAttr status.0 attr
 SpellsFileResults (kept.Read attr count eof bytes) = SpellsU32 0 ⨾ SpellsReadDone (record { attr = attr; count = count; eof = eof; bytes = bytes })
 SpellsFileResults (kept.ReadFail status attr) = SpellsStatus SpellsOptAttr status.0 attr
-SpellsFileResults (kept.Write wcc count committed verf) = SpellsU32 0 ⨾ SpellsWriteDone (record { wcc = wcc; count = count; committed = committed; verf = verf })
+SpellsFileResults (kept.Write wcc count committed verf) =
+    SpellsU32 0 ⨾ SpellsWriteDone (record { wcc = wcc; count = count; committed = committed; verf = verf })
 SpellsFileResults (kept.WriteFail status wcc) = SpellsStatus SpellsWcc status.0 wcc
-SpellsFileResults (kept.FsStat attr tbytes fbytes abytes tfiles ffiles afiles invarsec) = SpellsU32 0 ⨾ SpellsFsStatDone (record { attr = attr; tbytes = tbytes; fbytes = fbytes; abytes = abytes; tfiles = tfiles; ffiles = ffiles; afiles = afiles; invarsec = invarsec })
+SpellsFileResults (kept.FsStat attr tbytes fbytes abytes tfiles ffiles afiles invarsec) =
+    SpellsU32 0 ⨾ SpellsFsStatDone (record {
+      attr = attr;
+      tbytes = tbytes;
+      fbytes = fbytes;
+      abytes = abytes;
+      tfiles = tfiles;
+      ffiles = ffiles;
+      afiles = afiles;
+      invarsec = invarsec;
+    })
 SpellsFileResults (kept.FsStatFail status attr) = SpellsStatus SpellsOptAttr status.0 attr
-SpellsFileResults (kept.FsInfo attr rtmax rtpref rtmult wtmax wtpref wtmult dtpref maxfilesize time_delta properties) = SpellsU32 0 ⨾ SpellsFsInfoDone (record { attr = attr; rtmax = rtmax; rtpref = rtpref; rtmult = rtmult; wtmax = wtmax; wtpref = wtpref; wtmult = wtmult; dtpref = dtpref; maxfilesize = maxfilesize; time_delta = time_delta; properties = properties })
+SpellsFileResults (kept.FsInfo attr rtmax rtpref rtmult wtmax wtpref wtmult dtpref maxfilesize time_delta properties) =
+    SpellsU32 0 ⨾ SpellsFsInfoDone (record {
+      attr = attr;
+      rtmax = rtmax;
+      rtpref = rtpref;
+      rtmult = rtmult;
+      wtmax = wtmax;
+      wtpref = wtpref;
+      wtmult = wtmult;
+      dtpref = dtpref;
+      maxfilesize = maxfilesize;
+      time_delta = time_delta;
+      properties = properties;
+    })
 SpellsFileResults (kept.FsInfoFail status attr) = SpellsStatus SpellsOptAttr status.0 attr
-SpellsFileResults (kept.PathConf attr linkmax name_max no_trunc chown_restricted case_insensitive case_preserving) = SpellsU32 0 ⨾ SpellsPathConfDone (record { attr = attr; linkmax = linkmax; name_max = name_max; no_trunc = no_trunc; chown_restricted = chown_restricted; case_insensitive = case_insensitive; case_preserving = case_preserving })
+SpellsFileResults (kept.PathConf attr linkmax name_max no_trunc chown_restricted case_insensitive case_preserving) =
+    SpellsU32 0 ⨾ SpellsPathConfDone (record {
+      attr = attr;
+      linkmax = linkmax;
+      name_max = name_max;
+      no_trunc = no_trunc;
+      chown_restricted = chown_restricted;
+      case_insensitive = case_insensitive;
+      case_preserving = case_preserving;
+    })
 SpellsFileResults (kept.PathConfFail status attr) = SpellsStatus SpellsOptAttr status.0 attr
 SpellsFileResults (kept.Commit wcc verf) = SpellsU32 0 ⨾ SpellsCommitDone (record { wcc = wcc; verf = verf })
 SpellsFileResults (kept.CommitFail status wcc) = SpellsStatus SpellsWcc status.0 wcc
@@ -209,11 +245,14 @@ file_reply_bytes (kept.Read attr count eof bytes) = u32_bytes 0 ++ read_done_byt
 file_reply_bytes (kept.ReadFail status attr) = u32_bytes status.0 ++ opt_attr_bytes attr
 file_reply_bytes (kept.Write wcc count committed verf) = u32_bytes 0 ++ write_done_bytes wcc count committed verf
 file_reply_bytes (kept.WriteFail status wcc) = u32_bytes status.0 ++ wcc_bytes wcc
-file_reply_bytes (kept.FsStat attr tbytes fbytes abytes tfiles ffiles afiles invarsec) = u32_bytes 0 ++ fs_stat_done_bytes attr tbytes fbytes abytes tfiles ffiles afiles invarsec
+file_reply_bytes (kept.FsStat attr tbytes fbytes abytes tfiles ffiles afiles invarsec) =
+    u32_bytes 0 ++ fs_stat_done_bytes attr tbytes fbytes abytes tfiles ffiles afiles invarsec
 file_reply_bytes (kept.FsStatFail status attr) = u32_bytes status.0 ++ opt_attr_bytes attr
-file_reply_bytes (kept.FsInfo attr rtmax rtpref rtmult wtmax wtpref wtmult dtpref maxfilesize time_delta properties) = u32_bytes 0 ++ fs_info_done_bytes attr rtmax rtpref rtmult wtmax wtpref wtmult dtpref maxfilesize time_delta properties
+file_reply_bytes (kept.FsInfo attr rtmax rtpref rtmult wtmax wtpref wtmult dtpref maxfilesize time_delta properties) =
+    u32_bytes 0 ++ fs_info_done_bytes attr rtmax rtpref rtmult wtmax wtpref wtmult dtpref maxfilesize time_delta properties
 file_reply_bytes (kept.FsInfoFail status attr) = u32_bytes status.0 ++ opt_attr_bytes attr
-file_reply_bytes (kept.PathConf attr linkmax name_max no_trunc chown_restricted case_insensitive case_preserving) = u32_bytes 0 ++ path_conf_done_bytes attr linkmax name_max no_trunc chown_restricted case_insensitive case_preserving
+file_reply_bytes (kept.PathConf attr linkmax name_max no_trunc chown_restricted case_insensitive case_preserving) =
+    u32_bytes 0 ++ path_conf_done_bytes attr linkmax name_max no_trunc chown_restricted case_insensitive case_preserving
 file_reply_bytes (kept.PathConfFail status attr) = u32_bytes status.0 ++ opt_attr_bytes attr
 file_reply_bytes (kept.Commit wcc verf) = u32_bytes 0 ++ commit_done_bytes wcc verf
 file_reply_bytes (kept.CommitFail status wcc) = u32_bytes status.0 ++ wcc_bytes wcc

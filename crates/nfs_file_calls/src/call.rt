@@ -15,6 +15,9 @@ use crate::read_back::spells_call;
 use crate::transfer::{
     read_commit_call, read_read_call, read_write_call, write_range_args, write_write_args,
 };
+use nfs_types::nfs_proc::{
+    ACCESS, COMMIT, FSINFO, FSSTAT, GETATTR, NULL, PATHCONF, READ, SETATTR, WRITE,
+};
 use nfs_types::{Handle, SetAttr, Time, write_handle};
 use std::alloc::Global;
 use xdr_codec::{Blob, CodecFault, Memory, Reader, Writer, XdrFault};
@@ -78,7 +81,10 @@ pub enum FileCall {
 pub fn is_file_proc(proc: u32) -> bool
     ensures { result ≡ is_file_proc proc }
 {
-    matches!(proc, 0 | 1 | 2 | 4 | 6 | 7 | 18 | 19 | 20 | 21)
+    matches!(
+        proc,
+        NULL | GETATTR | SETATTR | ACCESS | READ | WRITE | FSSTAT | FSINFO | PATHCONF | COMMIT
+    )
 }
 
 /// The number of the procedure that a call names.
@@ -87,16 +93,16 @@ pub fn file_proc(call: &FileCall) -> u32
     ensures known { IsFileProc result }
 {
     match call {
-        FileCall::Null => 0,
-        FileCall::GetAttr { .. } => 1,
-        FileCall::SetAttr { .. } => 2,
-        FileCall::Access { .. } => 4,
-        FileCall::Read { .. } => 6,
-        FileCall::Write { .. } => 7,
-        FileCall::FsStat { .. } => 18,
-        FileCall::FsInfo { .. } => 19,
-        FileCall::PathConf { .. } => 20,
-        FileCall::Commit { .. } => 21,
+        FileCall::Null => NULL,
+        FileCall::GetAttr { .. } => GETATTR,
+        FileCall::SetAttr { .. } => SETATTR,
+        FileCall::Access { .. } => ACCESS,
+        FileCall::Read { .. } => READ,
+        FileCall::Write { .. } => WRITE,
+        FileCall::FsStat { .. } => FSSTAT,
+        FileCall::FsInfo { .. } => FSINFO,
+        FileCall::PathConf { .. } => PATHCONF,
+        FileCall::Commit { .. } => COMMIT,
     }
 }
 
@@ -118,16 +124,16 @@ fn file_call(alloc: Global, proc: u32, args: &[u8]) -> Result<FileCall, CodecFau
     ensures { GivesOwned result (file_call_at proc args.now) }
 {
     match proc {
-        0 => read_null_call(args),
-        1 => read_get_attr_call(args),
-        2 => read_set_attr_call(args),
-        4 => read_access_call(args),
-        6 => read_read_call(args),
-        7 => read_write_call(alloc, args),
-        18 => read_fs_stat_call(args),
-        19 => read_fs_info_call(args),
-        20 => read_path_conf_call(args),
-        21 => read_commit_call(args),
+        NULL => read_null_call(args),
+        GETATTR => read_get_attr_call(args),
+        SETATTR => read_set_attr_call(args),
+        ACCESS => read_access_call(args),
+        READ => read_read_call(args),
+        WRITE => read_write_call(alloc, args),
+        FSSTAT => read_fs_stat_call(args),
+        FSINFO => read_fs_info_call(args),
+        PATHCONF => read_path_conf_call(args),
+        COMMIT => read_commit_call(args),
         _ => Err(CodecFault::Xdr(XdrFault::BadValue)),
     }
 }

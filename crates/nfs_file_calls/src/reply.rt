@@ -20,6 +20,9 @@ use crate::transfer::{
     read_commit_reply, read_read_reply, read_write_reply, write_commit_done, write_read_done,
     write_write_done,
 };
+use nfs_types::nfs_proc::{
+    ACCESS, COMMIT, FSINFO, FSSTAT, GETATTR, NULL, PATHCONF, READ, SETATTR, WRITE,
+};
 use nfs_types::{Attr, Status, Time, Verf, Wcc, write_attr, write_opt_attr, write_wcc};
 use xdr_codec::{Memory, Reader, Writer, XdrFault};
 
@@ -164,16 +167,16 @@ fn file_reply<'a>(proc: u32, results: &'a [u8]) -> Result<FileReply<'a>, XdrFaul
     ensures { Gives kept_of result (file_reply_at proc results.entry.now) }
 {
     match proc {
-        0 => read_null_reply(results),
-        1 => read_get_attr_reply(results),
-        2 => read_set_attr_reply(results),
-        4 => read_access_reply(results),
-        6 => read_read_reply(results),
-        7 => read_write_reply(results),
-        18 => read_fs_stat_reply(results),
-        19 => read_fs_info_reply(results),
-        20 => read_path_conf_reply(results),
-        21 => read_commit_reply(results),
+        NULL => read_null_reply(results),
+        GETATTR => read_get_attr_reply(results),
+        SETATTR => read_set_attr_reply(results),
+        ACCESS => read_access_reply(results),
+        READ => read_read_reply(results),
+        WRITE => read_write_reply(results),
+        FSSTAT => read_fs_stat_reply(results),
+        FSINFO => read_fs_info_reply(results),
+        PATHCONF => read_path_conf_reply(results),
+        COMMIT => read_commit_reply(results),
         _ => Err(XdrFault::BadValue),
     }
 }

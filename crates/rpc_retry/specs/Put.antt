@@ -1,5 +1,6 @@
 -- Making a call (RFC 5531, section 9).
 use Rattle.std.specs.Prelude.{◌≡◌, ℕ, List, length, ◌++◌, Result, Ok, Err, ◌==◌, if◌then◌else◌}
+use Rattle.nfs_types.specs.declared.program.TheConstants.{PROGRAM_VERSION}
 use Rattle.rpc_message.specs.declared.cred.Cred.{Cred}
 use Rattle.rpc_message.specs.declared.call.CallHead.{CallHead}
 use Rattle.rpc_message.specs.Call.{call_head_bytes}
@@ -11,7 +12,7 @@ use Rattle.rpc_retry.specs.Held.{Held, next_xid}
 
 -- a call of version 3 of a program
 abbrev pub call_head : ℕ → ℕ → ℕ → CallHead
-call_head xid prog proc = record { xid = xid; prog = prog; vers = 3; proc = proc }
+call_head xid prog proc = record { xid = xid; prog = prog; vers = PROGRAM_VERSION; proc = proc }
 
 -- the record of such a call and its arguments (RFC 5531, section 9)
 abbrev pub call_bytes : Cred → ℕ → ℕ → ℕ → List ℕ → List ℕ

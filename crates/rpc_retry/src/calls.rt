@@ -16,6 +16,7 @@ use crate::answers::{AfterFailure, PutFault, PutRefusal, Taken};
 use crate::table::{fail_all, oldest_given_up, place_of_due};
 use crate::waiting::Waiting;
 use indexmap::IndexMap;
+use nfs_types::PROGRAM_VERSION;
 use rpc_message::{CallHead, Cred, read_reply, write_call, xid_of};
 use std::alloc::Global;
 use std::marker::Model;
@@ -23,9 +24,6 @@ use xdr_codec::{Blob, Memory, Writer};
 
 /// How many calls may wait at a time.
 const IN_FLIGHT: usize = 32;
-
-/// The version of both programs, NFS and MOUNT (RFC 1813, section 2.1 and appendix I).
-const VERSION: u32 = 3;
 
 /// The calls that wait, in order of making, each for a purpose.
 #[derive(Drop)]
@@ -215,7 +213,7 @@ impl<P: Drop> Calls<P> {
         let head = CallHead {
             xid: self.next_xid(),
             prog,
-            vers: VERSION,
+            vers: PROGRAM_VERSION,
             proc,
         };
         let mut record = Writer::new(self.alloc);
