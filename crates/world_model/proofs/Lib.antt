@@ -9,6 +9,7 @@ pub mod Growth
 pub mod Histories
 pub mod HistoryExamples
 pub mod Lasting
+pub mod LateCopies
 pub mod LostExamples
 pub mod OperationExamples
 pub mod Places
@@ -16,7 +17,9 @@ pub mod PutExamples
 pub mod ReadExamples
 pub mod Served
 pub mod ServiceExamples
+pub mod StaleBodies
 pub mod Stamps
+pub mod ThriftExamples
 pub mod Verifiers
 pub mod WrongBodies
 pub mod OwnReads
