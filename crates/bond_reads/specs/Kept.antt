@@ -70,8 +70,11 @@ pub record Given (t : History) (f : List ℕ) (offset : ℕ) (bytes : List ℕ) 
 -- zeros between the file's end before that and the bytes, or the size, after it.
 pub data KeptByte (t : History) (f : List ℕ) : Stamp → ℕ → ℕ → Type 0 where
   read : (s : Stamp) (i v offset k : ℕ) (bytes : List ℕ) → Given t f offset bytes s → i ≡ offset + k → slice_get bytes k ≡ Some v → KeptByte t f s i v
-  written : (old s : Stamp) (i v offset counted k : ℕ) (bytes : List ℕ) → Written t f offset counted bytes old s → i ≡ offset + k → k < counted → slice_get bytes k ≡ Some v → KeptByte t f s i v
-  beside : (old s : Stamp) (i v offset counted : ℕ) (bytes : List ℕ) → KeptByte t f old i v → Written t f offset counted bytes old s → (i < offset) ⊎ (offset + counted ≤ i) → KeptByte t f s i v
+  written : (old s : Stamp) (i v offset counted k : ℕ) (bytes : List ℕ) → Written t f offset counted bytes old s → i ≡ offset + k → k < counted
+      → slice_get bytes k ≡ Some v → KeptByte t f s i v
+  beside : (old s : Stamp) (i v offset counted : ℕ) (bytes : List ℕ) → KeptByte t f old i v → Written t f offset counted bytes old s
+      → (i < offset) ⊎ (offset + counted ≤ i) → KeptByte t f s i v
   below : (old s : Stamp) (i v size : ℕ) → KeptByte t f old i v → Sized t f size old s → i < size → KeptByte t f s i v
-  gap : (old s : Stamp) (i v offset counted : ℕ) (bytes : List ℕ) → Written t f offset counted bytes old s → 1 ≤ counted → old.size ≤ i → i < offset → v ≡ 0 → KeptByte t f s i v
+  gap : (old s : Stamp) (i v offset counted : ℕ) (bytes : List ℕ) → Written t f offset counted bytes old s → 1 ≤ counted → old.size ≤ i → i < offset → v ≡ 0
+      → KeptByte t f s i v
   grown : (old s : Stamp) (i v size : ℕ) → Sized t f size old s → old.size ≤ i → i < size → v ≡ 0 → KeptByte t f s i v

@@ -26,7 +26,8 @@ file_said (Err fault) = Err (faults.Bad 2)
 -- by the procedure; a number that no procedure has spells nothing
 abbrev pub said_in : ℕ → List ℕ → Result Reply Fault
 said_in proc results =
-    if is_dir_proc proc then dir_said (dir_reply_at proc results) else (if is_file_proc proc then file_said (file_reply_at proc results) else Err (faults.Bad 2))
+    if is_dir_proc proc then dir_said (dir_reply_at proc results) else (if is_file_proc proc then file_said (file_reply_at proc results)
+    else Err (faults.Bad 2))
 
 -- ---- what is spelled
 

@@ -42,4 +42,5 @@ pub record IsDecided (upto : ℕ) (verf : Verf) (old new : FilePending) : Type 0
 
 -- all that the server has of a file, of writes with a number up to another, it has under this verifier
 abbrev pub IsAllUnder : ℕ → Verf → FilePending → Type 0
-IsAllUnder upto verf of = (place : ℕ) (cell : Cell) (held : Verf) → rest_at of place ≡ Some cell → cell.state ≡ Acked held → cell.number ≤ upto → same_verf held verf ≡ true
+IsAllUnder upto verf of = (place : ℕ) (cell : Cell) (held : Verf) → rest_at of place ≡ Some cell → cell.state ≡ Acked held → cell.number ≤ upto
+    → same_verf held verf ≡ true

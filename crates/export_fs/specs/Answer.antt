@@ -120,14 +120,18 @@ dir_refused nodes number (dirs.ReadDirPlus dir cookie verf dircount maxcount) = 
 abbrev pub dir_answer : View → View → DirCall → DirKept
 dir_answer old new (dirs.Lookup dir name) = lookup_answer new.nodes dir (named new.nodes dir name)
 dir_answer old new (dirs.ReadLink file) = read_link_answer new.nodes file (text_in (object new.nodes file))
-dir_answer old new (dirs.Create dir name making) = found.Create (found_handle (named new.nodes dir name)) (attr_at new.nodes (named new.nodes dir name)) (wcc old.nodes new.nodes dir)
-dir_answer old new (dirs.MkDir dir name set) = found.MkDir (found_handle (named new.nodes dir name)) (attr_at new.nodes (named new.nodes dir name)) (wcc old.nodes new.nodes dir)
-dir_answer old new (dirs.SymLink dir name set target) = found.SymLink (found_handle (named new.nodes dir name)) (attr_at new.nodes (named new.nodes dir name)) (wcc old.nodes new.nodes dir)
+dir_answer old new (dirs.Create dir name making) =
+    found.Create (found_handle (named new.nodes dir name)) (attr_at new.nodes (named new.nodes dir name)) (wcc old.nodes new.nodes dir)
+dir_answer old new (dirs.MkDir dir name set) =
+    found.MkDir (found_handle (named new.nodes dir name)) (attr_at new.nodes (named new.nodes dir name)) (wcc old.nodes new.nodes dir)
+dir_answer old new (dirs.SymLink dir name set target) =
+    found.SymLink (found_handle (named new.nodes dir name)) (attr_at new.nodes (named new.nodes dir name)) (wcc old.nodes new.nodes dir)
 dir_answer old new (dirs.Remove dir name) = found.Remove (wcc old.nodes new.nodes dir)
 dir_answer old new (dirs.RmDir dir name) = found.RmDir (wcc old.nodes new.nodes dir)
 dir_answer old new (dirs.Rename dir name to_dir to) = found.Rename (wcc old.nodes new.nodes dir) (wcc old.nodes new.nodes to_dir)
 dir_answer old new (dirs.Link file dir name) = found.Link (attr new.nodes file) (wcc old.nodes new.nodes dir)
-dir_answer old new (dirs.ReadDirPlus dir cookie verf dircount maxcount) = list_answer new.nodes dir (most_page maxcount) (rows_after cookie (rows_in (object new.nodes dir)))
+dir_answer old new (dirs.ReadDirPlus dir cookie verf dircount maxcount) =
+    list_answer new.nodes dir (most_page maxcount) (rows_after cookie (rows_in (object new.nodes dir)))
 dir_answer old new (dirs.MkNod dir name node) = dir_refused new.nodes 10004 (dirs.MkNod dir name node)
 dir_answer old new (dirs.ReadDir dir cookie verf count) = dir_refused new.nodes 10004 (dirs.ReadDir dir cookie verf count)
 

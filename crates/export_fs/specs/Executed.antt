@@ -21,10 +21,14 @@ refusal view (calls.Mount call) = 0
 
 -- a call that is refused changes nothing
 abbrev pub file_executed : View → FileCall → View × FileKept
-file_executed view call = if file_refusal view call == 0 then (after_file view call, file_answer view (after_file view call) call) else (view, file_refused view.nodes (file_refusal view call) call)
+file_executed view call =
+    if file_refusal view call == 0 then (after_file view call, file_answer view (after_file view call) call)
+    else (view, file_refused view.nodes (file_refusal view call) call)
 
 abbrev pub dir_executed : View → DirCall → View × DirKept
-dir_executed view call = if dir_refusal view call == 0 then (after_dir view call, dir_answer view (after_dir view call) call) else (view, dir_refused view.nodes (dir_refusal view call) call)
+dir_executed view call =
+    if dir_refusal view call == 0 then (after_dir view call, dir_answer view (after_dir view call) call)
+    else (view, dir_refused view.nodes (dir_refusal view call) call)
 
 abbrev pub executed : View → Call → View × Reply
 executed view (calls.File call) = ((file_executed view call).0, replies.File (file_executed view call).1)

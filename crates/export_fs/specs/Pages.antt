@@ -13,7 +13,8 @@ rows_after cookie rows = filter (λ (row : Row). nat_lt cookie row.cookie) rows
 
 -- an entry with the attributes and the file handle of its object
 abbrev pub listed : List Node → Row → PlusRow
-listed nodes row = record { fileid = row.place + 1; name = row.name; cookie = row.cookie; attr = attr_at nodes (Some row.place); found = Some (handle_of row.place) }
+listed nodes row =
+    record { fileid = row.place + 1; name = row.name; cookie = row.cookie; attr = attr_at nodes (Some row.place); found = Some (handle_of row.place) }
 
 -- the bytes of an entry's spelling, with the word 1 before it
 abbrev pub spelled_size : PlusRow → ℕ
@@ -26,7 +27,8 @@ most_page maxcount = min maxcount 65536
 -- the entries that fit so many bytes, of which some are used
 abbrev pub fitting : List Node → ℕ → ℕ → List Row → List PlusRow
 fitting nodes limit used [] = []
-fitting nodes limit used (row ∷ rows) = if nat_le (used + spelled_size (listed nodes row)) limit then listed nodes row ∷ fitting nodes limit (used + spelled_size (listed nodes row)) rows else []
+fitting nodes limit used (row ∷ rows) =
+    if nat_le (used + spelled_size (listed nodes row)) limit then listed nodes row ∷ fitting nodes limit (used + spelled_size (listed nodes row)) rows else []
 
 -- a page: the first entry, and those after it that fit
 abbrev pub page_of : List Node → ℕ → List Row → List PlusRow

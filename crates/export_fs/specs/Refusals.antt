@@ -167,7 +167,8 @@ abbrev pub is_no_file : List Node → Option ℕ → Bool
 is_no_file nodes place = is_some place && not (kind_at nodes place == 1)
 
 abbrev pub is_one_a_dir : List Node → Option ℕ → Option ℕ → Bool
-is_one_a_dir nodes moved target = if is_none target then false else if kind_at nodes moved == 2 then not (kind_at nodes target == 2) else kind_at nodes target == 2
+is_one_a_dir nodes moved target =
+    if is_none target then false else if kind_at nodes moved == 2 then not (kind_at nodes target == 2) else kind_at nodes target == 2
 
 abbrev pub is_made : List Node → List ℕ → List ℕ → Making → Bool
 is_made nodes dir name (makings.Unchecked set) = is_own_name name || is_no_file nodes (named nodes dir name)
@@ -196,7 +197,8 @@ is_filled_at nodes place = is_filled (rows_in (at_place nodes place))
 
 abbrev pub is_not_empty : List Node → DirCall → Bool
 is_not_empty nodes (dirs.RmDir dir name) = is_filled_at nodes (named nodes dir name)
-is_not_empty nodes (dirs.Rename dir name to_dir to) = not (same_place (named nodes dir name) (named nodes to_dir to)) && is_filled_at nodes (named nodes to_dir to)
+is_not_empty nodes (dirs.Rename dir name to_dir to) =
+    not (same_place (named nodes dir name) (named nodes to_dir to)) && is_filled_at nodes (named nodes to_dir to)
 is_not_empty nodes call = false
 
 -- 27, FBIG: the size of a CREATE would end past the most bytes

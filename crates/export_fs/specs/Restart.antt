@@ -25,7 +25,8 @@ restarted number node = record node { mtime = number; ctime = number; holds = st
 -- the objects after a restart: each such file in order of making takes the next number
 abbrev pub all_restarted : ℕ → List Node → List Node
 all_restarted counter [] = []
-all_restarted counter (node ∷ nodes) = if is_unsteady node then restarted (counter + 1) node ∷ all_restarted (counter + 1) nodes else node ∷ all_restarted counter nodes
+all_restarted counter (node ∷ nodes) =
+    if is_unsteady node then restarted (counter + 1) node ∷ all_restarted (counter + 1) nodes else node ∷ all_restarted counter nodes
 
 -- how many numbers a restart takes
 abbrev pub numbers_taken : List Node → ℕ

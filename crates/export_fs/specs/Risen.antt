@@ -14,7 +14,8 @@ use Rattle.export_fs.specs.Seen.{server_of}
 
 -- an object that differs has a ctime above each number that was taken before
 abbrev pub TakesNew : View → View → Type 0
-TakesNew v w = (f : List ℕ) (old new : Object) → (server_of v).object f ≡ Some old → (server_of w).object f ≡ Some new → Differs old new → v.counter < new.attr.ctime.seconds
+TakesNew v w = (f : List ℕ) (old new : Object) → (server_of v).object f ≡ Some old → (server_of w).object f ≡ Some new → Differs old new
+    → v.counter < new.attr.ctime.seconds
 
 -- an entry that tells of an executed READDIR or READDIRPLUS has a page that rises
 abbrev pub PageRises : View → Entry → Type 0
@@ -22,4 +23,5 @@ PageRises v e = (xid : ℕ) (call : Call) (reply : Reply) → e ≡ entries.Exec
 
 -- each page in a history was of the directory as it then was; `replay` gives the view that entries lead to
 abbrev pub PagesRise : (View → List Entry → View) → View → List Entry → Type 0
-PagesRise replay v list = (n xid : ℕ) (call : Call) (reply : Reply) → At list n (entries.Executed xid call reply) → RisesAt (server_of (replay v (take n list))) call reply
+PagesRise replay v list = (n xid : ℕ) (call : Call) (reply : Reply) → At list n (entries.Executed xid call reply)
+    → RisesAt (server_of (replay v (take n list))) call reply

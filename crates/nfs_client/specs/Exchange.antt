@@ -42,13 +42,15 @@ pub record WaitsTrue (h : List Entry) (at x : ℕ) (record_sent : List ℕ) (n :
   pub run : DropRun h n (length h)
 
 -- what was done, where no call waits after it, or why it came to no end
-abbrev pub ComesTo : {T : Type 0} → (T → List Entry → List Entry → Type 0) → (Halt → List Entry → List Entry → Type 0) → CallsView → Result T Halt → List Entry → List Entry → Type 0
+abbrev pub ComesTo : {T : Type 0} → (T → List Entry → List Entry → Type 0) → (Halt → List Entry → List Entry → Type 0) → CallsView → Result T Halt
+    → List Entry → List Entry → Type 0
 ComesTo Done Halted new (Ok v) h k = IdleTrue k new × Done v h k
 ComesTo Done Halted new (Err halt) h k = SentTrue k new × Halted halt h k
 
 -- What calls of a link and of a session's own lead from and to. P is true of each record that was sent on the way;
 -- where no call waited before, Done holds at the end, or Halted where there was none.
-pub record Goes {T : Type 0} (P : List Entry → ℕ → List ℕ → Type 0) (Done : T → List Entry → List Entry → Type 0) (Halted : Halt → List Entry → List Entry → Type 0)
+pub record Goes {T : Type 0} (P : List Entry → ℕ → List ℕ → Type 0) (Done : T → List Entry → List Entry → Type 0)
+    (Halted : Halt → List Entry → List Entry → Type 0)
     (old new : CallsView) (result : Result T Halt) (h k : List Entry) : Type 0 where
   pub same : marks k ≡ marks h
   pub sends : (i : ℕ) (b : List ℕ) → At k i (Sent b) → At h i (Sent b) ⊎ ((length h ≤ i) × P k i b)
@@ -122,7 +124,8 @@ pub record IsCauseOf (before now : ℕ) (es : List Entry) : Type 0 where
 -- the record was sent, and its call waits; or the link was lost, or memory ran out before anything was sent
 abbrev pub SendsTo : Call → List ℕ → CallsView → CallsView → Result (Unit {0}) Halt → List Entry → List Entry → Type 0
 SendsTo call bytes old new (Ok u) h k = (at : ℕ) × (length h ≤ at) × WaitsTrue k at (old.first + old.made) bytes 0 × SentTrue k new
-SendsTo call bytes old new (Err (halts.Refused fault)) h k = (fault ≡ faults.Lost) × (fails k ≡ true) × ((at : ℕ) × (length h ≤ at) × WaitsTrue k at (old.first + old.made) bytes 0 × SentTrue k new)
+SendsTo call bytes old new (Err (halts.Refused fault)) h k = (fault ≡ faults.Lost) × (fails k ≡ true)
+    × ((at : ℕ) × (length h ≤ at) × WaitsTrue k at (old.first + old.made) bytes 0 × SentTrue k new)
 SendsTo call bytes old new (Err halts.Memory) h k = SentTrue k new
 
 pub record SendsAs (call : Call) (bytes : List ℕ) (old new : CallsView) (result : Result (Unit {0}) Halt) (h k : List Entry) : Type 0 where
@@ -132,8 +135,10 @@ pub record SendsAs (call : Call) (bytes : List ℕ) (old new : CallsView) (resul
 
 -- the record under the xid came; or the link was lost, or memory ran out
 abbrev pub ListensTo : ℕ → ℕ → List ℕ → Result (List ℕ) Halt → List Entry → Type 0
-ListensTo at x record_sent (Ok bytes) k = (call : Call) → SpellsCall x call record_sent → Heard k at (length k) call x bytes × ((i y : ℕ) (b : List ℕ) → At k i (Sent b) → HasXid b y → WasAnswered k i y)
-ListensTo at x record_sent (Err (halts.Refused fault)) k = (fault ≡ faults.Lost) × LostShown (fails k ≡ true) k (length k) × ((n : ℕ) × WaitsTrue k at x record_sent n)
+ListensTo at x record_sent (Ok bytes) k = (call : Call) → SpellsCall x call record_sent
+    → Heard k at (length k) call x bytes × ((i y : ℕ) (b : List ℕ) → At k i (Sent b) → HasXid b y → WasAnswered k i y)
+ListensTo at x record_sent (Err (halts.Refused fault)) k = (fault ≡ faults.Lost) × LostShown (fails k ≡ true) k (length k)
+    × ((n : ℕ) × WaitsTrue k at x record_sent n)
 ListensTo at x record_sent (Err halts.Memory) k = Unit {0}
 
 pub record ListensAs (xid : ℕ) (result : Result (List ℕ) Halt) (h k : List Entry) : Type 0 where

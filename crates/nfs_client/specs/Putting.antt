@@ -35,7 +35,8 @@ pub record IsBuilt (op : Op) : Type 0 where
 
 -- LOOKUP gave the file
 abbrev pub FoundSo : List ℕ → List ℕ → List ℕ → List Entry → List Entry → Type 0
-FoundSo dir name file h k = (attr : Option Attr) × (of : Option Attr) × Asked k (length h) (length k) (calls.Dir (dirs.Lookup dir name)) (replies.Dir (found.Lookup file attr of))
+FoundSo dir name file h k = (attr : Option Attr) × (of : Option Attr) × Asked k (length h) (length k) (calls.Dir (dirs.Lookup dir name))
+    (replies.Dir (found.Lookup file attr of))
 
 abbrev pub LooksUp : List ℕ → List ℕ → CallsView → CallsView → Result (List ℕ) Halt → List Entry → List Entry → Type 0
 LooksUp dir name old new result h k = Called (FoundSo dir name) (calls.Dir (dirs.Lookup dir name)) old new result h k
@@ -78,7 +79,8 @@ AllWritten p file n u h k = WrittenTo k (length h) (length k) p file n
 -- of any put of these bytes at this offset, which found the file before
 abbrev pub WritesTo : List ℕ → ℕ → List ℕ → ℕ → ℕ → CallsView → CallsView → Result (Unit {0}) Halt → List Entry → List Entry → Type 0
 WritesTo file offset bytes wsize n old new result h k =
-    (p : PutOf) (from : ℕ) → p.offset ≡ offset → p.bytes ≡ bytes → from ≤ length h → Found h from (length h) p file → Goes (PutSent old wsize p from) (AllWritten p file n) (PutHalts old wsize p from) old new result h k
+    (p : PutOf) (from : ℕ) → p.offset ≡ offset → p.bytes ≡ bytes → from ≤ length h → Found h from (length h) p file
+    → Goes (PutSent old wsize p from) (AllWritten p file n) (PutHalts old wsize p from) old new result h k
 
 abbrev pub WritesAll : List ℕ → ℕ → List ℕ → ℕ → CallsView → CallsView → Result (Unit {0}) Halt → List Entry → List Entry → Type 0
 WritesAll file offset bytes wsize old new result h k = WritesTo file offset bytes wsize (length bytes) old new result h k
@@ -90,4 +92,5 @@ PutDone p from u h k = OkShown k from (length k) p
 -- of any put that the operation asks for in the root, where no call waits before
 abbrev pub Puts : List ℕ → ℕ → Op → CallsView → CallsView → Result (Unit {0}) Halt → List Entry → List Entry → Type 0
 Puts root wsize op old new result h k =
-    (p : PutOf) (from : ℕ) → IsPutOf op p → p.root ≡ root → from ≤ length h → IdleTrue h old → Goes (PutSent old wsize p from) (PutDone p from) (PutHalts old wsize p from) old new result h k
+    (p : PutOf) (from : ℕ) → IsPutOf op p → p.root ≡ root → from ≤ length h → IdleTrue h old
+    → Goes (PutSent old wsize p from) (PutDone p from) (PutHalts old wsize p from) old new result h k

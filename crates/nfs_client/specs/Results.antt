@@ -51,7 +51,8 @@ ResultsIn x rec (Err fault) = ⊥
 
 -- LOOKUP of a name in a directory found the file, or was refused
 abbrev pub LookupHeard : ℕ → List ℕ → List ℕ → List ℕ → Result (List ℕ) Fault → Type 0
-LookupHeard x dir name rec (Ok file) = (attr : Option Attr) × (of : Option Attr) × SpellsReply x (calls.Dir (dirs.Lookup dir name)) (replies.Dir (found.Lookup file attr of)) rec
+LookupHeard x dir name rec (Ok file) = (attr : Option Attr) × (of : Option Attr)
+    × SpellsReply x (calls.Dir (dirs.Lookup dir name)) (replies.Dir (found.Lookup file attr of)) rec
 LookupHeard x dir name rec (Err fault) = Refuses x (calls.Dir (dirs.Lookup dir name)) rec fault
 
 -- UNSTABLE WRITE of the bytes wrote so many of them, 1 at least, or was refused
@@ -128,11 +129,14 @@ FoundBy results (Err fault) = ⊥
 -- WRITE of so many bytes: some are written, or the status, the spelling, the committed or the count refuses
 pub data BadWrite (size : ℕ) (results : List ℕ) (n : ℕ) : Type 0 where
   unspelled : n ≡ 2 → NoFileReply 7 results → BadWrite size results n
-  wrong_committed : n ≡ 3 → (wcc : Wcc) (count committed : ℕ) (verf : Verf) → SpellsFileReply 7 (kept.Write wcc count committed verf) results → 2 < committed → BadWrite size results n
-  wrong_count : n ≡ 4 → (wcc : Wcc) (count committed : ℕ) (verf : Verf) → SpellsFileReply 7 (kept.Write wcc count committed verf) results → (count ≡ 0) ⊎ (size < count) → BadWrite size results n
+  wrong_committed : n ≡ 3 → (wcc : Wcc) (count committed : ℕ) (verf : Verf) → SpellsFileReply 7 (kept.Write wcc count committed verf) results → 2 < committed
+      → BadWrite size results n
+  wrong_count : n ≡ 4 → (wcc : Wcc) (count committed : ℕ) (verf : Verf) → SpellsFileReply 7 (kept.Write wcc count committed verf) results
+      → (count ≡ 0) ⊎ (size < count) → BadWrite size results n
 
 abbrev pub WrittenBy : ℕ → List ℕ → Result ℕ Fault → Type 0
-WrittenBy size results (Ok count) = (wcc : Wcc) × (committed : ℕ) × (verf : Verf) × SpellsFileReply 7 (kept.Write wcc count committed verf) results × (1 ≤ count) × (count ≤ size)
+WrittenBy size results (Ok count) = (wcc : Wcc) × (committed : ℕ) × (verf : Verf) × SpellsFileReply 7 (kept.Write wcc count committed verf) results
+    × (1 ≤ count) × (count ≤ size)
 WrittenBy size results (Err (faults.Nfs n)) = FileRefuses 7 results n
 WrittenBy size results (Err (faults.Bad n)) = BadWrite size results n
 WrittenBy size results (Err fault) = ⊥
@@ -160,7 +164,8 @@ GrantedBy reply result = result ≡ Err (faults.Bad 2)
 
 -- FSINFO: the sizes are told, or the status or the spelling refuses
 abbrev pub InformedBy : List ℕ → Result ℕ Fault → Type 0
-InformedBy results (Ok wtmax) = (attr : Option Attr) × (rtmax : ℕ) × (rtpref : ℕ) × (rtmult : ℕ) × (wtpref : ℕ) × (wtmult : ℕ) × (dtpref : ℕ) × (maxfilesize : ℕ) × (delta : Time) × (properties : ℕ)
+InformedBy results (Ok wtmax) = (attr : Option Attr) × (rtmax : ℕ) × (rtpref : ℕ) × (rtmult : ℕ) × (wtpref : ℕ) × (wtmult : ℕ) × (dtpref : ℕ)
+    × (maxfilesize : ℕ) × (delta : Time) × (properties : ℕ)
     × SpellsFileReply 19 (kept.FsInfo attr rtmax rtpref rtmult wtmax wtpref wtmult dtpref maxfilesize delta properties) results
 InformedBy results (Err (faults.Nfs n)) = FileRefuses 19 results n
 InformedBy results (Err (faults.Bad n)) = (n ≡ 2) × NoFileReply 19 results

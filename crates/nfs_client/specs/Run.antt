@@ -57,7 +57,8 @@ pub data MountUnrefused (terms : Terms) (h : List Entry) (to : ℕ) : Type 0 whe
 -- The row of the answer: the put was done, or refused, in the root that the session has; or the session was lost before
 -- it began.
 pub data Shown (cause : Type 0) (terms : Terms) (h : List Entry) (from to : ℕ) (p : PutOf) (answer : Answer) : Type 0 where
-  worked : (wsize : ℕ) → Rooted terms.origin h from p.root → Sized h from p.root terms.size wsize → AnswerShown cause (limits_in terms wsize) h from to p answer → Shown cause terms h from to p answer
+  worked : (wsize : ℕ) → Rooted terms.origin h from p.root → Sized h from p.root terms.size wsize
+      → AnswerShown cause (limits_in terms wsize) h from to p answer → Shown cause terms h from to p answer
   lost_before : (lost_by : ℕ) → lost_by ≤ from → answer ≡ answers.Refused faults.Lost → LostShown cause h lost_by → Shown cause terms h from to p answer
 
 -- the operation began right after the time was noted
@@ -136,8 +137,10 @@ final_text count h = transcript h ++ (if count then tally_text (tally_of h) else
 -- The operation was answered, the status is that of its answer and the text is all of it; or the mount was refused; or
 -- the session was cut off, and the text is a front of it.
 pub data EndsAs (cause : Type 0) (terms : Terms) (count : Bool) (op : Op) (h : List Entry) (status : ℕ) (text : List ℕ) : Type 0 where
-  answered : (answer : Answer) → AnsweredSo cause terms op h answer → status ≡ status_of answer → text ≡ final_text count h → EndsAs cause terms count op h status text
-  answered_cut : (answer : Answer) → AnsweredSo cause terms op h answer → IsCutOff status → IsFront text (final_text count h) → EndsAs cause terms count op h status text
+  answered : (answer : Answer) → AnsweredSo cause terms op h answer → status ≡ status_of answer → text ≡ final_text count h
+      → EndsAs cause terms count op h status text
+  answered_cut : (answer : Answer) → AnsweredSo cause terms op h answer → IsCutOff status → IsFront text (final_text count h)
+      → EndsAs cause terms count op h status text
   refused : (fault : Fault) → MountRefusedSo terms h fault → status ≡ 8 → text ≡ mount_text fault → EndsAs cause terms count op h status text
   refused_cut : (fault : Fault) → MountRefusedSo terms h fault → IsCutOff status → IsFront text (mount_text fault) → EndsAs cause terms count op h status text
   unanswered : NotAnswered op h → IsCutOff status → text ≡ [] → EndsAs cause terms count op h status text
@@ -213,7 +216,8 @@ pub data Unbegun (left : Option (List ℕ)) (status : ℕ) (text : List ℕ) : T
 -- script asks for, by the settings that the words give. The clock gave these readings.
 pub data RunIs (cause : Type 0) (given : List ℕ) (words : List (List ℕ)) (left : Option (List ℕ)) (h : List Entry) (status : ℕ) (text : List ℕ) : Type 0 where
   unbegun : h ≡ [] → Unbegun left status text → RunIs cause given words left h status text
-  session : (s : Settings) (op : Op) → IsCommand words s → AsksFor left op → SessionBy cause given s op h status text → RunIs cause given words left h status text
+  session : (s : Settings) (op : Op) → IsCommand words s → AsksFor left op → SessionBy cause given s op h status text
+      → RunIs cause given words left h status text
 
 -- no operation was answered: the words or the script were refused, the source failed, or the session was cut off
 abbrev pub Refuses : ℕ → Type 0

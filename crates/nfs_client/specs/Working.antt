@@ -91,7 +91,8 @@ pub record WorkedSo (v : Option SetUp) (ms : ℕ) (op : Op) (c : CallsView) (p :
 
 -- nothing was noted, or the time, or that the operation began right after it
 abbrev pub BreaksOff : ℕ → Op → List Entry → List Entry → Type 0
-BreaksOff ms op h k = (marks k ≡ marks h) ⊎ ((marks k ≡ marks h ++ Clock ms ∷ []) ⊎ ((marks k ≡ marks h ++ Clock ms ∷ Began 1 1 op ∷ []) × ((from : ℕ) × BeganAt k op from ms)))
+BreaksOff ms op h k = (marks k ≡ marks h) ⊎ ((marks k ≡ marks h ++ Clock ms ∷ [])
+    ⊎ ((marks k ≡ marks h ++ Clock ms ∷ Began 1 1 op ∷ []) × ((from : ℕ) × BeganAt k op from ms)))
 
 abbrev pub WorksTo : Option SetUp → ℕ → Op → CallsView → PutOf → Result Ended Memory → List Entry → List Entry → Type 0
 WorksTo v ms op c p (Ok (ends.Answered answer tally)) h k = WorkedSo v ms op c p answer tally h k

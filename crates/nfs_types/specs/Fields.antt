@@ -67,7 +67,25 @@ attr_at bytes = do
   atime ← time_at fileid.1
   mtime ← time_at atime.1
   ctime ← time_at mtime.1
-  Ok (record { kind = kind.0; mode = mode.0; nlink = nlink.0; uid = uid.0; gid = gid.0; size = size.0; used = used.0; rdev_major = rdev_major.0; rdev_minor = rdev_minor.0; fsid = fsid.0; fileid = fileid.0; atime = atime.0; mtime = mtime.0; ctime = ctime.0 }, ctime.1)
+  Ok (
+    record {
+      kind = kind.0;
+      mode = mode.0;
+      nlink = nlink.0;
+      uid = uid.0;
+      gid = gid.0;
+      size = size.0;
+      used = used.0;
+      rdev_major = rdev_major.0;
+      rdev_minor = rdev_minor.0;
+      fsid = fsid.0;
+      fileid = fileid.0;
+      atime = atime.0;
+      mtime = mtime.0;
+      ctime = ctime.0;
+    },
+    ctime.1,
+  )
 
 -- its kind, mode, links and owners
 unfoldable pub owner_bytes : Attr → List ℕ
@@ -155,4 +173,5 @@ set_attr_at bytes = do
   Ok (record { mode = mode.0; uid = uid.0; gid = gid.0; size = size.0; atime = atime.0; mtime = mtime.0 }, mtime.1)
 
 unfoldable pub set_attr_bytes : SetAttr → List ℕ
-set_attr_bytes v = opt_u32_bytes v.mode ++ opt_u32_bytes v.uid ++ opt_u32_bytes v.gid ++ opt_u64_bytes v.size ++ set_time_bytes v.atime ++ set_time_bytes v.mtime
+set_attr_bytes v =
+    opt_u32_bytes v.mode ++ opt_u32_bytes v.uid ++ opt_u32_bytes v.gid ++ opt_u64_bytes v.size ++ set_time_bytes v.atime ++ set_time_bytes v.mtime

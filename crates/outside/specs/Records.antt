@@ -14,7 +14,8 @@ joined zero front bytes = None
 joined (suc n) front bytes =
     if nat_lt (length bytes) 4 then None else
     (if nat_lt (length (drop 4 bytes)) (big_number 4 bytes % 2 ^ 31) then None else
-    (if nat_lt (big_number 4 bytes) (2 ^ 31) then joined n (front ++ take (big_number 4 bytes % 2 ^ 31) (drop 4 bytes)) (drop (big_number 4 bytes % 2 ^ 31) (drop 4 bytes)) else
+    (if nat_lt (big_number 4 bytes) (2 ^ 31) then joined n (front ++ take (big_number 4 bytes % 2 ^ 31) (drop 4 bytes))
+    (drop (big_number 4 bytes % 2 ^ 31) (drop 4 bytes)) else
     Some (front ++ take (big_number 4 bytes % 2 ^ 31) (drop 4 bytes), drop (big_number 4 bytes % 2 ^ 31) (drop 4 bytes))))
 
 -- the whole record at the front, and the bytes after it; no bytes have more fragments than bytes

@@ -35,7 +35,8 @@ pub record IsSorted (held : List (Option PagePlace)) (sorted : List ℕ) : Type 
   pub slots : length held ≡ 1024
   pub low : (i : ℕ) → i < length sorted → get_or sorted i 0 < 1024
   pub holds : (i : ℕ) → i < length sorted → is_some (held_at held sorted i) ≡ true
-  pub rises : (i j : ℕ) (place : PagePlace) → i < j → j < length sorted → held_at held sorted j ≡ Some place → is_before place.file (Some place.index) (held_at held sorted i) ≡ true
+  pub rises : (i j : ℕ) (place : PagePlace) → i < j → j < length sorted → held_at held sorted j ≡ Some place
+      → is_before place.file (Some place.index) (held_at held sorted i) ≡ true
   pub every : (slot : ℕ) → slot < 1024 → is_some (get_or held slot None) ≡ true → (i : ℕ) × (i < length sorted) × (get_or sorted i 0 ≡ slot)
 
 -- how many of the slots stand before a place

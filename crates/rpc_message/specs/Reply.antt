@@ -79,7 +79,9 @@ abbrev pub ◌>>=-reply◌ : {A B : Type 0} → Result A XdrFault → (A → Res
 
 -- what reading a reply gives, or the first fault in order of spelling
 unfoldable pub reply_at : List ℕ → Result RpcReply ReplyFault
-reply_at bytes = u32_at bytes >>=-reply λ xid. u32_at xid.1 >>=-reply λ kind. if not (kind.0 == 1) then Err NotReply else (answer_at xid.0 kind.1 >>=-reply λ reply. Ok reply)
+reply_at bytes =
+    u32_at bytes >>=-reply λ xid. u32_at xid.1 >>=-reply λ kind. if not (kind.0 == 1) then Err NotReply
+    else (answer_at xid.0 kind.1 >>=-reply λ reply. Ok reply)
 
 -- what a function gave, seen by view, is what reading a reply gives
 abbrev pub GivesReply : {X Y : Type 0} → (X → Y) → Result X ReplyFault → Result Y ReplyFault → Type 0

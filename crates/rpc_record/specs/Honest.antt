@@ -31,7 +31,8 @@ pub record GoesWith (h k : History) : Type 0 where
 -- The whole records at the front of the bytes were delivered, and what is behind them holds none.
 pub data Queued (es : List Entry) : List ℕ → List ℕ → Type 0 where
   none : (bytes : List ℕ) → record_at bytes ≡ None → Queued es bytes bytes
-  more : (bytes unread : List ℕ) (r : List ℕ × List ℕ) (at : ℕ) → record_at bytes ≡ Some r → At es at (entries.Delivered r.0) → Queued es r.1 unread → Queued es bytes unread
+  more : (bytes unread : List ℕ) (r : List ℕ × List ℕ) (at : ℕ) → record_at bytes ≡ Some r → At es at (entries.Delivered r.0) → Queued es r.1 unread
+      → Queued es bytes unread
 
 -- What the link tells goes along with what is read from the wire. The records that the link has still to deliver are
 -- told by the wire as delivered, and the records that the wire tells as sent are sent by the link.

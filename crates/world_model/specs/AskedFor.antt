@@ -28,7 +28,8 @@ NoneBegan h i = (j lane line : ℕ) (op : Op) → At h j (Began lane line op) �
 pub data IsCause (terms : Terms) (op : Op) (h : List Entry) (i : ℕ) (call : Call) : Type 0 where
   mounts : (path : List ℕ) → terms.origin ≡ Mounting path → call ≡ mount_call path → NoneBegan h i → IsCause terms op h i call
   informs : (root : List ℕ) → Rooted terms.origin h i root → call ≡ info_call root → NoneBegan h i → IsCause terms op h i call
-  puts : (p : PutOf) (from wsize : ℕ) → IsPutOf op p → At h from (Began 1 1 op) → Rooted terms.origin h from p.root → Sized h from p.root terms.size wsize → IsAsked wsize h from i p call
+  puts : (p : PutOf) (from wsize : ℕ) → IsPutOf op p → At h from (Began 1 1 op) → Rooted terms.origin h from p.root → Sized h from p.root terms.size wsize
+      → IsAsked wsize h from i p call
       → IsCause terms op h i call
 
 -- a record that was sent is a call, with the session's credential, that was asked for

@@ -174,17 +174,27 @@ pub record MayHide (terms : Terms) (h : List Entry) (x n : ℕ) (d last name : L
 -- mode 0755, SYMLINK of mode 0777, RMDIR, RENAME, LINK; and of a remove REMOVE, or RENAME to a hidden name in the same
 -- directory.
 pub data Acts (terms : Terms) (h : List Entry) (x n : ℕ) (op : Op) (call : Call) : Type 0 where
-  cuts : (slot size : ℕ) (f : List ℕ) → op ≡ ops.Truncate slot size → IsOf terms.modes h x op f → call ≡ calls.File (files.SetAttr f (only_size size) None) → Acts terms h x n op call
-  accesses : (path : List (List ℕ)) (bits : ℕ) (f : List ℕ) → op ≡ ops.Access path bits → Leads terms.origin h n path f → call ≡ calls.File (files.Access f bits) → Acts terms h x n op call
-  reads_link : (path : List (List ℕ)) (f : List ℕ) → op ≡ ops.ReadLink path → Leads terms.origin h n path f → call ≡ calls.Dir (dirs.ReadLink f) → Acts terms h x n op call
-  makes_dir : (path : List (List ℕ)) (d name : List ℕ) → op ≡ ops.MakeDir path → PlaceOf terms.origin h n path d name → call ≡ calls.Dir (dirs.MkDir d name (only_mode 493)) → Acts terms h x n op call
-  makes_link : (path : List (List ℕ)) (target d name : List ℕ) → op ≡ ops.SymLink path target → PlaceOf terms.origin h n path d name → call ≡ calls.Dir (dirs.SymLink d name (only_mode 511) target) → Acts terms h x n op call
-  removes_dir : (path : List (List ℕ)) (d name : List ℕ) → op ≡ ops.RemoveDir path → PlaceOf terms.origin h n path d name → call ≡ calls.Dir (dirs.RmDir d name) → Acts terms h x n op call
-  renames : (from to : List (List ℕ)) (d name to_d to_name : List ℕ) → op ≡ ops.Rename from to → PlaceOf terms.origin h n from d name → PlaceOf terms.origin h n to to_d to_name
+  cuts : (slot size : ℕ) (f : List ℕ) → op ≡ ops.Truncate slot size → IsOf terms.modes h x op f → call ≡ calls.File (files.SetAttr f (only_size size) None)
+      → Acts terms h x n op call
+  accesses : (path : List (List ℕ)) (bits : ℕ) (f : List ℕ) → op ≡ ops.Access path bits → Leads terms.origin h n path f
+      → call ≡ calls.File (files.Access f bits) → Acts terms h x n op call
+  reads_link : (path : List (List ℕ)) (f : List ℕ) → op ≡ ops.ReadLink path → Leads terms.origin h n path f → call ≡ calls.Dir (dirs.ReadLink f)
+      → Acts terms h x n op call
+  makes_dir : (path : List (List ℕ)) (d name : List ℕ) → op ≡ ops.MakeDir path → PlaceOf terms.origin h n path d name
+      → call ≡ calls.Dir (dirs.MkDir d name (only_mode 493)) → Acts terms h x n op call
+  makes_link : (path : List (List ℕ)) (target d name : List ℕ) → op ≡ ops.SymLink path target → PlaceOf terms.origin h n path d name
+      → call ≡ calls.Dir (dirs.SymLink d name (only_mode 511) target) → Acts terms h x n op call
+  removes_dir : (path : List (List ℕ)) (d name : List ℕ) → op ≡ ops.RemoveDir path → PlaceOf terms.origin h n path d name
+      → call ≡ calls.Dir (dirs.RmDir d name) → Acts terms h x n op call
+  renames : (from to : List (List ℕ)) (d name to_d to_name : List ℕ) → op ≡ ops.Rename from to → PlaceOf terms.origin h n from d name
+      → PlaceOf terms.origin h n to to_d to_name
       → call ≡ calls.Dir (dirs.Rename d name to_d to_name) → Acts terms h x n op call
-  links : (from to : List (List ℕ)) (f d name : List ℕ) → op ≡ ops.Link from to → Leads terms.origin h n from f → PlaceOf terms.origin h n to d name → call ≡ calls.Dir (dirs.Link f d name) → Acts terms h x n op call
-  removes : (path : List (List ℕ)) (d name : List ℕ) → op ≡ ops.Remove path → PlaceOf terms.origin h n path d name → call ≡ calls.Dir (dirs.Remove d name) → Acts terms h x n op call
-  hides : (path : List (List ℕ)) (d last name : List ℕ) → op ≡ ops.Remove path → PlaceOf terms.origin h n path d last → IsHidden name → MayHide terms h x n d last name → call ≡ calls.Dir (dirs.Rename d last d name) → Acts terms h x n op call
+  links : (from to : List (List ℕ)) (f d name : List ℕ) → op ≡ ops.Link from to → Leads terms.origin h n from f → PlaceOf terms.origin h n to d name
+      → call ≡ calls.Dir (dirs.Link f d name) → Acts terms h x n op call
+  removes : (path : List (List ℕ)) (d name : List ℕ) → op ≡ ops.Remove path → PlaceOf terms.origin h n path d name → call ≡ calls.Dir (dirs.Remove d name)
+      → Acts terms h x n op call
+  hides : (path : List (List ℕ)) (d last name : List ℕ) → op ≡ ops.Remove path → PlaceOf terms.origin h n path d last → IsHidden name
+      → MayHide terms h x n d last name → call ≡ calls.Dir (dirs.Rename d last d name) → Acts terms h x n op call
 
 -- The REMOVE of a last close: of the place where its file was hidden.
 pub record RemovesHidden (terms : Terms) (h : List Entry) (x n : ℕ) (op : Op) (call : Call) : Type 0 where
@@ -201,32 +211,43 @@ pub record RemovesHidden (terms : Terms) (h : List Entry) (x n : ℕ) (op : Op) 
 -- The operation that began at the place x asks for the call before the place n.
 pub data Asks (terms : Terms) (h : List Entry) (x n : ℕ) (op : Op) (call : Call) : Type 0 where
   -- LOOKUP of a name of a path that isn't the last, in the directory to which the names before it lead
-  walks : (path earlier later : List (List ℕ)) (name next d : List ℕ) → Contains (paths_of op) path → path ≡ earlier ++ name ∷ next ∷ later → Leads terms.origin h n earlier d → call ≡ look_up d name → Asks terms h x n op call
+  walks : (path earlier later : List (List ℕ)) (name next d : List ℕ) → Contains (paths_of op) path → path ≡ earlier ++ name ∷ next ∷ later
+      → Leads terms.origin h n earlier d → call ≡ look_up d name → Asks terms h x n op call
   -- LOOKUP of the last name, where the operation finds its object
-  finds : (path : List (List ℕ)) (d name : List ℕ) → Contains (found_by op) path → PlaceOf terms.origin h n path d name → call ≡ look_up d name → Asks terms h x n op call
+  finds : (path : List (List ℕ)) (d name : List ℕ) → Contains (found_by op) path → PlaceOf terms.origin h n path d name → call ≡ look_up d name
+      → Asks terms h x n op call
   -- of a remove, LOOKUP of hidden names in the directory of its path
-  looks_for_hidden : (path : List (List ℕ)) (d last name : List ℕ) → op ≡ ops.Remove path → PlaceOf terms.origin h n path d last → IsHidden name → call ≡ look_up d name → Asks terms h x n op call
+  looks_for_hidden : (path : List (List ℕ)) (d last name : List ℕ) → op ≡ ops.Remove path → PlaceOf terms.origin h n path d last → IsHidden name
+      → call ≡ look_up d name → Asks terms h x n op call
   -- CREATE of the last name: at once where the open has to make the file, else after a LOOKUP of it found nothing
-  creates : (slot : ℕ) (path : List (List ℕ)) (d name : List ℕ) → op ≡ ops.OpenFile slot modes.X path → PlaceOf terms.origin h n path d name → call ≡ create_guarded d name → Asks terms h x n op call
-  creates_after : (slot : ℕ) (path : List (List ℕ)) (d name : List ℕ) (reply : Reply) → op ≡ ops.OpenFile slot modes.C path → PlaceOf terms.origin h n path d name → Asked h x n (look_up d name) reply → status_of reply ≡ 2
+  creates : (slot : ℕ) (path : List (List ℕ)) (d name : List ℕ) → op ≡ ops.OpenFile slot modes.X path → PlaceOf terms.origin h n path d name
+      → call ≡ create_guarded d name → Asks terms h x n op call
+  creates_after : (slot : ℕ) (path : List (List ℕ)) (d name : List ℕ) (reply : Reply) → op ≡ ops.OpenFile slot modes.C path
+      → PlaceOf terms.origin h n path d name → Asked h x n (look_up d name) reply → status_of reply ≡ 2
       → call ≡ create_unchecked d name → Asks terms h x n op call
   -- GETATTR of the file that an open or put found, of the one that CREATE gave, and of the object of a stat
   opens : (path : List (List ℕ)) (f : List ℕ) → Opening op path → Leads terms.origin h n path f → call ≡ calls.File (files.GetAttr f) → Asks terms h x n op call
-  opens_made : (slot : ℕ) (mode : Mode) (path : List (List ℕ)) (d name f : List ℕ) (making : Call) (attr : Option Attr) (wcc : Wcc) → op ≡ ops.OpenFile slot mode path → PlaceOf terms.origin h n path d name → MakesFile mode d name making
+  opens_made : (slot : ℕ) (mode : Mode) (path : List (List ℕ)) (d name f : List ℕ) (making : Call) (attr : Option Attr) (wcc : Wcc)
+      → op ≡ ops.OpenFile slot mode path → PlaceOf terms.origin h n path d name → MakesFile mode d name making
       → Asked h x n making (replies.Dir (found.Create (Some f) attr wcc)) → call ≡ calls.File (files.GetAttr f) → Asks terms h x n op call
-  shows : (path : List (List ℕ)) (f : List ℕ) → op ≡ ops.Stat path → Leads terms.origin h n path f → call ≡ calls.File (files.GetAttr f) → Asks terms h x n op call
+  shows : (path : List (List ℕ)) (f : List ℕ) → op ≡ ops.Stat path → Leads terms.origin h n path f → call ≡ calls.File (files.GetAttr f)
+      → Asks terms h x n op call
   -- READ of the slot's file inside the pages that meet the range; and in a session that asks anew, GETATTR of it
-  reads : (slot offset count at size : ℕ) (f : List ℕ) → op ≡ ops.Read slot offset count → IsOf terms.modes h x op f → InsidePages offset count at size → call ≡ calls.File (files.Read f at size) → Asks terms h x n op call
-  asks_anew : (slot offset count : ℕ) (f : List ℕ) → op ≡ ops.Read slot offset count → terms.modes.noac ≡ true → IsOf terms.modes h x op f → call ≡ calls.File (files.GetAttr f) → Asks terms h x n op call
+  reads : (slot offset count at size : ℕ) (f : List ℕ) → op ≡ ops.Read slot offset count → IsOf terms.modes h x op f → InsidePages offset count at size
+      → call ≡ calls.File (files.Read f at size) → Asks terms h x n op call
+  asks_anew : (slot offset count : ℕ) (f : List ℕ) → op ≡ ops.Read slot offset count → terms.modes.noac ≡ true → IsOf terms.modes h x op f
+      → call ≡ calls.File (files.GetAttr f) → Asks terms h x n op call
   -- WRITE and COMMIT of the file of a sync, close or put
   writes : (f bytes : List ℕ) (at how : ℕ) → Stabilizes terms h x n op f → call ≡ calls.File (files.Write f at how bytes) → Asks terms h x n op call
   commits : (f : List ℕ) → Stabilizes terms h x n op f → call ≡ commit_call f → Asks terms h x n op call
   -- for room, WRITE and COMMIT of a file of which bytes were pending
-  writes_for_room : (f bytes : List ℕ) (at how : ℕ) → IsWriter op → HadPending terms h x n f → NeedsRoom h x n → call ≡ calls.File (files.Write f at how bytes) → Asks terms h x n op call
+  writes_for_room : (f bytes : List ℕ) (at how : ℕ) → IsWriter op → HadPending terms h x n f → NeedsRoom h x n
+      → call ≡ calls.File (files.Write f at how bytes) → Asks terms h x n op call
   commits_for_room : (f : List ℕ) → IsWriter op → HadPending terms h x n f → NeedsRoom h x n → call ≡ commit_call f → Asks terms h x n op call
   -- REMOVE of a last close
   removes_hidden : RemovesHidden terms h x n op call → Asks terms h x n op call
   -- READDIRPLUS of a directory: of its first page, or of the one after those that came
-  lists : (path : List (List ℕ)) (d : List ℕ) (rows : List PlusRow) (cookie : ℕ) (verf : Verf) → op ≡ ops.List path → Leads terms.origin h n path d → Chain h x n d rows cookie verf → call ≡ list_call d cookie verf → Asks terms h x n op call
+  lists : (path : List (List ℕ)) (d : List ℕ) (rows : List PlusRow) (cookie : ℕ) (verf : Verf) → op ≡ ops.List path → Leads terms.origin h n path d
+      → Chain h x n d rows cookie verf → call ≡ list_call d cookie verf → Asks terms h x n op call
   -- the call that does it
   acts : Acts terms h x n op call → Asks terms h x n op call

@@ -46,7 +46,8 @@ pub record IsWritten (terms : Terms) (h : List Entry) (i : ℕ) (f : List ℕ) (
 pub record KeepsTo (terms : Terms) (h : List Entry) (i : ℕ) (call : Call) : Type 0 where
   pub read : (f : List ℕ) (offset count : ℕ) → call ≡ calls.File (files.Read f offset count) → IsRead terms h i count
   pub write : (f bytes : List ℕ) (offset how : ℕ) → call ≡ calls.File (files.Write f offset how bytes) → IsWrite terms h i (length bytes)
-  pub own : (f bytes : List ℕ) (offset how : ℕ) → call ≡ calls.File (files.Write f offset how bytes) → (k v : ℕ) → slice_get bytes k ≡ Some v → IsWritten terms h i f (offset + k) v
+  pub own : (f bytes : List ℕ) (offset how : ℕ) → call ≡ calls.File (files.Write f offset how bytes) → (k v : ℕ) → slice_get bytes k ≡ Some v
+      → IsWritten terms h i f (offset + k) v
 
 -- Why the call at the place i was made: as MNT of the path or FSINFO of the root, before any operation began; or for an
 -- operation that is under way and asks for it.
@@ -73,5 +74,6 @@ pub record CallsAsked (terms : Terms) (h : List Entry) : Type 0 where
   pub caused : (i : ℕ) (bytes : List ℕ) → At h i (Sent bytes) → IsCaused terms h i bytes
   pub among : (i xid : ℕ) (bytes : List ℕ) → At h i (Sent bytes) → HasXid bytes xid → (terms.first ≤ xid) × (xid < terms.first + terms.calls)
   pub equal : (i j xid : ℕ) (a b : List ℕ) → At h i (Sent a) → At h j (Sent b) → HasXid a xid → HasXid b xid → a ≡ b
-  pub single : (i j x y : ℕ) (a b : List ℕ) (call other : Call) → At h i (Sent a) → At h j (Sent b) → SpellsCall x call a → SpellsCall y other b → AreSetUp call other → x ≡ y
+  pub single : (i j x y : ℕ) (a b : List ℕ) (call other : Call) → At h i (Sent a) → At h j (Sent b) → SpellsCall x call a → SpellsCall y other b
+      → AreSetUp call other → x ≡ y
   pub unrepeated : (g i xid : ℕ) (reply bytes : List ℕ) → Answers h g xid reply → At h i (Sent bytes) → HasXid bytes xid → i < g

@@ -48,5 +48,6 @@ pub record Caused (terms : Terms) (script : List Entry) (status : ℕ) (h : List
   pub refused : (lane x y : ℕ) (op : Op) (fault : Fault) → Ended h lane x op y (Refused fault) → RefusalRow terms h lane x y op fault
   pub slot : (lane x y : ℕ) (op : Op) (answer : Answer) → Ended h lane x op y answer → IsTried answer → NoPlace terms h lane x op → answer ≡ Refused faults.Slot
   pub mode : (lane x y : ℕ) (op : Op) (answer : Answer) → Ended h lane x op y answer → IsTried answer → NoRight terms h lane x op → answer ≡ Refused faults.Mode
-  pub lost : (lane x y other w z : ℕ) (op later : Op) (answer : Answer) → Ended h lane x op y (Refused faults.Lost) → Ended h other w later z answer → y < z → (answer ≡ Refused faults.Lost) ⊎ (answer ≡ Refused faults.Memory)
+  pub lost : (lane x y other w z : ℕ) (op later : Op) (answer : Answer) → Ended h lane x op y (Refused faults.Lost) → Ended h other w later z answer → y < z
+      → (answer ≡ Refused faults.Lost) ⊎ (answer ≡ Refused faults.Memory)
   pub spent : (lane x y : ℕ) (op : Op) → (status ≡ 0) ⊎ (status ≡ 1) → Ended h lane x op y (Refused faults.Spent) → calls_in h ≡ terms.calls

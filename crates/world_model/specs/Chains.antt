@@ -41,5 +41,6 @@ pub record LastCookie (rows : List PlusRow) (cookie : ℕ) : Type 0 where
 -- them is to be asked from this cookie and verifier.
 pub data Chain (h : List Entry) (x n : ℕ) (d : List ℕ) : List PlusRow → ℕ → Verf → Type 0 where
   start : (rows : List PlusRow) (cookie : ℕ) (verf : Verf) → rows ≡ [] → cookie ≡ 0 → verf ≡ zero_verf → Chain h x n d rows cookie verf
-  next : (rows before page : List PlusRow) (cookie from : ℕ) (verf with_ : Verf) (attr : Option Attr) (eof : Bool) → Chain h x n d before from with_ → Asked h x n (list_call d from with_) (page_reply attr verf page eof)
+  next : (rows before page : List PlusRow) (cookie from : ℕ) (verf with_ : Verf) (attr : Option Attr) (eof : Bool) → Chain h x n d before from with_
+      → Asked h x n (list_call d from with_) (page_reply attr verf page eof)
       → LastCookie page cookie → rows ≡ before ++ page → Chain h x n d rows cookie verf

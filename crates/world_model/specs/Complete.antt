@@ -25,14 +25,16 @@ use Rattle.world_model.specs.Waiting.{FirstSent, Answers}
 -- Each operation that was under way when the call under this xid was first sent, and asks for it, goes on from this status
 -- of any reply to it.
 abbrev pub AllGoOn : Terms → List Entry → ℕ → Call → ℕ → Type 0
-AllGoOn terms h xid call status = (at got lane x : ℕ) (sent bytes : List ℕ) (op : Op) → FirstSent h at xid sent → UnderWay h lane x at op → Asks terms h x at op call → Answers h got xid bytes → GoesOn terms h x got op call status
+AllGoOn terms h xid call status = (at got lane x : ℕ) (sent bytes : List ℕ) (op : Op) → FirstSent h at xid sent → UnderWay h lane x at op
+    → Asks terms h x at op call → Answers h got xid bytes → GoesOn terms h x got op call status
 
 -- The server is honest, the session isn't lost, each call is executed with status 0, or operations go on from its status, and
 -- RPC refuses none.
 pub record Undisturbed (terms : Terms) (t : History) : Type 0 where
   pub lawful : Lawful t
   pub kept : (n : ℕ) → IsLost t.entries n → ⊥
-  pub done : (n xid : ℕ) (call : Call) (reply : Reply) → At t.entries n (Executed xid call reply) → (status_of reply ≡ 0) ⊎ AllGoOn terms t.entries xid call (status_of reply)
+  pub done : (n xid : ℕ) (call : Call) (reply : Reply) → At t.entries n (Executed xid call reply)
+      → (status_of reply ≡ 0) ⊎ AllGoOn terms t.entries xid call (status_of reply)
   pub unrefused : (n xid code : ℕ) (bytes : List ℕ) → At t.entries n (Delivered bytes) → SpellsRefusal xid code bytes → ⊥
 
 -- an answer that is no refusal by the server, the network or the link

@@ -45,7 +45,15 @@ calls_made which h = length (different (xids_sent which h))
 
 -- the numbers of a session's last line
 abbrev pub tally_of : List Entry → Tally
-tally_of h = record { calls = calls_made Every h; getattr = calls_made (Only GETATTR) h; lookup = calls_made (Only LOOKUP) h; read = calls_made (Only READ) h; write = calls_made (Only WRITE) h; commit = calls_made (Only COMMIT) h }
+tally_of h =
+    record {
+      calls = calls_made Every h;
+      getattr = calls_made (Only GETATTR) h;
+      lookup = calls_made (Only LOOKUP) h;
+      read = calls_made (Only READ) h;
+      write = calls_made (Only WRITE) h;
+      commit = calls_made (Only COMMIT) h;
+    }
 
 -- a word, a space and a number
 unfoldable pub item_text : List ℕ → ℕ → List ℕ
@@ -54,5 +62,6 @@ item_text word number = word ++ codes " " ++ decimal number
 -- the line that shows them
 unfoldable pub tally_text : Tally → List ℕ
 tally_text t =
-    item_text (codes "calls") t.calls ++ item_text (codes " getattr") t.getattr ++ item_text (codes " lookup") t.lookup ++ item_text (codes " read") t.read ++ item_text (codes " write") t.write ++ item_text (codes " commit") t.commit
+    item_text (codes "calls") t.calls ++ item_text (codes " getattr") t.getattr ++ item_text (codes " lookup") t.lookup ++ item_text (codes " read") t.read
+    ++ item_text (codes " write") t.write ++ item_text (codes " commit") t.commit
     ++ codes "\n"

@@ -24,7 +24,8 @@ marks_of lane (e ∷ es) = marks_of lane es
 pub data Alternates : List Entry → Type 0 where
   none : (marks : List Entry) → marks ≡ [] → Alternates marks
   busy : (marks : List Entry) (lane line : ℕ) (op : Op) → marks ≡ Began lane line op ∷ [] → Alternates marks
-  answered : (marks rest : List Entry) (lane line : ℕ) (op : Op) (answer : Answer) → marks ≡ Began lane line op ∷ Answered lane line answer ∷ rest → Alternates rest → Alternates marks
+  answered : (marks rest : List Entry) (lane line : ℕ) (op : Op) (answer : Answer) → marks ≡ Began lane line op ∷ Answered lane line answer ∷ rest
+      → Alternates rest → Alternates marks
 
 -- a list begins with another
 pub record IsFront {T : Type 0} (front whole : List T) : Type 0 where

@@ -39,15 +39,18 @@ FewPutOff h x n call = (places : List ℕ) → AllPairs (λ (a b : ℕ). a ≢ b
 
 -- Of the WRITEs and COMMITs of this file within the operation, none was refused before the place n but such as are made again.
 abbrev pub NoneRefused : List Entry → ℕ → ℕ → List ℕ → Type 0
-NoneRefused h x n f = (call : Call) (fault : Fault) → NamesFile f call → (refused : RefusedSo h x n call fault) → (fault ≡ faults.Nfs jukebox) × FewPutOff h x refused.heard.got_at call
+NoneRefused h x n f = (call : Call) (fault : Fault) → NamesFile f call → (refused : RefusedSo h x n call fault)
+    → (fault ≡ faults.Nfs jukebox) × FewPutOff h x refused.heard.got_at call
 
 -- The operation at the place x goes on where the call is answered at the place n with this status.
 pub data GoesOn (terms : Terms) (h : List Entry) (x n : ℕ) (op : Op) (call : Call) (status : ℕ) : Type 0 where
   -- NFS3ERR_NOENT, 2: an open that may make its file does so, where it hasn't yet
-  makes : (slot : ℕ) (path : List (List ℕ)) (d name : List ℕ) → op ≡ ops.OpenFile slot modes.C path → PlaceOf terms.origin h n path d name → call ≡ look_up d name → status ≡ 2 → (MadeWithin h x n (create_unchecked d name) → ⊥)
+  makes : (slot : ℕ) (path : List (List ℕ)) (d name : List ℕ) → op ≡ ops.OpenFile slot modes.C path → PlaceOf terms.origin h n path d name
+      → call ≡ look_up d name → status ≡ 2 → (MadeWithin h x n (create_unchecked d name) → ⊥)
       → GoesOn terms h x n op call status
   -- and a remove takes a hidden name that is free, once a LOOKUP of its own name gave a file
-  hides : (path : List (List ℕ)) (d last name f : List ℕ) (attr dir : Option Attr) → op ≡ ops.Remove path → PlaceOf terms.origin h n path d last → IsHidden name → call ≡ look_up d name → status ≡ 2
+  hides : (path : List (List ℕ)) (d last name f : List ℕ) (attr dir : Option Attr) → op ≡ ops.Remove path → PlaceOf terms.origin h n path d last
+      → IsHidden name → call ≡ look_up d name → status ≡ 2
       → Asked h x n (look_up d last) (looked_up f attr dir) → GoesOn terms h x n op call status
   -- NFS3ERR_JUKEBOX: the call is made again, unless it was put off three times, or its sync was refused
   tries_again : status ≡ jukebox → FewPutOff h x n call → ((f : List ℕ) → NamesFile f call → NoneRefused h x n f) → GoesOn terms h x n op call status

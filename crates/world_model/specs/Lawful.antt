@@ -36,7 +36,8 @@ pub record Flushes (s t : Server) (f : List ℕ) (start count : ℕ) : Type 0 wh
 -- what a restart leaves of an object: of a file the stable bytes, and of all else what it was
 pub data IsLeft (old new : Option Object) : Type 0 where
   same : new ≡ old → IsLeft old new
-  lost : (o p : Object) (now stable : List ℕ) → old ≡ Some o → new ≡ Some p → o.holds ≡ Bytes now stable → now ≢ stable → Becomes o p (Bytes stable stable) → IsLeft old new
+  lost : (o p : Object) (now stable : List ℕ) → old ≡ Some o → new ≡ Some p → o.holds ≡ Bytes now stable → now ≢ stable → Becomes o p (Bytes stable stable)
+      → IsLeft old new
 
 -- a file whose bytes are all stable
 abbrev pub IsSteady : Option Object → Type 0
@@ -51,8 +52,10 @@ pub record Restarts (h : History) (n : ℕ) (s t : Server) (verf : Verf) : Type 
 
 -- A record that came is the reply to a call that was executed under its xid, or refuses a call that was sent.
 pub data IsReplied (h : List Entry) (n : ℕ) (bytes : List ℕ) : Type 0 where
-  replied : (m xid : ℕ) (call : Call) (reply : Reply) → m < n → At h m (entries.Executed xid call reply) → SpellsReply xid call reply bytes → IsReplied h n bytes
-  refused : (m xid code : ℕ) (record_sent : List ℕ) → m < n → At h m (entries.Sent record_sent) → HasXid record_sent xid → SpellsRefusal xid code bytes → IsReplied h n bytes
+  replied : (m xid : ℕ) (call : Call) (reply : Reply) → m < n → At h m (entries.Executed xid call reply) → SpellsReply xid call reply bytes
+      → IsReplied h n bytes
+  refused : (m xid code : ℕ) (record_sent : List ℕ) → m < n → At h m (entries.Sent record_sent) → HasXid record_sent xid → SpellsRefusal xid code bytes
+      → IsReplied h n bytes
 
 pub record Delivers (h : List Entry) (n : ℕ) (s t : Server) (bytes : List ℕ) : Type 0 where
   pub same : Same s t

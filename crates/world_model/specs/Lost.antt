@@ -40,7 +40,8 @@ pub record FailedDial (h : List Entry) (at to : ℕ) : Type 0 where
 -- What loses a session by the place to: four attempts of one call failed and no reply came; or four dials in a row
 -- failed; or of the last 65,536 records that came none answered a call.
 pub data Loses (h : List Entry) (to : ℕ) : Type 0 where
-  given_up : (xid a b c d : ℕ) → FailedAttempt h xid a b → FailedAttempt h xid b c → FailedAttempt h xid c d → FailedAttempt h xid d to → NoReply h xid a to → Loses h to
+  given_up : (xid a b c d : ℕ) → FailedAttempt h xid a b → FailedAttempt h xid b c → FailedAttempt h xid c d → FailedAttempt h xid d to → NoReply h xid a to
+      → Loses h to
   undialed : (a b c d : ℕ) → FailedDial h a b → FailedDial h b c → FailedDial h c d → FailedDial h d to → Loses h to
   dropped : DropRun h most_dropped to → Loses h to
 

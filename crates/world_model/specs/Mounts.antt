@@ -38,5 +38,6 @@ lesser_size size greatest = if greatest == 0 then min size 4096 else min size gr
 -- answered badly, of that size and 4,096.
 pub data Sized (h : List Entry) (to : ℕ) (root : List ℕ) (size wsize : ℕ) : Type 0 where
   told : (attr : Option Attr) (rtmax rtpref rtmult wtmax wtpref wtmult dtpref maxfilesize : ℕ) (delta : Time) (properties : ℕ)
-      → Asked h 0 to (info_call root) (replies.File (kept.FsInfo attr rtmax rtpref rtmult wtmax wtpref wtmult dtpref maxfilesize delta properties)) → wsize ≡ lesser_size size wtmax → Sized h to root size wsize
+      → Asked h 0 to (info_call root) (replies.File (kept.FsInfo attr rtmax rtpref rtmult wtmax wtpref wtmult dtpref maxfilesize delta properties))
+      → wsize ≡ lesser_size size wtmax → Sized h to root size wsize
   untold : (fault : Fault) → Refused h 0 to (info_call root) fault → wsize ≡ min size 4096 → Sized h to root size wsize

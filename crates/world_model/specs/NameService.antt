@@ -155,8 +155,10 @@ Replaced s t entries to h = (e : Listed) → Lists entries e → e.name ≡ to �
 -- the lists of a RENAME within one directory, and from one to another: the old name leaves, what had the new one is
 -- replaced, and the new name enters
 pub data Moves (s t : Server) (d from e to h : List ℕ) (target : List Listed) : Type 0 where
-  within : (less clear new : List Listed) → d ≡ e → Leaves from h target less → Clears to less clear → Enters to h clear new → Relists s t d target new → Moves s t d from e to h target
-  across : (old less clear new : List Listed) → d ≢ e → Leaves from h old less → Relists s t d old less → Clears to target clear → Enters to h clear new → Relists s t e target new → Moves s t d from e to h target
+  within : (less clear new : List Listed) → d ≡ e → Leaves from h target less → Clears to less clear → Enters to h clear new → Relists s t d target new
+      → Moves s t d from e to h target
+  across : (old less clear new : List Listed) → d ≢ e → Leaves from h old less → Relists s t d old less → Clears to target clear → Enters to h clear new
+      → Relists s t e target new → Moves s t d from e to h target
 
 -- RENAME, section 3.3.14
 pub record Renames (s t : Server) (d from e to : List ℕ) : Type 0 where

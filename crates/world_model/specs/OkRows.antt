@@ -39,8 +39,10 @@ pub data FindsFile (terms : Terms) (h : List Entry) (y : ℕ) (mode : Mode) (pat
 -- An open went well: it ends with the reply to GETATTR of its file, of kind 1. Where the session may go by attributes that it
 -- keeps, it may end with the LOOKUP or CREATE that gave the file, of which a reply has shown kind 1.
 pub data OpenOk (terms : Terms) (h : List Entry) (x y : ℕ) (op : Op) (mode : Mode) (path : List (List ℕ)) : Type 0 where
-  asked : (f : List ℕ) (attr : Attr) → Asks terms h x y op (calls.File (files.GetAttr f)) → EndsWith h x y (calls.File (files.GetAttr f)) (replies.File (kept.GetAttr attr)) → attr.kind ≡ 1 → OpenOk terms h x y op mode path
-  known : (f : List ℕ) (attr : Attr) (call : Call) (reply : Reply) → terms.modes.nocto ≡ true → terms.modes.noac ≡ false → FindsFile terms h y mode path call → EndsWith h x y call reply → status_of reply ≡ 0 → given_object reply ≡ Some f
+  asked : (f : List ℕ) (attr : Attr) → Asks terms h x y op (calls.File (files.GetAttr f))
+      → EndsWith h x y (calls.File (files.GetAttr f)) (replies.File (kept.GetAttr attr)) → attr.kind ≡ 1 → OpenOk terms h x y op mode path
+  known : (f : List ℕ) (attr : Attr) (call : Call) (reply : Reply) → terms.modes.nocto ≡ true → terms.modes.noac ≡ false → FindsFile terms h y mode path call
+      → EndsWith h x y call reply → status_of reply ≡ 0 → given_object reply ≡ Some f
       → ShownWithin h 0 y f attr → attr.kind ≡ 1 → OpenOk terms h x y op mode path
 
 -- A sync went well: COMMIT of the whole file was answered 0.

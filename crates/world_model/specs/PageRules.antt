@@ -24,10 +24,12 @@ pub data WrongData (asked counted : ℕ) (data_ : List ℕ) (eof : Bool) : Type 
 -- The record breaks rule n of what a page has to be.
 pub data BreaksPage (xid : ℕ) (call : Call) (bytes : List ℕ) (n : ℕ) : Type 0 where
   -- 5: the data of a READ are wrong
-  wrong_data : n ≡ 5 → (file : List ℕ) (offset asked counted : ℕ) (attr : Option Attr) (eof : Bool) (data_ : List ℕ) → call ≡ calls.File (files.Read file offset asked)
+  wrong_data : n ≡ 5 → (file : List ℕ) (offset asked counted : ℕ) (attr : Option Attr) (eof : Bool) (data_ : List ℕ)
+      → call ≡ calls.File (files.Read file offset asked)
       → SpellsReply xid call (replies.File (kept.Read attr counted eof data_)) bytes → WrongData asked counted data_ eof → BreaksPage xid call bytes n
   -- 6: a page of READDIRPLUS has no entry, and isn't the last
-  no_entry : n ≡ 6 → (d : List ℕ) (cookie dircount maxcount : ℕ) (verf next : Verf) (attr : Option Attr) → call ≡ calls.Dir (dirs.ReadDirPlus d cookie verf dircount maxcount)
+  no_entry : n ≡ 6 → (d : List ℕ) (cookie dircount maxcount : ℕ) (verf next : Verf) (attr : Option Attr)
+      → call ≡ calls.Dir (dirs.ReadDirPlus d cookie verf dircount maxcount)
       → SpellsReply xid call (replies.Dir (found.ReadDirPlus attr next [] false)) bytes → BreaksPage xid call bytes n
 
 -- The record refuses the call: by a status that isn't 0, by RPC, or by breaking a rule.

@@ -12,7 +12,8 @@ use Rattle.world_model.specs.Touched.{WritesByte, RefusedWrite, Wrote, Truncated
 
 -- no put is under way at the place k
 abbrev pub NoPutAt : List Entry → ℕ → Type 0
-NoPutAt h k = (x lane line offset : ℕ) (path : List (List ℕ)) (bytes : List ℕ) → At h x (Began lane line (ops.Put path offset bytes)) → x < k → AnsweredBefore h x k
+NoPutAt h k = (x lane line offset : ℕ) (path : List (List ℕ)) (bytes : List ℕ) → At h x (Began lane line (ops.Put path offset bytes)) → x < k
+    → AnsweredBefore h x k
 
 -- After the place k no open of the file goes well before the next record comes.
 abbrev pub NoneOpens : Modes → List Entry → ℕ → List ℕ → Type 0

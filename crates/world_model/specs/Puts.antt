@@ -75,5 +75,6 @@ pub record Committed (h : List Entry) (from to : ℕ) (file : List ℕ) : Type 0
 -- file that LOOKUP gave before it.
 pub data IsAsked (most : ℕ) (h : List Entry) (from to : ℕ) (p : PutOf) (call : Call) : Type 0 where
   looks_up : call ≡ lookup_call p → IsAsked most h from to p call
-  writes : (file : List ℕ) (start size : ℕ) → Found h from to p file → call ≡ write_call p file start size → 1 ≤ size → size ≤ most → start + size ≤ length p.bytes → IsAsked most h from to p call
+  writes : (file : List ℕ) (start size : ℕ) → Found h from to p file → call ≡ write_call p file start size → 1 ≤ size → size ≤ most
+      → start + size ≤ length p.bytes → IsAsked most h from to p call
   commits : (file : List ℕ) → Found h from to p file → call ≡ commit_call file → IsAsked most h from to p call

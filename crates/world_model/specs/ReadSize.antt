@@ -21,6 +21,7 @@ whole_pages size = if nat_lt page_bytes size then size / page_bytes * page_bytes
 -- refused or answered badly, the lesser of that size and 4,096.
 pub data ReadSized (h : List Entry) (to : ℕ) (root : List ℕ) (size rsize : ℕ) : Type 0 where
   told : (attr : Option Attr) (rtmax rtpref rtmult wtmax wtpref wtmult dtpref maxfilesize : ℕ) (delta : Time) (properties : ℕ)
-      → Asked h 0 to (info_call root) (replies.File (kept.FsInfo attr rtmax rtpref rtmult wtmax wtpref wtmult dtpref maxfilesize delta properties)) → rsize ≡ whole_pages (lesser_size size rtmax)
+      → Asked h 0 to (info_call root) (replies.File (kept.FsInfo attr rtmax rtpref rtmult wtmax wtpref wtmult dtpref maxfilesize delta properties))
+      → rsize ≡ whole_pages (lesser_size size rtmax)
       → ReadSized h to root size rsize
   untold : (fault : Fault) → Refused h 0 to (info_call root) fault → rsize ≡ min size 4096 → ReadSized h to root size rsize

@@ -90,7 +90,8 @@ ReadOwn m origin t = (r y o : ℕ) (f : List ℕ) (offset count : ℕ) (bytes : 
 -- After a truncate that went well before the read began, a byte past its size is 0, unless it was touched.
 abbrev pub ReadCut : Modes → Origin → History → Type 0
 ReadCut m origin t = (r y o : ℕ) (f : List ℕ) (offset count : ℕ) (bytes : List ℕ) → ReadsBytes m t.entries r y o f offset count bytes
-    → (x e size k v : ℕ) → Truncated m t.entries x e f size → e < r → size ≤ offset + k → slice_get bytes k ≡ Some v → (Touched m origin t x y f (offset + k) → ⊥) → v ≡ 0
+    → (x e size k v : ℕ) → Truncated m t.entries x e f size → e < r → size ≤ offset + k → slice_get bytes k ≡ Some v
+    → (Touched m origin t x y f (offset + k) → ⊥) → v ≡ 0
 
 pub record ReadTrue (m : Modes) (origin : Origin) (t : History) : Type 0 where
   pub current : ReadCurrent m origin t

@@ -30,7 +30,8 @@ pub data Recent (m : Modes) (h : List Entry) (x n : ℕ) : Type 0 where
 -- names lead to the root, and one name more to what a directory held under it.
 pub data Walked (m : Modes) (origin : Origin) (t : History) (x : ℕ) : List (List ℕ) → List ℕ → Type 0 where
   root : (path : List (List ℕ)) (object : List ℕ) → path ≡ [] → Rooted origin t.entries x object → Walked m origin t x path object
-  step : (path earlier : List (List ℕ)) (object name d : List ℕ) (n : ℕ) → path ≡ earlier ++ name ∷ [] → Walked m origin t x earlier d → Recent m t.entries x n → Names (t.at n) d name object → Walked m origin t x path object
+  step : (path earlier : List (List ℕ)) (object name d : List ℕ) (n : ℕ) → path ≡ earlier ++ name ∷ [] → Walked m origin t x earlier d
+      → Recent m t.entries x n → Names (t.at n) d name object → Walked m origin t x path object
 
 -- At a moment of the operation a directory, to which the earlier names lead, held the last name with this object.
 pub record FoundByName (m : Modes) (origin : Origin) (t : History) (x y : ℕ) (path : List (List ℕ)) (object : List ℕ) : Type 0 where
@@ -60,7 +61,8 @@ pub record HadAttr (m : Modes) (origin : Origin) (t : History) (x : ℕ) (path :
 
 -- The attributes that a stat shows were those of the object at a recent moment.
 abbrev pub AttrAge : Modes → Origin → History → Type 0
-AttrAge m origin t = (lane x y : ℕ) (path : List (List ℕ)) (attr : Attr) → Ended t.entries lane x (ops.Stat path) y (Done (values.Attrs attr)) → HadAttr m origin t x path attr
+AttrAge m origin t = (lane x y : ℕ) (path : List (List ℕ)) (attr : Attr) → Ended t.entries lane x (ops.Stat path) y (Done (values.Attrs attr))
+    → HadAttr m origin t x path attr
 
 -- the directory held the name at the moment n
 abbrev pub NameAt : History → ℕ → List ℕ → List ℕ → Type 0
@@ -81,4 +83,5 @@ pub record ListsNames (m : Modes) (origin : Origin) (t : History) (x y : ℕ) (p
   pub all : (name : List ℕ) → is_dots name ≡ false → ((n : ℕ) → Within x y n → NameAt t n d name) → Contains names name
 
 abbrev pub ListTrue : Modes → Origin → History → Type 0
-ListTrue m origin t = (lane x y : ℕ) (path names : List (List ℕ)) → Ended t.entries lane x (ops.List path) y (Done (values.Names names)) → ListsNames m origin t x y path names
+ListTrue m origin t = (lane x y : ℕ) (path names : List (List ℕ)) → Ended t.entries lane x (ops.List path) y (Done (values.Names names))
+    → ListsNames m origin t x y path names

@@ -46,10 +46,13 @@ pub record HoldsToWrite (terms : Terms) (h : List Entry) (lane x slot : ℕ) : T
 
 -- As the operation at the place x begins, the slot that it is to open holds an open, or the slot that it works on holds none.
 pub data NoPlace (terms : Terms) (h : List Entry) (lane x : ℕ) (op : Op) : Type 0 where
-  taken : (slot open_at : ℕ) (mode : Mode) (path : List (List ℕ)) (f : List ℕ) → op ≡ ops.OpenFile slot mode path → InSlot terms.modes h x lane slot open_at f → NoPlace terms h lane x op
+  taken : (slot open_at : ℕ) (mode : Mode) (path : List (List ℕ)) (f : List ℕ) → op ≡ ops.OpenFile slot mode path → InSlot terms.modes h x lane slot open_at f
+      → NoPlace terms h lane x op
   free : (slot : ℕ) → slot_of op ≡ Some slot → ((open_at : ℕ) (f : List ℕ) → InSlot terms.modes h x lane slot open_at f → ⊥) → NoPlace terms h lane x op
 
 -- The slot holds an open, and a read isn't among its rights, or a write, fill or truncate isn't.
 pub data NoRight (terms : Terms) (h : List Entry) (lane x : ℕ) (op : Op) : Type 0 where
-  read : (slot offset count open_at : ℕ) (f : List ℕ) (holds : InSlot terms.modes h x lane slot open_at f) → op ≡ ops.Read slot offset count → can_read holds.opens.mode ≡ false → NoRight terms h lane x op
-  change : (slot open_at : ℕ) (f : List ℕ) (holds : InSlot terms.modes h x lane slot open_at f) → Changes op slot → can_write holds.opens.mode ≡ false → NoRight terms h lane x op
+  read : (slot offset count open_at : ℕ) (f : List ℕ) (holds : InSlot terms.modes h x lane slot open_at f) → op ≡ ops.Read slot offset count
+      → can_read holds.opens.mode ≡ false → NoRight terms h lane x op
+  change : (slot open_at : ℕ) (f : List ℕ) (holds : InSlot terms.modes h x lane slot open_at f) → Changes op slot → can_write holds.opens.mode ≡ false
+      → NoRight terms h lane x op

@@ -43,14 +43,17 @@ RisesIn s d cookie rows eof = (dir : Object) (list : List Listed) → s.object d
 
 abbrev pub RisesAt : Server → Call → Reply → Type 0
 RisesAt s (calls.Dir (dirs.ReadDir d cookie verf count)) (replies.Dir (found.ReadDir attr check rows eof)) = RisesIn s d cookie (dir_rows rows) eof
-RisesAt s (calls.Dir (dirs.ReadDirPlus d cookie verf dircount maxcount)) (replies.Dir (found.ReadDirPlus attr check rows eof)) = RisesIn s d cookie (plus_rows rows) eof
+RisesAt s (calls.Dir (dirs.ReadDirPlus d cookie verf dircount maxcount)) (replies.Dir (found.ReadDirPlus attr check rows eof)) =
+    RisesIn s d cookie (plus_rows rows) eof
 RisesAt s call reply = ⊤
 
 -- An entry that comes into a directory has a cookie above all that the directory ever had. The entry `..` of a directory
 -- that moves may change as it likes.
 abbrev pub EntersAbove : History → ℕ → Type 0
-EntersAbove h n = (d : List ℕ) (old new : Object) (before after : List Listed) (e : Listed) → (h.at n).object d ≡ Some old → old.holds ≡ Entries before → (h.at (suc n)).object d ≡ Some new → new.holds ≡ Entries after
-    → Lists after e → (Lists before e → ⊥) → e.name ≢ parent_name → (m : ℕ) (earlier : Object) (list : List Listed) (f : Listed) → m ≤ n → (h.at m).object d ≡ Some earlier → earlier.holds ≡ Entries list → Lists list f → f.cookie < e.cookie
+EntersAbove h n = (d : List ℕ) (old new : Object) (before after : List Listed) (e : Listed) → (h.at n).object d ≡ Some old → old.holds ≡ Entries before
+    → (h.at (suc n)).object d ≡ Some new → new.holds ≡ Entries after
+    → Lists after e → (Lists before e → ⊥) → e.name ≢ parent_name → (m : ℕ) (earlier : Object) (list : List Listed) (f : Listed) → m ≤ n
+    → (h.at m).object d ≡ Some earlier → earlier.holds ≡ Entries list → Lists list f → f.cookie < e.cookie
 
 pub record Rising (h : History) : Type 0 where
   pub pages : (n xid : ℕ) (call : Call) (reply : Reply) → At h.entries n (entries.Executed xid call reply) → RisesAt (h.at n) call reply

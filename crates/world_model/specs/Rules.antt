@@ -31,10 +31,12 @@ pub data Breaks (xid : ℕ) (call : Call) (bytes : List ℕ) (n : ℕ) : Type 0 
   -- 2: the grammar doesn't spell it
   unspelled : n ≡ 2 → (IsNotReply bytes → ⊥) → IsUnspelled xid call bytes → Breaks xid call bytes n
   -- 3: its committed is below what the WRITE asked, or above 2, the greatest that there is
-  wrong_committed : n ≡ 3 → (wcc : Wcc) (count committed : ℕ) (verf : Verf) (file : List ℕ) (offset how : ℕ) (data_ : List ℕ) → call ≡ calls.File (files.Write file offset how data_)
+  wrong_committed : n ≡ 3 → (wcc : Wcc) (count committed : ℕ) (verf : Verf) (file : List ℕ) (offset how : ℕ) (data_ : List ℕ)
+      → call ≡ calls.File (files.Write file offset how data_)
       → SpellsReply xid call (replies.File (kept.Write wcc count committed verf)) bytes → (committed < how) ⊎ (2 < committed) → Breaks xid call bytes n
   -- 4: it counts no bytes, or more than the WRITE carried
-  wrong_count : n ≡ 4 → (wcc : Wcc) (count committed : ℕ) (verf : Verf) (file : List ℕ) (offset how : ℕ) (data_ : List ℕ) → call ≡ calls.File (files.Write file offset how data_)
+  wrong_count : n ≡ 4 → (wcc : Wcc) (count committed : ℕ) (verf : Verf) (file : List ℕ) (offset how : ℕ) (data_ : List ℕ)
+      → call ≡ calls.File (files.Write file offset how data_)
       → SpellsReply xid call (replies.File (kept.Write wcc count committed verf)) bytes → (count ≡ 0) ⊎ (length data_ < count) → Breaks xid call bytes n
   -- 7: it is too long
   too_long : n ≡ 7 → most_bytes < length bytes → Breaks xid call bytes n

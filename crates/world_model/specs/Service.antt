@@ -100,7 +100,8 @@ DoesDir s (dirs.SymLink d name set target) (found.SymLink object attr wcc) t = M
 DoesDir s (dirs.MkNod d name node) (found.MkNod object attr wcc) t = MakesNode s t d name node × Shown t d name object attr × TrueWcc s t d wcc
 DoesDir s (dirs.Remove d name) (found.Remove wcc) t = Removes s t d name × TrueWcc s t d wcc
 DoesDir s (dirs.RmDir d name) (found.RmDir wcc) t = Removes s t d name × TrueWcc s t d wcc
-DoesDir s (dirs.Rename d old e new) (found.Rename source target) t = (Renames s t d old e new ⊎ KeepsNames s t d old e new) × TrueWcc s t d source × TrueWcc s t e target
+DoesDir s (dirs.Rename d old e new) (found.Rename source target) t = (Renames s t d old e new ⊎ KeepsNames s t d old e new) × TrueWcc s t d source
+    × TrueWcc s t e target
 DoesDir s (dirs.Link f d name) (found.Link attr wcc) t = Links s t f d name × TrueOf t f attr × TrueWcc s t d wcc
 DoesDir s (dirs.ReadDir d cookie verf count) (found.ReadDir attr check rows eof) t = ListsNames s t d attr rows eof
 DoesDir s (dirs.ReadDirPlus d cookie verf dircount maxcount) (found.ReadDirPlus attr check rows eof) t = ListsObjects s t d attr rows eof
@@ -124,6 +125,7 @@ Does s call reply t = ⊥
 -- of which it put a prefix into the file; or it does what the call asks for.
 pub data Serves (s : Server) (call : Call) (reply : Reply) (t : Server) : Type 0 where
   refused : Refuses s call reply → Same s t → Serves s call reply t
-  broken_off : (f : List ℕ) (offset how : ℕ) (bytes : List ℕ) (status : Status) (wcc : Wcc) → call ≡ calls.File (files.Write f offset how bytes) → reply ≡ replies.File (kept.WriteFail status wcc) → WritesPrefix s t f offset bytes status wcc
+  broken_off : (f : List ℕ) (offset how : ℕ) (bytes : List ℕ) (status : Status) (wcc : Wcc) → call ≡ calls.File (files.Write f offset how bytes)
+      → reply ≡ replies.File (kept.WriteFail status wcc) → WritesPrefix s t f offset bytes status wcc
       → Serves s call reply t
   done : Does s call reply t → Serves s call reply t

@@ -122,7 +122,8 @@ pub data ShowsAttr (call : Call) (reply : Reply) (f : List ℕ) (attr : Attr) : 
   of_object : object_of call ≡ Some f → object_attr reply ≡ Some attr → ShowsAttr call reply f attr
   of_target : target_of call ≡ Some f → target_attr reply ≡ Some attr → ShowsAttr call reply f attr
   of_given : given_object reply ≡ Some f → given_attr reply ≡ Some attr → ShowsAttr call reply f attr
-  of_listed : (of : Option Attr) (verf : Verf) (rows : List PlusRow) (eof : Bool) (at : ℕ) (row : PlusRow) → reply ≡ replies.Dir (found.ReadDirPlus of verf rows eof) → slice_get rows at ≡ Some row → row.found ≡ Some f → row.attr ≡ Some attr
+  of_listed : (of : Option Attr) (verf : Verf) (rows : List PlusRow) (eof : Bool) (at : ℕ) (row : PlusRow)
+      → reply ≡ replies.Dir (found.ReadDirPlus of verf rows eof) → slice_get rows at ≡ Some row → row.found ≡ Some f → row.attr ≡ Some attr
       → ShowsAttr call reply f attr
 
 -- A reply that came between the places from and to, to a call that was first sent there, shows these attributes of the

@@ -88,7 +88,8 @@ pub data IsLong (terms : Terms) (h : List Entry) (i : ℕ) (f : List ℕ) (offse
   met : MetEarlier h i f (offset + count) → IsLong terms h i f offset count
 
 abbrev pub LongReads : Terms → List Entry → Type 0
-LongReads terms h = (i xid offset count : ℕ) (f bytes : List ℕ) → At h i (Sent bytes) → SpellsCall xid (read_call f offset count) bytes → IsLong terms h i f offset count
+LongReads terms h = (i xid offset count : ℕ) (f bytes : List ℕ) → At h i (Sent bytes) → SpellsCall xid (read_call f offset count) bytes
+    → IsLong terms h i f offset count
 
 -- ---- 2: pages that are kept aren't asked for again
 
@@ -133,7 +134,8 @@ pub record Unchanged (terms : Terms) (h : List Entry) (o n : ℕ) (f : List ℕ)
 -- A reply gives the page whole; or it says that the file ends, and gives the page up to the size.
 pub data GivesPage (size offset : ℕ) (bytes : List ℕ) (eof : Bool) (page : ℕ) : Type 0 where
   whole : offset ≤ page * page_bytes → page * page_bytes + page_bytes ≤ offset + length bytes → GivesPage size offset bytes eof page
-  last : eof ≡ true → offset ≤ page * page_bytes → page * page_bytes < size → size ≤ page * page_bytes + page_bytes → offset + length bytes ≡ size → GivesPage size offset bytes eof page
+  last : eof ≡ true → offset ≤ page * page_bytes → page * page_bytes < size → size ≤ page * page_bytes + page_bytes → offset + length bytes ≡ size
+      → GivesPage size offset bytes eof page
 
 -- A reply that came at the place `at`, to a READ that was made for a read of the open at the place o, gave the page, under the
 -- stamp that the open was told.
@@ -170,7 +172,8 @@ pub record TookPage (terms : Terms) (h : List Entry) (o : ℕ) (f : List ℕ) (s
 
 -- While nothing shows that the file changed, no READ for a page that was given is sent.
 abbrev pub KeptPages : Terms → List Entry → Type 0
-KeptPages terms h = (o at page n xid offset count : ℕ) (f bytes : List ℕ) (stamp : Stamp) → TookPage terms h o f stamp at page → FirstSent h n xid bytes → SpellsCall xid (read_call f offset count) bytes → at < n
+KeptPages terms h = (o at page n xid offset count : ℕ) (f bytes : List ℕ) (stamp : Stamp) → TookPage terms h o f stamp at page → FirstSent h n xid bytes
+    → SpellsCall xid (read_call f offset count) bytes → at < n
     → MeetsPage offset count page → Unchanged terms h o n f stamp → ⊥
 
 -- ---- 3: WRITEs are long
@@ -189,9 +192,11 @@ IsPut op = (path : List (List ℕ)) × (offset : ℕ) × (bytes : List ℕ) × (
 
 -- before the place i no truncate of the file was answered, and no close or put of it was refused
 pub record Uncut (terms : Terms) (h : List Entry) (i : ℕ) (f : List ℕ) : Type 0 where
-  pub truncate : (lane x slot size y : ℕ) (answer : Answer) → IsOf terms.modes h x (ops.Truncate slot size) f → Ended h lane x (ops.Truncate slot size) y answer → y < i → ⊥
+  pub truncate : (lane x slot size y : ℕ) (answer : Answer) → IsOf terms.modes h x (ops.Truncate slot size) f
+      → Ended h lane x (ops.Truncate slot size) y answer → y < i → ⊥
   pub close : (lane x slot y : ℕ) (fault : Fault) → IsOf terms.modes h x (ops.Close slot) f → Ended h lane x (ops.Close slot) y (Refused fault) → y < i → ⊥
-  pub put : (lane x offset y : ℕ) (path : List (List ℕ)) (bytes : List ℕ) (fault : Fault) → Ended h lane x (ops.Put path offset bytes) y (Refused fault) → Leads terms.origin h y path f → y < i → ⊥
+  pub put : (lane x offset y : ℕ) (path : List (List ℕ)) (bytes : List ℕ) (fault : Fault) → Ended h lane x (ops.Put path offset bytes) y (Refused fault)
+      → Leads terms.origin h y path f → y < i → ⊥
 
 -- an operation that went well before the place x, or the put at x itself
 pub data WentBefore (h : List Entry) (x : ℕ) (op : Op) (w : ℕ) : Type 0 where
@@ -242,7 +247,8 @@ pub record ShortWrite (terms : Terms) (h : List Entry) (i x : ℕ) (op : Op) (f 
 
 -- here `end` is the place of the WRITE's last byte
 abbrev pub LongWrites : Terms → List Entry → Type 0
-LongWrites terms h = NeverFull h → (i x end w : ℕ) (op : Op) (f : List ℕ) → ShortWrite terms h i x op f end → Uncut terms h i f → IsLatest terms h x op f (end + 1) w → IsLatest terms h x op f end w → CoveredEarlier h i f (end + 1)
+LongWrites terms h = NeverFull h → (i x end w : ℕ) (op : Op) (f : List ℕ) → ShortWrite terms h i x op f end → Uncut terms h i f
+    → IsLatest terms h x op f (end + 1) w → IsLatest terms h x op f end w → CoveredEarlier h i f (end + 1)
 
 -- ---- all
 

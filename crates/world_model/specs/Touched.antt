@@ -42,7 +42,8 @@ pub record Covers (offset : ℕ) (bytes : List ℕ) (i v : ℕ) : Type 0 where
 pub data WritesByte (m : Modes) (origin : Origin) (h : List Entry) (x : ℕ) (f : List ℕ) (i v : ℕ) : Type 0 where
   write : (slot offset : ℕ) (bytes : List ℕ) → IsOf m h x (ops.Write slot offset bytes) f → Covers offset bytes i v → WritesByte m origin h x f i v
   fill : (slot offset count : ℕ) → IsOf m h x (ops.Fill slot offset count v) f → offset ≤ i → i < offset + count → WritesByte m origin h x f i v
-  put : (lane line offset n : ℕ) (path : List (List ℕ)) (bytes : List ℕ) → At h x (Began lane line (ops.Put path offset bytes)) → EndsAt h x n → Leads origin h n path f → Covers offset bytes i v
+  put : (lane line offset n : ℕ) (path : List (List ℕ)) (bytes : List ℕ) → At h x (Began lane line (ops.Put path offset bytes)) → EndsAt h x n
+      → Leads origin h n path f → Covers offset bytes i v
       → WritesByte m origin h x f i v
 
 -- The operation is a truncate of the file to a size of at most i.
@@ -59,8 +60,10 @@ pub data RefusedWrite (h : List Entry) (x : ℕ) : Type 0 where
 
 -- The write, fill or put at the place x went well at the place y: it put this byte at the place i of the file.
 pub data Wrote (m : Modes) (h : List Entry) (x y : ℕ) (f : List ℕ) (i v : ℕ) : Type 0 where
-  write : (lane slot offset : ℕ) (bytes : List ℕ) (value : Value) → IsOf m h x (ops.Write slot offset bytes) f → Ended h lane x (ops.Write slot offset bytes) y (Done value) → Covers offset bytes i v → Wrote m h x y f i v
-  fill : (lane slot offset count : ℕ) (value : Value) → IsOf m h x (ops.Fill slot offset count v) f → Ended h lane x (ops.Fill slot offset count v) y (Done value) → offset ≤ i → i < offset + count → Wrote m h x y f i v
+  write : (lane slot offset : ℕ) (bytes : List ℕ) (value : Value) → IsOf m h x (ops.Write slot offset bytes) f
+      → Ended h lane x (ops.Write slot offset bytes) y (Done value) → Covers offset bytes i v → Wrote m h x y f i v
+  fill : (lane slot offset count : ℕ) (value : Value) → IsOf m h x (ops.Fill slot offset count v) f
+      → Ended h lane x (ops.Fill slot offset count v) y (Done value) → offset ≤ i → i < offset + count → Wrote m h x y f i v
   put : (offset : ℕ) (bytes : List ℕ) → PutsTo h x y f offset bytes → Covers offset bytes i v → Wrote m h x y f i v
 
 -- the truncate at the place x of the file to this size went well at the place y
@@ -92,7 +95,8 @@ pub record Left (m : Modes) (h : List Entry) (k : ℕ) (f : List ℕ) : Type 0 w
 -- This close was refused, or another one of the file just before it: no record came between.
 pub data GivesUp (m : Modes) (h : List Entry) (k : ℕ) (f : List ℕ) : Type 0 where
   itself : (lane line : ℕ) (fault : Fault) → At h k (Answered lane line (Refused fault)) → GivesUp m h k f
-  beside : (lane slot c j : ℕ) (fault : Fault) → IsOf m h c (ops.Close slot) f → Ended h lane c (ops.Close slot) j (Refused fault) → j < k → NoneCame h j k → GivesUp m h k f
+  beside : (lane slot c j : ℕ) (fault : Fault) → IsOf m h c (ops.Close slot) f → Ended h lane c (ops.Close slot) j (Refused fault) → j < k → NoneCame h j k
+      → GivesUp m h k f
 
 -- a put that was answered before the place k
 pub record IsAnsweredPut (h : List Entry) (w k : ℕ) : Type 0 where
@@ -125,9 +129,12 @@ pub record GivenUp (m : Modes) (h : List Entry) (w k : ℕ) (f : List ℕ) : Typ
 -- A WRITE had the place i of the file in its range, whatever it was answered; or a call that was answered 0 set the
 -- file's size to at most i.
 pub data ChangesPlace (t : Server) (f : List ℕ) (i : ℕ) (call : Call) (reply : Reply) : Type 0 where
-  writes : (offset how : ℕ) (bytes : List ℕ) → call ≡ calls.File (files.Write f offset how bytes) → offset ≤ i → i < offset + length bytes → ChangesPlace t f i call reply
-  sizes : (set : SetAttr) (size : ℕ) (guard : Option Time) (wcc : Wcc) → call ≡ calls.File (files.SetAttr f set guard) → reply ≡ replies.File (kept.SetAttr wcc) → set.size ≡ Some size → size ≤ i → ChangesPlace t f i call reply
-  makes : (d name : List ℕ) (set : SetAttr) (size : ℕ) (file : Option (List ℕ)) (attr : Option Attr) (wcc : Wcc) → call ≡ calls.Dir (dirs.Create d name (makings.Unchecked set)) → reply ≡ replies.Dir (found.Create file attr wcc) → HasName t d name f
+  writes : (offset how : ℕ) (bytes : List ℕ) → call ≡ calls.File (files.Write f offset how bytes) → offset ≤ i → i < offset + length bytes
+      → ChangesPlace t f i call reply
+  sizes : (set : SetAttr) (size : ℕ) (guard : Option Time) (wcc : Wcc) → call ≡ calls.File (files.SetAttr f set guard)
+      → reply ≡ replies.File (kept.SetAttr wcc) → set.size ≡ Some size → size ≤ i → ChangesPlace t f i call reply
+  makes : (d name : List ℕ) (set : SetAttr) (size : ℕ) (file : Option (List ℕ)) (attr : Option Attr) (wcc : Wcc)
+      → call ≡ calls.Dir (dirs.Create d name (makings.Unchecked set)) → reply ≡ replies.Dir (found.Create file attr wcc) → HasName t d name f
       → set.size ≡ Some size → size ≤ i → ChangesPlace t f i call reply
 
 -- ---- what may change a byte
@@ -136,8 +143,10 @@ pub data ChangesPlace (t : Server) (f : List ℕ) (i : ℕ) (call : Call) (reply
 -- client; by another operation of this one, which wasn't answered before w; since the file is gone; or since a last close
 -- gave up what was pending of w, where w isn't a put that was answered before.
 pub data Touched (m : Modes) (origin : Origin) (t : History) (w p : ℕ) (f : List ℕ) (i : ℕ) : Type 0 where
-  foreign : (n : ℕ) (call : Call) (reply : Reply) → w < n → n < p → At t.entries n (Foreign call reply) → ChangesPlace (t.at (suc n)) f i call reply → Touched m origin t w p f i
-  written : (x v : ℕ) → x ≢ w → x < p → (AnsweredBefore t.entries x w → ⊥) → WritesByte m origin t.entries x f i v → (RefusedWrite t.entries x → ⊥) → Touched m origin t w p f i
+  foreign : (n : ℕ) (call : Call) (reply : Reply) → w < n → n < p → At t.entries n (Foreign call reply) → ChangesPlace (t.at (suc n)) f i call reply
+      → Touched m origin t w p f i
+  written : (x v : ℕ) → x ≢ w → x < p → (AnsweredBefore t.entries x w → ⊥) → WritesByte m origin t.entries x f i v → (RefusedWrite t.entries x → ⊥)
+      → Touched m origin t w p f i
   cut : (x : ℕ) → x ≢ w → x < p → (AnsweredBefore t.entries x w → ⊥) → Cuts m t.entries x f i → Touched m origin t w p f i
   gone : (o : Object) → (t.at p).object f ≡ Some o → o.gone ≡ true → Touched m origin t w p f i
   given_up : (k : ℕ) → w < k → k < p → GivenUp m t.entries w k f → Touched m origin t w p f i

@@ -56,7 +56,8 @@ mode_text mode = octal_digit (mode / 512) ∷ octal_digit (mode / 64) ∷ octal_
 -- what is shown of an object's attributes (RFC 1813, section 2.6, fattr3)
 unfoldable pub attr_text : Attr → List ℕ
 attr_text a =
-    decimal a.kind ++ codes " " ++ mode_text a.mode ++ codes " " ++ decimal a.nlink ++ codes " " ++ decimal a.uid ++ codes " " ++ decimal a.gid ++ codes " " ++ decimal a.size ++ codes " " ++ decimal a.fileid
+    decimal a.kind ++ codes " " ++ mode_text a.mode ++ codes " " ++ decimal a.nlink ++ codes " " ++ decimal a.uid ++ codes " " ++ decimal a.gid ++ codes " "
+    ++ decimal a.size ++ codes " " ++ decimal a.fileid
     ++ codes " " ++ decimal a.mtime.seconds
 
 -- what follows `ok`

@@ -22,12 +22,14 @@ how_of_segment e = how_of (ready_of e.1.state)
 abbrev pub run_from : List Sent → ℕ → ℕ → ℕ → ℕ → Segments → Segments
 run_from pieces upto how place room [] = []
 run_from pieces upto how place room (e ∷ es) =
-    if may_go pieces upto e && nat_eq (how_of_segment e) how && nat_eq e.0 place && nat_lt 0 room then (e.0, head_of room e.1) ∷ run_from pieces upto how (end_of e) (room - length e.1.bytes) es else []
+    if may_go pieces upto e && nat_eq (how_of_segment e) how && nat_eq e.0 place && nat_lt 0 room
+    then (e.0, head_of room e.1) ∷ run_from pieces upto how (end_of e) (room - length e.1.bytes) es else []
 
 -- What is sent next begins at the lowest offset of a segment that may go.
 abbrev pub chosen_from : List Sent → ℕ → ℕ → Segments → Segments
 chosen_from pieces upto wsize [] = []
-chosen_from pieces upto wsize (e ∷ es) = if may_go pieces upto e then run_from pieces upto (how_of_segment e) e.0 wsize (e ∷ es) else chosen_from pieces upto wsize es
+chosen_from pieces upto wsize (e ∷ es) =
+    if may_go pieces upto e then run_from pieces upto (how_of_segment e) e.0 wsize (e ∷ es) else chosen_from pieces upto wsize es
 
 abbrev pub chosen : ℕ → ℕ → FilePending → Segments
 chosen upto wsize of = chosen_from of.pieces upto wsize of.segments
@@ -52,14 +54,19 @@ gathered xid offset run how = record { xid = xid; offset = offset; how = how; by
 
 -- a piece with the bytes of more segments
 abbrev pub with_run : Sent → Segments → Sent
-with_run piece run = record { xid = piece.xid; offset = piece.offset; how = piece.how; bytes = piece.bytes ++ bytes_in run; parts = piece.parts ++ map part_of run }
+with_run piece run =
+    record { xid = piece.xid; offset = piece.offset; how = piece.how; bytes = piece.bytes ++ bytes_in run; parts = piece.parts ++ map part_of run }
 
 abbrev pub piece_of : ℕ → ℕ × Segment → Segments → Sent
 piece_of xid first run = gathered xid first.0 run (how_of_segment first)
 
 -- what is pending of a file once a piece was put in flight
 abbrev pub with_sent : Sent → FilePending → FilePending
-with_sent piece of = record { segments = changed Send piece.offset (piece.offset + length piece.bytes) (split (piece.offset + length piece.bytes) of.segments); pieces = of.pieces ++ piece ∷ [] }
+with_sent piece of =
+    record {
+      segments = changed Send piece.offset (piece.offset + length piece.bytes) (split (piece.offset + length piece.bytes) of.segments);
+      pieces = of.pieces ++ piece ∷ [];
+    }
 
 -- These segments are put in flight, as one piece, if there are any, and whether there are is told.
 abbrev pub IsPut : ℕ → Segments → FilePending → FilePending → Result Bool Memory → Type 0

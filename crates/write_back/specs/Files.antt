@@ -85,7 +85,8 @@ ShowsSent (Some sent) shown = IsSomeAnd shown (ShowsBytes sent)
 abbrev pub PutsPiece : ℕ → ℕ → Segments → Pending → Pending → List ℕ → Type 0
 PutsPiece xid upto [] old new file = new ≡ old
 PutsPiece xid upto (e ∷ es) old new file =
-    OnFile old new file (with_sent (piece_of xid e (e ∷ es)) (of_file file old)) × PutsInFlight (piece_of xid e (e ∷ es)) upto (of_file file old) (of_file file new) × (all_pending new ≡ all_pending old)
+    OnFile old new file (with_sent (piece_of xid e (e ∷ es)) (of_file file old))
+    × PutsInFlight (piece_of xid e (e ∷ es)) upto (of_file file old) (of_file file new) × (all_pending new ≡ all_pending old)
 
 -- When out of memory nothing is changed.
 abbrev pub SendsPiece : ℕ → ℕ → Segments → Pending → Pending → List ℕ → Result (Option Piece) Memory → Type 0

@@ -16,7 +16,8 @@ landed change piece of = record { segments = changed change piece.offset (end_of
 abbrev pub changed_part : Change → ℕ → Sent → Segments → Segments
 changed_part change count piece es =
     if nat_le (length piece.bytes) count then changed change piece.offset (end_of_sent piece) es
-    else changed by.Return (piece.offset + count) (end_of_sent piece) (changed change piece.offset (piece.offset + count) (split_flying (piece.offset + count) es))
+    else changed by.Return (piece.offset + count) (end_of_sent piece) (changed change piece.offset (piece.offset + count)
+    (split_flying (piece.offset + count) es))
 
 abbrev pub landed_part : Change → ℕ → Sent → FilePending → FilePending
 landed_part change count piece of = record { segments = changed_part change count piece of.segments; pieces = without piece.xid of.pieces }

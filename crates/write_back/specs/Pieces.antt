@@ -40,7 +40,9 @@ pub record Flown : Type 0 where
   pub before : Ready
 
 abbrev pub flown_in : Sent → ℕ → Option Flown
-flown_in piece place = option_map (λ part. record { byte = slice_index piece.bytes (place - piece.offset); number = part.number; xid = piece.xid; before = part.before }) (part_at piece.parts (place - piece.offset))
+flown_in piece place =
+    option_map (λ part. record { byte = slice_index piece.bytes (place - piece.offset); number = part.number; xid = piece.xid; before = part.before })
+    (part_at piece.parts (place - piece.offset))
 
 abbrev pub fly_in : List Sent → ℕ → Option Flown
 fly_in [] place = None
@@ -79,7 +81,8 @@ without xid (piece ∷ pieces) = if nat_eq piece.xid xid then pieces else piece 
 abbrev pub renumbered : ℕ → ℕ → List Sent → List Sent
 renumbered xid to [] = []
 renumbered xid to (piece ∷ pieces) =
-    if nat_eq piece.xid xid then record { xid = to; offset = piece.offset; how = piece.how; bytes = piece.bytes; parts = piece.parts } ∷ pieces else piece ∷ renumbered xid to pieces
+    if nat_eq piece.xid xid then record { xid = to; offset = piece.offset; how = piece.how; bytes = piece.bytes; parts = piece.parts } ∷ pieces
+    else piece ∷ renumbered xid to pieces
 
 -- how many bytes are in flight
 abbrev pub flying_of : List Sent → ℕ

@@ -15,7 +15,8 @@ Stands of number place =
 
 -- new bytes are the newest over their range; what is in flight stays
 pub record PutsBytes (offset : ℕ) (bytes : List ℕ) (number : ℕ) (old new : FilePending) : Type 0 where
-  pub rest : (place : ℕ) → rest_at new place ≡ (if covers offset (length bytes) place then Some (record { byte = slice_index bytes (place - offset); number = number; state = Waiting Unsent }) else rest_at old place)
+  pub rest : (place : ℕ) → rest_at new place ≡ (if covers offset (length bytes) place
+      then Some (record { byte = slice_index bytes (place - offset); number = number; state = Waiting Unsent }) else rest_at old place)
   pub fly : (place : ℕ) → fly_at new place ≡ fly_at old place
 
 -- A piece goes over from what isn't in flight: its places had these bytes, waiting, with numbers up to `upto`, and nothing was
@@ -24,7 +25,8 @@ pub record PutsInFlight (piece : Sent) (upto : ℕ) (old new : FilePending) : Ty
   pub rest : (place : ℕ) → rest_at new place ≡ (if covers piece.offset (length piece.bytes) place then None else rest_at old place)
   pub fly : (place : ℕ) → fly_at new place ≡ (if covers piece.offset (length piece.bytes) place then flown_in piece place else fly_at old place)
   pub free : (place : ℕ) → covers piece.offset (length piece.bytes) place ≡ true → fly_at old place ≡ None
-  pub was : (place : ℕ) (flown : Flown) → covers piece.offset (length piece.bytes) place ≡ true → flown_in piece place ≡ Some flown → rest_at old place ≡ Some (record { byte = flown.byte; number = flown.number; state = Waiting flown.before })
+  pub was : (place : ℕ) (flown : Flown) → covers piece.offset (length piece.bytes) place ≡ true → flown_in piece place ≡ Some flown
+      → rest_at old place ≡ Some (record { byte = flown.byte; number = flown.number; state = Waiting flown.before })
   pub old_enough : (place : ℕ) (flown : Flown) → flown_in piece place ≡ Some flown → flown.number ≤ upto
 
 -- what is left at a place of what was in flight there, where newer bytes stay
@@ -41,7 +43,8 @@ newer_or (Some cell) left = Some cell
 
 -- A piece is in flight no more. Its first `count` bytes are changed by one change, the others by another, and newer bytes stay.
 pub record Lands (piece : Sent) (count : ℕ) (first others : Change) (old new : FilePending) : Type 0 where
-  pub rest : (place : ℕ) → rest_at new place ≡ (if covers piece.offset (length piece.bytes) place then newer_or (rest_at old place) (cell_landed (if nat_lt (place - piece.offset) count then first else others) (fly_at old place)) else rest_at old place)
+  pub rest : (place : ℕ) → rest_at new place ≡ (if covers piece.offset (length piece.bytes) place
+      then newer_or (rest_at old place) (cell_landed (if nat_lt (place - piece.offset) count then first else others) (fly_at old place)) else rest_at old place)
   pub fly : (place : ℕ) → fly_at new place ≡ (if covers piece.offset (length piece.bytes) place then None else fly_at old place)
 
 -- each place is changed alike; what is in flight stays

@@ -74,7 +74,8 @@ added offset bytes number es = before offset es ++ (offset, written bytes number
 abbrev pub split_if : (Segment → Bool) → ℕ → Segments → Segments
 split_if test place [] = []
 split_if test place (e ∷ es) =
-    if nat_lt e.0 place then (if nat_lt place (end_of e) && test e.1 then (e.0, head_of (place - e.0) e.1) ∷ (place, tail_of (place - e.0) e.1) ∷ es else e ∷ split_if test place es) else e ∷ es
+    if nat_lt e.0 place then (if nat_lt place (end_of e) && test e.1 then (e.0, head_of (place - e.0) e.1) ∷ (place, tail_of (place - e.0) e.1) ∷ es
+    else e ∷ split_if test place es) else e ∷ es
 
 abbrev pub split : ℕ → Segments → Segments
 split = split_if (λ _. true)
@@ -86,7 +87,8 @@ split_flying = split_if (λ s. is_in_flight s.state)
 abbrev pub cut_from : ℕ → ℕ → Segments → Segments
 cut_from place upto [] = []
 cut_from place upto (e ∷ es) =
-    if nat_lt upto e.1.number || nat_le (end_of e) place then e ∷ cut_from place upto es else if nat_lt e.0 place then (e.0, head_of (place - e.0) e.1) ∷ cut_from place upto es else cut_from place upto es
+    if nat_lt upto e.1.number || nat_le (end_of e) place then e ∷ cut_from place upto es else if nat_lt e.0 place
+    then (e.0, head_of (place - e.0) e.1) ∷ cut_from place upto es else cut_from place upto es
 
 -- what is pending at a place: the byte, the number of its write and what became of it
 pub record Cell : Type 0 where

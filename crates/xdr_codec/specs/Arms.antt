@@ -9,11 +9,13 @@ pub data Arms (A B : Type 0) : Type 0 where
   Done : A → Arms A B
   Failure : ℕ → B → Arms A B
 
-abbrev pub arm_at : {A B : Type 0} → (List ℕ → Result (A × List ℕ) XdrFault) → (List ℕ → Result (B × List ℕ) XdrFault) → ℕ → List ℕ → Result (Arms A B × List ℕ) XdrFault
+abbrev pub arm_at : {A B : Type 0} → (List ℕ → Result (A × List ℕ) XdrFault) → (List ℕ → Result (B × List ℕ) XdrFault) → ℕ → List ℕ
+    → Result (Arms A B × List ℕ) XdrFault
 arm_at done failed zero bytes = done bytes >>= λ v. Ok (Done v.0, v.1)
 arm_at done failed (suc n) bytes = failed bytes >>= λ v. Ok (Failure (suc n) v.0, v.1)
 
-abbrev pub arms_at : {A B : Type 0} → (List ℕ → Result (A × List ℕ) XdrFault) → (List ℕ → Result (B × List ℕ) XdrFault) → List ℕ → Result (Arms A B × List ℕ) XdrFault
+abbrev pub arms_at : {A B : Type 0} → (List ℕ → Result (A × List ℕ) XdrFault) → (List ℕ → Result (B × List ℕ) XdrFault) → List ℕ
+    → Result (Arms A B × List ℕ) XdrFault
 arms_at done failed bytes = u32_at bytes >>= λ s. arm_at done failed s.0 s.1
 
 -- a status of 0 with the one arm, and another with the other
