@@ -1,3 +1,6 @@
 pub mod LaneFiles
 pub mod Coming
 pub mod Repeats
+pub mod Spelling
+pub mod Busy
+pub mod Learning

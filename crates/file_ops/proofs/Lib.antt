@@ -17,3 +17,11 @@ pub mod LastCommits
 pub mod PutSteps
 pub mod Unsent
 pub mod Numbers
+pub mod Walks
+pub mod PlainWalks
+pub mod PutWalks
+pub mod Roomless
+pub mod Spellables
+pub mod Unmade
+pub mod Refusals
+pub mod Endings

@@ -8,8 +8,8 @@ use Rattle.write_back.specs.Files.{of_file}
 use Rattle.client_shelf.specs.declared.shelf.Shelf.{Shelf}
 use Rattle.client_shelf.specs.declared.turn.Turn.{Turn}
 use Rattle.client_shelf.specs.LaneFiles.{left, is_first}
-use Rattle.file_ops.specs.declared.next.Next.{Next}
-use Rattle.file_ops.specs.declared.next.Next.TheVariants as nexts
+use Rattle.client_shelf.specs.declared.next.Next.{Next}
+use Rattle.client_shelf.specs.declared.next.Next.TheVariants as nexts
 use Rattle.file_ops.specs.declared.saving.Saving.{Saving}
 use Rattle.file_ops.specs.declared.saving.SavingNext.{SavingNext}
 use Rattle.file_ops.specs.declared.saving.SavingNext.TheVariants.{Send, Wait, Ended}
@@ -28,7 +28,7 @@ use Rattle.file_ops.specs.declared.put_file.PutFile.{PutFile}
 use Rattle.file_ops.specs.declared.put_file.Putting.{Putting}
 use Rattle.file_ops.specs.declared.put_file.Putting.TheVariants as putting
 use Rattle.file_ops.specs.Adding.{is_full}
-use Rattle.file_ops.specs.Busy.{goes_again}
+use Rattle.client_shelf.specs.Busy.{goes_again}
 use Rattle.file_ops.specs.Closings.{refusal_of, remove_busy}
 use Rattle.file_ops.specs.Opens.{file_to_write}
 use Rattle.file_ops.specs.Saves.{begun}
@@ -128,7 +128,7 @@ close-takes (closing.Removing removal) wsize machine sent turn came old next sta
 
 -- ---- writes
 
-room-seq : (told : SavingNext) (lane : ℕ) (shelf : Shelf) → (writes.room_shelf told lane shelf).seq ≡ shelf.seq
+pub room-seq : (told : SavingNext) (lane : ℕ) (shelf : Shelf) → (writes.room_shelf told lane shelf).seq ≡ shelf.seq
 room-seq (Send call) lane shelf = refl
 room-seq Wait lane shelf = refl
 room-seq (Ended (Ok done)) lane shelf = refl
@@ -176,7 +176,7 @@ write-takes (writing.Room file saving) wsize machine sent turn came old next new
 
 -- ---- puts
 
-put-follows : (gives : SavingNext) (lane : ℕ) (saving : Saving) (old : Shelf) (next : Next) (state : Putting) (new : Shelf) → puts.Follows gives lane saving old next state new → new.seq ≡ old.seq
+pub put-follows : (gives : SavingNext) (lane : ℕ) (saving : Saving) (old : Shelf) (next : Next) (state : Putting) (new : Shelf) → puts.Follows gives lane saving old next state new → new.seq ≡ old.seq
 put-follows (Send call) lane saving old next state new f = ap seq f.2
 put-follows Wait lane saving old next state new f = ap seq f.2
 put-follows (Ended result) lane saving old next state new f = ap seq f.others
@@ -185,7 +185,7 @@ put-queues : (b : Bool) (wsize lane : ℕ) (turn : Turn) (saving : Saving) (old 
 put-queues false wsize lane turn saving old next state new q = ap seq q.shelf_is
 put-queues true wsize lane turn saving old next state new g = put-follows g.gives lane g.saved g.gone next state new g.follows ∙ ap seq g.others
 
-put-wrote : (told : Next) (wsize lane : ℕ) (file : List ℕ) (turn : Turn) (old : Shelf) (next : Next) (state : Putting) (new : Shelf) → puts.AfterWrite told wsize lane file turn old next state new → new.seq ≡ old.seq
+pub put-wrote : (told : Next) (wsize lane : ℕ) (file : List ℕ) (turn : Turn) (old : Shelf) (next : Next) (state : Putting) (new : Shelf) → puts.AfterWrite told wsize lane file turn old next state new → new.seq ≡ old.seq
 put-wrote (nexts.Send call) wsize lane file turn old next state new a = ap seq a.2
 put-wrote nexts.Wait wsize lane file turn old next state new a = ap seq a.2
 put-wrote (nexts.Done (answers.Done value)) wsize lane file turn old next state new a = put-queues (is_first lane (joined lane file old).order) wsize lane turn (begun file old.seq) (joined lane file old) next state new a

@@ -3,7 +3,7 @@ use Rattle.std.proofs.Common.{◌≡◌, ℕ, Bool, List, true, false, if◌then
 use Rattle.std.specs.FinMap as finite
 use Rattle.open_files.specs.Slots as slots
 use Rattle.client_shelf.specs.declared.turn.Turn.{Turn}
-use Rattle.file_ops.specs.declared.next.Next.{Next}
+use Rattle.client_shelf.specs.declared.next.Next.{Next}
 use Rattle.file_ops.specs.declared.opening.Opening.{Opening}
 use Rattle.file_ops.specs.declared.opening.OpeningNext.{OpeningNext}
 use Rattle.file_ops.specs.declared.opening.OpeningNext.TheVariants.{Send, Wait, Ended}

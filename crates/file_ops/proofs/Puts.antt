@@ -11,8 +11,8 @@ use Rattle.client_shelf.specs.LaneFiles.{left, is_first}
 use Rattle.write_back.specs.Pieces.{FilePending, piece_under}
 use Rattle.write_back.specs.Files.{Pending, of_file, OnFile, with_bytes}
 use Rattle.write_back.proofs.WritesByFile.{same-or}
-use Rattle.file_ops.specs.declared.next.Next.{Next}
-use Rattle.file_ops.specs.declared.next.Next.TheVariants.{Send, Wait, Done}
+use Rattle.client_shelf.specs.declared.next.Next.{Next}
+use Rattle.client_shelf.specs.declared.next.Next.TheVariants.{Send, Wait, Done}
 use Rattle.file_ops.specs.declared.saving.Saving.{Saving}
 use Rattle.file_ops.specs.declared.saving.SavingNext.{SavingNext}
 use Rattle.file_ops.specs.declared.saving.SavingNext.TheVariants as save

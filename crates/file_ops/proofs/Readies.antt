@@ -1,5 +1,5 @@
 -- Each step of a save leaves what the next step needs: numbers of writes and xids stay below the next ones.
-use Rattle.std.proofs.Common.{◌≡◌, ◌≢◌, ◌&&◌, ◌+◌, ◌-◌, ℕ, Bool, true, false, List, [], ◌∷◌, ◌++◌, length, map, Option, Some, None, Result, Ok, Err, refl, sym, ap, ◌⊎◌, inl, inr, subst, arith}
+use Rattle.std.proofs.Common.{◌≡◌, ◌≢◌, ◌&&◌, ◌+◌, ◌-◌, ◌≤◌, ℕ, Bool, true, false, List, [], ◌∷◌, ◌++◌, length, map, Option, Some, None, Result, Ok, Err, refl, sym, ap, ◌⊎◌, inl, inr, subst, arith}
 use Rattle.std.specs.Prelude.{Contains, nat_eq, nat_lt, if◌then◌else◌}
 use Rattle.std.proofs.lemmas.List.Elements.{Contains-append_left, Contains-append_right, Contains-append_cases}
 use Rattle.std.proofs.lemmas.Bool.{eqb-true}
@@ -20,7 +20,7 @@ use Rattle.write_back.proofs.WritesByFile.{same-or}
 use Rattle.commit_verf.specs.declared.commit.Verdict.{Verdict}
 use Rattle.commit_verf.specs.declared.commit.Verdict.TheVariants.{AllStable, SendAgain}
 use Rattle.commit_verf.specs.Decisions.{verdict_of}
-use Rattle.file_ops.specs.Busy.{goes_again}
+use Rattle.client_shelf.specs.Busy.{goes_again}
 use Rattle.file_ops.specs.Judging.{commit_told}
 use Rattle.file_ops.specs.Ready.{IsReady}
 use Rattle.file_ops.specs.declared.judging.WriteTold.{WriteTold}
@@ -176,9 +176,14 @@ then-kept xid old mid new a b = record { of = λ file. record { numbers = λ x c
 -- What is kept is ready for the next xid.
 pub kept-ready : (xid seq : ℕ) (old new : Pending) → AreKept xid old new → IsReady xid seq old → IsReady (xid + 1) seq new
 kept-ready xid seq old new kept ready = record {
+  first = let first = ready.first in omega (arith, first);
   numbers = λ file other c. ready.numbers file other ((kept.of file).numbers other c);
-  xids = λ other above file. (kept.of file).xids other (λ same. absurd (omega (arith, above, same))) (ready.xids other (omega (arith, above)) file);
+  xids = by;
 }
+  where
+    by : (other : ℕ) → (other ≡ 0) ⊎ (xid + 1 ≤ other) → (file : List ℕ) → piece_under other (of_file file new).pieces ≡ None
+    by other (inl none) file = let first = ready.first in (kept.of file).xids other (λ same. absurd (omega (arith, first, none, same))) (ready.xids other (inl none) file)
+    by other (inr above) file = (kept.of file).xids other (λ same. absurd (omega (arith, above, same))) (ready.xids other (inr (omega (arith, above))) file)
 
 -- ---- steps of a save
 

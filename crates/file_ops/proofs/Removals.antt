@@ -5,10 +5,10 @@ use Rattle.world_model.specs.declared.message.Reply.{Reply}
 use Rattle.client_shelf.specs.declared.repeats.Repeat.{Repeat}
 use Rattle.client_shelf.specs.declared.shelf.Shelf.{Shelf}
 use Rattle.client_shelf.specs.declared.turn.Turn.{Turn}
-use Rattle.file_ops.specs.declared.next.Next.{Next}
+use Rattle.client_shelf.specs.declared.next.Next.{Next}
 use Rattle.file_ops.specs.declared.closing.Removal.{Removal}
 use Rattle.file_ops.specs.declared.close_file.Closing.{Closing}
-use Rattle.file_ops.specs.Busy.{goes_again}
+use Rattle.client_shelf.specs.Busy.{goes_again}
 use Rattle.file_ops.specs.Closings.{remove_busy}
 use Rattle.file_ops.specs.Closes.{EndsIf}
 

@@ -13,7 +13,7 @@ use Rattle.write_back.specs.Segments.{Segments, end_of, head_of, before, after, 
 use Rattle.write_back.specs.Pieces.{FilePending, nothing, piece_under}
 use Rattle.write_back.specs.Files.{Pending, of_file, OnFile, with_bytes, numbers_of}
 use Rattle.write_back.proofs.WritesByFile.{same-or}
-use Rattle.file_ops.specs.declared.next.Next.{Next}
+use Rattle.client_shelf.specs.declared.next.Next.{Next}
 use Rattle.file_ops.specs.declared.saving.Saving.{Saving}
 use Rattle.file_ops.specs.declared.saving.SavingNext.{SavingNext}
 use Rattle.file_ops.specs.declared.saving.SavingNext.TheVariants.{Send, Wait, Ended}
@@ -33,9 +33,9 @@ use Rattle.file_ops.specs.declared.truncate_file.Truncating.{Truncating}
 use Rattle.file_ops.specs.declared.truncate_file.Truncating.TheVariants as truncating
 use Rattle.file_ops.specs.TruncateFile as truncates
 use Rattle.file_ops.specs.Adding.{is_full}
-use Rattle.file_ops.specs.Busy.{goes_again}
+use Rattle.client_shelf.specs.Busy.{goes_again}
 use Rattle.file_ops.specs.Ready.{IsReady}
-use Rattle.file_ops.specs.SlotFiles.{file_at, joined}
+use Rattle.file_ops.specs.SlotFiles.{IsUnused, file_at, joined}
 use Rattle.file_ops.specs.Opens.{file_to_write}
 use Rattle.file_ops.specs.Closings.{GivesUpBy, GivesIf, refusal_of, remove_busy}
 use Rattle.file_ops.specs.Quiet.{is_quiet}
@@ -50,7 +50,11 @@ use Rattle.file_ops.proofs.Readies.{AreKept, IsKept, on-kept, kept-ready, goes-k
 -- ---- nothing changes
 
 pub next-ready : (xid seq : ℕ) (back : Pending) → IsReady xid seq back → IsReady (xid + 1) seq back
-next-ready xid seq back r = record { numbers = r.numbers; xids = λ other above. r.xids other (omega (arith, above)) }
+next-ready xid seq back r = record { first = let first = r.first in omega (arith, first); numbers = r.numbers; xids = by }
+  where
+    by : (other : ℕ) → (other ≡ 0) ⊎ (xid + 1 ≤ other) → IsUnused other back
+    by other (inl none) = r.xids other (inl none)
+    by other (inr above) = r.xids other (inr (omega (arith, above)))
 
 pub shelf-ready : (xid seq : ℕ) (new : Shelf) → new.seq ≡ seq → IsReady xid seq new.back → IsReady xid new.seq new.back
 shelf-ready xid seq new is r = subst (λ n. IsReady xid n new.back) (sym is) r
@@ -108,7 +112,7 @@ bytes-under xid offset [] number of h = h
 bytes-under xid offset (b ∷ bs) number of h = h
 
 pub add-ready : (xid seq offset : ℕ) (bytes : List ℕ) (file : List ℕ) (old new : Pending) → OnFile old new file (with_bytes offset bytes (seq + 1) (of_file file old)) → IsReady xid seq old → IsReady xid (seq + 1) new
-add-ready xid seq offset bytes file old new on r = record { numbers = λ other n c. number other n c (same-or file other); xids = λ x above other. under x above other (same-or file other) }
+add-ready xid seq offset bytes file old new on r = record { first = r.first; numbers = λ other n c. number other n c (same-or file other); xids = λ x above other. under x above other (same-or file other) }
   where
     told : (n : ℕ) → (seq + 1 ≡ n) ⊎ Contains (numbers_of (of_file file old)) n → n < seq + 1 + 1
     told n (inl is) = omega (arith, is)
@@ -119,7 +123,7 @@ add-ready xid seq offset bytes file old new on r = record { numbers = λ other n
         told n (bytes-numbers offset bytes (seq + 1) (of_file file old) n (subst (λ v. Contains (numbers_of v) n) on.here (subst (λ f. Contains (numbers_of (of_file f new)) n) same c)))
     number other n c (inr apart) = omega (arith, r.numbers other n (subst (λ v. Contains (numbers_of v) n) (on.others other apart) c))
 
-    under : (x : ℕ) → xid ≤ x → (other : List ℕ) → (other ≡ file) ⊎ (other ≢ file) → piece_under x (of_file other new).pieces ≡ None
+    under : (x : ℕ) → (x ≡ 0) ⊎ (xid ≤ x) → (other : List ℕ) → (other ≡ file) ⊎ (other ≢ file) → piece_under x (of_file other new).pieces ≡ None
     under x above other (inl same) = subst (λ f. piece_under x (of_file f new).pieces ≡ None) (sym same) (subst (λ v. piece_under x v.pieces ≡ None) (sym on.here) (bytes-under x offset bytes (seq + 1) (of_file file old) (r.xids x above file)))
     under x above other (inr apart) = subst (λ v. piece_under x v.pieces ≡ None) (sym (on.others other apart)) (r.xids x above other)
 
@@ -127,13 +131,13 @@ pub same-back : (xid seq : ℕ) (old new : Pending) → new ≡ old → IsReady 
 same-back xid seq old new is r = subst (λ p. IsReady xid seq p) (sym is) r
 
 less-ready : (xid seq : ℕ) (old new : Pending) (file : List ℕ) → OnFile old new file nothing → IsReady xid seq old → IsReady xid seq new
-less-ready xid seq old new file on r = record { numbers = λ other n c. number other n c (same-or file other); xids = λ x above other. under x above other (same-or file other) }
+less-ready xid seq old new file on r = record { first = r.first; numbers = λ other n c. number other n c (same-or file other); xids = λ x above other. under x above other (same-or file other) }
   where
     number : (other : List ℕ) (n : ℕ) → Contains (numbers_of (of_file other new)) n → (other ≡ file) ⊎ (other ≢ file) → n < seq + 1
     number other n c (inl same) = absurd (none-in n (subst (λ v. Contains (numbers_of v) n) on.here (subst (λ f. Contains (numbers_of (of_file f new)) n) same c)))
     number other n c (inr apart) = r.numbers other n (subst (λ v. Contains (numbers_of v) n) (on.others other apart) c)
 
-    under : (x : ℕ) → xid ≤ x → (other : List ℕ) → (other ≡ file) ⊎ (other ≢ file) → piece_under x (of_file other new).pieces ≡ None
+    under : (x : ℕ) → (x ≡ 0) ⊎ (xid ≤ x) → (other : List ℕ) → (other ≡ file) ⊎ (other ≢ file) → piece_under x (of_file other new).pieces ≡ None
     under x above other (inl same) = subst (λ f. piece_under x (of_file f new).pieces ≡ None) (sym same) (subst (λ v. piece_under x v.pieces ≡ None) (sym on.here) refl)
     under x above other (inr apart) = subst (λ v. piece_under x v.pieces ≡ None) (sym (on.others other apart)) (r.xids x above other)
 
@@ -295,7 +299,7 @@ write-resumes-ready writing.Idle wsize lane turn old next new after s r = same-r
 write-resumes-ready (writing.Room file saving) wsize lane turn old next new after s r = write-saves (is_first lane old.order) wsize lane file saving turn old next new after s r
 
 pub fewer-ready : (xid seq : ℕ) (old new : Pending) → AreFewer old new → IsReady xid seq old → IsReady xid seq new
-fewer-ready xid seq old new less r = record { numbers = λ file other c. r.numbers file other ((less.of file).numbers other c); xids = λ other above file. (less.of file).xids other (r.xids other above file) }
+fewer-ready xid seq old new less r = record { first = r.first; numbers = λ file other c. r.numbers file other ((less.of file).numbers other c); xids = λ other above file. (less.of file).xids other (r.xids other above file) }
 
 -- Where the save has ended well it made no call, so that one may be made for more room.
 write-follows : (told : SavingNext) (wsize : ℕ) (machine : WriteFile) (file : List ℕ) (saved : Saving) (turn : Turn) (shelf : Shelf) (next : Next) (new : Writing) (after : Shelf)

@@ -11,8 +11,8 @@ use Rattle.write_back.specs.Files.{Pending, of_file}
 use Rattle.client_shelf.specs.declared.shelf.Shelf.{Shelf}
 use Rattle.client_shelf.specs.declared.turn.Turn.{Turn}
 use Rattle.client_shelf.specs.LaneFiles.{is_first}
-use Rattle.file_ops.specs.declared.next.Next.{Next}
-use Rattle.file_ops.specs.declared.next.Next.TheVariants as nexts
+use Rattle.client_shelf.specs.declared.next.Next.{Next}
+use Rattle.client_shelf.specs.declared.next.Next.TheVariants as nexts
 use Rattle.file_ops.specs.declared.saving.Saving.{Saving}
 use Rattle.file_ops.specs.declared.saving.SavingNext.{SavingNext}
 use Rattle.file_ops.specs.declared.saving.SavingNext.TheVariants.{Send, Wait, Ended}

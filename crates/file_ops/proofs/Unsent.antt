@@ -27,8 +27,8 @@ use Rattle.client_shelf.specs.declared.turn.Turn.{Turn}
 use Rattle.client_shelf.specs.LaneFiles.{left, is_first, is_other}
 use Rattle.file_ops.specs.declared.judging.WriteTold.{WriteTold}
 use Rattle.file_ops.specs.declared.judging.WriteTold.TheVariants.{Fails}
-use Rattle.file_ops.specs.declared.next.Next.{Next}
-use Rattle.file_ops.specs.declared.next.Next.TheVariants as nexts
+use Rattle.client_shelf.specs.declared.next.Next.{Next}
+use Rattle.client_shelf.specs.declared.next.Next.TheVariants as nexts
 use Rattle.file_ops.specs.declared.saving.Saving.{Saving}
 use Rattle.file_ops.specs.declared.saving.Phase.{Phase}
 use Rattle.file_ops.specs.declared.saving.Phase.TheVariants.{Sending, Committing, Resending, CommittingAgain}
@@ -52,7 +52,7 @@ use Rattle.file_ops.specs.declared.put_file.PutFile.{PutFile}
 use Rattle.file_ops.specs.declared.put_file.Putting.{Putting}
 use Rattle.file_ops.specs.declared.put_file.Putting.TheVariants as putting
 use Rattle.file_ops.specs.Adding.{is_full}
-use Rattle.file_ops.specs.Busy.{goes_again}
+use Rattle.client_shelf.specs.Busy.{goes_again}
 use Rattle.file_ops.specs.Closings.{refusal_of, remove_busy}
 use Rattle.file_ops.specs.Judging.{commit_told}
 use Rattle.file_ops.specs.Opens.{file_to_write}
@@ -74,7 +74,7 @@ AsksNothing next = (call : Call) → next ≡ nexts.Send call → ⊥
 
 -- ---- saves
 
-abbrev NoCall : SavingNext → Type 0
+abbrev pub NoCall : SavingNext → Type 0
 NoCall next = (call : Call) → next ≡ Send call → ⊥
 
 sends-same : (xid : ℕ) (by_reply : Bool) (run : Segments) (s : Saving) (back : Pending) (next : SavingNext) (new : Saving) (after : Pending)

@@ -12,8 +12,8 @@ use Rattle.world_model.specs.declared.answer.Answer.TheVariants as answers
 use Rattle.world_model.specs.declared.message.Reply.{Reply}
 use Rattle.write_back.specs.Segments.{last_end}
 use Rattle.write_back.specs.Files.{of_file}
-use Rattle.file_ops.specs.declared.next.Next.{Next}
-use Rattle.file_ops.specs.declared.next.Next.TheVariants as nexts
+use Rattle.client_shelf.specs.declared.next.Next.{Next}
+use Rattle.client_shelf.specs.declared.next.Next.TheVariants as nexts
 use Rattle.file_ops.specs.declared.saving.Saving.{Saving}
 use Rattle.file_ops.specs.declared.saving.SavingNext.{SavingNext}
 use Rattle.file_ops.specs.declared.saving.SavingNext.TheVariants.{Send, Wait, Ended}
@@ -22,9 +22,9 @@ use Rattle.file_ops.specs.declared.close_file.CloseFile.{CloseFile}
 use Rattle.file_ops.specs.declared.close_file.Closing.{Closing}
 use Rattle.file_ops.specs.declared.close_file.Closing.TheVariants.{Idle, Queued, Saves, ToRemove, Removing}
 use Rattle.file_ops.specs.Judging.{after_of}
-use Rattle.file_ops.specs.Learning.{Learns, Renews}
+use Rattle.client_shelf.specs.Learning.{Learns, Renews}
 use Rattle.file_ops.specs.SlotFiles.{file_at, joined}
-use Rattle.file_ops.specs.Busy.{goes_again, repeats_after}
+use Rattle.client_shelf.specs.Busy.{goes_again, repeats_after}
 use Rattle.file_ops.specs.Closings.{TellsPlace, remove_of, removed_of, remove_busy, GivesUpBy, closed_answer, refusal_of}
 use Rattle.file_ops.specs.Saves as saves
 
@@ -56,10 +56,12 @@ pub record Asks (room : Bool) (removal : Removal) (old : Shelf) (next : Next) (s
 -- After a last close the file is removed, if it is to be.
 abbrev pub EndsAt : Option (List ℕ × List ℕ) → ℕ → Bool → List ℕ → Option Fault → Shelf → Next → Closing → Shelf → Type 0
 EndsAt None lane room file refusal old next state new = Ends lane file refusal old next state new
-EndsAt (Some place) lane room file refusal old next state new = Asks room (record { file = file; dir = place.0; name = place.1; refusal = refusal }) old next state new
+EndsAt (Some place) lane room file refusal old next state new =
+    Asks room (record { file = file; dir = place.0; name = place.1; refusal = refusal }) old next state new
 
 -- The sync has ended, with a refusal or not: the slot is free.
-pub record Frees (lane slot : ℕ) (room : Bool) (file : List ℕ) (refusal : Option Fault) (old : Shelf) (next : Next) (state : Closing) (new : Shelf) : Type 0 where
+pub record Frees (lane slot : ℕ) (room : Bool) (file : List ℕ) (refusal : Option Fault) (old : Shelf) (next : Next) (state : Closing)
+    (new : Shelf) : Type 0 where
   pub freed : Shelf
   pub place : Option (List ℕ × List ℕ)
   pub slot_is : freed ≡ record old { opens = map.remove old.opens (lane, slot); silly = freed.silly }
@@ -77,7 +79,8 @@ Follows Wait lane slot room begun saving old next state new = (next ≡ nexts.Wa
 Follows (Ended result) lane slot room begun saving old next state new = Frees lane slot room saving.file (refusal_of result) old next state new
 
 -- its save goes on
-pub record GoesOn (wsize lane slot : ℕ) (turn : Turn) (begun : Bool) (saving : Saving) (old : Shelf) (next : Next) (state : Closing) (new : Shelf) : Type 0 where
+pub record GoesOn (wsize lane slot : ℕ) (turn : Turn) (begun : Bool) (saving : Saving) (old : Shelf) (next : Next) (state : Closing)
+    (new : Shelf) : Type 0 where
   pub gives : SavingNext
   pub saved : Saving
   pub gone : Shelf
@@ -95,7 +98,8 @@ Begins None wsize lane slot turn saving old next state new = Frees lane slot tur
 Begins (Some end) wsize lane slot turn saving old next state new = GoesOn wsize lane slot turn false saving old next state new
 
 abbrev pub QueuesIf : Bool → ℕ → ℕ → ℕ → Turn → Saving → Shelf → Next → Closing → Shelf → Type 0
-QueuesIf true wsize lane slot turn saving old next state new = Begins (last_end (of_file saving.file old.back).segments) wsize lane slot turn saving old next state new
+QueuesIf true wsize lane slot turn saving old next state new =
+    Begins (last_end (of_file saving.file old.back).segments) wsize lane slot turn saving old next state new
 QueuesIf false wsize lane slot turn saving old next state new = Waits (Queued saving) old next state new
 
 abbrev pub Queues : ℕ → ℕ → ℕ → Turn → Saving → Shelf → Next → Closing → Shelf → Type 0
@@ -109,7 +113,8 @@ pub record HasNoFile (machine : CloseFile) (old : Shelf) (next : Next) (state : 
 
 abbrev pub StartsAt : Option (List ℕ) → ℕ → CloseFile → Turn → Shelf → Next → Closing → Shelf → Type 0
 StartsAt None wsize machine turn old next state new = HasNoFile machine old next state new
-StartsAt (Some file) wsize machine turn old next state new = Queues wsize machine.lane machine.slot turn (saves.begun file old.seq) (joined machine.lane file old) next state new
+StartsAt (Some file) wsize machine turn old next state new =
+    Queues wsize machine.lane machine.slot turn (saves.begun file old.seq) (joined machine.lane file old) next state new
 
 abbrev pub Starts : ℕ → CloseFile → Turn → Shelf → Next → Closing → Shelf → Type 0
 Starts wsize machine turn old next state new = StartsAt (file_at machine.lane machine.slot old.opens) wsize machine turn old next state new
@@ -118,12 +123,14 @@ Starts wsize machine turn old next state new = StartsAt (file_at machine.lane ma
 abbrev pub Resumes : Closing → ℕ → CloseFile → Turn → Shelf → Next → Closing → Shelf → Type 0
 Resumes Idle wsize machine turn old next state new = Waits Idle old next state new
 Resumes (Queued saving) wsize machine turn old next state new = Queues wsize machine.lane machine.slot turn saving old next state new
-Resumes (Saves saving) wsize machine turn old next state new = GoesOnIf (is_first machine.lane old.order) wsize machine.lane machine.slot turn saving old next state new
+Resumes (Saves saving) wsize machine turn old next state new =
+    GoesOnIf (is_first machine.lane old.order) wsize machine.lane machine.slot turn saving old next state new
 Resumes (ToRemove removal) wsize machine turn old next state new = Asks turn.room removal old next state new
 Resumes (Removing removal) wsize machine turn old next state new = Waits (Removing removal) old next state new
 
 -- the save takes what came of its call
-pub record TakesOne (wsize lane slot : ℕ) (sent turn : Turn) (came : Result Reply Fault) (saving : Saving) (old : Shelf) (next : Next) (state : Closing) (new : Shelf) : Type 0 where
+pub record TakesOne (wsize lane slot : ℕ) (sent turn : Turn) (came : Result Reply Fault) (saving : Saving) (old : Shelf) (next : Next) (state : Closing)
+    (new : Shelf) : Type 0 where
   pub gives : SavingNext
   pub saved : Saving
   pub took : Shelf
@@ -144,10 +151,15 @@ EndsIf true lane removal old next state new = RemovesAgain removal old next stat
 EndsIf false lane removal old next state new = Ends lane removal.file removal.refusal old next state new
 
 -- The file was removed, or its removal refused: the directory's names are dropped and its attributes are new or forgotten.
-pub record Removed (lane : ℕ) (sent turn : Turn) (came : Result Reply Fault) (removal : Removal) (old : Shelf) (next : Next) (state : Closing) (new : Shelf) : Type 0 where
+pub record Removed (lane : ℕ) (sent turn : Turn) (came : Result Reply Fault) (removal : Removal) (old : Shelf) (next : Next) (state : Closing)
+    (new : Shelf) : Type 0 where
   pub took : Shelf
   pub attrs : Renews removal.dir (removed_of came) sent.now old.attrs took.attrs
-  pub others : took ≡ record old { attrs = took.attrs; names = without_dir removal.dir old.names; repeats = repeats_after (remove_busy came) sent turn old.repeats }
+  pub others : took ≡ record old {
+    attrs = took.attrs;
+    names = without_dir removal.dir old.names;
+    repeats = repeats_after (remove_busy came) sent turn old.repeats;
+  }
   pub ends : EndsIf (goes_again (remove_busy came) sent turn old.repeats) lane removal took next state new
 
 -- What comes to a close that asked for nothing means nothing.

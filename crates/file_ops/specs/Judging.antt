@@ -15,7 +15,8 @@ use Rattle.file_ops.specs.declared.judging.WriteTold.TheVariants as told
 -- Bytes were sent to be written in this way: rule 3 is that the reply's way is allowed, rule 4 that it counts some of them.
 abbrev pub written_by : ℕ → ℕ → Wcc → ℕ → ℕ → Verf → WriteTold
 written_by how size wcc count committed verf =
-    if nat_lt committed how || nat_lt 2 committed then told.Fails (Bad 3) else if (count == 0) || nat_lt size count then told.Fails (Bad 4) else told.Done wcc count committed verf
+    if nat_lt committed how || nat_lt 2 committed then told.Fails (Bad 3) else if (count == 0) || nat_lt size count then told.Fails (Bad 4)
+    else told.Done wcc count committed verf
 
 -- a reply that isn't one to a WRITE says nothing
 abbrev pub write_told_by : ℕ → ℕ → FileKept → WriteTold

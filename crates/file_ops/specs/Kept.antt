@@ -27,7 +27,8 @@ offered file stamp sent place bytes ends index pages = offered_told file stamp s
 -- so many pages from one on, one after the other
 abbrev pub offered_from : List ℕ → Stamp → ℕ → ℕ → List ℕ → Bool → ℕ → ℕ → Pages → Pages
 offered_from file stamp sent place bytes ends index zero pages = pages
-offered_from file stamp sent place bytes ends index (suc n) pages = offered file stamp sent place bytes ends (index + n) (offered_from file stamp sent place bytes ends index n pages)
+offered_from file stamp sent place bytes ends index (suc n) pages =
+    offered file stamp sent place bytes ends (index + n) (offered_from file stamp sent place bytes ends index n pages)
 
 -- all pages that it gave
 abbrev pub all_offered : List ℕ → Stamp → ℕ → ℕ → List ℕ → Bool → Pages → Pages

@@ -6,8 +6,8 @@ use Rattle.page_cache.specs.Pages.{Pages}
 use Rattle.write_back.specs.Files.{Pending}
 use Rattle.client_shelf.specs.declared.shelf.Shelf.{Shelf}
 use Rattle.client_shelf.specs.declared.turn.Turn.{Turn}
-use Rattle.file_ops.specs.declared.next.Next.{Next}
-use Rattle.file_ops.specs.declared.next.Next.TheVariants.{Wait}
+use Rattle.client_shelf.specs.declared.next.Next.{Next}
+use Rattle.client_shelf.specs.declared.next.Next.TheVariants.{Wait}
 use Rattle.file_ops.specs.declared.close_file.CloseFile.{CloseFile}
 use Rattle.file_ops.specs.declared.close_file.Closing.{Closing}
 use Rattle.file_ops.specs.declared.open_file.OpenFile.{OpenFile}
@@ -51,7 +51,8 @@ abbrev pub OpenWaitsStill : Type 0
 OpenWaitsStill = (machine : OpenFile) (turn : Turn) → goes_as (go_next machine.opening turn) ≡ Wait → gone machine turn ≡ machine
 
 abbrev pub TruncateWaitsStill : Type 0
-TruncateWaitsStill = (machine : TruncateFile) (turn : Turn) (old : Shelf) → resumed_next machine.state machine turn old ≡ Wait → resumed_state machine.state machine turn old ≡ machine.state
+TruncateWaitsStill = (machine : TruncateFile) (turn : Turn) (old : Shelf) → resumed_next machine.state machine turn old ≡ Wait
+    → resumed_state machine.state machine turn old ≡ machine.state
 
 abbrev pub ReadWaitsStill : Type 0
 ReadWaitsStill = (machine : ReadFile) (pages : Pages) (back : Pending) (next : Next) (new : ReadFile) (later : Pages)
@@ -63,36 +64,42 @@ abbrev pub StaysReady : Turn → Shelf → Shelf → Type 0
 StaysReady turn old new = IsReady turn.xid old.seq old.back → IsReady (turn.xid + 1) new.seq new.back
 
 abbrev pub SyncStartsReady : Type 0
-SyncStartsReady = (wsize : ℕ) (machine : SyncFile) (turn : Turn) (old : Shelf) (next : Next) (state : Syncing) (new : Shelf) → syncs.Starts wsize machine turn old next state new → StaysReady turn old new
+SyncStartsReady = (wsize : ℕ) (machine : SyncFile) (turn : Turn) (old : Shelf) (next : Next) (state : Syncing) (new : Shelf)
+    → syncs.Starts wsize machine turn old next state new → StaysReady turn old new
 
 abbrev pub SyncResumesReady : Type 0
 SyncResumesReady = (at : Syncing) (wsize : ℕ) (machine : SyncFile) (turn : Turn) (old : Shelf) (next : Next) (state : Syncing) (new : Shelf)
     → syncs.Resumes at wsize machine turn old next state new → StaysReady turn old new
 
 abbrev pub SyncTakesReady : Type 0
-SyncTakesReady = (at : Syncing) (wsize : ℕ) (machine : SyncFile) (sent turn : Turn) (came : Result Reply Fault) (old : Shelf) (next : Next) (state : Syncing) (new : Shelf)
+SyncTakesReady =
+    (at : Syncing) (wsize : ℕ) (machine : SyncFile) (sent turn : Turn) (came : Result Reply Fault) (old : Shelf) (next : Next) (state : Syncing) (new : Shelf)
     → syncs.Takes at wsize machine sent turn came old next state new → StaysReady turn old new
 
 abbrev pub CloseStartsReady : Type 0
-CloseStartsReady = (wsize : ℕ) (machine : CloseFile) (turn : Turn) (old : Shelf) (next : Next) (state : Closing) (new : Shelf) → closes.Starts wsize machine turn old next state new → StaysReady turn old new
+CloseStartsReady = (wsize : ℕ) (machine : CloseFile) (turn : Turn) (old : Shelf) (next : Next) (state : Closing) (new : Shelf)
+    → closes.Starts wsize machine turn old next state new → StaysReady turn old new
 
 abbrev pub CloseResumesReady : Type 0
 CloseResumesReady = (at : Closing) (wsize : ℕ) (machine : CloseFile) (turn : Turn) (old : Shelf) (next : Next) (state : Closing) (new : Shelf)
     → closes.Resumes at wsize machine turn old next state new → StaysReady turn old new
 
 abbrev pub CloseTakesReady : Type 0
-CloseTakesReady = (at : Closing) (wsize : ℕ) (machine : CloseFile) (sent turn : Turn) (came : Result Reply Fault) (old : Shelf) (next : Next) (state : Closing) (new : Shelf)
+CloseTakesReady =
+    (at : Closing) (wsize : ℕ) (machine : CloseFile) (sent turn : Turn) (came : Result Reply Fault) (old : Shelf) (next : Next) (state : Closing) (new : Shelf)
     → closes.Takes at wsize machine sent turn came old next state new → StaysReady turn old new
 
 abbrev pub WriteStartsReady : Type 0
-WriteStartsReady = (wsize : ℕ) (machine : WriteFile) (turn : Turn) (old : Shelf) (next : Next) (new : WriteFile) (after : Shelf) → writes.Starts wsize machine turn old next new after → StaysReady turn old after
+WriteStartsReady = (wsize : ℕ) (machine : WriteFile) (turn : Turn) (old : Shelf) (next : Next) (new : WriteFile) (after : Shelf)
+    → writes.Starts wsize machine turn old next new after → StaysReady turn old after
 
 abbrev pub WriteResumesReady : Type 0
 WriteResumesReady = (at : Writing) (wsize lane : ℕ) (turn : Turn) (old : Shelf) (next : Next) (new : Writing) (after : Shelf)
     → writes.ResumesIn at wsize lane turn old next new after → StaysReady turn old after
 
 abbrev pub WriteTakesReady : Type 0
-WriteTakesReady = (at : Writing) (wsize : ℕ) (machine : WriteFile) (sent turn : Turn) (came : Result Reply Fault) (old : Shelf) (next : Next) (new : Writing) (after : Shelf)
+WriteTakesReady =
+    (at : Writing) (wsize : ℕ) (machine : WriteFile) (sent turn : Turn) (came : Result Reply Fault) (old : Shelf) (next : Next) (new : Writing) (after : Shelf)
     → writes.TakesIn at wsize machine sent turn came old next new after → StaysReady turn old after
 
 abbrev pub PutResumesReady : Type 0
@@ -100,9 +107,11 @@ PutResumesReady = (at : Putting) (wsize : ℕ) (machine : PutFile) (turn : Turn)
     → puts.Resumes at wsize machine turn old next new after → StaysReady turn old after
 
 abbrev pub PutTakesReady : Type 0
-PutTakesReady = (at : Putting) (wsize : ℕ) (machine : PutFile) (sent turn : Turn) (came : Result Reply Fault) (old : Shelf) (next : Next) (new : PutFile) (after : Shelf)
+PutTakesReady =
+    (at : Putting) (wsize : ℕ) (machine : PutFile) (sent turn : Turn) (came : Result Reply Fault) (old : Shelf) (next : Next) (new : PutFile) (after : Shelf)
     → puts.Takes at wsize machine sent turn came old next new after → StaysReady turn old after
 
 -- a truncate changes no number
 abbrev pub TruncateTakesReady : Type 0
-TruncateTakesReady = (at : Truncating) (machine : TruncateFile) (came : Result Reply Fault) (xid seq : ℕ) (old new : Pending) → TookBack at machine came old new → IsReady xid seq old → IsReady (xid + 1) seq new
+TruncateTakesReady = (at : Truncating) (machine : TruncateFile) (came : Result Reply Fault) (xid seq : ℕ) (old new : Pending)
+    → TookBack at machine came old new → IsReady xid seq old → IsReady (xid + 1) seq new

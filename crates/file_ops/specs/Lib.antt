@@ -1,7 +1,6 @@
 pub mod Closes
 pub mod Closings
 pub mod Judging
-pub mod Learning
 pub mod Opens
 pub mod Quiet
 pub mod Adding
@@ -21,7 +20,7 @@ pub mod Overlaid
 pub mod ReadReply
 pub mod Reading
 pub mod ReadFile
-pub mod Busy
 pub mod PagesOpened
 pub mod Laws
 pub mod Ready
+pub mod Endings

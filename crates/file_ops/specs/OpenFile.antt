@@ -12,8 +12,8 @@ use Rattle.world_model.specs.declared.message.Reply.{Reply}
 use Rattle.client_shelf.specs.declared.turn.Turn.{Turn}
 use Rattle.client_shelf.specs.declared.repeats.Repeat.{Repeat}
 use Rattle.attr_cache.specs.Attrs.{Attrs}
-use Rattle.file_ops.specs.declared.next.Next.{Next}
-use Rattle.file_ops.specs.declared.next.Next.TheVariants.{Send, Wait, Done}
+use Rattle.client_shelf.specs.declared.next.Next.{Next}
+use Rattle.client_shelf.specs.declared.next.Next.TheVariants.{Send, Wait, Done}
 use Rattle.file_ops.specs.declared.opening.Opening.{Opening}
 use Rattle.file_ops.specs.declared.opening.OpeningNext.{OpeningNext}
 use Rattle.file_ops.specs.declared.opening.OpeningNext.TheVariants as steps
@@ -80,7 +80,8 @@ abbrev pub took_after : Bool → OpenFile → Turn → Result Reply Fault → At
 took_after again m turn reply attrs pages = record m { opening = opening_after again m.opening turn (led_on m.opening turn.now reply attrs pages) }
 
 -- a reply's step: the opening's, and what follows
-pub record OpenTakes (m : OpenFile) (sent turn : Turn) (reply : Result Reply Fault) (attrs : Attrs) (repeats : List Repeat) (next : Next) (pages later : Pages) (old new : Opens) : Type 0 where
+pub record OpenTakes (m : OpenFile) (sent turn : Turn) (reply : Result Reply Fault) (attrs : Attrs) (repeats : List Repeat) (next : Next)
+    (pages later : Pages) (old new : Opens) : Type 0 where
   pub step : OpeningNext
   pub led : LedIf (opening_again m.opening sent turn reply repeats) m.opening sent turn (led_on m.opening turn.now reply attrs pages) step pages later
   pub follows : Follows m step next old new

@@ -30,8 +30,8 @@ use Rattle.file_ops.specs.declared.opening.OpeningNext.{OpeningNext}
 use Rattle.file_ops.specs.declared.opening.OpeningNext.TheVariants.{Send, Wait, Ended}
 use Rattle.file_ops.specs.declared.opening.Led.{Led}
 use Rattle.file_ops.specs.declared.opening.Led.TheVariants.{Goes, Opens, Knows, Ends}
-use Rattle.file_ops.specs.Learning.{Learns, Renews, LearnsThen, LearnsName}
-use Rattle.file_ops.specs.Busy.{is_busy, goes_again}
+use Rattle.client_shelf.specs.Learning.{Learns, Renews, LearnsThen, LearnsName}
+use Rattle.client_shelf.specs.Busy.{is_busy, goes_again}
 use Rattle.file_ops.specs.PagesOpened.{opened_pages}
 use Rattle.file_ops.specs.Told.{found_by, made_by, got_by}
 

@@ -10,8 +10,8 @@ use Rattle.client_shelf.specs.declared.shelf.Shelf.{Shelf}
 use Rattle.client_shelf.specs.LaneFiles.{added, left, is_other, is_first}
 use Rattle.open_files.specs.Slots.{Opens}
 use Rattle.write_back.specs.Files.{Pending}
-use Rattle.file_ops.specs.declared.next.Next.{Next}
-use Rattle.file_ops.specs.declared.next.Next.TheVariants as nexts
+use Rattle.client_shelf.specs.declared.next.Next.{Next}
+use Rattle.client_shelf.specs.declared.next.Next.TheVariants as nexts
 use Rattle.file_ops.specs.declared.saving.Saving.{Saving}
 use Rattle.file_ops.specs.declared.saving.SavingNext.{SavingNext}
 use Rattle.file_ops.specs.declared.saving.SavingNext.TheVariants.{Send, Wait, Ended}
@@ -27,13 +27,13 @@ use Rattle.file_ops.specs.declared.write_file.Writing.TheVariants as writings
 use Rattle.nfs_types.specs.declared.mode.Mode.TheVariants.{W}
 use Rattle.attr_cache.specs.Attrs.{Attrs}
 use Rattle.page_cache.specs.Pages.{Pages}
-use Rattle.file_ops.specs.Busy.{repeats_after}
+use Rattle.client_shelf.specs.Busy.{repeats_after}
 use Rattle.file_ops.specs.Opening.{first_step, go_next, go_after, NotesAttrs, NotesNames, opening_again, opening_after, led_on, LedIf, told_led, ends_busy}
 use Rattle.file_ops.specs.OpenFile.{goes_as}
 use Rattle.file_ops.specs.WriteFile.{made_bytes, Writes, TakesIn, ResumesIn}
 use Rattle.file_ops.specs.Closings.{GivesUpBy, closed_answer, refusal_of}
 use Rattle.file_ops.specs.Judging.{after_of}
-use Rattle.file_ops.specs.Learning.{Learns}
+use Rattle.client_shelf.specs.Learning.{Learns}
 use Rattle.file_ops.specs.SlotFiles.{joined}
 use Rattle.file_ops.specs.Saves as saves
 
@@ -90,7 +90,8 @@ AfterWrite (nexts.Done (answers.Done value)) wsize lane file turn old next state
 AfterWrite (nexts.Done (answers.Refused fault)) wsize lane file turn old next state new = Ends lane file (Some fault) old next state new
 
 -- the save takes what came of its call
-pub record TakesOne (wsize lane : ℕ) (sent turn : Turn) (came : Result Reply Fault) (saving : Saving) (old : Shelf) (next : Next) (state : Putting) (new : Shelf) : Type 0 where
+pub record TakesOne (wsize lane : ℕ) (sent turn : Turn) (came : Result Reply Fault) (saving : Saving) (old : Shelf) (next : Next) (state : Putting)
+    (new : Shelf) : Type 0 where
   pub gives : SavingNext
   pub saved : Saving
   pub took : Shelf
@@ -125,7 +126,8 @@ abbrev pub put_at : ℕ → List ℕ → Shelf → Shelf
 put_at lane file shelf = record shelf { puts = added (record { lane = lane; file = file }) (left lane shelf.puts) }
 
 -- what a step of its write, which leads to `told`, makes of the put
-pub record WritesOn (wsize : ℕ) (machine : PutFile) (file : List ℕ) (turn : Turn) (told : Next) (written : Writing) (mid : Shelf) (next : Next) (new : PutFile) (after : Shelf) : Type 0 where
+pub record WritesOn (wsize : ℕ) (machine : PutFile) (file : List ℕ) (turn : Turn) (told : Next) (written : Writing) (mid : Shelf) (next : Next)
+    (new : PutFile) (after : Shelf) : Type 0 where
   pub follows : AfterWrite told wsize machine.write.lane file turn mid next new.state after
   pub machine_is : new ≡ record machine { write = record machine.write { state = written }; state = new.state }
 
@@ -134,11 +136,13 @@ pub record AddsBytes (wsize : ℕ) (machine : PutFile) (file : List ℕ) (turn :
   pub told : Next
   pub written : Writing
   pub mid : Shelf
-  pub writes : Writes wsize machine.write.lane file machine.write.offset (made_bytes machine.write.text) turn (put_at machine.write.lane file old) told written mid
+  pub writes : Writes wsize machine.write.lane file machine.write.offset (made_bytes machine.write.text) turn (put_at machine.write.lane file old) told
+      written mid
   pub goes : WritesOn wsize machine file turn told written mid next new after
 
 -- The write, which makes room, takes what came of its call.
-pub record TakesRoom (wsize : ℕ) (machine : PutFile) (file : List ℕ) (sent turn : Turn) (came : Result Reply Fault) (old : Shelf) (next : Next) (new : PutFile) (after : Shelf) : Type 0 where
+pub record TakesRoom (wsize : ℕ) (machine : PutFile) (file : List ℕ) (sent turn : Turn) (came : Result Reply Fault) (old : Shelf) (next : Next)
+    (new : PutFile) (after : Shelf) : Type 0 where
   pub told : Next
   pub written : Writing
   pub mid : Shelf
@@ -163,18 +167,22 @@ AfterOpening (steps.Ended (Err fault)) wsize machine turn old next new after =
 
 -- the put after its opening took a reply
 abbrev pub led : Bool → PutFile → Turn → Result Reply Fault → Attrs → Pages → PutFile
-led again machine turn came attrs pages = record machine { opening = opening_after again machine.opening turn (led_on machine.opening turn.now came attrs pages) }
+led again machine turn came attrs pages =
+    record machine { opening = opening_after again machine.opening turn (led_on machine.opening turn.now came attrs pages) }
 
 -- The opening takes what came of its call.
-pub record TakesOpening (wsize : ℕ) (machine : PutFile) (sent turn : Turn) (came : Result Reply Fault) (old : Shelf) (next : Next) (new : PutFile) (after : Shelf) : Type 0 where
+pub record TakesOpening (wsize : ℕ) (machine : PutFile) (sent turn : Turn) (came : Result Reply Fault) (old : Shelf) (next : Next) (new : PutFile)
+    (after : Shelf) : Type 0 where
   pub step : OpeningNext
   pub took : Shelf
-  pub leads : LedIf (opening_again machine.opening sent turn came old.repeats) machine.opening sent turn (led_on machine.opening turn.now came took.attrs old.pages) step old.pages took.pages
+  pub leads : LedIf (opening_again machine.opening sent turn came old.repeats) machine.opening sent turn
+      (led_on machine.opening turn.now came took.attrs old.pages) step old.pages took.pages
   pub attrs : NotesAttrs machine.opening sent.now came machine.opening.step old.attrs took.attrs
   pub names : NotesNames machine.opening came machine.opening.step old.names took.names
   pub repeats : took.repeats ≡ repeats_after (ends_busy (told_led machine.opening came)) sent turn old.repeats
   pub others : took ≡ record old { pages = took.pages; attrs = took.attrs; names = took.names; repeats = took.repeats }
-  pub follows : AfterOpening step wsize (led (opening_again machine.opening sent turn came old.repeats) machine turn came took.attrs old.pages) turn took next new after
+  pub follows : AfterOpening step wsize (led (opening_again machine.opening sent turn came old.repeats) machine turn came took.attrs old.pages) turn took next
+      new after
 
 -- a step that no reply made possible
 abbrev pub Resumes : Putting → ℕ → PutFile → Turn → Shelf → Next → PutFile → Shelf → Type 0

@@ -8,8 +8,8 @@ use Rattle.write_back.specs.Files.{Pending}
 use Rattle.world_model.specs.declared.answer.Fault.{Fault}
 use Rattle.world_model.specs.declared.answer.Fault.TheVariants as faults
 use Rattle.world_model.specs.declared.message.Reply.{Reply}
-use Rattle.file_ops.specs.declared.next.Next.{Next}
-use Rattle.file_ops.specs.declared.next.Next.TheVariants.{Wait}
+use Rattle.client_shelf.specs.declared.next.Next.{Next}
+use Rattle.client_shelf.specs.declared.next.Next.TheVariants.{Wait}
 use Rattle.client_shelf.specs.declared.repeats.Repeat.{Repeat}
 use Rattle.client_shelf.specs.declared.turn.Turn.{Turn}
 use Rattle.file_ops.specs.declared.reading.Phase.{Phase}
@@ -74,7 +74,8 @@ StartsWith (Err fault) room m pages back next new later = StaysSo m pages next (
 StartsWith (Ok reading) room m pages back next new later = GoesFrom room m back (settled reading pages) next new later
 
 -- the first step: there may be no memory to begin
-pub record Starts (opened : Option Opened) (turn : Turn) (m : ReadFile) (pages : Pages) (back : Pending) (next : Next) (new : ReadFile) (later : Pages) : Type 0 where
+pub record Starts (opened : Option Opened) (turn : Turn) (m : ReadFile) (pages : Pages) (back : Pending) (next : Next) (new : ReadFile)
+    (later : Pages) : Type 0 where
   pub reading : Result Reading Fault
   pub begins : Begins (begun_at opened (turn.moment - 1) m back) reading
   pub goes : StartsWith reading turn.room m pages back next new later
@@ -85,7 +86,8 @@ ResumesIn None room m pages back next new later = StaysSo m pages next Wait new 
 ResumesIn (Some reading) room m pages back next new later = GoesFrom room m back (settled reading pages) next new later
 
 -- a step with what came of its call
-pub record TakesFrom (sent turn : Turn) (reply : Result Reply Fault) (repeats : List Repeat) (m : ReadFile) (reading : Reading) (back : Pending) (pages : Pages) (next : Next) (new : ReadFile) (later : Pages) : Type 0 where
+pub record TakesFrom (sent turn : Turn) (reply : Result Reply Fault) (repeats : List Repeat) (m : ReadFile) (reading : Reading) (back : Pending)
+    (pages : Pages) (next : Next) (new : ReadFile) (later : Pages) : Type 0 where
   pub state : State
   pub step : Takes sent turn reply repeats reading pages back next state
   pub machine : new ≡ record m { reading = Some state.reading }

@@ -6,7 +6,7 @@ use Rattle.world_model.specs.declared.answer.Fault.{Fault}
 use Rattle.world_model.specs.declared.answer.Fault.TheVariants as faults
 use Rattle.world_model.specs.declared.message.Reply.{Reply}
 use Rattle.world_model.specs.declared.message.Reply.TheVariants as replies
-use Rattle.file_ops.specs.Busy.{is_busy}
+use Rattle.client_shelf.specs.Busy.{is_busy}
 use Rattle.file_ops.specs.declared.read_reply.ReadSaid.{ReadSaid}
 use Rattle.file_ops.specs.declared.read_reply.ReadSaid.TheVariants as said
 

@@ -17,8 +17,8 @@ use Rattle.world_model.specs.declared.message.Call.TheVariants as calls
 use Rattle.world_model.specs.declared.message.Reply.{Reply}
 use Rattle.file_ops.specs.declared.gather.Found.{Found}
 use Rattle.file_ops.specs.declared.gather.Found.TheVariants as found
-use Rattle.file_ops.specs.declared.next.Next.{Next}
-use Rattle.file_ops.specs.declared.next.Next.TheVariants.{Send, Wait, Done}
+use Rattle.client_shelf.specs.declared.next.Next.{Next}
+use Rattle.client_shelf.specs.declared.next.Next.TheVariants.{Send, Wait, Done}
 use Rattle.file_ops.specs.declared.reading.Phase.{Phase}
 use Rattle.file_ops.specs.declared.reading.Phase.TheVariants as phases
 use Rattle.file_ops.specs.declared.reading.Reading.{Reading}
@@ -26,7 +26,7 @@ use Rattle.file_ops.specs.Base.{Bytes, place_after, with_more}
 use Rattle.file_ops.specs.Gather.{Gathered, gathered, next_count, next_plan}
 use Rattle.file_ops.specs.Kept.{all_offered}
 use Rattle.file_ops.specs.Overlaid.{shown_over, bytes_from}
-use Rattle.file_ops.specs.Busy.{fails_busy, goes_again, repeats_after}
+use Rattle.client_shelf.specs.Busy.{fails_busy, goes_again, repeats_after}
 use Rattle.file_ops.specs.PagesOpened.{PagesOpened}
 use Rattle.file_ops.specs.Told.{got_by}
 use Rattle.file_ops.specs.ReadReply.{Said, part, refusal, said_to, says_busy}
@@ -154,7 +154,8 @@ noted (Some attr) file sent place bytes eof pages =
 
 -- After a part: the bytes end, or those after it are asked for, or pages are taken again.
 abbrev pub phase_then : ℕ → Bool → List ℕ → Bytes → Phase
-phase_then count eof bytes base = if eof then phases.Ended else if nat_lt (length bytes) count || not (place_after base % 4096 == 0) then phases.Rest else phases.Pages
+phase_then count eof bytes base =
+    if eof then phases.Ended else if nat_lt (length bytes) count || not (place_after base % 4096 == 0) then phases.Rest else phases.Pages
 
 abbrev pub added : ℕ → Bool → List ℕ → Reading → Reading
 added count eof bytes r = record r { base = with_more bytes r.base; phase = phase_then count eof bytes (with_more bytes r.base) }
@@ -220,7 +221,8 @@ pub record TakesAttr (attr : Attr) (sent turn : Turn) (r : Reading) (pages : Pag
 -- the attributes came, or were refused
 abbrev pub TakesAttrs : Bool → Result Attr Fault → Turn → Turn → Reading → Pages → Pending → Next → State → Type 0
 TakesAttrs again (Ok attr) sent turn r pages back next new = TakesAttr attr sent turn r pages back next new
-TakesAttrs again (Err fault) sent turn r pages back next new = (next ≡ again_next again (attrs_call r.file) fault) × (new ≡ record { reading = r; pages = pages })
+TakesAttrs again (Err fault) sent turn r pages back next new = (next ≡ again_next again (attrs_call r.file) fault)
+    × (new ≡ record { reading = r; pages = pages })
 
 -- the same of what was heard, if anything
 abbrev pub TakesPart : Option Said → Turn → Turn → List Repeat → Reading → Pages → Pending → Next → State → Type 0
@@ -229,7 +231,8 @@ TakesPart (Some said) sent turn repeats r pages back next new =
     Tells (goes_again (says_busy said) sent turn repeats) sent turn said r pages back next × (new ≡ told sent turn said r pages)
 
 abbrev pub TakesIf : Bool → Turn → Turn → Result Reply Fault → List Repeat → Reading → Pages → Pending → Next → State → Type 0
-TakesIf true sent turn reply repeats r pages back next new = TakesAttrs (goes_again (fails_busy (got_by reply)) sent turn repeats) (got_by reply) sent turn r pages back next new
+TakesIf true sent turn reply repeats r pages back next new =
+    TakesAttrs (goes_again (fails_busy (got_by reply)) sent turn repeats) (got_by reply) sent turn r pages back next new
 TakesIf false sent turn reply repeats r pages back next new = TakesPart (heard r.phase reply) sent turn repeats r pages back next new
 
 -- A read takes what came of the call that the step with the turn `sent` made.

@@ -23,7 +23,7 @@ use Rattle.commit_verf.specs.declared.commit.Verdict.{Verdict}
 use Rattle.commit_verf.specs.declared.commit.Verdict.TheVariants.{AllStable, SendAgain}
 use Rattle.commit_verf.specs.Decisions.{decided, verdict_of}
 use Rattle.page_cache.specs.Pages.{Pages, wrote}
-use Rattle.file_ops.specs.Busy.{fails_busy, goes_again, repeats_after}
+use Rattle.client_shelf.specs.Busy.{fails_busy, goes_again, repeats_after}
 use Rattle.file_ops.specs.declared.judging.WriteTold.{WriteTold}
 use Rattle.file_ops.specs.declared.judging.WriteTold.TheVariants.{Done, Refused, Fails}
 use Rattle.file_ops.specs.Judging.{write_told, commit_told}
@@ -116,7 +116,8 @@ SendsIf false xid by_reply run s back next new after = Leads Wait s next new × 
 
 abbrev pub GoesOver : Option Fault → ℕ → ℕ → Bool → Bool → Saving → Pending → SavingNext → Saving → Pending → Type 0
 GoesOver (Some fault) wsize xid room by_reply s back next new after = Leads (refused_next s.waiting fault) s next new × (after ≡ back)
-GoesOver None wsize xid room by_reply s back next new after = SendsIf (may_send room s) xid by_reply (chosen s.upto wsize (of_file s.file back)) s back next new after
+GoesOver None wsize xid room by_reply s back next new after =
+    SendsIf (may_send room s) xid by_reply (chosen s.upto wsize (of_file s.file back)) s back next new after
 
 -- A save goes on: with a WRITE size, an xid and whether there is room; `by_reply`: the reply to a WRITE has just come.
 abbrev pub Goes : ℕ → ℕ → Bool → Bool → Saving → Pending → SavingNext → Saving → Pending → Type 0
@@ -148,7 +149,8 @@ pages_told file offset bytes moment (Fails fault) pages = wrote file untold 0 []
 abbrev pub Lands : ℕ → List ℕ → WriteTold → Pending → Pending → Option Fault → Type 0
 Lands xid file (Done wcc count committed verf) old new None = OnFile old new file (at_xid (landed_part (acked_by committed verf) count) xid (of_file file old))
 Lands xid file (Done wcc count committed verf) old new (Some fault) = (fault ≡ Memory) × OnFile old new file (at_xid (landed by.Return) xid (of_file file old))
-Lands xid file (Refused status) old new refusal = (refusal ≡ Some (Nfs status)) × OnFile old new file (at_xid (landed (by.Refuse status)) xid (of_file file old))
+Lands xid file (Refused status) old new refusal = (refusal ≡ Some (Nfs status))
+    × OnFile old new file (at_xid (landed (by.Refuse status)) xid (of_file file old))
 Lands xid file (Fails fault) old new refusal = (refusal ≡ Some fault) × OnFile old new file (at_xid (landed by.Return) xid (of_file file old))
 
 abbrev pub refused_by : Option Fault → Saving → Saving
@@ -156,7 +158,8 @@ refused_by None s = s
 refused_by (Some fault) s = with_refusal fault s
 
 -- A WRITE's reply: the piece lands, and the save goes on.
-pub record TakesWrite (wsize asked xid : ℕ) (room : Bool) (told : WriteTold) (s : Saving) (back : Pending) (next : SavingNext) (new : Saving) (after : Pending) : Type 0 where
+pub record TakesWrite (wsize asked xid : ℕ) (room : Bool) (told : WriteTold) (s : Saving) (back : Pending) (next : SavingNext) (new : Saving)
+    (after : Pending) : Type 0 where
   pub refusal : Option Fault
   pub between : Pending
   pub lands : Lands asked s.file told back between refusal
@@ -168,7 +171,8 @@ Decides AllStable wsize xid room s back next new after = Leads (Ended (Ok tt)) s
 Decides (SendAgain count) wsize xid room s back next new after = Goes wsize xid room false (record s { phase = Resending }) back next new after
 
 -- the reply to a COMMIT that was done
-pub record TakesVerf (wsize xid : ℕ) (room : Bool) (verf : Verf) (s : Saving) (back : Pending) (next : SavingNext) (new : Saving) (after : Pending) : Type 0 where
+pub record TakesVerf (wsize xid : ℕ) (room : Bool) (verf : Verf) (s : Saving) (back : Pending) (next : SavingNext) (new : Saving)
+    (after : Pending) : Type 0 where
   pub between : Pending
   pub decides : OnFile back between s.file (decided s.upto verf (of_file s.file back))
   pub goes : Decides (verdict_of (lost verf s.upto (of_file s.file back).segments)) wsize xid room s between next new after
@@ -245,12 +249,17 @@ commit_repeats told sent turn repeats s = repeats_after (may_again (fails_busy t
 
 -- A save takes what came of its call, which the step with the turn `sent` made, by its phase.
 abbrev pub TakesIn : Phase → ℕ → Turn → Turn → Result Reply Fault → List Repeat → Saving → Pending → SavingNext → Saving → Pending → List Repeat → Type 0
-TakesIn Sending wsize sent turn came repeats s back next new after later = TakesTold wsize sent turn (told_of sent.xid s.file back came) repeats s back next new after later
-TakesIn Resending wsize sent turn came repeats s back next new after later = TakesTold wsize sent turn (told_of sent.xid s.file back came) repeats s back next new after later
+TakesIn Sending wsize sent turn came repeats s back next new after later =
+    TakesTold wsize sent turn (told_of sent.xid s.file back came) repeats s back next new after later
+TakesIn Resending wsize sent turn came repeats s back next new after later =
+    TakesTold wsize sent turn (told_of sent.xid s.file back came) repeats s back next new after later
 TakesIn Committing wsize sent turn came repeats s back next new after later =
-    TakesFirst (commit_again (commit_told came) sent turn repeats s) wsize turn (commit_told came) s back next new after × (later ≡ commit_repeats (commit_told came) sent turn repeats s)
+    TakesFirst (commit_again (commit_told came) sent turn repeats s) wsize turn (commit_told came) s back next new after
+    × (later ≡ commit_repeats (commit_told came) sent turn repeats s)
 TakesIn CommittingAgain wsize sent turn came repeats s back next new after later =
-    Leads (last_next (commit_again (commit_told came) sent turn repeats s) (commit_told came) s) (last_saving (commit_again (commit_told came) sent turn repeats s) s) next new × (after ≡ back) × (later ≡ commit_repeats (commit_told came) sent turn repeats s)
+    Leads (last_next (commit_again (commit_told came) sent turn repeats s) (commit_told came) s)
+    (last_saving (commit_again (commit_told came) sent turn repeats s) s) next new × (after ≡ back)
+    × (later ≡ commit_repeats (commit_told came) sent turn repeats s)
 
 abbrev pub Takes : ℕ → Turn → Turn → Result Reply Fault → List Repeat → Saving → Pending → SavingNext → Saving → Pending → List Repeat → Type 0
 Takes wsize sent turn came repeats s back next new after later = TakesIn s.phase wsize sent turn came repeats s back next new after later
@@ -258,4 +267,5 @@ Takes wsize sent turn came repeats s back next new after later = TakesIn s.phase
 -- the kept pages after it
 abbrev pub pages_after : ℕ → ℕ → Result Reply Fault → Saving → Pending → Pages → Pages
 pages_after asked moment came s back pages =
-    if is_sending s.phase then pages_told s.file (answered asked s.file back).offset (answered asked s.file back).bytes moment (told_of asked s.file back came) pages else pages
+    if is_sending s.phase then pages_told s.file (answered asked s.file back).offset (answered asked s.file back).bytes moment
+    (told_of asked s.file back came) pages else pages

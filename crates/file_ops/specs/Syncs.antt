@@ -11,8 +11,8 @@ use Rattle.world_model.specs.declared.answer.Value.TheVariants.{Nothing}
 use Rattle.world_model.specs.declared.answer.Answer.{Answer}
 use Rattle.world_model.specs.declared.answer.Fault.{Fault}
 use Rattle.world_model.specs.declared.message.Reply.{Reply}
-use Rattle.file_ops.specs.declared.next.Next.{Next}
-use Rattle.file_ops.specs.declared.next.Next.TheVariants as nexts
+use Rattle.client_shelf.specs.declared.next.Next.{Next}
+use Rattle.client_shelf.specs.declared.next.Next.TheVariants as nexts
 use Rattle.file_ops.specs.declared.saving.Saving.{Saving}
 use Rattle.file_ops.specs.declared.saving.SavingNext.{SavingNext}
 use Rattle.file_ops.specs.declared.saving.SavingNext.TheVariants.{Send, Wait, Ended}
@@ -20,7 +20,7 @@ use Rattle.file_ops.specs.declared.sync_file.SyncFile.{SyncFile}
 use Rattle.file_ops.specs.declared.sync_file.Syncing.{Syncing}
 use Rattle.file_ops.specs.declared.sync_file.Syncing.TheVariants.{Idle, Saves}
 use Rattle.file_ops.specs.Judging.{after_of}
-use Rattle.file_ops.specs.Learning.{Learns}
+use Rattle.client_shelf.specs.Learning.{Learns}
 use Rattle.file_ops.specs.SlotFiles.{file_at, joined}
 use Rattle.file_ops.specs.Saves as saves
 
@@ -46,7 +46,8 @@ sync_order Wait lane order = order
 sync_order (Ended result) lane order = left lane order
 
 -- what a step of the save, and the save after it, make of the sync
-pub record Follows (lane : ℕ) (gives : SavingNext) (saving : Saving) (order : List LaneFile) (next : Next) (state : Syncing) (left : List LaneFile) : Type 0 where
+pub record Follows (lane : ℕ) (gives : SavingNext) (saving : Saving) (order : List LaneFile) (next : Next) (state : Syncing)
+    (left : List LaneFile) : Type 0 where
   pub next_is : next ≡ sync_next gives
   pub state_is : state ≡ sync_state gives saving
   pub order_is : left ≡ sync_order gives lane order
@@ -81,7 +82,8 @@ pub record HasNoFile (machine : SyncFile) (old : Shelf) (next : Next) (state : S
 
 abbrev pub StartsAt : Option (List ℕ) → ℕ → SyncFile → Turn → Shelf → Next → Syncing → Shelf → Type 0
 StartsAt None wsize machine turn old next state new = HasNoFile machine old next state new
-StartsAt (Some file) wsize machine turn old next state new = Queues wsize machine.lane turn (saves.begun file old.seq) (joined machine.lane file old) next state new
+StartsAt (Some file) wsize machine turn old next state new =
+    Queues wsize machine.lane turn (saves.begun file old.seq) (joined machine.lane file old) next state new
 
 abbrev pub Starts : ℕ → SyncFile → Turn → Shelf → Next → Syncing → Shelf → Type 0
 Starts wsize machine turn old next state new = StartsAt (file_at machine.lane machine.slot old.opens) wsize machine turn old next state new
@@ -92,7 +94,8 @@ Resumes Idle wsize machine turn old next state new = Waits Idle old next state n
 Resumes (Saves saving) wsize machine turn old next state new = Queues wsize machine.lane turn saving old next state new
 
 -- the save takes what came of its call
-pub record TakesOne (wsize lane : ℕ) (sent turn : Turn) (came : Result Reply Fault) (saving : Saving) (old : Shelf) (next : Next) (state : Syncing) (new : Shelf) : Type 0 where
+pub record TakesOne (wsize lane : ℕ) (sent turn : Turn) (came : Result Reply Fault) (saving : Saving) (old : Shelf) (next : Next) (state : Syncing)
+    (new : Shelf) : Type 0 where
   pub gives : SavingNext
   pub saved : Saving
   pub takes : saves.Takes wsize sent turn came old.repeats saving old.back gives saved new.back new.repeats

@@ -21,16 +21,16 @@ use Rattle.client_shelf.specs.declared.shelf.Shelf.{Shelf}
 use Rattle.client_shelf.specs.LaneFiles.{left, is_first}
 use Rattle.client_shelf.specs.declared.lane_files.LaneFile.{LaneFile}
 use Rattle.client_shelf.specs.declared.repeats.Repeat.{Repeat}
-use Rattle.file_ops.specs.Busy.{fails_busy, goes_again, repeats_after}
+use Rattle.client_shelf.specs.Busy.{fails_busy, goes_again, repeats_after}
 use Rattle.page_cache.specs.Pages as pages
 use Rattle.write_back.specs.Files.{Pending, of_file, OnFile}
 use Rattle.write_back.specs.Landing.{with_cut}
-use Rattle.file_ops.specs.declared.next.Next.{Next}
-use Rattle.file_ops.specs.declared.next.Next.TheVariants.{Send, Wait, Done}
+use Rattle.client_shelf.specs.declared.next.Next.{Next}
+use Rattle.client_shelf.specs.declared.next.Next.TheVariants.{Send, Wait, Done}
 use Rattle.file_ops.specs.declared.truncate_file.TruncateFile.{TruncateFile}
 use Rattle.file_ops.specs.declared.truncate_file.Truncating.{Truncating}
 use Rattle.file_ops.specs.declared.truncate_file.Truncating.TheVariants.{Idle, Queued, Asked}
-use Rattle.file_ops.specs.Learning.{Learns}
+use Rattle.client_shelf.specs.Learning.{Learns}
 use Rattle.file_ops.specs.Opens.{file_to_write}
 use Rattle.file_ops.specs.SlotFiles.{joined}
 use Rattle.file_ops.specs.Quiet.{is_quiet}

@@ -10,8 +10,8 @@ use Rattle.client_shelf.specs.declared.turn.Turn.{Turn}
 use Rattle.client_shelf.specs.declared.shelf.Shelf.{Shelf}
 use Rattle.client_shelf.specs.LaneFiles.{left, is_first}
 use Rattle.write_back.specs.Files.{Pending, of_file, OnFile, with_bytes, IsNothing, IsOldest}
-use Rattle.file_ops.specs.declared.next.Next.{Next}
-use Rattle.file_ops.specs.declared.next.Next.TheVariants.{Send, Wait, Done}
+use Rattle.client_shelf.specs.declared.next.Next.{Next}
+use Rattle.client_shelf.specs.declared.next.Next.TheVariants.{Send, Wait, Done}
 use Rattle.file_ops.specs.declared.saving.Saving.{Saving}
 use Rattle.file_ops.specs.declared.saving.SavingNext.{SavingNext}
 use Rattle.file_ops.specs.declared.saving.SavingNext.TheVariants as save
@@ -25,7 +25,7 @@ use Rattle.file_ops.specs.Opens.{file_to_write}
 use Rattle.file_ops.specs.SlotFiles.{joined}
 use Rattle.file_ops.specs.Saves.{begun, Goes, Takes, pages_after}
 use Rattle.file_ops.specs.Judging.{after_of}
-use Rattle.file_ops.specs.Learning.{Learns}
+use Rattle.client_shelf.specs.Learning.{Learns}
 use Rattle.attr_cache.specs.Attrs.{Attrs}
 use Rattle.world_model.specs.declared.message.Reply.{Reply}
 
@@ -111,7 +111,8 @@ Writes wsize lane file offset bytes turn shelf next new after =
     WritesIf (is_full bytes shelf.back) wsize lane file offset bytes turn shelf next new after
 
 -- the bytes were made
-pub record WritesMade (wsize : ℕ) (machine : WriteFile) (file : List ℕ) (turn : Turn) (shelf : Shelf) (next : Next) (new : WriteFile) (after : Shelf) : Type 0 where
+pub record WritesMade (wsize : ℕ) (machine : WriteFile) (file : List ℕ) (turn : Turn) (shelf : Shelf) (next : Next) (new : WriteFile)
+    (after : Shelf) : Type 0 where
   pub text : new ≡ record machine { text = Given (text_bytes machine.text); state = new.state }
   pub writes : Writes wsize machine.lane file machine.offset (text_bytes machine.text) turn shelf next new.state after
 
@@ -138,10 +139,12 @@ ResumesIn (Room file saving) wsize lane turn shelf next new after = SavesInTurn 
 abbrev pub Follows : SavingNext → ℕ → WriteFile → List ℕ → Saving → Turn → Shelf → Next → Writing → Shelf → Type 0
 Follows (save.Ended (Ok nothing)) wsize machine file saved turn shelf next new after =
     Writes wsize machine.lane file machine.offset (made_bytes machine.text) turn (record shelf { order = left machine.lane shelf.order }) next new after
-Follows told wsize machine file saved turn shelf next new after = Leads (room_next told) (room_state told file saved) (room_shelf told machine.lane shelf) next new after
+Follows told wsize machine file saved turn shelf next new after =
+    Leads (room_next told) (room_state told file saved) (room_shelf told machine.lane shelf) next new after
 
 -- The save takes what came of its call. Kept pages follow it, and attributes are learnt.
-pub record TakesSave (wsize : ℕ) (machine : WriteFile) (sent turn : Turn) (came : Result Reply Fault) (file : List ℕ) (saving : Saving) (shelf : Shelf) (next : Next) (new : Writing) (after : Shelf) : Type 0 where
+pub record TakesSave (wsize : ℕ) (machine : WriteFile) (sent turn : Turn) (came : Result Reply Fault) (file : List ℕ) (saving : Saving) (shelf : Shelf)
+    (next : Next) (new : Writing) (after : Shelf) : Type 0 where
   pub told : SavingNext
   pub saved : Saving
   pub attrs : Attrs
@@ -149,7 +152,8 @@ pub record TakesSave (wsize : ℕ) (machine : WriteFile) (sent turn : Turn) (cam
   pub repeats : List Repeat
   pub takes : Takes wsize sent turn came shelf.repeats saving shelf.back told saved back repeats
   pub learns : Learns saving.file (after_of came) sent.now shelf.attrs attrs
-  pub follows : Follows told wsize machine file saved turn (record shelf { attrs = attrs; pages = pages_after sent.xid (turn.moment - 1) came saving shelf.back shelf.pages; back = back; repeats = repeats }) next new after
+  pub follows : Follows told wsize machine file saved turn (record shelf
+      { attrs = attrs; pages = pages_after sent.xid (turn.moment - 1) came saving shelf.back shelf.pages; back = back; repeats = repeats }) next new after
 
 -- What comes where it asked for nothing means nothing.
 abbrev pub TakesIn : Writing → ℕ → WriteFile → Turn → Turn → Result Reply Fault → Shelf → Next → Writing → Shelf → Type 0

@@ -7,15 +7,14 @@ ghost use Rattle.client_shelf.specs.LaneFiles.{is_first};
 ghost use Rattle.file_ops.specs.SlotFiles.{IsUnused};
 ghost use Rattle.file_ops.specs.Closes.{waits_as, ask_next, ask_state, Ends, Frees, Follows, GoesOn, GoesOnIf, Queues, Starts, Resumes, TakesOne, Removed, Takes};
 
-use crate::busy::again;
 use crate::closing::{
     Removal, closed_answer, give_up_by, last_place, refusal_of, remove_busy, remove_of, removed_of,
 };
-use crate::learning::renew;
-use crate::next::Next;
 use crate::saving::{Saving, SavingNext};
 use crate::slots::file_at;
-use client_shelf::{Came, Shelf, Turn};
+use client_shelf::busy::again;
+use client_shelf::learning::renew;
+use client_shelf::{Came, Next, Shelf, Turn};
 use nfs_types::Handle;
 use std::alloc::Global;
 use world_model::{Answer, Fault};

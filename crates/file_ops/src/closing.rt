@@ -6,9 +6,9 @@ ghost use Rattle.nfs_dir_calls.specs.Kept.{kept_of};
 ghost use Rattle.file_ops.specs.Quiet.{is_quiet};
 ghost use Rattle.file_ops.specs.Closings.{TellsPlace, remove_of, removed_by, removed_of, busy_by, remove_busy, GivesIf, GivesUp, GivesUpBy, closed_answer, refusal_of};
 
-use crate::busy::JUKEBOX;
 use crate::quiet::is_quiet;
 use client_shelf::Came;
+use client_shelf::busy::JUKEBOX;
 use nfs_dir_calls::{DirCall, DirReply};
 use nfs_types::{Attr, Handle, Name};
 use open_files::OpenFiles;

@@ -2,23 +2,22 @@
 
 ghost use Rattle.std.specs.Prelude.{◌≡◌, ◌≤◌, ◌+◌, ◌%◌, ◌==◌, option_map, Some};
 ghost use Rattle.client_shelf.specs.Coming.{reply_of};
-ghost use Rattle.file_ops.specs.Busy.{is_busy, fails_busy, goes_again, repeats_after};
+ghost use Rattle.client_shelf.specs.Busy.{is_busy, fails_busy, goes_again, repeats_after};
 ghost use Rattle.file_ops.specs.Told.{got_by};
-ghost use Rattle.file_ops.specs.Learning.{Learns};
+ghost use Rattle.client_shelf.specs.Learning.{Learns};
 ghost use Rattle.file_ops.specs.ReadReply.{said_of, says_busy};
 ghost use Rattle.file_ops.specs.Reading.{noted, phase_then, added, heard, waits_attrs, part_call, count_of, attr_in, attr_of, attr_got, told, refused_next, Tells, TakesAttr, TakesAttrs, repeats_taken, Takes};
 
 use crate::base::{Base, PAGE};
-use crate::busy::{again, is_busy};
-use crate::learning::learn;
-use crate::next::Next;
 use crate::offer::offer_all;
 use crate::open_pages::open_pages;
 use crate::read_reply::{ReadSaid, read_reply};
 use crate::reading::{Phase, Reading};
 use crate::told::got_by;
 use attr_cache::AttrCache;
-use client_shelf::{Came, Repeats, Turn};
+use client_shelf::busy::{again, is_busy};
+use client_shelf::learning::learn;
+use client_shelf::{Came, Next, Repeats, Turn};
 use nfs_file_calls::FileCall;
 use nfs_types::{Attr, Handle};
 use page_cache::PageCache;

@@ -3,15 +3,12 @@
 
 mod adding;
 mod base;
-mod busy;
 mod close_file;
 mod closing;
 mod gather;
 mod hearing;
 mod judging;
 mod laws;
-mod learning;
-mod next;
 mod noting;
 mod offer;
 mod open_file;
@@ -39,7 +36,6 @@ pub use laws::{
     read_waits_still, sync_stays_ready, sync_waits_still, truncate_stays_ready,
     truncate_waits_still, write_stays_ready, write_waits_still,
 };
-pub use next::Next;
 pub use open_file::OpenFile;
 pub use opening::{Led, Opening, OpeningNext, OpeningStep};
 pub use put_file::{PutFile, Putting};

@@ -5,9 +5,9 @@ ghost use Rattle.client_shelf.specs.Coming.{reply_of};
 ghost use Rattle.file_ops.specs.Opening.{LookedAttrs, LookedNames, MadeFile, MadeAttrs, GotAttrs};
 ghost use Rattle.name_cache.specs.Names.{without_dir};
 
-use crate::learning::{learn, learn_name, renew};
 use attr_cache::AttrCache;
 use client_shelf::Came;
+use client_shelf::learning::{learn, learn_name, renew};
 use name_cache::NameCache;
 use nfs_dir_calls::DirReply;
 use nfs_types::{Attr, Handle, Name};

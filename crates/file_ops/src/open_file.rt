@@ -2,14 +2,13 @@
 
 ghost use Rattle.std.specs.Prelude.{◌≡◌, ◌≤◌, false};
 ghost use Rattle.client_shelf.specs.Coming.{reply_of};
-ghost use Rattle.file_ops.specs.Busy.{repeats_after};
+ghost use Rattle.client_shelf.specs.Busy.{repeats_after};
 ghost use Rattle.file_ops.specs.Opening.{first_step, NotesAttrs, NotesNames, told_led, ends_busy, opening_again};
 ghost use Rattle.file_ops.specs.OpenFile.{goes_as, gone, start_next, start_after, is_taken, place_of, opened_of, Puts, Follows, took_after, OpenTakes};
 ghost use Rattle.file_ops.specs.Opening.{go_next};
 
-use crate::next::Next;
 use crate::opening::{Opening, OpeningNext};
-use client_shelf::{Came, Shelf, Turn};
+use client_shelf::{Came, Next, Shelf, Turn};
 use nfs_types::{Handle, Mode, Name};
 use open_files::{OpenFiles, Opened};
 use world_model::{Answer, Fault, Value};

@@ -3,17 +3,17 @@
 ghost use Rattle.std.specs.Prelude.{◌≡◌, ◌≤◌, Some, false, OnOk, OnErr};
 ghost use Rattle.client_shelf.specs.Coming.{reply_of};
 ghost use Rattle.file_ops.specs.Opening.{first_step, usual_set, making_of, call_of, waits, go_next, go_after, makes, is_missing, led_to, made, found, got, LookedAttrs, LookedNames, MadeAttrs, GotAttrs, NotesAttrs, NotesNames, FileOpened, at_step, led_after, LedTo, ends_busy, told_led, opening_again, opening_after, led_on, LedIf, known_by, known_led, known_step, known_at};
-ghost use Rattle.file_ops.specs.Busy.{repeats_after};
+ghost use Rattle.client_shelf.specs.Busy.{repeats_after};
 ghost use Rattle.file_ops.specs.PagesOpened.{opened_pages};
 ghost use Rattle.page_cache.specs.Pages.{opened};
 ghost use Rattle.file_ops.specs.Told.{got_by};
 ghost use Rattle.file_ops.specs.declared.opening.OpeningStep.TheVariants.{Look};
 
-use crate::busy::{again, is_busy};
 use crate::noting::{note_attr, note_create, note_look_up};
 use crate::open_pages::open_pages;
 use crate::told::{found_by, got_by, made_by};
 use attr_cache::AttrCache;
+use client_shelf::busy::{again, is_busy};
 use client_shelf::{Came, Shelf, Turn};
 use name_cache::NameCache;
 use nfs_dir_calls::{DirCall, DirReply, Making};
@@ -81,7 +81,7 @@ pub struct Opening {
 
 impl Opening {
     /// It made no call yet.
-    pub(crate) fn new(dir: &Handle, name: &Name, mode: Mode, nocto: bool, moment: u64) -> Opening
+    pub fn new(dir: &Handle, name: &Name, mode: Mode, nocto: bool, moment: u64) -> Opening
         ensures { result ≡ record { dir = dir.now; name = name.now; mode = mode; nocto = nocto; moment = moment; step = first_step mode; asked = false } }
     {
         Opening {

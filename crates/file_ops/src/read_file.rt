@@ -4,15 +4,14 @@ ghost use Rattle.std.specs.Prelude.{◌≡◌, ◌≤◌, None, Ok};
 ghost use Rattle.std.specs.FinMap as finite;
 ghost use Rattle.std.specs.Option.{option_copied};
 ghost use Rattle.client_shelf.specs.Coming.{reply_of};
-ghost use Rattle.file_ops.specs.Learning.{Learns};
+ghost use Rattle.client_shelf.specs.Learning.{Learns};
 ghost use Rattle.file_ops.specs.ReadFile.{begun, begun_in, begun_at, Begins, Starts, StartsWith, ResumesIn, TakesIn, file_of, attr_heard, repeats_heard, first_phase};
 
 use crate::base::Base;
-use crate::next::Next;
 use crate::overlaid::WasPending;
 use crate::reading::{Phase, Reading};
 use crate::space::Space;
-use client_shelf::{Came, Shelf, Turn};
+use client_shelf::{Came, Next, Shelf, Turn};
 use nfs_types::{Handle, Mode};
 use open_files::Opened;
 use page_cache::PageCache;

@@ -5,9 +5,9 @@ ghost use Rattle.file_ops.specs.Reading.{settled, wants, asks_attrs, attrs_call,
 
 use crate::base::Base;
 use crate::gather::{Found, gather, plan};
-use crate::next::Next;
 use crate::overlaid::{WasPending, bytes_from};
 use crate::space::Space;
+use client_shelf::Next;
 use nfs_file_calls::FileCall;
 use nfs_types::Handle;
 use page_cache::PageCache;

@@ -11,13 +11,13 @@ ghost use Rattle.client_shelf.specs.Coming.{reply_of};
 ghost use Rattle.commit_verf.specs.Decisions.{decided, verdict_of};
 ghost use Rattle.write_back.specs.Changes.{lost};
 ghost use Rattle.file_ops.specs.Judging.{after_of};
-ghost use Rattle.file_ops.specs.Learning.{Learns};
+ghost use Rattle.client_shelf.specs.Learning.{Learns};
 ghost use Rattle.file_ops.specs.Saves.{answered, told_of, pages_told, pages_after, Lands, refused_by, ended_by, TakesWrite, TakesVerf, TakesCommit, Takes, TakesTold, TakesBusy, TakesFirst, last_next, last_saving, commit_again, commit_repeats, commit_of, less_waiting, may_again, told_busy, CopiesPiece, begun, is_sending, is_again, commit_phase, refused_next, may_send, CallsWrite, Sends, Goes, next_sent, saving_sent};
 
-use crate::busy::{JUKEBOX, again, fails_busy};
 use crate::judging::{WriteTold, after_of, commit_told, write_told};
-use crate::learning::learn;
 use attr_cache::AttrCache;
+use client_shelf::busy::{JUKEBOX, again, fails_busy};
+use client_shelf::learning::learn;
 use client_shelf::{Came, Repeats, Turn};
 use commit_verf::{Verdict, decide};
 use nfs_file_calls::FileCall;

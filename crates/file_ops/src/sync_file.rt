@@ -6,10 +6,9 @@ ghost use Rattle.file_ops.specs.declared.sync_file.Syncing.TheVariants as states
 ghost use Rattle.file_ops.specs.SlotFiles.{IsUnused};
 ghost use Rattle.file_ops.specs.Syncs.{answer_of, Follows, Queues, Starts, Resumes, Takes};
 
-use crate::next::Next;
 use crate::saving::{Saving, SavingNext};
 use crate::slots::file_at;
-use client_shelf::{Came, LaneFiles, Shelf, Turn};
+use client_shelf::{Came, LaneFiles, Next, Shelf, Turn};
 use std::alloc::Global;
 use world_model::{Answer, Fault, Value};
 

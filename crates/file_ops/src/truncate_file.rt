@@ -3,17 +3,16 @@
 ghost use Rattle.std.specs.Prelude.{◌≡◌, ◌≤◌, ◌-◌};
 ghost use Rattle.client_shelf.specs.Coming.{reply_of};
 ghost use Rattle.file_ops.specs.declared.truncate_file.Truncating.TheVariants.{Idle};
-ghost use Rattle.file_ops.specs.Busy.{fails_busy};
-ghost use Rattle.file_ops.specs.Learning.{Learns};
+ghost use Rattle.client_shelf.specs.Busy.{fails_busy};
+ghost use Rattle.client_shelf.specs.Learning.{Learns};
 ghost use Rattle.file_ops.specs.Quiet.{is_quiet};
 ghost use Rattle.file_ops.specs.TruncateFile.{size_call, queued_next, queued_state, started_next, started_state, started_shelf, resumed_next, resumed_state, size_told, attr_told, told_pages, CutsQuiet, CutsBack, ended_shelf, ended_next, ended_state, size_again, took_next, took_state, took_shelf, TookAttrs, TookBack};
 
-use crate::busy::{again, is_busy};
-use crate::learning::learn;
-use crate::next::Next;
 use crate::opens::file_to_write;
 use crate::quiet::is_quiet;
-use client_shelf::{Came, Shelf, Turn};
+use client_shelf::busy::{again, is_busy};
+use client_shelf::learning::learn;
+use client_shelf::{Came, Next, Shelf, Turn};
 use nfs_file_calls::{FileCall, FileReply};
 use nfs_types::{Attr, Handle, SetAttr, SetTime, Wcc};
 use page_cache::PageCache;

@@ -11,8 +11,8 @@ mod words;
 use crate::replies::came;
 use crate::shown::show;
 use crate::words::{file, mode_of, name, numbers, small, tiny};
-use client_shelf::{Shelf, Turn};
-use file_ops::{Next, OpenFile, ReadFile, TruncateFile};
+use client_shelf::{Next, Shelf, Turn};
+use file_ops::{OpenFile, ReadFile, TruncateFile};
 use std::alloc::Global;
 use std::io;
 

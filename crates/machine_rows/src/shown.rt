@@ -1,6 +1,6 @@
 //! What a step came to, in words.
 
-use file_ops::Next;
+use client_shelf::Next;
 use nfs_dir_calls::{DirCall, Making};
 use nfs_file_calls::FileCall;
 use std::io;

@@ -4,7 +4,7 @@ use Rattle.world_model.specs.declared.answer.Fault.{Fault}
 use Rattle.world_model.specs.declared.message.Reply.{Reply}
 use Rattle.client_shelf.specs.declared.shelf.Shelf.{Shelf}
 use Rattle.client_shelf.specs.declared.turn.Turn.{Turn}
-use Rattle.name_ops.specs.Busy.{fails_busy, repeats_after}
+use Rattle.client_shelf.specs.Busy.{fails_busy, repeats_after}
 use Rattle.name_ops.specs.Looking.{found_by, LookedAttrs, LookedNames, Hears}
 
 pub heard-by : (dir name : List ℕ) (sent turn : Turn) (came : Result Reply Fault) (old heard : Shelf) (told : Result (List ℕ) Fault) → told ≡ found_by came

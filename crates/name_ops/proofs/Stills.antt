@@ -1,15 +1,16 @@
 -- A step that no reply made possible and that waits, though there is room for a call, changes nothing.
-use Rattle.std.proofs.Common.{◌≡◌, ℕ, Bool, true, false, List, Option, Some, None, refl, sym, ap, ◌∙◌}
+use Rattle.std.proofs.Common.{◌≡◌, ℕ, Bool, true, false, List, Option, Some, None, refl, sym, ap, ◌∙◌, inl, inr}
 use Rattle.std.specs.Prelude.{if◌then◌else◌, ◌||◌}
 use Rattle.nfs_types.specs.declared.attr.Attr.{Attr}
 use Rattle.attr_cache.specs.Attrs as attrs
 use Rattle.world_model.specs.declared.answer.Answer.TheVariants as answers
+use Rattle.world_model.specs.declared.answer.Fault.TheVariants as faults
 use Rattle.world_model.specs.declared.answer.Value.TheVariants as values
 use Rattle.world_model.specs.declared.message.Call.{Call}
 use Rattle.client_shelf.specs.declared.shelf.Shelf.{Shelf}
 use Rattle.client_shelf.specs.declared.turn.Turn.{Turn}
-use Rattle.name_ops.specs.declared.next.Next.{Next}
-use Rattle.name_ops.specs.declared.next.Next.TheVariants as nexts
+use Rattle.client_shelf.specs.declared.next.Next.{Next}
+use Rattle.client_shelf.specs.declared.next.Next.TheVariants as nexts
 use Rattle.name_ops.specs.declared.pair.Pair.{Pair}
 use Rattle.name_ops.specs.declared.pair.PairNext.{PairNext}
 use Rattle.name_ops.specs.declared.pair.PairNext.TheVariants as two
@@ -26,6 +27,7 @@ use Rattle.name_ops.specs.Looking.{look_up}
 use Rattle.name_ops.specs.Pairs as pairs
 use Rattle.name_ops.specs.RemoveFile as removals
 use Rattle.name_ops.specs.Stat as stats
+use Rattle.name_ops.specs.SymLink.{CopiesBy}
 use Rattle.name_ops.specs.Visiting as visiting
 use Rattle.name_ops.specs.Walking.{asks, go_next, go_after, go_shelf, next_name, on_next, on_after, on_names, walked}
 
@@ -91,6 +93,17 @@ visit-still call v turn shelf room waits = by v.asked refl
         let after : visiting.follow_after (go_next v.walk turn shelf) turn.room (record v { walk = go_after v.walk turn shelf }) ≡ v =
         ap (λ step. visiting.follow_after step turn.room (record v { walk = go_after v.walk turn shelf })) w ∙ ap (λ walk. record v { walk = walk }) still.0 in
         (if-false v.asked v (visiting.follow_after (go_next v.walk turn shelf) turn.room (record v { walk = go_after v.walk turn shelf })) h ∙ after, if-false v.asked shelf (go_shelf v.walk turn shelf) h ∙ still.1)
+
+copies-wait : (call : List ℕ → Call) (step : VisitNext) (next : Next) → CopiesBy call step next → next ≡ nexts.Wait → visiting.next_by call step ≡ nexts.Wait
+copies-wait call (visits.Look look) next c e = sym c ∙ e
+copies-wait call visits.Wait next c e = refl
+copies-wait call (visits.Ask dir) next (inl c) e = let no-way : nexts.Send (call dir) ≡ nexts.Wait = sym c ∙ e in absurd cc
+copies-wait call (visits.Ask dir) next (inr c) e = let no-way : nexts.Done (answers.Refused faults.Memory) ≡ nexts.Wait = sym c ∙ e in absurd cc
+copies-wait call (visits.Refused fault) next c e = sym c ∙ e
+
+pub copy-still : (call : List ℕ → Call) (v : Visit) (turn : Turn) (shelf : Shelf) (next : Next) → turn.room ≡ true → CopiesBy call (visiting.visit_next v turn shelf) next → next ≡ nexts.Wait
+    → (visiting.visit_after v turn shelf ≡ v) × (visiting.visit_shelf v turn shelf ≡ shelf)
+copy-still call v turn shelf next room copies waits = visit-still call v turn shelf room (copies-wait call (visiting.visit_next v turn shelf) next copies waits)
 
 -- ---- stats
 

@@ -2,6 +2,8 @@
 -- executed, so a refusal too drops the directory's names, and its attributes are learnt or forgotten.
 use Rattle.std.specs.Prelude.{◌≡◌, ℕ, Bool, true, false, if◌then◌else◌, List, Option, Some, None, Result}
 use Rattle.nfs_types.specs.declared.attr.Attr.{Attr}
+use Rattle.nfs_types.specs.declared.set_attr.SetAttr.{SetAttr}
+use Rattle.nfs_types.specs.declared.set_attr.SetTime.TheVariants.{Keep}
 use Rattle.nfs_types.specs.declared.status.Status.{Status}
 use Rattle.nfs_types.specs.declared.wcc.Wcc.{Wcc}
 use Rattle.attr_cache.specs.Attrs.{Attrs}
@@ -16,17 +18,25 @@ use Rattle.world_model.specs.declared.message.Reply.{Reply}
 use Rattle.client_shelf.specs.declared.repeats.Repeat.{Repeat}
 use Rattle.client_shelf.specs.declared.turn.Turn.{Turn}
 use Rattle.client_shelf.specs.declared.shelf.Shelf.{Shelf}
-use Rattle.name_ops.specs.declared.next.Next.{Next}
-use Rattle.name_ops.specs.declared.next.Next.TheVariants.{Send, Done}
+use Rattle.client_shelf.specs.declared.next.Next.{Next}
+use Rattle.client_shelf.specs.declared.next.Next.TheVariants.{Send, Done}
 use Rattle.name_ops.specs.declared.told.Told.{Told}
 use Rattle.name_ops.specs.declared.visit.Visit.{Visit}
-use Rattle.name_ops.specs.Busy.{is_busy, goes_again, repeats_after}
-use Rattle.name_ops.specs.Learning.{Learns, Renews, LearnsThen}
+use Rattle.client_shelf.specs.Busy.{is_busy, goes_again, repeats_after}
+use Rattle.client_shelf.specs.Learning.{Learns, Renews, LearnsThen}
 use Rattle.name_ops.specs.Visiting.{Walks}
+
+-- a mode, and all else as the server likes
+abbrev pub mode_set : ℕ → SetAttr
+mode_set mode = record { mode = Some mode; uid = None; gid = None; size = None; atime = Keep; mtime = Keep }
 
 -- the call was executed, and no object got a name
 abbrev pub done : Wcc → Told
 done wcc = record { object = None; attr = None; dir = wcc.after; refusal = None }
+
+-- an object was made
+abbrev pub made : Option (List ℕ) → Option Attr → Wcc → Told
+made found attr wcc = record { object = found; attr = attr; dir = wcc.after; refusal = None }
 
 -- the server refused the call
 abbrev pub failed : Status → Wcc → Told
@@ -68,7 +78,14 @@ pub record Changes (dir : List ℕ) (call : Call) (told : Told) (sent turn : Tur
   pub next_is : next ≡ change_next (goes_again (told_busy told.refusal) sent turn old.repeats) call told
   pub others : after ≡ changed_shelf dir told sent turn after.attrs old
 
+-- the step at a reply that leads to no further call
+pub record EndsChange (dir : List ℕ) (told : Told) (sent turn : Turn) (old : Shelf) (next : Next) (after : Shelf) : Type 0 where
+  pub attrs : LearnsOf told.object told.attr dir told.dir sent.now old.attrs after.attrs
+  pub next_is : next ≡ Done (answer_of told.refusal)
+  pub others : after ≡ changed_shelf dir told sent turn after.attrs old
+
 -- The step at what came of a call, by whether the operation's own call was asked for.
 abbrev pub TakesChange : Bool → (List ℕ → Call) → Told → Visit → Turn → Turn → Result Reply Fault → Shelf → Next → Visit → Shelf → Type 0
-TakesChange true call told v sent turn came old next new after = (new ≡ v) × Changes v.walk.spot.dir (call v.walk.spot.dir) told sent turn old next after
+TakesChange true call told v sent turn came old next new after =
+    (new ≡ v) × Changes v.walk.spot.dir (call v.walk.spot.dir) told sent turn old next after
 TakesChange false call told v sent turn came old next new after = Walks call v sent turn came old next new after

@@ -1,9 +1,9 @@
 pub mod Access
-pub mod Busy
 pub mod Changing
+pub mod DirChange
 pub mod Laws
-pub mod Learning
 pub mod Link
+pub mod ListDir
 pub mod Looking
 pub mod MakeDir
 pub mod Moving
@@ -14,5 +14,6 @@ pub mod RemoveFile
 pub mod Rename
 pub mod Showing
 pub mod Stat
+pub mod SymLink
 pub mod Visiting
 pub mod Walking

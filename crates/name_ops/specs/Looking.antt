@@ -12,8 +12,8 @@ use Rattle.world_model.specs.declared.message.Reply.{Reply}
 use Rattle.world_model.specs.declared.message.Reply.TheVariants.{Dir}
 use Rattle.client_shelf.specs.declared.turn.Turn.{Turn}
 use Rattle.client_shelf.specs.declared.shelf.Shelf.{Shelf}
-use Rattle.name_ops.specs.Busy.{fails_busy, goes_again, repeats_after}
-use Rattle.name_ops.specs.Learning.{Learns, LearnsThen, LearnsName}
+use Rattle.client_shelf.specs.Busy.{fails_busy, goes_again, repeats_after}
+use Rattle.client_shelf.specs.Learning.{Learns, LearnsThen, LearnsName}
 
 -- the call that looks for a name in a directory
 abbrev pub look_up : List ℕ → List ℕ → Call

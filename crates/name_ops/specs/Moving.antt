@@ -15,9 +15,9 @@ use Rattle.world_model.specs.declared.message.Reply.TheVariants.{Dir}
 use Rattle.client_shelf.specs.declared.turn.Turn.{Turn}
 use Rattle.client_shelf.specs.declared.shelf.Shelf.{Shelf}
 use Rattle.name_ops.specs.declared.moving.Moved.{Moved}
-use Rattle.name_ops.specs.Busy.{repeats_after}
+use Rattle.client_shelf.specs.Busy.{repeats_after}
 use Rattle.name_ops.specs.Changing.{told_busy}
-use Rattle.name_ops.specs.Learning.{Renews}
+use Rattle.client_shelf.specs.Learning.{Renews}
 
 abbrev pub move_call : List ℕ → List ℕ → List ℕ → List ℕ → Call
 move_call from_dir from to_dir to = calls.Dir (dirs.Rename from_dir from to_dir to)

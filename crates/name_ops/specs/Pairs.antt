@@ -6,8 +6,8 @@ use Rattle.world_model.specs.declared.message.Call.{Call}
 use Rattle.world_model.specs.declared.message.Reply.{Reply}
 use Rattle.client_shelf.specs.declared.turn.Turn.{Turn}
 use Rattle.client_shelf.specs.declared.shelf.Shelf.{Shelf}
-use Rattle.name_ops.specs.declared.next.Next.{Next}
-use Rattle.name_ops.specs.declared.next.Next.TheVariants as nexts
+use Rattle.client_shelf.specs.declared.next.Next.{Next}
+use Rattle.client_shelf.specs.declared.next.Next.TheVariants as nexts
 use Rattle.name_ops.specs.declared.walk.Walk.{Walk}
 use Rattle.name_ops.specs.declared.walk.WalkNext.{WalkNext}
 use Rattle.name_ops.specs.declared.walk.WalkNext.TheVariants.{Send, Wait, At, Refused}
@@ -130,7 +130,8 @@ next_by call (pairs.Ask first second) = nexts.Send (call first second)
 next_by call (pairs.Refused fault) = nexts.Done (answers.Refused fault)
 
 -- a reply's step of an operation that made no call on the objects yet
-pub record Walks (call : List ℕ → List ℕ → Call) (p : Pair) (sent turn : Turn) (came : Result Reply Fault) (old : Shelf) (next : Next) (new : Pair) (after : Shelf) : Type 0 where
+pub record Walks (call : List ℕ → List ℕ → Call) (p : Pair) (sent turn : Turn) (came : Result Reply Fault) (old : Shelf) (next : Next) (new : Pair)
+    (after : Shelf) : Type 0 where
   pub step : PairNext
   pub takes : PairTakes p.first.asked p sent turn came old step new after
   pub next_is : next ≡ next_by call step

@@ -13,7 +13,7 @@ use Rattle.world_model.specs.declared.message.Reply.{Reply}
 use Rattle.world_model.specs.declared.message.Reply.TheVariants.{Dir}
 use Rattle.client_shelf.specs.declared.turn.Turn.{Turn}
 use Rattle.client_shelf.specs.declared.shelf.Shelf.{Shelf}
-use Rattle.name_ops.specs.declared.next.Next.{Next}
+use Rattle.client_shelf.specs.declared.next.Next.{Next}
 use Rattle.name_ops.specs.declared.visit.Visit.{Visit}
 use Rattle.name_ops.specs.Showing.{Shows}
 use Rattle.name_ops.specs.Visiting.{Walks}

@@ -20,15 +20,15 @@ use Rattle.world_model.specs.declared.message.Reply.{Reply}
 use Rattle.world_model.specs.declared.message.Reply.TheVariants.{Dir}
 use Rattle.client_shelf.specs.declared.turn.Turn.{Turn}
 use Rattle.client_shelf.specs.declared.shelf.Shelf.{Shelf}
-use Rattle.name_ops.specs.declared.next.Next.{Next}
-use Rattle.name_ops.specs.declared.next.Next.TheVariants as nexts
+use Rattle.client_shelf.specs.declared.next.Next.{Next}
+use Rattle.client_shelf.specs.declared.next.Next.TheVariants as nexts
 use Rattle.name_ops.specs.declared.told.Told.{Told}
 use Rattle.name_ops.specs.declared.walk.WalkNext.{WalkNext}
 use Rattle.name_ops.specs.declared.walk.WalkNext.TheVariants as walks
 use Rattle.name_ops.specs.declared.remove_file.Deed.{Deed}
 use Rattle.name_ops.specs.declared.remove_file.Deed.TheVariants.{Look, Seek, Move, Remove}
 use Rattle.name_ops.specs.declared.remove_file.RemoveFile.{RemoveFile}
-use Rattle.name_ops.specs.Busy.{goes_again}
+use Rattle.client_shelf.specs.Busy.{goes_again}
 use Rattle.name_ops.specs.Changing.{done, failed, refused_by, told_busy, Changes}
 use Rattle.name_ops.specs.Looking.{look_up, found_by, look_again, Hears}
 use Rattle.name_ops.specs.Moving.{move_call, moved_told, moved_shelf, RenewsBoth}
@@ -139,7 +139,8 @@ abbrev pub FollowsLook : Bool → Result (List ℕ) Fault → RemoveFile → Boo
 FollowsLook true told m room old next new after = Again Look m old next new after
 FollowsLook false told m room old next new after = LookLeads told m room old next new after
 
-pub record TakesLook (m : RemoveFile) (sent turn : Turn) (came : Result Reply Fault) (old : Shelf) (next : Next) (new : RemoveFile) (after : Shelf) : Type 0 where
+pub record TakesLook (m : RemoveFile) (sent turn : Turn) (came : Result Reply Fault) (old : Shelf) (next : Next) (new : RemoveFile)
+    (after : Shelf) : Type 0 where
   pub heard : Shelf
   pub hears : Hears m.walk.spot.dir m.name sent turn came old heard
   pub follows : FollowsLook (look_again sent turn came old) (found_by came) m turn.room heard next new after
@@ -158,7 +159,8 @@ missed_next missing fault file to m room = if missing then asked_next m (Move fi
 abbrev pub missed_after : Bool → List ℕ → List ℕ → RemoveFile → Bool → RemoveFile
 missed_after missing file to m room = if missing then asked_after m (Move file to) room else m
 
-pub record Misses (fault : Fault) (file to : List ℕ) (m : RemoveFile) (room : Bool) (old : Shelf) (next : Next) (new : RemoveFile) (after : Shelf) : Type 0 where
+pub record Misses (fault : Fault) (file to : List ℕ) (m : RemoveFile) (room : Bool) (old : Shelf) (next : Next) (new : RemoveFile)
+    (after : Shelf) : Type 0 where
   pub next_is : next ≡ missed_next (is_missing fault) fault file to m room
   pub machine_is : new ≡ missed_after (is_missing fault) file to m room
   pub shelf_is : after ≡ old
@@ -172,7 +174,8 @@ abbrev pub FollowsSeek : Bool → Result (List ℕ) Fault → List ℕ → List 
 FollowsSeek true told file to m room old next new after = Again (Seek file to) m old next new after
 FollowsSeek false told file to m room old next new after = SeekLeads told file to m room old next new after
 
-pub record TakesSeek (file to : List ℕ) (m : RemoveFile) (sent turn : Turn) (came : Result Reply Fault) (old : Shelf) (next : Next) (new : RemoveFile) (after : Shelf) : Type 0 where
+pub record TakesSeek (file to : List ℕ) (m : RemoveFile) (sent turn : Turn) (came : Result Reply Fault) (old : Shelf) (next : Next) (new : RemoveFile)
+    (after : Shelf) : Type 0 where
   pub heard : Shelf
   pub hears : Hears m.walk.spot.dir to sent turn came old heard
   pub follows : FollowsSeek (look_again sent turn came old) (found_by came) file to m turn.room heard next new after
@@ -199,7 +202,8 @@ EndsMove false refusal file to m old next new = MoveLeads refusal file to m old 
 abbrev pub move_again : Turn → Turn → Result Reply Fault → Shelf → Bool
 move_again sent turn came shelf = goes_again (told_busy (moved_told came).refusal) sent turn shelf.repeats
 
-pub record TakesMove (file to : List ℕ) (m : RemoveFile) (sent turn : Turn) (came : Result Reply Fault) (old : Shelf) (next : Next) (after : Shelf) : Type 0 where
+pub record TakesMove (file to : List ℕ) (m : RemoveFile) (sent turn : Turn) (came : Result Reply Fault) (old : Shelf) (next : Next)
+    (after : Shelf) : Type 0 where
   pub attrs : RenewsBoth m.walk.spot.dir (moved_told came).from m.walk.spot.dir (moved_told came).to sent.now old.attrs after.attrs
   pub ends : EndsMove (move_again sent turn came old) (moved_told came).refusal file to m old.silly next after.silly
   pub others : after ≡ record (moved_shelf m.walk.spot.dir m.walk.spot.dir (moved_told came) sent turn after.attrs old) { silly = after.silly }
@@ -226,7 +230,8 @@ abbrev pub TakesIf : Bool → Deed → RemoveFile → Turn → Turn → Result R
 TakesIf true deed m sent turn came old next new after = TakesDeed deed m sent turn came old next new after
 TakesIf false deed m sent turn came old next new after = Waits m old next new after
 
-pub record TakesWalk (m : RemoveFile) (sent turn : Turn) (came : Result Reply Fault) (old : Shelf) (next : Next) (new : RemoveFile) (after : Shelf) : Type 0 where
+pub record TakesWalk (m : RemoveFile) (sent turn : Turn) (came : Result Reply Fault) (old : Shelf) (next : Next) (new : RemoveFile)
+    (after : Shelf) : Type 0 where
   pub step : WalkNext
   pub walked : RemoveFile
   pub takes : walking.Takes (walking.waiting_name m.walk) m.walk sent turn came old step walked.walk after

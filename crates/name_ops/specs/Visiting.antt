@@ -1,19 +1,23 @@
 -- A path is walked, and one call is made on the object to which it leads.
-use Rattle.std.specs.Prelude.{◌≡◌, ℕ, Bool, true, false, if◌then◌else◌, List, Result, Ok, Err}
+use Rattle.std.specs.Prelude.{◌≡◌, ℕ, Bool, true, false, if◌then◌else◌, List, length, Result, Ok, Err}
 use Rattle.world_model.specs.declared.answer.Fault.{Fault}
 use Rattle.world_model.specs.declared.answer.Answer.TheVariants as answers
 use Rattle.world_model.specs.declared.message.Call.{Call}
 use Rattle.world_model.specs.declared.message.Reply.{Reply}
 use Rattle.client_shelf.specs.declared.turn.Turn.{Turn}
 use Rattle.client_shelf.specs.declared.shelf.Shelf.{Shelf}
-use Rattle.name_ops.specs.declared.next.Next.{Next}
-use Rattle.name_ops.specs.declared.next.Next.TheVariants as nexts
+use Rattle.client_shelf.specs.declared.next.Next.{Next}
+use Rattle.client_shelf.specs.declared.next.Next.TheVariants as nexts
 use Rattle.name_ops.specs.declared.walk.WalkNext.{WalkNext}
 use Rattle.name_ops.specs.declared.walk.WalkNext.TheVariants.{Send, Wait, At, Refused}
 use Rattle.name_ops.specs.declared.visit.Visit.{Visit}
 use Rattle.name_ops.specs.declared.visit.VisitNext.{VisitNext}
 use Rattle.name_ops.specs.declared.visit.VisitNext.TheVariants as visits
 use Rattle.name_ops.specs.Walking.{go_next, go_after, go_shelf, waiting_name, Takes}
+
+-- a visit that stands at the root
+abbrev pub visit_of : List ℕ → List (List ℕ) → Visit
+visit_of root path = record { walk = record { path = path; spot = record { dir = root; left = length path }; asked = false }; asked = false }
 
 -- It does as its walk does, until that has come to its end. Then it asks for the call as soon as there is room.
 abbrev pub follow_next : WalkNext → Bool → VisitNext
@@ -55,7 +59,8 @@ next_by call (visits.Ask object) = nexts.Send (call object)
 next_by call (visits.Refused fault) = nexts.Done (answers.Refused fault)
 
 -- a reply's step of an operation that made no call on the object yet
-pub record Walks (call : List ℕ → Call) (v : Visit) (sent turn : Turn) (came : Result Reply Fault) (old : Shelf) (next : Next) (new : Visit) (after : Shelf) : Type 0 where
+pub record Walks (call : List ℕ → Call) (v : Visit) (sent turn : Turn) (came : Result Reply Fault) (old : Shelf) (next : Next) (new : Visit)
+    (after : Shelf) : Type 0 where
   pub step : VisitNext
   pub takes : VisitTakes v sent turn came old step new after
   pub next_is : next ≡ next_by call step

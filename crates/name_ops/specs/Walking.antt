@@ -136,7 +136,8 @@ abbrev pub followed_shelf : Bool → Walk → Result (List ℕ) Fault → Turn �
 followed_shelf busy w told turn shelf = if busy then shelf else told_shelf w told turn shelf
 
 -- The reply to the LOOKUP of a name is learnt of, and then followed.
-pub record Looks (w : Walk) (name : List ℕ) (sent turn : Turn) (came : Result Reply Fault) (old : Shelf) (next : WalkNext) (new : Walk) (after : Shelf) : Type 0 where
+pub record Looks (w : Walk) (name : List ℕ) (sent turn : Turn) (came : Result Reply Fault) (old : Shelf) (next : WalkNext) (new : Walk)
+    (after : Shelf) : Type 0 where
   pub heard : Shelf
   pub hears : Hears w.spot.dir name sent turn came old heard
   pub next_is : next ≡ followed_next (look_again sent turn came old) w name (found_by came) turn heard

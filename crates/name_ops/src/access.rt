@@ -1,15 +1,14 @@
 //! The server is asked which rights it grants.
 
-ghost use Rattle.std.specs.Prelude.{◌≡◌, length, false};
+ghost use Rattle.std.specs.Prelude.{◌≡◌};
 ghost use Rattle.client_shelf.specs.Coming.{reply_of};
 ghost use Rattle.name_ops.specs.Access.{access_call, access_attr, access_told};
 ghost use Rattle.name_ops.specs.Showing.{TakesShow, Shows};
-ghost use Rattle.name_ops.specs.Visiting.{next_by, visit_next, visit_after, visit_shelf};
+ghost use Rattle.name_ops.specs.Visiting.{next_by, visit_of, visit_next, visit_after, visit_shelf};
 
-use crate::next::Next;
 use crate::showing::show;
 use crate::visit::{Visit, VisitNext};
-use client_shelf::{Came, Shelf, Turn};
+use client_shelf::{Came, Next, Shelf, Turn};
 use nfs_file_calls::{FileCall, FileReply};
 use nfs_types::{Attr, Handle};
 use world_model::{Answer, Call, Fault, Path, Value};
@@ -26,7 +25,7 @@ pub struct Access {
 impl Access {
     /// It is to ask of the object to which the path leads.
     pub fn new(root: &Handle, path: Path, bits: u32) -> Access
-        ensures { result ≡ record { visit = record { walk = record { path = path; spot = record { dir = root.now; left = length path }; asked = false }; asked = false }; bits = bits } }
+        ensures { result ≡ record { visit = visit_of root.now path; bits = bits } }
     {
         Access {
             visit: Visit::new(root, path),

@@ -1,16 +1,17 @@
 //! What follows the reply to a call that changes a directory.
 
-ghost use Rattle.std.specs.Prelude.{◌≡◌};
+ghost use Rattle.std.specs.Prelude.{◌≡◌, false};
 ghost use Rattle.name_cache.specs.Names.{without_dir};
-ghost use Rattle.name_ops.specs.Busy.{goes_again, repeats_after};
-ghost use Rattle.name_ops.specs.Changing.{told_busy, LearnsOf};
+ghost use Rattle.client_shelf.specs.Busy.{goes_again, repeats_after};
+ghost use Rattle.name_ops.specs.Changing.{mode_set, told_busy, LearnsOf, Changes, EndsChange};
 
-use crate::busy::again;
-use crate::learning::{learn, renew};
 use crate::told::Told;
 use attr_cache::AttrCache;
-use client_shelf::{Shelf, Turn};
-use nfs_types::{Attr, Handle};
+use client_shelf::busy::again;
+use client_shelf::learning::{learn, renew};
+use client_shelf::{Next, Shelf, Turn};
+use nfs_types::{Attr, Handle, SetAttr, SetTime};
+use world_model::Call;
 
 /// The names of the directory are dropped, and what the reply tells of attributes is learnt; without those of the directory
 /// it is forgotten. Whether the call, which the step with the turn `sent` made, is made again.
@@ -29,6 +30,47 @@ pub(crate) fn change(dir: &Handle, told: &Told, sent: Turn, turn: Turn, shelf: &
         &mut shelf.attrs,
     );
     again(told.is_busy(), sent, turn, &mut shelf.repeats)
+}
+
+/// What follows the reply: the same call again, or the answer.
+pub(crate) fn go_again(
+    call: Call,
+    dir: &Handle,
+    told: &Told,
+    sent: Turn,
+    turn: Turn,
+    shelf: &mut Shelf,
+) -> Next
+    ensures { Changes dir.now call told.now sent turn shelf.old result shelf.new }
+{
+    if change(dir, told, sent, turn, shelf) {
+        Next::Send(call)
+    } else {
+        Next::Done(told.answer())
+    }
+}
+
+/// What follows a reply that leads to no further call: the answer.
+pub(crate) fn end(dir: &Handle, told: &Told, sent: Turn, turn: Turn, shelf: &mut Shelf) -> Next
+    requires idle { told_busy told.now.refusal ≡ false }
+    ensures { EndsChange dir.now told.now sent turn shelf.old result shelf.new }
+{
+    change(dir, told, sent, turn, shelf);
+    Next::Done(told.answer())
+}
+
+/// What a new object is made with: a mode, and nothing else.
+pub(crate) fn mode_set(mode: u32) -> SetAttr
+    ensures { result ≡ mode_set mode }
+{
+    SetAttr {
+        mode: Some(mode),
+        uid: None,
+        gid: None,
+        size: None,
+        atime: SetTime::Keep,
+        mtime: SetTime::Keep,
+    }
 }
 
 /// The attributes of the object, where it is known, and then those of the directory.

@@ -2,15 +2,14 @@
 #![tactic(auto)]
 
 mod access;
-mod busy;
 mod changing;
+mod dir_change;
 mod laws;
-mod learning;
 mod link;
+mod list_dir;
 mod looking;
 mod make_dir;
 mod moving;
-mod next;
 mod pair;
 mod read_link;
 mod remove_dir;
@@ -18,24 +17,26 @@ mod remove_file;
 mod rename;
 mod showing;
 mod stat;
+mod sym_link;
 mod told;
 mod visit;
 mod walk;
 
 pub use access::Access;
+pub use dir_change::{DirChange, DirDeed};
 pub use laws::{
-    pair_waits_still, remove_waits_still, stat_waits_still, visit_waits_still, walk_waits_still,
+    copy_waits_still, pair_waits_still, remove_waits_still, stat_waits_still, visit_waits_still,
+    walk_waits_still,
 };
 pub use link::Link;
-pub use make_dir::MakeDir;
+pub use list_dir::{ListDir, PageStart};
 pub use moving::Moved;
-pub use next::Next;
 pub use pair::{Pair, PairNext};
 pub use read_link::ReadLink;
-pub use remove_dir::RemoveDir;
 pub use remove_file::{Deed, RemoveFile};
 pub use rename::Rename;
 pub use stat::Stat;
+pub use sym_link::SymLink;
 pub use told::Told;
 pub use visit::{Visit, VisitNext};
 pub use walk::{Spot, Walk, WalkNext};

@@ -6,11 +6,10 @@ ghost use Rattle.name_ops.specs.Changing.{Changes};
 ghost use Rattle.name_ops.specs.Link.{link_call, linked, linked_told, TakesLink};
 ghost use Rattle.name_ops.specs.Pairs.{pair_of, next_by, pair_next, pair_after, pair_shelf};
 
-use crate::changing::change;
-use crate::next::Next;
+use crate::changing::go_again;
 use crate::pair::{Pair, PairNext};
 use crate::told::Told;
-use client_shelf::{Came, Shelf, Turn};
+use client_shelf::{Came, Next, Shelf, Turn};
 use nfs_dir_calls::{DirCall, DirReply};
 use nfs_types::{Attr, Handle, Name, Wcc};
 use world_model::{Answer, Call, Fault, Path};
@@ -73,10 +72,8 @@ impl Link {
         let file = self.pair.first.spot.dir;
         let dir = self.pair.second.spot.dir;
         let told = linked_told(file, came);
-        if change(&dir, &told, sent, turn, shelf) {
-            return Next::Send(link_call(file, dir, self.name));
-        }
-        Next::Done(told.answer())
+        let call = link_call(file, dir, self.name);
+        go_again(call, &dir, &told, sent, turn, shelf)
     }
 
     /// A step of the walks as one of the operation.

@@ -2,12 +2,12 @@
 
 ghost use Rattle.std.specs.Prelude.{◌≡◌};
 ghost use Rattle.client_shelf.specs.Coming.{reply_of};
-ghost use Rattle.name_ops.specs.Busy.{fails_busy, goes_again, repeats_after};
+ghost use Rattle.client_shelf.specs.Busy.{fails_busy, goes_again, repeats_after};
 ghost use Rattle.name_ops.specs.Looking.{look_up, found_by, LookedAttrs, LookedNames};
 
-use crate::busy::{again, is_busy};
-use crate::learning::{learn, learn_name};
 use attr_cache::AttrCache;
+use client_shelf::busy::{again, is_busy};
+use client_shelf::learning::{learn, learn_name};
 use client_shelf::{Came, Shelf, Turn};
 use name_cache::NameCache;
 use nfs_dir_calls::{DirCall, DirReply};

@@ -3,13 +3,13 @@
 ghost use Rattle.std.specs.Prelude.{◌≡◌, None};
 ghost use Rattle.client_shelf.specs.Coming.{reply_of};
 ghost use Rattle.name_cache.specs.Names.{without_dir};
-ghost use Rattle.name_ops.specs.Busy.{goes_again, repeats_after};
+ghost use Rattle.client_shelf.specs.Busy.{goes_again, repeats_after};
 ghost use Rattle.name_ops.specs.Changing.{answer_of, told_busy};
 ghost use Rattle.name_ops.specs.Moving.{move_call, unmoved, moved_told, RenewsBoth};
 
-use crate::busy::{again, is_busy};
-use crate::learning::renew;
 use attr_cache::AttrCache;
+use client_shelf::busy::{again, is_busy};
+use client_shelf::learning::renew;
 use client_shelf::{Came, Shelf, Turn};
 use nfs_dir_calls::{DirCall, DirReply};
 use nfs_types::{Attr, Handle, Name};

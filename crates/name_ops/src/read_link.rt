@@ -1,14 +1,13 @@
 //! What a symbolic link leads to is shown.
 
-ghost use Rattle.std.specs.Prelude.{◌≡◌, length, false};
+ghost use Rattle.std.specs.Prelude.{◌≡◌};
 ghost use Rattle.client_shelf.specs.Coming.{reply_of};
 ghost use Rattle.name_ops.specs.ReadLink.{text_call, text_attr, Copies, TellsText, ShowsText, TakesText};
-ghost use Rattle.name_ops.specs.Visiting.{next_by, visit_next, visit_after, visit_shelf};
+ghost use Rattle.name_ops.specs.Visiting.{next_by, visit_of, visit_next, visit_after, visit_shelf};
 
-use crate::next::Next;
 use crate::showing::show;
 use crate::visit::{Visit, VisitNext};
-use client_shelf::{Came, Shelf, Turn};
+use client_shelf::{Came, Next, Shelf, Turn};
 use nfs_dir_calls::{DirCall, DirReply};
 use nfs_types::{Attr, Handle};
 use std::alloc::Global;
@@ -25,7 +24,7 @@ pub struct ReadLink {
 impl ReadLink {
     /// It is to show the text of the link to which the path leads.
     pub fn new(root: &Handle, path: Path) -> ReadLink
-        ensures { result ≡ record { visit = record { walk = record { path = path; spot = record { dir = root.now; left = length path }; asked = false }; asked = false } } }
+        ensures { result ≡ record { visit = visit_of root.now path } }
     {
         ReadLink {
             visit: Visit::new(root, path),

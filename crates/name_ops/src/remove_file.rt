@@ -7,13 +7,12 @@ ghost use Rattle.name_ops.specs.Changing.{Changes};
 ghost use Rattle.name_ops.specs.declared.remove_file.Deed.TheVariants.{Remove};
 ghost use Rattle.name_ops.specs.RemoveFile.{call_of, removed_told, asked_next, asked_after, first_deed, Begins, Follows, WalksOn, Goes, Resumes, next_number, deed_of, counter_of, Finds, FollowsLook, TakesLook, is_missing, missed_next, missed_after, FollowsSeek, TakesSeek, Keeps, EndsMove, TakesMove, TakesDeed, TakesIf, TakesWalk, Takes};
 
-use crate::changing::change;
+use crate::changing::go_again;
 use crate::looking::{found_by, hear, look_up};
 use crate::moving::{move_call, move_names, moved_told};
-use crate::next::Next;
 use crate::told::Told;
 use crate::walk::{Walk, WalkNext};
-use client_shelf::{Came, Shelf, Turn};
+use client_shelf::{Came, Next, Shelf, Turn};
 use nfs_dir_calls::{DirCall, DirReply};
 use nfs_types::{Handle, Name};
 use open_files::OpenFiles;
@@ -345,10 +344,8 @@ impl RemoveFile {
     {
         let dir = self.walk.spot.dir;
         let told = removed_told(came);
-        if change(&dir, &told, sent, turn, shelf) {
-            return Next::Send(self.call(&Deed::Remove));
-        }
-        Next::Done(told.answer())
+        let call = self.call(&Deed::Remove);
+        go_again(call, &dir, &told, sent, turn, shelf)
     }
 }
 

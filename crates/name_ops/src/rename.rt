@@ -7,9 +7,8 @@ ghost use Rattle.name_ops.specs.Pairs.{pair_of, next_by, pair_next, pair_after, 
 ghost use Rattle.name_ops.specs.Rename.{rename_call, Renames, TakesRename};
 
 use crate::moving::{move_call, move_names, moved_told};
-use crate::next::Next;
 use crate::pair::{Pair, PairNext};
-use client_shelf::{Came, Shelf, Turn};
+use client_shelf::{Came, Next, Shelf, Turn};
 use nfs_types::{Handle, Name};
 use world_model::{Answer, Path};
 

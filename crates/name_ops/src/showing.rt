@@ -1,13 +1,12 @@
 //! What follows the reply to a call that shows something of an object.
 
 ghost use Rattle.std.specs.Prelude.{◌≡◌};
-ghost use Rattle.name_ops.specs.Busy.{fails_busy};
+ghost use Rattle.client_shelf.specs.Busy.{fails_busy};
 ghost use Rattle.name_ops.specs.Showing.{Shows, shown_answer};
 
-use crate::busy::{again, is_busy};
-use crate::learning::learn;
-use crate::next::Next;
-use client_shelf::{Shelf, Turn};
+use client_shelf::busy::{again, is_busy};
+use client_shelf::learning::learn;
+use client_shelf::{Next, Shelf, Turn};
 use nfs_types::{Attr, Handle};
 use world_model::{Answer, Call, Fault, Value};
 

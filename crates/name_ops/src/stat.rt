@@ -5,11 +5,10 @@ ghost use Rattle.client_shelf.specs.Coming.{reply_of};
 ghost use Rattle.name_ops.specs.Showing.{Shows};
 ghost use Rattle.name_ops.specs.Stat.{get_attr, got_attr, got_told, ask_next, ask_after, follow_next, follow_after, stat_next, stat_after, stat_shelf, StatTakes};
 
-use crate::next::Next;
 use crate::showing::show;
 use crate::walk::{Walk, WalkNext};
 use attr_cache::AttrCache;
-use client_shelf::{Came, Shelf, Turn};
+use client_shelf::{Came, Next, Shelf, Turn};
 use nfs_file_calls::{FileCall, FileReply};
 use nfs_types::{Attr, Handle};
 use world_model::{Answer, Call, Fault, Path, Value};

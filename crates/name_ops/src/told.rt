@@ -1,9 +1,10 @@
 //! What a reply to a call that changes a directory tells.
 
 ghost use Rattle.std.specs.Prelude.{◌≡◌, None, Some};
-ghost use Rattle.name_ops.specs.Changing.{done, failed, refused_by, answer_of, told_busy};
+ghost use Rattle.name_ops.specs.Changing.{done, made, failed, refused_by, answer_of, told_busy};
+ghost use Rattle.name_ops.specs.SymLink.{lacking};
 
-use crate::busy::is_busy;
+use client_shelf::busy::is_busy;
 use nfs_types::{Attr, Handle, Status, Wcc};
 use world_model::{Answer, Fault, Value};
 
@@ -33,6 +34,18 @@ impl Told {
         }
     }
 
+    /// An object was made.
+    pub(crate) fn made(found: &Option<Handle>, attr: &Option<Attr>, wcc: &Wcc) -> Told
+        ensures { result ≡ made found.now attr.now wcc.now }
+    {
+        Told {
+            object: *found,
+            attr: *attr,
+            dir: wcc.after,
+            refusal: None,
+        }
+    }
+
     /// The server refused the call.
     pub(crate) fn failed(status: Status, wcc: &Wcc) -> Told
         ensures { result ≡ failed status wcc.now }
@@ -54,6 +67,18 @@ impl Told {
             attr: None,
             dir: None,
             refusal: Some(fault),
+        }
+    }
+
+    /// The same reply, where there is no memory for the call that is to follow.
+    pub(crate) fn lacking(&self) -> Told
+        ensures { result ≡ lacking self.now }
+    {
+        Told {
+            object: self.object,
+            attr: self.attr,
+            dir: self.dir,
+            refusal: Some(Fault::Memory),
         }
     }
 

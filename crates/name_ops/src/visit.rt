@@ -1,9 +1,9 @@
 //! A path is walked, and one call is made on the object to which it leads.
 
-ghost use Rattle.std.specs.Prelude.{◌≡◌, length, false};
+ghost use Rattle.std.specs.Prelude.{◌≡◌, false};
 ghost use Rattle.client_shelf.specs.Coming.{reply_of};
 ghost use Rattle.name_ops.specs.declared.walk.WalkNext.TheVariants.{At as at};
-ghost use Rattle.name_ops.specs.Visiting.{follow_next, follow_after, visit_next, visit_after, visit_shelf, VisitTakes};
+ghost use Rattle.name_ops.specs.Visiting.{visit_of, follow_next, follow_after, visit_next, visit_after, visit_shelf, VisitTakes};
 
 use crate::walk::{Walk, WalkNext};
 use client_shelf::{Came, Shelf, Turn};
@@ -35,7 +35,7 @@ pub struct Visit {
 impl Visit {
     /// It stands at the root.
     pub(crate) fn new(root: &Handle, path: Path) -> Visit
-        ensures { result ≡ record { walk = record { path = path; spot = record { dir = root.now; left = length path }; asked = false }; asked = false } }
+        ensures { result ≡ visit_of root.now path }
     {
         Visit {
             walk: Walk::new(root, path),

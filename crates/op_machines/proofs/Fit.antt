@@ -4,7 +4,7 @@ use Rattle.world_model.specs.declared.answer.Fault.{Fault}
 use Rattle.world_model.specs.declared.message.Reply.{Reply}
 use Rattle.client_shelf.specs.declared.shelf.Shelf.{Shelf}
 use Rattle.client_shelf.specs.declared.turn.Turn.{Turn}
-use Rattle.file_ops.specs.declared.next.Next.{Next}
+use Rattle.client_shelf.specs.declared.next.Next.{Next}
 use Rattle.file_ops.specs.declared.opening.OpeningNext.{OpeningNext}
 use Rattle.file_ops.specs.declared.opening.OpeningNext.TheVariants.{Send, Wait, Ended}
 use Rattle.file_ops.specs.declared.put_file.PutFile.{PutFile}
@@ -17,10 +17,10 @@ use Rattle.file_ops.specs.Opens.{file_to_write}
 use Rattle.file_ops.specs.Opening.{opening_again}
 use Rattle.file_ops.specs.PutFile as puts
 use Rattle.file_ops.specs.WriteFile as writes
-use Rattle.op_machines.specs.declared.machine.Machine.{Machine}
-use Rattle.op_machines.specs.declared.machine.Machine.TheVariants as machines
-use Rattle.op_machines.specs.Fits.{Fits, FitsIn}
-use Rattle.op_machines.specs.Steps.{Starts, Resumes, Takes}
+use Rattle.op_machines.specs.declared.file_machine.FileMachine.{FileMachine as Machine}
+use Rattle.op_machines.specs.declared.file_machine.FileMachine.TheVariants as machines
+use Rattle.op_machines.specs.FileFits.{FileFits as Fits, FitsIn}
+use Rattle.op_machines.specs.FileSteps.{Starts, Resumes, Takes}
 
 -- the bytes that were made are no more than those that are to be written
 made-in : (text : Text) → length (writes.made_bytes text) ≤ length (writes.text_bytes text)

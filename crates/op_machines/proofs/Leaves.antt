@@ -6,7 +6,7 @@ use Rattle.write_back.specs.Files.{Pending}
 use Rattle.attr_cache.specs.Attrs.{Attrs}
 use Rattle.client_shelf.specs.declared.shelf.Shelf.{Shelf}
 use Rattle.client_shelf.specs.declared.turn.Turn.{Turn}
-use Rattle.file_ops.specs.declared.next.Next.{Next}
+use Rattle.client_shelf.specs.declared.next.Next.{Next}
 use Rattle.file_ops.specs.declared.truncate_file.TruncateFile.{TruncateFile}
 use Rattle.file_ops.specs.declared.truncate_file.Truncating.{Truncating}
 use Rattle.file_ops.specs.declared.truncate_file.Truncating.TheVariants.{Idle, Queued, Asked}
@@ -14,9 +14,9 @@ use Rattle.file_ops.specs.Ready.{IsReady}
 use Rattle.file_ops.specs.TruncateFile as truncates
 use Rattle.file_ops.proofs.Steps.{next-ready, same-ready, shelf-ready, sync-starts-ready, sync-resumes-ready, sync-takes-ready, close-starts-ready, close-resumes-ready, close-takes-ready, write-starts-ready, write-resumes-ready, write-takes-ready, truncate-takes-ready}
 use Rattle.file_ops.proofs.PutSteps.{put-resumes-ready, put-takes-ready}
-use Rattle.op_machines.specs.declared.machine.Machine.{Machine}
-use Rattle.op_machines.specs.declared.machine.Machine.TheVariants as machines
-use Rattle.op_machines.specs.Steps.{Starts, Resumes, Takes}
+use Rattle.op_machines.specs.declared.file_machine.FileMachine.{FileMachine as Machine}
+use Rattle.op_machines.specs.declared.file_machine.FileMachine.TheVariants as machines
+use Rattle.op_machines.specs.FileSteps.{Starts, Resumes, Takes}
 
 -- a shelf of which neither numbers nor pending bytes change
 kept-ready : (xid : ℕ) (old to new : Shelf) → new ≡ to → to.seq ≡ old.seq → to.back ≡ old.back → IsReady xid old.seq old.back → IsReady (xid + 1) new.seq new.back

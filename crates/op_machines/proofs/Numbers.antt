@@ -4,13 +4,13 @@ use Rattle.world_model.specs.declared.answer.Fault.{Fault}
 use Rattle.world_model.specs.declared.message.Reply.{Reply}
 use Rattle.client_shelf.specs.declared.shelf.Shelf.{Shelf}
 use Rattle.client_shelf.specs.declared.turn.Turn.{Turn}
-use Rattle.file_ops.specs.declared.next.Next.{Next}
+use Rattle.client_shelf.specs.declared.next.Next.{Next}
 use Rattle.file_ops.specs.TruncateFile as truncates
 use Rattle.file_ops.proofs.Unsent.{truncate-seq, begun-seq}
 use Rattle.file_ops.proofs.Numbers.{none-more, sync-starts, sync-resumes, sync-takes, close-starts, close-resumes, close-takes, write-starts, write-resumes, write-takes, put-resumes, put-takes}
-use Rattle.op_machines.specs.declared.machine.Machine.{Machine}
-use Rattle.op_machines.specs.declared.machine.Machine.TheVariants as machines
-use Rattle.op_machines.specs.Steps.{Starts, Resumes, Takes}
+use Rattle.op_machines.specs.declared.file_machine.FileMachine.{FileMachine as Machine}
+use Rattle.op_machines.specs.declared.file_machine.FileMachine.TheVariants as machines
+use Rattle.op_machines.specs.FileSteps.{Starts, Resumes, Takes}
 
 abbrev seq : Shelf → ℕ
 seq s = s.seq

@@ -2,8 +2,8 @@
 use Rattle.std.proofs.Common.{◌≡◌, ℕ, true, refl, ap, subst, ◌∙◌}
 use Rattle.client_shelf.specs.declared.shelf.Shelf.{Shelf}
 use Rattle.client_shelf.specs.declared.turn.Turn.{Turn}
-use Rattle.file_ops.specs.declared.next.Next.{Next}
-use Rattle.file_ops.specs.declared.next.Next.TheVariants.{Wait}
+use Rattle.client_shelf.specs.declared.next.Next.{Next}
+use Rattle.client_shelf.specs.declared.next.Next.TheVariants.{Wait}
 use Rattle.file_ops.specs.declared.write_file.Writing.{Writing}
 use Rattle.file_ops.specs.declared.sync_file.Syncing.{Syncing}
 use Rattle.file_ops.specs.declared.close_file.Closing.{Closing}
@@ -15,9 +15,9 @@ use Rattle.file_ops.specs.OpenFile.{gone}
 use Rattle.file_ops.specs.ReadFile.{ResumesIn}
 use Rattle.file_ops.proofs.Stills.{sync-still, write-still}
 use Rattle.file_ops.proofs.Waits.{close-still, put-still, open-still, truncate-still, read-still}
-use Rattle.op_machines.specs.declared.machine.Machine.{Machine}
-use Rattle.op_machines.specs.declared.machine.Machine.TheVariants as machines
-use Rattle.op_machines.specs.Steps.{Resumes}
+use Rattle.op_machines.specs.declared.file_machine.FileMachine.{FileMachine as Machine}
+use Rattle.op_machines.specs.declared.file_machine.FileMachine.TheVariants as machines
+use Rattle.op_machines.specs.FileSteps.{Resumes}
 
 abbrev an_open : OpenFile → Machine
 an_open m = machines.Open m

@@ -1,15 +1,19 @@
 -- What holds of an operation as long as it is under way.
-use Rattle.std.specs.Prelude.{◌≤◌, ◌+◌, ◌-◌, ◌^◌, length}
-use Rattle.file_ops.specs.declared.write_file.WriteFile.{WriteFile}
-use Rattle.file_ops.specs.WriteFile.{text_bytes}
+use Rattle.std.specs.Prelude.{◌≤◌, length}
 use Rattle.op_machines.specs.declared.machine.Machine.{Machine}
 use Rattle.op_machines.specs.declared.machine.Machine.TheVariants as machines
+use Rattle.op_machines.specs.declared.name_machine.NameMachine.{NameMachine}
+use Rattle.op_machines.specs.declared.name_machine.NameMachine.TheVariants as names
+use Rattle.op_machines.specs.FileFits.{FileFits}
+use Rattle.op_machines.specs.Openers.{file_of}
 
--- its bytes end within all places of a file (RFC 1813, section 2.5: offsets have 64 bits)
-abbrev pub FitsIn : WriteFile → Type 0
-FitsIn write = write.offset + length (text_bytes write.text) ≤ 2 ^ 63 - 1
+-- SYMLINK can carry the target (RFC 1813, section 2.4: a path has a bound of the implementation's own)
+abbrev pub NameFits : NameMachine → Type 0
+NameFits (names.SymLink m) = length m.target ≤ 1024
+NameFits machine = Unit {0}
 
+-- The bytes that are to be written end within all places of a file.
 abbrev pub Fits : Machine → Type 0
-Fits (machines.Write write) = FitsIn write
-Fits (machines.Put put) = FitsIn put.write
-Fits machine = Unit {0}
+Fits (machines.File m) = FileFits m
+Fits (machines.Path m) = FileFits (file_of m.opener)
+Fits (machines.Name m) = NameFits m

@@ -1,4 +1,12 @@
+pub mod FileFits
 pub mod Fits
 pub mod MayStep
+pub mod FileSteps
+pub mod NameSteps
+pub mod Openers
+pub mod PathSteps
 pub mod Steps
+pub mod Begun
 pub mod Laws
+pub mod FileEndings
+pub mod Endings

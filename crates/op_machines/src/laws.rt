@@ -1,6 +1,7 @@
 //! What holds of every step of any operation. Facts for proofs: these functions do nothing.
 
-ghost use Rattle.op_machines.specs.Laws.{WaitsStill, StartsFit, ResumesFit, TakesFit, StartsReady, ResumesReady, TakesReady, StartsUnsent, ResumesUnsent, TakesUnsent, StartsNumber, ResumesNumber, TakesNumber};
+ghost use Rattle.op_machines.specs.Endings.{FewLeft, RefusalsEnd};
+ghost use Rattle.op_machines.specs.Laws.{WaitsStill, StartsFit, ResumesFit, TakesFit, StartsReady, ResumesReady, TakesReady, StartsUnsent, ResumesUnsent, TakesUnsent, StartsNumber, ResumesNumber, TakesNumber, RefusalsNumber, StartsRoomless, ResumesRoomless, TakesRoomless, StartsSpellable, ResumesSpellable, TakesSpellable, StartsUnmade, ResumesUnmade, TakesUnmade};
 
 /// A step that no reply made possible and that waits, though there is room for a call, changes neither the operation nor the
 /// shelf.
@@ -35,4 +36,38 @@ pub fn steps_number_writes()
     ensures start { StartsNumber }
     ensures resume { ResumesNumber }
     ensures took { TakesNumber }
+{}
+
+/// A refusal gives out no number of a write.
+pub fn refusals_number_nothing()
+    ensures { RefusalsNumber }
+{}
+
+/// A step that is told of no room asks for no call.
+pub fn no_room_no_call()
+    ensures start { StartsRoomless }
+    ensures resume { ResumesRoomless }
+    ensures took { TakesRoomless }
+{}
+
+/// Each call that a step asks for has a spelling, where a WRITE carries at most 65,536 bytes.
+pub fn calls_are_spellable()
+    ensures start { StartsSpellable }
+    ensures resume { ResumesSpellable }
+    ensures took { TakesSpellable }
+{}
+
+/// A call that was asked for and can't be made reaches its operation as a refusal, with no room for another call. Then
+/// nothing is in flight under its xid, which the next call may have.
+pub fn unmade_calls_leave_nothing()
+    ensures start { StartsUnmade }
+    ensures resume { ResumesUnmade }
+    ensures took { TakesUnmade }
+{}
+
+/// An operation that goes on and asks for a call, and takes a refusal in its place, has its answer then or fewer calls that it
+/// may ask for in vain: so lanes don't go on without an end.
+pub fn refusals_end()
+    ensures less { RefusalsEnd }
+    ensures few { FewLeft }
 {}

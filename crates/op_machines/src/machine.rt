@@ -5,27 +5,21 @@ ghost use Rattle.op_machines.specs.Fits.{Fits};
 ghost use Rattle.op_machines.specs.MayStep.{MayStep};
 ghost use Rattle.op_machines.specs.Steps.{Starts, Resumes, Takes};
 
-use client_shelf::{Came, Shelf, Turn};
-use file_ops::{CloseFile, Next, OpenFile, PutFile, ReadFile, SyncFile, TruncateFile, WriteFile};
+use crate::file_machine::FileMachine;
+use crate::name_machine::NameMachine;
+use crate::path_machine::PathMachine;
+use client_shelf::{Came, Next, Shelf, Turn};
 use std::alloc::Global;
 
 /// An operation that is under way.
 #[derive(Drop)]
 pub enum Machine {
-    /// A file is opened at a slot.
-    Open(OpenFile),
-    /// A range of an open file is read.
-    Read(ReadFile),
-    /// Bytes of a write or a fill become pending.
-    Write(WriteFile),
-    /// What is pending of an open file is made stable.
-    Sync(SyncFile),
-    /// A slot is freed.
-    Close(CloseFile),
-    /// An open file gets another size.
-    Truncate(TruncateFile),
-    /// Bytes are written to the file of a name, and made stable.
-    Put(PutFile),
+    /// One on an open file.
+    File(FileMachine),
+    /// An open or a put.
+    Path(PathMachine),
+    /// One on names.
+    Name(NameMachine),
 }
 
 impl Machine {
@@ -36,13 +30,9 @@ impl Machine {
         ensures { Starts wsize self.old turn shelf.old result self.new shelf.new }
     {
         match self {
-            Machine::Open(open) => open.start(turn, shelf),
-            Machine::Read(read) => read.start(alloc, turn, shelf),
-            Machine::Write(write) => write.start(alloc, wsize, turn, shelf),
-            Machine::Sync(sync) => sync.start(alloc, wsize, turn, shelf),
-            Machine::Close(close) => close.start(alloc, wsize, turn, shelf),
-            Machine::Truncate(truncate) => truncate.start(turn, shelf),
-            Machine::Put(put) => put.start(turn),
+            Machine::File(file) => file.start(alloc, wsize, turn, shelf),
+            Machine::Path(path) => path.start(alloc, wsize, turn, shelf),
+            Machine::Name(name) => name.go(alloc, turn, shelf),
         }
     }
 
@@ -52,13 +42,9 @@ impl Machine {
         ensures { Resumes wsize self.old turn shelf.old result self.new shelf.new }
     {
         match self {
-            Machine::Open(open) => open.resume(turn, shelf),
-            Machine::Read(read) => read.resume(alloc, turn, shelf),
-            Machine::Write(write) => write.resume(alloc, wsize, turn, shelf),
-            Machine::Sync(sync) => sync.resume(alloc, wsize, turn, shelf),
-            Machine::Close(close) => close.resume(alloc, wsize, turn, shelf),
-            Machine::Truncate(truncate) => truncate.resume(turn, shelf),
-            Machine::Put(put) => put.resume(alloc, wsize, turn, shelf),
+            Machine::File(file) => file.resume(alloc, wsize, turn, shelf),
+            Machine::Path(path) => path.resume(alloc, wsize, turn, shelf),
+            Machine::Name(name) => name.go(alloc, turn, shelf),
         }
     }
 
@@ -77,13 +63,9 @@ impl Machine {
         ensures { Takes wsize self.old sent turn (reply_of came.now) shelf.old result self.new shelf.new }
     {
         match self {
-            Machine::Open(open) => open.took(sent, came, turn, shelf),
-            Machine::Read(read) => read.took(alloc, sent, came, turn, shelf),
-            Machine::Write(write) => write.took(alloc, wsize, sent, came, turn, shelf),
-            Machine::Sync(sync) => sync.took(alloc, wsize, sent, came, turn, shelf),
-            Machine::Close(close) => close.took(alloc, wsize, sent, came, turn, shelf),
-            Machine::Truncate(truncate) => truncate.took(sent, came, turn, shelf),
-            Machine::Put(put) => put.took(alloc, wsize, sent, came, turn, shelf),
+            Machine::File(file) => file.took(alloc, wsize, sent, came, turn, shelf),
+            Machine::Path(path) => path.took(alloc, wsize, sent, came, turn, shelf),
+            Machine::Name(name) => name.took(alloc, sent, came, turn, shelf),
         }
     }
 }

@@ -1,4 +1,4 @@
-use Rattle.op_machines.proofs.Numbers.{starts-number, resumes-number, takes-number}
+use Rattle.op_machines.proofs.AllLaws.{starts-number, resumes-number, takes-number}
 use Rattle.op_machines.proofs.laws.steps_number_writes.Goals as goal
 
 pub returns-clause-start : goal.returns-clause-start

@@ -1,4 +1,4 @@
-use Rattle.op_machines.proofs.Fit.{starts-fit, resumes-fit, takes-fit}
+use Rattle.op_machines.proofs.AllLaws.{starts-fit, resumes-fit, takes-fit}
 use Rattle.op_machines.proofs.laws.steps_stay_fit.Goals as goal
 
 pub returns-clause-start : goal.returns-clause-start

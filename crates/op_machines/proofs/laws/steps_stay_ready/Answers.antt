@@ -1,4 +1,4 @@
-use Rattle.op_machines.proofs.Leaves.{starts-ready, resumes-ready, takes-ready}
+use Rattle.op_machines.proofs.AllLaws.{starts-ready, resumes-ready, takes-ready}
 use Rattle.op_machines.proofs.laws.steps_stay_ready.Goals as goal
 
 pub returns-clause-start : goal.returns-clause-start

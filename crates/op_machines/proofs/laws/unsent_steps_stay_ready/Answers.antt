@@ -1,4 +1,4 @@
-use Rattle.op_machines.proofs.Unsent.{starts-unsent, resumes-unsent, takes-unsent}
+use Rattle.op_machines.proofs.AllLaws.{starts-unsent, resumes-unsent, takes-unsent}
 use Rattle.op_machines.proofs.laws.unsent_steps_stay_ready.Goals as goal
 
 pub returns-clause-start : goal.returns-clause-start

@@ -1,7 +1,7 @@
 use Rattle.std.proofs.Common.{ap, subst, ◌∙◌}
 use Rattle.client_shelf.specs.Coming.{reply_of}
 use Rattle.name_ops.specs.Looking.{found_by, look_again}
-use Rattle.name_ops.specs.Busy.{fails_busy, goes_again}
+use Rattle.client_shelf.specs.Busy.{fails_busy, goes_again}
 use Rattle.name_ops.specs.RemoveFile.{FollowsSeek}
 use Rattle.name_ops.proofs.Hearing.{heard-by}
 use Rattle.name_ops.proofs.remove_file.RemoveFile.take_seek.Goals as goal

@@ -1,7 +1,7 @@
 use Rattle.std.proofs.Common.{ap, ◌∙◌}
 use Rattle.client_shelf.specs.Coming.{reply_of}
 use Rattle.name_ops.specs.Looking.{found_by, look_again}
-use Rattle.name_ops.specs.Busy.{fails_busy, goes_again}
+use Rattle.client_shelf.specs.Busy.{fails_busy, goes_again}
 use Rattle.name_ops.specs.Walking.{followed_next, followed_walk, followed_shelf}
 use Rattle.name_ops.proofs.Hearing.{heard-by}
 use Rattle.name_ops.proofs.walk.Walk.take.Goals as goal
