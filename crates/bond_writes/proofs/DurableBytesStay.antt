@@ -55,7 +55,7 @@ some_answer l a d e = go (entry e)
     go : Answered l a ≡ Answered l d → a ≡ d
     go e = cc
 
-ends_one : (h : List Entry) (l s j k : ℕ) (a d : Answer) → Ends h l s j a → Ends h l s k d → a ≡ d
+pub ends_one : (h : List Entry) (l s j k : ℕ) (a d : Answer) → Ends h l s j a → Ends h l s k d → a ≡ d
 ends_one h l s j k a d x y = elim (compare j k) [
   | inl lt ↦ absurd (y.first j a x.after lt x.answered)
   | inr o ↦ elim o [
@@ -64,7 +64,7 @@ ends_one h l s j k a d x y = elim (compare j k) [
   ]
 ]
 
-has_bytes : (op : Op) (i : Spot) (y : ℕ) → means op i ≡ Some y → HasBytes op
+pub has_bytes : (op : Op) (i : Spot) (y : ℕ) → means op i ≡ Some y → HasBytes op
 has_bytes (write_op d o b) i y e = tt
 has_bytes (put_op d o b) i y e = tt
 has_bytes (sync_op d) i y e = absurd (cc e)
@@ -74,14 +74,14 @@ has_bytes (open_op d s) i y e = absurd (cc e)
 has_bytes plain_op i y e = absurd (cc e)
 
 -- a write or put that was answered ok has its bytes in
-okay : (h : List Entry) (c : View) → Reaches h c → (l w y : ℕ) (op : Op) → At h w (Began l op) → HasBytes op → Ends h l w y done → HasAdd c w
+pub okay : (h : List Entry) (c : View) → Reaches h c → (l w y : ℕ) (op : Op) → At h w (Began l op) → HasBytes op → Ends h l w y done → HasAdd c w
 okay h c r l w y op at has d = elim ((lanes_fact h c r).status l w op at) [
   | under_way work e ↦ absurd (((lanes_fact h c r).busy_is l w op work e).unanswered y done d.after d.answered)
   | ended j a z q ↦ (rw (← ends_one h l w y j done a d z) at q) has
 ]
 
 -- what has its bytes in is no refused write
-unrefused : (h : List Entry) (c : View) → Reaches h c → (x : ℕ) → HasAdd c x → Unrefused h x
+pub unrefused : (h : List Entry) (c : View) → Reaches h c → (x : ℕ) → HasAdd c x → Unrefused h x
 unrefused h c r x a l y op at p d = elim ((lanes_fact h c r).status l x op at) [
   | under_way work e ↦ ((lanes_fact h c r).busy_is l x op work e).unanswered y refused d.after d.answered
   | ended j b z q ↦ absurd (cc (a.is, (rw (← ends_one h l x y j refused b d z) at q) p))
@@ -94,10 +94,10 @@ grow_all (e ∷ rest) h A w p i wl r =
     let k = grow_all rest (h ++ e ∷ []) A w p i (omega (arith, n, wl)) (grow h e A A w p p i (λ x a. a) wl (omega arith) r) in
     rw (append_assoc h (e ∷ []) rest) at k
 
-told_reason : (t : Told) (h : List Entry) (A : ℕ → Type 0) (w p : ℕ) (i : Spot) → Begins t h → w < length h → Reason h A w p i → Reason t.entries A w p i
+pub told_reason : (t : Told) (h : List Entry) (A : ℕ → Type 0) (w p : ℕ) (i : Spot) → Begins t h → w < length h → Reason h A w p i → Reason t.entries A w p i
 told_reason t h A w p i begun wl q = rw begun.is (grow_all begun.rest h A w p i wl q)
 
-gone_up : (t : Told) → Lawful t → (f : File) (q p : ℕ) → q ≤ p → p ≤ length t.entries → (t.at q).gone f ≡ true → (t.at p).gone f ≡ true
+pub gone_up : (t : Told) → Lawful t → (f : File) (q p : ℕ) → q ≤ p → p ≤ length t.entries → (t.at q).gone f ≡ true → (t.at p).gone f ≡ true
 gone_up t lawful f q p le hi g = elim (same_or_not q p) [
   | inl is ↦ rw (← is) g
   | inr ne ↦ later_one p le hi ne

@@ -188,7 +188,7 @@ no_means : (f : File) (z : ℕ) (op : Op) (i : Spot) (y : ℕ) → op ≡ cut_op
 no_means f z op i y e m = absurd (cc (ap (λ o. means o i) e, m))
 
 -- a truncate that was not answered before a write touches it
-cut_touches : (t : Told) (h h' : List Entry) (p : ℕ) (c c' : View) (w : ℕ) (i : Spot) (y l x z : ℕ) → Wrote h' w i y → At h' x (Began l (cut_op i.file z)) → x < p → z ≤ i.at → Unanswered h' l x w → Excused t h' p c' w i
+pub cut_touches : (t : Told) (h h' : List Entry) (p : ℕ) (c c' : View) (w : ℕ) (i : Spot) (y l x z : ℕ) → Wrote h' w i y → At h' x (Began l (cut_op i.file z)) → x < p → z ≤ i.at → Unanswered h' l x w → Excused t h' p c' w i
 cut_touches t h h' p c c' w i y l x z wr at low le u = touched (cut x l z (λ e. no_means i.file z wr.op i y (sym (began_is h' x l wr.lane (cut_op i.file z) wr.op at (rw e wr.began)).1) wr.means_it) low at le u)
 
 resized : (t : Told) (h : List Entry) (b : View) (e : Entry) (w : ℕ) (i : Spot) (y : ℕ) (f : File) (z : ℕ) (a : Added) → Reaches h b → Wrote h w i y → b.added w ≡ Some a → i.file ≡ f → z ≤ i.at → Asks h b f z → Excused t (h ++ e ∷ []) (suc (length h)) b w i
@@ -261,7 +261,7 @@ new_waits t lawful h b c begun r x call k n z v f w a = elim (same_or_not z x) [
 ]
 
 -- a close gives up the byte of a place
-close_owes : (t : Told) (h : List Entry) (b c : View) (w : ℕ) (i : Spot) (y : ℕ) (a : Added) (cell : Cell) → Reaches h b → (m : GivesUp b c) → i.file ≡ m.file → Wrote h w i y → b.added w ≡ Some a → b.rest i ≡ Some cell → SyncedAt t h (length h) b → (Excused t h (length h) c w i → ⊥) → ⊥
+pub close_owes : (t : Told) (h : List Entry) (b c : View) (w : ℕ) (i : Spot) (y : ℕ) (a : Added) (cell : Cell) → Reaches h b → (m : GivesUp b c) → i.file ≡ m.file → Wrote h w i y → b.added w ≡ Some a → b.rest i ≡ Some cell → SyncedAt t h (length h) b → (Excused t h (length h) c w i → ⊥) → ⊥
 close_owes t h b c w i y a cell r m is wr ad there sf n = n (owed (record {
   gave = rw is m.gave;
   owing = by_itself m.l m.from m.slot (rw is m.lanes.is);
@@ -305,7 +305,7 @@ close_owes t h b c w i y a cell r m is wr ad there sf n = n (owed (record {
     ends_put l op at p j refused z = n (failed_put (before l j op p at z))
 
 -- a refused put gives up the byte of a place: it is a put's that was refused
-put_refused : (t : Told) (h : List Entry) (b c : View) (w : ℕ) (i : Spot) (y : ℕ) (a : Added) (cell : Cell) → Reaches h b → (m : GivesUpPut b c) → i.file ≡ m.file → Wrote h w i y → b.added w ≡ Some a → b.rest i ≡ Some cell → cell.number ≡ a.number → SyncedAt t h (length h) b → (Excused t h (length h) c w i → ⊥) → ⊥
+pub put_refused : (t : Told) (h : List Entry) (b c : View) (w : ℕ) (i : Spot) (y : ℕ) (a : Added) (cell : Cell) → Reaches h b → (m : GivesUpPut b c) → i.file ≡ m.file → Wrote h w i y → b.added w ≡ Some a → b.rest i ≡ Some cell → cell.number ≡ a.number → SyncedAt t h (length h) b → (Excused t h (length h) c w i → ⊥) → ⊥
 put_refused t h b c w i y a cell r m is wr ad there num sf n = elim (m.puts_only i cell w a is there ad (sym num)) [
   | inl e ↦ n (failed_put (now m.l (put_op m.file m.offset m.bytes) refl (rw e m.lanes.is)))
   | inr k ↦

@@ -155,12 +155,12 @@ filled_with (suc count) b zero v e = (omega arith, cc)
 filled_with (suc count) b (suc k) v e = let r = filled_with count b k v e in let lt : k < count = r.0 in (omega (arith, lt), r.1)
 
 module _ (m : Modes) (origin : Origin) (t : History) (s : Told) (k : Mirrors m origin t s) where
-  began_at : (n lane line : ℕ) (op : Op) → histories.At t.entries n (entries.Began lane line op) → BeganAt m origin t s n lane op
+  pub began_at : (n lane line : ℕ) (op : Op) → histories.At t.entries n (entries.Began lane line op) → BeganAt m origin t s n lane op
   began_at n lane line op at =
       let r = reads m origin t s k n (entries.Began lane line op) at in
       record { is = r.mirrors.0; at = rw (← r.mirrors.1) r.at; mirrors = r.mirrors.2 }
 
-  began_back : (n lane : ℕ) (o : story.Op) → At s.entries n (Began lane o) → BeganBack m origin t n lane o
+  pub began_back : (n lane : ℕ) (o : story.Op) → At s.entries n (Began lane o) → BeganBack m origin t n lane o
   began_back n lane o at = let r = reads_back m origin t s k n (Began lane o) at in back_began m origin t n lane o r.entry r.at r.mirrors
 
   answered_at : (n lane line : ℕ) (a : Answer) → histories.At t.entries n (entries.Answered lane line a) → At s.entries n (Answered lane (answer_of a))
@@ -184,7 +184,7 @@ module _ (m : Modes) (origin : Origin) (t : History) (s : Told) (k : Mirrors m o
             omega (arith, first, le, hi)
       ]
 
-  ended_is : (lane x : ℕ) (op : Op) (y : ℕ) (a : Answer) → Ended t.entries lane x op y a → law.Ends s.entries lane x y (answer_of a)
+  pub ended_is : (lane x : ℕ) (op : Op) (y : ℕ) (a : Answer) → Ended t.entries lane x op y a → law.Ends s.entries lane x y (answer_of a)
   ended_is lane x op y a d = record {
     after = d.later;
     answered = answered_at y lane d.line a d.answered;
@@ -235,7 +235,7 @@ module _ (m : Modes) (origin : Origin) (t : History) (s : Told) (k : Mirrors m o
 
   -- ---- what was written, and what was made stable
 
-  record Written (w y : ℕ) (f : File) (i v : ℕ) : Type 0 where
+  pub record Written (w y : ℕ) (f : File) (i v : ℕ) : Type 0 where
     pub lane : ℕ
     pub op : Op
     pub value : Value
@@ -248,7 +248,7 @@ module _ (m : Modes) (origin : Origin) (t : History) (s : Told) (k : Mirrors m o
   covered : (f : File) (offset : ℕ) (bytes : List ℕ) (i v : ℕ) → touched.Covers offset bytes i v → covers f offset bytes (record { file = f; at = i }) ≡ Some v
   covered f offset bytes i v c = let p = c.place in let z : i - offset ≡ c.k = omega (arith, p) in covers_from f offset bytes (record { file = f; at = i }) v refl (omega (arith, p)) (ap (λ n. slice_get bytes n) z ∙ c.byte)
 
-  written_is : (w y : ℕ) (f : File) (i v : ℕ) → touched.Wrote m t.entries w y f i v → Written w y f i v
+  pub written_is : (w y : ℕ) (f : File) (i v : ℕ) → touched.Wrote m t.entries w y f i v → Written w y f i v
   written_is w y f i v (touched.write lane slot offset bytes value of d c) =
       let b = began_at w lane d.line (ops.Write slot offset bytes) d.began in
       let o : b.is ≡ write_op f offset bytes = b.mirrors.of_file f of in
@@ -272,14 +272,14 @@ module _ (m : Modes) (origin : Origin) (t : History) (s : Told) (k : Mirrors m o
       let o : b.is ≡ put_op f offset bytes = b.mirrors.puts y f offset bytes p in
       record { lane = p.lane; op = ops.Put p.path offset bytes; value = p.value; is = put_op f offset bytes; at = rw (← o) b.at; ended = d; means_it = covered f offset bytes i v c; put = λ q n x e. refl }
 
-  record MadeFirm (x y : ℕ) (f : File) : Type 0 where
+  pub record MadeFirm (x y : ℕ) (f : File) : Type 0 where
     pub lane : ℕ
     pub is : story.Op
     pub at : At s.entries x (Began lane is)
     pub firms : Firms is f
     pub ends : law.Ends s.entries lane x y done
 
-  made_is : (x y : ℕ) (f : File) → touched.MadeStable m t.entries x y f → MadeFirm x y f
+  pub made_is : (x y : ℕ) (f : File) → touched.MadeStable m t.entries x y f → MadeFirm x y f
   made_is x y f (touched.sync lane slot value of d) =
       let b = began_at x lane d.line (ops.Sync slot) d.began in
       let o : b.is ≡ sync_op f = b.mirrors.of_file f of in
@@ -323,7 +323,7 @@ module _ (m : Modes) (origin : Origin) (t : History) (s : Told) (k : Mirrors m o
   no_put x op o (opening slot f e) none = rw e refl
   no_put x op o (other e) none = rw e refl
 
-  refused_is : (x lane line : ℕ) (op : Op) (o : story.Op) → histories.At t.entries x (entries.Began lane line op) → At s.entries x (Began lane o) → Meaning m origin t.entries x op o → law.Unrefused s.entries x → touched.RefusedWrite t.entries x → ⊥
+  pub refused_is : (x lane line : ℕ) (op : Op) (o : story.Op) → histories.At t.entries x (entries.Began lane line op) → At s.entries x (Began lane o) → Meaning m origin t.entries x op o → law.Unrefused s.entries x → touched.RefusedWrite t.entries x → ⊥
   refused_is x lane line op o at ats mean un (touched.write l slot offset y bytes fault d) =
       let same = same_lane x lane line l d.line op (ops.Write slot offset bytes) at d.began in
       let e : Ended t.entries lane x (ops.Write slot offset bytes) y (answers.Refused fault) = rw same.0 d in
@@ -364,7 +364,7 @@ module _ (m : Modes) (origin : Origin) (t : History) (s : Told) (k : Mirrors m o
   writes_on x (ops.ReadLink path) g f i v of e = absurd (cc e)
   writes_on x (ops.List path) g f i v of e = absurd (cc e)
 
-  writes_by : (x lane line : ℕ) (op : Op) (o : story.Op) (f : File) (i v : ℕ) → histories.At t.entries x (entries.Began lane line op) → Meaning m origin t.entries x op o → means o (record { file = f; at = i }) ≡ Some v → touched.WritesByte m origin t.entries x f i v
+  pub writes_by : (x lane line : ℕ) (op : Op) (o : story.Op) (f : File) (i v : ℕ) → histories.At t.entries x (entries.Began lane line op) → Meaning m origin t.entries x op o → means o (record { file = f; at = i }) ≡ Some v → touched.WritesByte m origin t.entries x f i v
   writes_by x lane line op o f i v at (on_file g of e) q = writes_on x op g f i v of (rw e at q)
   writes_by x lane line op o f i v at (by_path offset n path bytes g is ends leads e) q =
       let c = back_covered g f offset bytes i v (rw e at q) in
@@ -438,7 +438,7 @@ module _ (m : Modes) (origin : Origin) (t : History) (s : Told) (k : Mirrors m o
   closes_back : (x lane : ℕ) (f : File) (slot : ℕ) → At s.entries x (Began lane (close_op f slot)) → ClosesBack x lane f slot
   closes_back x lane f slot at = let b = began_back x lane (close_op f slot) at in closes_by x lane b.line b.op f slot b.at b.mirrors.means
 
-  in_slot_is : (n lane slot x : ℕ) (f : File) → slots.InSlot m t.entries n lane slot x f → law.InSlot s.entries n lane slot f
+  pub in_slot_is : (n lane slot x : ℕ) (f : File) → slots.InSlot m t.entries n lane slot x f → law.InSlot s.entries n lane slot f
   in_slot_is n lane slot x f h =
       let o = h.opens in
       let d = o.ended in
@@ -497,7 +497,7 @@ module _ (m : Modes) (origin : Origin) (t : History) (s : Told) (k : Mirrors m o
       by None e = absurd (cc (rw e at g))
       by (Some o) e = touched.gone o e (rw e at g)
 
-  touched_is : (w y p : ℕ) (f : File) (i v : ℕ) → Written w y f i v → law.Touched s w p (record { file = f; at = i }) → touched.Touched m origin t w p f i
+  pub touched_is : (w y p : ℕ) (f : File) (i v : ℕ) → Written w y f i v → law.Touched s w p (record { file = f; at = i }) → touched.Touched m origin t w p f i
   touched_is w y p f i v wr (inr g) = gone_is w p f i (sym ((k.servers p).gone f) ∙ g)
   touched_is w y p f i v wr (inl (law.foreign n event lo hi at alters)) =
       let r = reads_back m origin t s k n (Foreign event) at in

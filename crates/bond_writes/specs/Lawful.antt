@@ -16,7 +16,8 @@ Stands old new = (i : Spot) → Keeps old new i
 pub record Puts (old new : Server) (call : Call) : Type 0 where
   pub verf : new.verf ≡ old.verf
   pub others : (i : Spot) → gives call i ≡ None → Keeps old new i
-  pub covered : (i : Spot) (y : ℕ) → gives call i ≡ Some y → ((new.now i ≡ old.now i) ⊎ (new.now i ≡ Some y)) × ((new.stable i ≡ old.stable i) ⊎ (new.stable i ≡ Some y))
+  pub covered : (i : Spot) (y : ℕ) → gives call i ≡ Some y → ((new.now i ≡ old.now i) ⊎ (new.now i ≡ Some y))
+      × ((new.stable i ≡ old.stable i) ⊎ (new.stable i ≡ Some y))
 
 -- A WRITE that is answered ok has put its first bytes, and made them stable where it says so.
 pub record Writes (old new : Server) (call : Call) (count k : ℕ) (v : Verifier) : Type 0 where

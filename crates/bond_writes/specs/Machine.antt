@@ -364,21 +364,29 @@ pub record Answers (old new : View) (l : ℕ) (answer : Answer) : Type 0 where
 pub data Came : ℕ → Call → Reply → Spot → Option Cell → Option Flight → Option Cell → Option Flight → Type 0 where
   stays : (x : ℕ) (call : Call) (r : Reply) (i : Spot) (rest : Option Cell) (fly : Option Flight) (rest' : Option Cell) (fly' : Option Flight)
       → ((f : Flight) → fly ≡ Some f → f.xid ≢ x) → rest' ≡ rest → fly' ≡ fly → Came x call r i rest fly rest' fly'
-  covered : (x : ℕ) (call : Call) (r : Reply) (i : Spot) (rest : Option Cell) (fly : Option Flight) (rest' : Option Cell) (fly' : Option Flight) (f : Flight) (c : Cell)
+  covered : (x : ℕ) (call : Call) (r : Reply) (i : Spot) (rest : Option Cell) (fly : Option Flight) (rest' : Option Cell) (fly' : Option Flight) (f : Flight)
+      (c : Cell)
       → fly ≡ Some f → f.xid ≡ x → rest ≡ Some c → rest' ≡ rest → fly' ≡ None → Came x call r i rest fly rest' fly'
-  acks : (x : ℕ) (call : Call) (r : Reply) (i : Spot) (rest : Option Cell) (fly : Option Flight) (rest' : Option Cell) (fly' : Option Flight) (f : Flight) (count : ℕ) (v : Verifier)
-      → fly ≡ Some f → f.xid ≡ x → rest ≡ None → r ≡ wrote 0 count 0 v → Reach call count i → rest' ≡ Some (record { byte = f.byte; number = f.number; mark = acked v }) → fly' ≡ None → Came x call r i rest fly rest' fly'
-  firms : (x : ℕ) (call : Call) (r : Reply) (i : Spot) (rest : Option Cell) (fly : Option Flight) (rest' : Option Cell) (fly' : Option Flight) (f : Flight) (count k : ℕ) (v : Verifier)
-      → fly ≡ Some f → f.xid ≡ x → rest ≡ None → r ≡ wrote 0 count (suc k) v → Reach call count i → rest' ≡ None → fly' ≡ None → Came x call r i rest fly rest' fly'
+  acks : (x : ℕ) (call : Call) (r : Reply) (i : Spot) (rest : Option Cell) (fly : Option Flight) (rest' : Option Cell) (fly' : Option Flight) (f : Flight)
+      (count : ℕ) (v : Verifier)
+      → fly ≡ Some f → f.xid ≡ x → rest ≡ None → r ≡ wrote 0 count 0 v → Reach call count i
+      → rest' ≡ Some (record { byte = f.byte; number = f.number; mark = acked v }) → fly' ≡ None → Came x call r i rest fly rest' fly'
+  firms : (x : ℕ) (call : Call) (r : Reply) (i : Spot) (rest : Option Cell) (fly : Option Flight) (rest' : Option Cell) (fly' : Option Flight) (f : Flight)
+      (count k : ℕ) (v : Verifier)
+      → fly ≡ Some f → f.xid ≡ x → rest ≡ None → r ≡ wrote 0 count (suc k) v → Reach call count i → rest' ≡ None → fly' ≡ None
+      → Came x call r i rest fly rest' fly'
   returns : (x : ℕ) (call : Call) (r : Reply) (i : Spot) (rest : Option Cell) (fly : Option Flight) (rest' : Option Cell) (fly' : Option Flight) (f : Flight)
-      → fly ≡ Some f → f.xid ≡ x → rest ≡ None → rest' ≡ Some (record { byte = f.byte; number = f.number; mark = again }) → fly' ≡ None → Came x call r i rest fly rest' fly'
+      → fly ≡ Some f → f.xid ≡ x → rest ≡ None → rest' ≡ Some (record { byte = f.byte; number = f.number; mark = again }) → fly' ≡ None
+      → Came x call r i rest fly rest' fly'
 
 -- What the reply to a COMMIT makes of a place: nothing; what was acknowledged under its write verifier goes; what wasn't is to be
 -- sent again. Shown by commit_verf and write_back (settle, mark_again).
 pub data Heard : Reply → Option Cell → Option Cell → Type 0 where
   keeps : (r : Reply) (rest rest' : Option Cell) → rest' ≡ rest → Heard r rest rest'
-  settles : (r : Reply) (rest rest' : Option Cell) (c : Cell) (v : Verifier) → r ≡ committed 0 v → rest ≡ Some c → c.mark ≡ acked v → rest' ≡ None → Heard r rest rest'
-  resends : (r : Reply) (rest rest' : Option Cell) (c : Cell) → rest ≡ Some c → rest' ≡ Some (record { byte = c.byte; number = c.number; mark = again }) → Heard r rest rest'
+  settles : (r : Reply) (rest rest' : Option Cell) (c : Cell) (v : Verifier) → r ≡ committed 0 v → rest ≡ Some c → c.mark ≡ acked v → rest' ≡ None
+      → Heard r rest rest'
+  resends : (r : Reply) (rest rest' : Option Cell) (c : Cell) → rest ≡ Some c → rest' ≡ Some (record { byte = c.byte; number = c.number; mark = again })
+      → Heard r rest rest'
 
 -- what a reply makes of the places, by the call
 abbrev pub PlacesAfter : ℕ → Call → Reply → View → View → Type 0

@@ -101,7 +101,8 @@ op_on f op = plain_op
 -- what it may be read as: one of its file, a put into the file to which its path leads by its end, an open, or any other
 pub data Meaning (m : Modes) (origin : Origin) (h : List Entry) (n : ℕ) (op : Op) (o : story.Op) : Type 0 where
   on_file : (f : File) → IsOf m h n op f → o ≡ op_on f op → Meaning m origin h n op o
-  by_path : (offset e : ℕ) (path : List (List ℕ)) (bytes : List ℕ) (f : File) → op ≡ ops.Put path offset bytes → EndsAt h n e → Leads origin h e path f → o ≡ put_op f offset bytes → Meaning m origin h n op o
+  by_path : (offset e : ℕ) (path : List (List ℕ)) (bytes : List ℕ) (f : File) → op ≡ ops.Put path offset bytes → EndsAt h n e → Leads origin h e path f
+      → o ≡ put_op f offset bytes → Meaning m origin h n op o
   opening : (slot : ℕ) (f : File) → o ≡ open_op f slot → Meaning m origin h n op o
   other : o ≡ plain_op → Meaning m origin h n op o
 
@@ -128,7 +129,8 @@ pub record MirrorsReply (h : List Entry) (n : ℕ) (bytes : List ℕ) (d : story
   pub reply : story.Reply
   pub is : d ≡ Delivered xid reply
   pub under : HasXid bytes xid
-  pub replied : (m x : ℕ) (call : Call) (r : Reply) → m < n → histories.At h m (entries.Executed x call r) → SpellsReply x call r bytes → (xid ≡ x) × (reply ≡ reply_of (call_of call) r)
+  pub replied : (m x : ℕ) (call : Call) (r : Reply) → m < n → histories.At h m (entries.Executed x call r) → SpellsReply x call r bytes
+      → (xid ≡ x) × (reply ≡ reply_of (call_of call) r)
   pub refuses : (x code : ℕ) → SpellsRefusal x code bytes → (xid ≡ x) × (reply ≡ denied)
 
 -- this client makes no file shorter by a CREATE
@@ -141,7 +143,8 @@ MirrorsEntry m origin t n (entries.Answered lane line (answers.Done value)) d = 
 MirrorsEntry m origin t n (entries.Answered lane line (answers.Refused fault)) d = d ≡ Answered lane refused
 MirrorsEntry m origin t n (entries.Sent bytes) d = MirrorsSent bytes d
 MirrorsEntry m origin t n (entries.Executed xid call reply) d = (d ≡ Executed xid (call_of call) (reply_of (call_of call) reply)) × Unsized call
-MirrorsEntry m origin t n (entries.Foreign call reply) d = (event : Event) × (d ≡ Foreign event) × ((i : Spot) → Alters event i ↔ ChangesPlace (t.at (suc n)) i.file i.at call reply)
+MirrorsEntry m origin t n (entries.Foreign call reply) d = (event : Event) × (d ≡ Foreign event)
+    × ((i : Spot) → Alters event i ↔ ChangesPlace (t.at (suc n)) i.file i.at call reply)
 MirrorsEntry m origin t n (entries.Flushed f start count) d = d ≡ Foreign flushes
 MirrorsEntry m origin t n (entries.Reboot verf) d = d ≡ Reboot
 MirrorsEntry m origin t n (entries.Delivered bytes) d = MirrorsReply t.entries n bytes d
@@ -157,5 +160,6 @@ pub record Mirrors (m : Modes) (origin : Origin) (t : History) (s : Told) : Type
   pub long : length s.entries ≡ length t.entries
   pub reads : (n : ℕ) (e : Entry) (d : story.Entry) → histories.At t.entries n e → At s.entries n d → MirrorsEntry m origin t n e d
   pub servers : (n : ℕ) → MirrorsServer (t.at n) (s.at n)
-  pub in_turn : (n y lane line later : ℕ) (op : Op) (a : Answer) → histories.At t.entries n (entries.Began lane line op) → histories.At t.entries y (entries.Answered lane later a) → n < y
+  pub in_turn : (n y lane line later : ℕ) (op : Op) (a : Answer) → histories.At t.entries n (entries.Began lane line op)
+      → histories.At t.entries y (entries.Answered lane later a) → n < y
       → ((k other : ℕ) (b : Answer) → histories.At t.entries k (entries.Answered lane other b) → n < k → k < y → ⊥) → later ≡ line

@@ -13,5 +13,6 @@ pub record Fresh (c : View) : Type 0 where
 
 pub data Reaches : List Entry → View → Type 0 where
   begins : (h : List Entry) (c : View) → h ≡ [] → Fresh c → Reaches h c
-  enters : (h : List Entry) (c : View) (before : List Entry) (b : View) (e : Entry) → Reaches before b → h ≡ before ++ e ∷ [] → Enters (length before) b e c → Reaches h c
+  enters : (h : List Entry) (c : View) (before : List Entry) (b : View) (e : Entry) → Reaches before b → h ≡ before ++ e ∷ [] → Enters (length before) b e c
+      → Reaches h c
   moves : (h : List Entry) (c : View) (b : View) → Reaches h b → Move b c → Reaches h c

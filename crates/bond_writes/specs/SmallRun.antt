@@ -42,10 +42,16 @@ the_file = 1 ∷ []
 
 -- a byte is written and synced, the file cut; a put is refused, and so is the last close; then the session is lost
 abbrev pub small_run : List Entry
-small_run = Began 0 (open_op the_file 0) ∷ Answered 0 done ∷ Began 0 (write_op the_file 0 (7 ∷ [])) ∷ Answered 0 done ∷ Sent 0 (write the_file 0 (7 ∷ []) 0) ∷ Executed 0 (write the_file 0 (7 ∷ []) 0) (wrote 0 1 0 (5 ∷ [])) ∷ Delivered 0 (wrote 0 1 0 (5 ∷ [])) ∷ Began 0 (sync_op the_file) ∷ Sent 1 (commit the_file) ∷ Executed 1 (commit the_file) (committed 0 (5 ∷ [])) ∷ Delivered 1 (committed 0 (5 ∷ [])) ∷ Answered 0 done ∷ Began 0 (cut_op the_file 0) ∷ Sent 2 (resize the_file 0) ∷ Executed 2 (resize the_file 0) (told 0) ∷ Delivered 2 (told 0) ∷ Answered 0 done ∷ Began 0 (put_op the_file 0 (7 ∷ [])) ∷ Answered 0 refused ∷ Began 0 (close_op the_file 0) ∷ Answered 0 refused ∷ Foreign flushes ∷ Reboot ∷ Failed ∷ []
+small_run =
+    Began 0 (open_op the_file 0) ∷ Answered 0 done ∷ Began 0 (write_op the_file 0 (7 ∷ [])) ∷ Answered 0 done ∷ Sent 0 (write the_file 0 (7 ∷ []) 0)
+    ∷ Executed 0 (write the_file 0 (7 ∷ []) 0) (wrote 0 1 0 (5 ∷ [])) ∷ Delivered 0 (wrote 0 1 0 (5 ∷ [])) ∷ Began 0 (sync_op the_file)
+    ∷ Sent 1 (commit the_file) ∷ Executed 1 (commit the_file) (committed 0 (5 ∷ [])) ∷ Delivered 1 (committed 0 (5 ∷ [])) ∷ Answered 0 done
+    ∷ Began 0 (cut_op the_file 0) ∷ Sent 2 (resize the_file 0) ∷ Executed 2 (resize the_file 0) (told 0) ∷ Delivered 2 (told 0) ∷ Answered 0 done
+    ∷ Began 0 (put_op the_file 0 (7 ∷ [])) ∷ Answered 0 refused ∷ Began 0 (close_op the_file 0) ∷ Answered 0 refused ∷ Foreign flushes ∷ Reboot ∷ Failed ∷ []
 
 -- the run is reached, by these moves
 pub record IsReached : Type 0 where
   pub client : View
   pub run : Reaches small_run client
-  pub moved : kinds small_run client run ≡ a_loss ∷ a_close_given_up ∷ a_slot_freed ∷ a_stage ∷ a_put_given_up ∷ bytes_in ∷ a_stage ∷ a_cut ∷ a_call ∷ a_stage ∷ a_commit ∷ a_stage ∷ a_write ∷ bytes_in ∷ an_open ∷ []
+  pub moved : kinds small_run client run ≡ a_loss ∷ a_close_given_up ∷ a_slot_freed ∷ a_stage ∷ a_put_given_up ∷ bytes_in ∷ a_stage ∷ a_cut ∷ a_call ∷ a_stage
+      ∷ a_commit ∷ a_stage ∷ a_write ∷ bytes_in ∷ an_open ∷ []

@@ -1,0 +1,14 @@
+mod CallsMade
+mod CallsWaiting
+mod CutsShow
+mod Fronts
+mod KnownStamps
+mod OwnBytesAnswered
+mod OwnBytesShow
+mod PendingOnTop
+mod ReadsShow
+mod ShownMayBePending
+mod SmallRun
+mod StampLasts
+mod WrittenSince
+mod ZerosStay

@@ -1,0 +1,5 @@
+pub mod Careful
+pub mod Machine
+pub mod Reaches
+pub mod SmallRun
+pub mod Together
