@@ -3,3 +3,4 @@ pub mod Fronts
 pub mod Pieces
 pub mod ReadingExamples
 pub mod Notes
+pub mod Arrivals

@@ -9,3 +9,5 @@ pub mod Wire
 pub mod Records
 pub mod Reading
 pub mod MemWire
+pub mod Datagrams
+pub mod MemDatagrams

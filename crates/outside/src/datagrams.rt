@@ -1,0 +1,84 @@
+//! Datagrams to the server and back, each of them whole.
+
+ghost use Rattle.std.specs.Prelude.{◌≤◌, ℕ, Option};
+ghost use Rattle.outside.specs.Causes.{HasCause};
+ghost use Rattle.outside.specs.Datagrams.{DatagramsTold, DatagramsTell, DatagramsNote, AreTold, AreLawful, HasCauseArrived, aimed_as, datagram_as, arrived_as, remarked_as};
+
+use crate::link::LinkFault;
+use world_model::Mark;
+use xdr_codec::{Blob, Memory};
+
+/// What a call of datagrams did.
+#[derive(Debug, Drop)]
+pub enum DatagramEntry {
+    /// Datagrams go to the port from now on, in place of the one before.
+    Aimed { port: u16 },
+    /// A datagram of these bytes went out.
+    Sent { bytes: Blob },
+    /// A datagram of these bytes came from the port.
+    Came { port: u16, bytes: Blob },
+    /// The mark was noted.
+    Noted { mark: Mark },
+    /// A datagram could not be sent, or a wait failed, or none came in time.
+    Missed,
+}
+
+/// What came of waiting for a datagram.
+#[derive(Clone, Copy, Debug, PartialEq, Eq)]
+pub enum Arrived {
+    /// One came whole from this port.
+    From(u16),
+    /// None came in time.
+    Silent,
+    /// The outside failed.
+    Failed,
+    /// Out of memory; no datagram was taken from those that came.
+    Memory,
+}
+
+/// Datagrams to a server and those that come, from it or from others. Each call tells one entry of its own, and nothing
+/// when out of memory; what the server did since the call before stands before that entry, but not before a mark.
+pub trait Datagrams {
+    /// The calls so far with the server at each moment, where they are told.
+    ghost told: { Self → Option DatagramsTold };
+
+    /// How often the outside failed. It never falls.
+    ghost faults: { Self → ℕ };
+
+    /// Whether what is told is what an honest server and network make.
+    ghost honest: { Self → Type 0 };
+
+    /// Whether the calls are told.
+    fn tells(&self) -> bool
+        ensures { AreTold (told self.now) result };
+
+    /// Sends to that port from now on, in place of the one before.
+    fn aim(&mut self, port: u16) -> Result<(), LinkFault>
+        ensures told { DatagramsTell (told self.old) (told self.new) (aimed_as port result) }
+        ensures honest { honest self.old → honest self.new }
+        ensures cause { HasCause (faults self.old) (faults self.new) result };
+
+    /// Sends the bytes as one datagram. After a failure or when out of memory none was sent.
+    fn send(&mut self, bytes: &[u8]) -> Result<(), LinkFault>
+        ensures told { DatagramsTell (told self.old) (told self.new) (datagram_as bytes.now result) }
+        ensures honest { honest self.old → honest self.new }
+        ensures cause { HasCause (faults self.old) (faults self.new) result };
+
+    /// Waits for a datagram for at most so many milliseconds. One that came takes the place of what the buffer held,
+    /// from whatever port it came.
+    fn receive(&mut self, wait_ms: u32, buf: &mut Vec<u8>) -> Arrived
+        requires { 15000 ≤ wait_ms }
+        ensures told { DatagramsTell (told self.old) (told self.new) (arrived_as buf.new.items result) }
+        ensures honest { honest self.old → honest self.new }
+        ensures cause { HasCauseArrived (faults self.old) (faults self.new) result };
+
+    /// Notes a mark among the calls, and nothing else.
+    fn note(&mut self, mark: Mark) -> Result<(), Memory>
+        ensures told { DatagramsNote (told self.old) (told self.new) (remarked_as mark result) }
+        ensures honest { honest self.old → honest self.new }
+        ensures cause { faults self.old ≤ faults self.new };
+
+    /// The history that is read from honest datagrams is lawful: one that went out is sent, and one that came from the
+    /// port last aimed at is delivered.
+    ghost lawful: { (x : Self) → honest x → AreLawful (told x) };
+}
