@@ -25,3 +25,4 @@ pub mod Spellables
 pub mod Unmade
 pub mod Refusals
 pub mod Endings
+pub mod SaveCounts

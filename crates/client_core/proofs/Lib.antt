@@ -1,0 +1,10 @@
+mod Bounds
+mod Places
+mod Numbers
+mod Awaiting
+mod Stirring
+mod Leading
+mod Refusing
+mod Settling
+mod Beginning
+mod Sounds

@@ -1,0 +1,9 @@
+pub mod View
+pub mod Fresh
+pub mod Lanes
+pub mod Numbers
+pub mod Steps
+pub mod Between
+pub mod StepLaws
+pub mod Ends
+pub mod WorkEnds
