@@ -1,0 +1,69 @@
+//! What a history shows of the core that goes with it: of its calls, its lanes and a lost session. `specs/Reaches` says which views go
+//! with a history. Nothing here runs: each function does nothing, and its contract is the theorem.
+#![tactic(auto)]
+
+ghost use Rattle.core_facts.specs.Tries.{WaitingKnown};
+ghost use Rattle.core_facts.specs.InFlight.{CountsCalls};
+ghost use Rattle.core_facts.specs.Counted.{CallsOwned};
+ghost use Rattle.core_facts.specs.Resting.{ComeToRest};
+ghost use Rattle.core_facts.specs.Hearing.{RepliesHeard};
+ghost use Rattle.core_facts.specs.Synced.{SyncsCommitted};
+ghost use Rattle.core_facts.specs.Lanes.{CallsSound, ReachedNumbered, LanesAlternate, LanesUnderWay, LossesShown};
+
+/// The calls that wait have different xids, which rise and lie below the next one; at most 32 wait, and no more were made than may be.
+pub fn waiting_calls_are_sound()
+    ensures { CallsSound }
+{}
+
+/// Each call that waits is a call of NFS of the session; it wasn't sent yet, or it was sent as often as its attempts count, always with
+/// the same record, and no record under its xid came since (RFC 5531, section 9).
+pub fn waiting_calls_were_sent()
+    ensures { WaitingKnown }
+{}
+
+/// All records under one xid are equal, and none is sent after a reply under the xid came while it waited.
+pub fn calls_are_numbered()
+    ensures { ReachedNumbered }
+{}
+
+/// A session is lost only where a call was sent four times in vain, four dials in a row failed, or too many records were dropped.
+pub fn losses_are_shown()
+    ensures { LossesShown }
+{}
+
+/// In each lane the lines begin one after the other: each but the last is answered before the next begins.
+pub fn lanes_alternate()
+    ensures { LanesAlternate }
+{}
+
+/// The lanes of the core are those that have an operation under way.
+pub fn lanes_are_under_way()
+    ensures { LanesUnderWay }
+{}
+
+/// Each operation knows how many of its calls wait, and ends only where none does.
+pub fn calls_are_counted()
+    ensures { CountsCalls }
+{}
+
+/// As long as the session isn't lost, each call that waits is one of the operation that is under way in its lane, and each record of it was
+/// sent since that began. In each lane as many calls wait as its operation knows of, and none where it has its answer.
+pub fn waiting_calls_have_operations()
+    ensures { CallsOwned }
+{}
+
+/// After each entry no lane can go on, or no further call may wait. In a lost session each operation has its answer.
+pub fn lanes_come_to_rest()
+    ensures { ComeToRest }
+{}
+
+/// A record under the xid of a call that waits answers that call, which was first sent since the operation began that is under way in its
+/// lane; and what the operation takes is what the record says of it.
+pub fn replies_are_heard()
+    ensures { RepliesHeard }
+{}
+
+/// A sync is answered ok only where a COMMIT of the whole file that it saves, sent since the sync began, was answered 0.
+pub fn syncs_are_committed()
+    ensures { SyncsCommitted }
+{}
