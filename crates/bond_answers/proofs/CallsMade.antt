@@ -188,7 +188,7 @@ pub xid_of_call : (x : ℕ) (call : Call) (b : List ℕ) → SpellsCall x call b
 xid_of_call x call b s = call_xid (head_of x call) s.args b s.head
 
 -- a record that is a reply refuses nothing
-unrefused : (x y number : ℕ) (call : Call) (reply : Reply) (b : List ℕ) → SpellsReply x call reply b → SpellsRefusal y number b → ⊥
+pub unrefused : (x y number : ℕ) (call : Call) (reply : Reply) (b : List ℕ) → SpellsReply x call reply b → SpellsRefusal y number b → ⊥
 unrefused x y number call reply b s r = differ (ap refusal_number (ok_is (Accepted x s.results) r.reply (sym (reply_again (Accepted x s.results) b s.accepted) ∙ reply_again r.reply b r.is)) ∙ r.numbered)
   where
     ok_is : (p q : RpcReply) → ◌≡◌ {A = Result RpcReply ReplyFault} (Ok p) (Ok q) → p ≡ q

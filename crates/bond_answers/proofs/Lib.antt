@@ -11,4 +11,7 @@ mod ShownMayBePending
 mod SmallRun
 mod StampLasts
 mod WrittenSince
+mod WriteAndRead
+mod WriteAndReadHistory
+mod WriteAndReadSteps
 mod ZerosStay

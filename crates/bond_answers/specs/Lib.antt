@@ -3,3 +3,4 @@ pub mod Machine
 pub mod Reaches
 pub mod SmallRun
 pub mod Together
+pub mod WriteAndRead

@@ -24,6 +24,8 @@ ghost use Rattle.bond_answers.specs.Machine.{View};
 ghost use Rattle.bond_answers.specs.Reaches.{Reaches};
 ghost use Rattle.bond_answers.specs.SmallRun.{the_question, the_state, the_read, the_bytes, IsCall, IsReply, IsReached, the_run};
 ghost use Rattle.bond_answers.specs.Together.{Together, shown};
+ghost use Rattle.bond_answers.specs.WriteAndRead.{IsReached as IsBoth, Records, the_history, the_story};
+ghost use Rattle.bond_answers.specs.WriteAndRead as both;
 
 /// Each byte that a read answers with may be pending in this client; or the file held it at a moment that isn't before the read's open, or
 /// before the start that a mode sets; or it is a zero in a hole before a pending byte.
@@ -78,4 +80,18 @@ pub fn small_run()
     ensures { (origin : Origin) (mode : Mode) (path : List (List ℕ)) (attr : Attr) → attr.kind ≡ 1 → (a b c d : List ℕ) → IsCall 0 the_question a
         → IsReply 0 the_question (the_state attr) b → IsCall 1 the_read c → IsReply 1 the_read (the_bytes attr) d
         → IsReached origin (the_run mode path attr a b c d) }
+{}
+
+/// And both machines go in step: a run is reached in which a byte is written, and read before it is sent; and a story reads its history.
+pub fn write_and_read()
+    ensures { (origin : Origin) (mode : Mode) (path : List (List ℕ)) (attr : Attr) (r : Records attr) → attr.kind ≡ 1
+        → IsBoth origin (the_history mode path attr r) (the_story attr) }
+{}
+
+/// The premises of the theorems hold together: that run is one of an honest server that executes no late copy and has fresh stamps.
+pub fn write_and_read_is_lawful()
+    ensures honest { (mode : Mode) (path : List (List ℕ)) (attr : Attr) (r : Records attr) → attr.kind ≡ 1 → attr.size ≡ 0
+        → Lawful (the_history mode path attr r) }
+    ensures once { (mode : Mode) (path : List (List ℕ)) (attr : Attr) (r : Records attr) → Once (both.the_run mode path attr r) }
+    ensures fresh { (mode : Mode) (path : List (List ℕ)) (attr : Attr) (r : Records attr) → Fresh (the_history mode path attr r) }
 {}

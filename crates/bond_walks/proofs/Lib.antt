@@ -1,0 +1,13 @@
+mod AnswersTrue
+mod Calling
+mod Cookies
+mod Facts
+mod Fronts
+mod LastReplies
+mod Listings
+mod Members
+mod NamesStand
+mod RepliesShow
+mod SmallRun
+mod SmallRunLawful
+mod Times

@@ -1,0 +1,4 @@
+pub mod Calls
+pub mod Machine
+pub mod Reaches
+pub mod SmallRun
