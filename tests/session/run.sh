@@ -77,6 +77,78 @@ try_a_silent_connection() {
     ended 0
 }
 
+# The last command ended as is wanted: the status and the text that are wanted, its own status, and what it was. What it
+# said is in the file `said`.
+comes_to() {
+    local said
+    said="$3 $(cat "$work/said")"
+    [ "$said" = "$1 $2" ]
+    count $? "$4 comes to: $said"
+}
+
+# A standard stream that is closed at the start is a fault once it is needed, and no connection takes its place. The four
+# calls of a put without a mount are FSINFO, LOOKUP, WRITE and COMMIT.
+try_closed_streams() {
+    local put=("$nfs3" run 127.0.0.1 --root 0000000000000001 --nfs-port "$port")
+    printf 'file /a 6869\n' >"$work/schedule"
+    printf '1 put /a 0 6a6b6c' >"$work/script"
+    serve 4 "$work/schedule"
+    "${put[@]}" <"$work/script" 2>"$work/said" >&-
+    comes_to 5 'nfs3: write fault' $? 'a put without standard output'
+    ended 0
+    serve 4 "$work/schedule"
+    "${put[@]}" <"$work/script" >"$work/said" 2>&-
+    comes_to 0 '1 1 ok' $? 'a put without standard error'
+    ended 0
+    "${put[@]}" 2>"$work/said" <&-
+    comes_to 4 'nfs3: read fault' $? 'a put without standard input'
+    "${put[@]}" 2>"$work/said" <&- >&-
+    comes_to 4 'nfs3: read fault' $? 'a put without standard input and output'
+    "$nfs3" replay "$work/schedule" /srv 2>"$work/said" <&-
+    comes_to 4 'nfs3: read fault' $? 'a replay without standard input'
+    "$nfs3" replay "$work/schedule" /srv <"$work/script" 2>"$work/said" >&-
+    comes_to 5 'nfs3: write fault' $? 'a replay without standard output'
+    "$nfs3" export "$port" 1 2>"$work/said" >&-
+    comes_to 5 'nfs3: write fault' $? 'an export without standard output'
+}
+
+# Stops a process for a second.
+pause() {
+    kill -STOP "$1"
+    sleep 1
+    kill -CONT "$1"
+    sleep 1
+}
+
+# A wait that is interrupted goes on: first the client is stopped while it waits for the server, which is stopped too, and then
+# the server while it waits for the NULL call of a connection.
+try_stopped_processes() {
+    local client reply
+    printf 'file /a 6869\n' >"$work/schedule"
+    printf '1 put /a 0 6a6b6c' >"$work/script"
+    serve 5 "$work/schedule"
+    kill -STOP "$server"
+    "$nfs3" run 127.0.0.1 /srv --mount-port "$port" --nfs-port "$port" <"$work/script" >"$work/said" 2>&1 &
+    client=$!
+    sleep 2
+    pause "$client"
+    kill -CONT "$server"
+    wait "$client"
+    comes_to 0 '1 1 ok' $? 'a put that is stopped'
+    ended 0
+    serve 1
+    exec 7<>"/dev/tcp/127.0.0.1/$port"
+    sleep 1
+    pause "$server"
+    printf '%b' '\x80\0\0\x28' '\0\0\0\1' '\0\0\0\0' '\0\0\0\2' '\0\1\x86\xa3' '\0\0\0\3' >&7
+    printf '\0%.0s' {1..20} >&7
+    reply=$(timeout 10 head -c 28 <&7 | od -An -v -tx4 --endian=big | tr -d '\n')
+    [ "$reply" = ' 80000018 00000001 00000001 00000000 00000000 00000000 00000000' ]
+    count $? "a server that is stopped answers: $reply"
+    exec 7>&-
+    ended 0
+}
+
 # What a command says on standard error, and its status.
 refused() {
     local answer
@@ -111,5 +183,7 @@ trap end_all EXIT
 try_a_put
 try_an_empty_export
 try_a_silent_connection
+try_closed_streams
+try_stopped_processes
 try_refusals
 sum_up

@@ -2,8 +2,9 @@
 
 ghost use Rattle.std.specs.Prelude.{◌≡◌};
 
+use crate::again::read_again;
 use outside::{Failed, Source};
-use std::io::{Read, Stdin};
+use std::io::Stdin;
 use std::marker::Model;
 
 /// Standard input as a source. A contract sees the number of reads that failed.
@@ -40,7 +41,7 @@ impl Source for StandardInput {
 
     ghost faults = { λ count. count };
 
-    /// Reads what there is; any error of the system is a failure.
+    /// Reads what there is. An error of the system is a failure, but a read that is interrupted is made again.
     fn read(&mut self, buf: &mut [u8]) -> Result<usize, Failed>
         requires { 0 < length buf.old }
         ensures fits { IfOk result (λ n. n ≤ length buf.new) }
@@ -48,7 +49,7 @@ impl Source for StandardInput {
         ensures cause { HasCauseFailed self.old self.new result }
         ensures counts { CountsFailed self.old self.new result }
     {
-        match self.stdin.read(buf) {
+        match read_again(&mut self.stdin, buf) {
             Ok(count) => Ok(count),
             Err(_) => {
                 self.faults = self.faults.saturating_add(1);

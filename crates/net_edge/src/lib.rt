@@ -1,18 +1,23 @@
 //! The true outside: TCP as a wire, a port at which others connect, standard input as a source of bytes, standard output
 //! as a sink, and the clock of the system. What they pass on is told nowhere: each keeps a count of its failures, and the
-//! clock its last reading.
+//! clock its last reading. A read or a write that the system interrupts is made again, and a standard stream that is closed
+//! when the program starts stays so.
 #![tactic(auto)]
 
+mod again;
 mod input;
 mod listener;
 mod output;
+mod stand_ins;
 mod system_clock;
 mod tcp;
 #[cfg(test)]
 mod tests;
 
+pub use again::{read_again, write_again};
 pub use input::StandardInput;
 pub use listener::LoopbackListener;
 pub use output::StandardOutput;
+pub use stand_ins::{StandIns, StandardStream};
 pub use system_clock::SystemClock;
 pub use tcp::TcpWire;

@@ -2,8 +2,9 @@
 
 ghost use Rattle.std.specs.Prelude.{◌≡◌};
 
+use crate::again::write_again;
 use outside::{LinkFault, Sink};
-use std::io::{Stdout, Write};
+use std::io::Stdout;
 use std::marker::Model;
 
 /// Standard output as a sink. A contract sees the number of writes that failed.
@@ -40,7 +41,8 @@ impl Sink for StandardOutput {
 
     ghost faults = { λ count. count };
 
-    /// Writes what the system takes; any error of it is a failure, and so is that it takes nothing.
+    /// Writes what the system takes. An error of it is a failure, and so is that it takes nothing, but a write that is
+    /// interrupted is made again.
     fn write(&mut self, bytes: &[u8]) -> Result<usize, LinkFault>
         ensures takes { IfOk result (TakesSome bytes.now) }
         ensures told { WritesTo None None bytes.now result }
@@ -50,7 +52,7 @@ impl Sink for StandardOutput {
         if bytes.is_empty() {
             return Ok(0);
         }
-        match self.stdout.write(bytes) {
+        match write_again(&mut self.stdout, bytes) {
             Ok(count) if count > 0 => Ok(count),
             _ => {
                 self.faults = self.faults.saturating_add(1);

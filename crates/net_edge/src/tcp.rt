@@ -4,8 +4,9 @@ ghost use Rattle.std.specs.Prelude.{◌≡◌, ◌≤◌};
 ghost use Rattle.std.specs.Io.{ReadsAtMost};
 ghost use Rattle.net_edge.specs.Counts.{next_count};
 
+use crate::again::{read_again, write_again};
 use outside::{LinkFault, Wire, WireRead};
-use std::io::{self, ErrorKind, Read, Write};
+use std::io::{self, ErrorKind, Read};
 use std::marker::Model;
 use std::net::{Net, OpenStream, SocketAddr, TcpStream, ToSocketAddrs};
 use std::time::Duration;
@@ -119,7 +120,7 @@ impl<N: Net> Wire for TcpWire<'_, N> {
             return Ok(0);
         }
         if let Some(stream) = self.stream.as_mut() {
-            match stream.write(bytes) {
+            match write_again(stream, bytes) {
                 Ok(count) if count > 0 => return Ok(count),
                 _ => {}
             }
@@ -182,7 +183,7 @@ pub(crate) fn prepare<S: OpenStream>(stream: &S) -> io::Result<()> {
     stream.set_write_timeout(Some(Duration::from_secs(LIMIT_SECS)))
 }
 
-/// Reads what comes within so many milliseconds; 0 is the end.
+/// Reads what comes within so many milliseconds; 0 is the end. Where the system interrupts the wait it begins anew.
 fn read_within<S: Read + OpenStream>(
     stream: &mut S,
     wait_ms: u32,
@@ -192,13 +193,10 @@ fn read_within<S: Read + OpenStream>(
 {
     let wait = Duration::from_millis(u64::from(wait_ms));
     stream.set_read_timeout(Some(wait))?;
-    stream.read(buf)
+    read_again(stream, buf)
 }
 
-/// Whether a read of that error got nothing in time. A process that was stopped meanwhile is interrupted.
+/// Whether a read of that error got nothing in time.
 fn is_silence(kind: ErrorKind) -> bool {
-    matches!(
-        kind,
-        ErrorKind::WouldBlock | ErrorKind::TimedOut | ErrorKind::Interrupted
-    )
+    matches!(kind, ErrorKind::WouldBlock | ErrorKind::TimedOut)
 }

@@ -1,8 +1,11 @@
 //! The true outside, on the loopback.
 
-use crate::{LoopbackListener, StandardInput, StandardOutput, SystemClock, TcpWire};
+use crate::{
+    LoopbackListener, StandIns, StandardInput, StandardOutput, SystemClock, TcpWire, read_again,
+    write_again,
+};
 use outside::{Clock, LinkFault, Sink, Source, Wire, WireRead};
-use std::io::{Read, Write};
+use std::io::{self, ErrorKind, Read, Write};
 use std::net::TcpListener;
 use std::test::Fail;
 use world_model::Mark;
@@ -79,8 +82,55 @@ fn takes_what_another_connects(rt: HostRuntime) -> Result<(), Fail> {
     Ok(())
 }
 
+/// A stream of which so many calls are interrupted before one goes through.
+#[derive(Drop)]
+struct Interrupted {
+    left: u32,
+}
+
+impl Interrupted {
+    /// Whether the next call goes through.
+    fn goes_through(&mut self) -> bool {
+        let goes = self.left == 0;
+        self.left = self.left.saturating_sub(1);
+        goes
+    }
+}
+
+impl Read for Interrupted {
+    fn read(&mut self, buf: &mut [u8]) -> io::Result<usize> {
+        if self.goes_through() {
+            return Ok(buf.len());
+        }
+        Err(io::Error::from(ErrorKind::Interrupted))
+    }
+}
+
+impl Write for Interrupted {
+    fn write(&mut self, bytes: &[u8]) -> io::Result<usize> {
+        if self.goes_through() {
+            return Ok(bytes.len());
+        }
+        Err(io::Error::from(ErrorKind::Interrupted))
+    }
+
+    fn flush(&mut self) -> io::Result<()> {
+        Ok(())
+    }
+}
+
+#[test]
+fn makes_interrupted_calls_again(rt: HostRuntime) -> Result<(), Fail> {
+    let mut buf = [0; 8];
+    assert_eq!(rt; read_again(&mut Interrupted { left: 3 }, &mut buf)?, 8);
+    assert_eq!(rt; write_again(&mut Interrupted { left: 3 }, b"reply")?, 5);
+    Ok(())
+}
+
 #[test]
 fn passes_on_the_standard_streams(rt: HostRuntime) -> Result<(), Fail> {
+    let stand_ins = StandIns::open(&rt, &rt.stdin(), &rt.stdout(), &rt.stderr());
+    assert!(rt; stand_ins.is_ok());
     let mut output = StandardOutput::new(rt.stdout());
     assert_eq!(rt; output.write(b""), Ok(0));
     assert_eq!(rt; output.write(b"\n"), Ok(1));

@@ -2,6 +2,8 @@
 use Rattle.std.specs.Prelude.{ℕ, List, codes, ◌==◌, if◌then◌else◌, Option, Some, None}
 use Rattle.world_link.specs.declared.schedule.ScheduleFault.{ScheduleFault}
 use Rattle.world_link.specs.declared.schedule.ScheduleFault.TheVariants as schedules
+use Rattle.net_edge.specs.declared.stand_ins.StandardStream.{StandardStream}
+use Rattle.net_edge.specs.declared.stand_ins.StandardStream.TheVariants as streams
 use Rattle.nfs3.specs.declared.ending.Ending.{Ending}
 use Rattle.nfs3.specs.declared.ending.Ending.TheVariants as endings
 
@@ -13,12 +15,19 @@ status_of (endings.Schedule line) = 9
 status_of (endings.Ran status) = status
 status_of endings.Served = 0
 status_of endings.Lost = 6
+status_of endings.ReadFault = 4
 status_of endings.WriteFault = 5
 
 -- a schedule that can't be read from its text: its faulty line, or out of memory
 abbrev pub refused_as : ScheduleFault → Ending
 refused_as (schedules.Line line) = endings.Schedule line
 refused_as schedules.Memory = endings.Memory
+
+-- a standard stream that is closed, where nothing can be opened in its place: input can't be read, and the others can't be written
+abbrev pub closed_as : StandardStream → Ending
+closed_as streams.Input = endings.ReadFault
+closed_as streams.Output = endings.WriteFault
+closed_as streams.Error = endings.WriteFault
 
 -- what standard error says of a session that ended with the status
 abbrev pub message_of : ℕ → Option (List ℕ)

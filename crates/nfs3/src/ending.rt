@@ -2,7 +2,9 @@
 
 ghost use Rattle.std.specs.Prelude.{◌≡◌, Option};
 ghost use Rattle.std.specs.Option.{option_map};
-ghost use Rattle.nfs3.specs.Endings.{status_of, message_of};
+ghost use Rattle.nfs3.specs.Endings.{status_of, message_of, closed_as};
+
+use net_edge::StandardStream;
 
 /// How the program ends.
 #[derive(Clone, Copy, Debug, PartialEq, Eq)]
@@ -19,7 +21,9 @@ pub enum Ending {
     Served,
     /// No more connections are taken, though calls are still to be answered.
     Lost,
-    /// Standard output failed outside a session.
+    /// Standard input failed outside a session.
+    ReadFault,
+    /// Standard output or standard error failed outside a session.
     WriteFault,
 }
 
@@ -35,8 +39,19 @@ impl Ending {
             Ending::Ran(status) => status,
             Ending::Served => 0,
             Ending::Lost => 6,
+            Ending::ReadFault => 4,
             Ending::WriteFault => 5,
         }
+    }
+}
+
+/// How the program ends where a standard stream is closed and nothing can be opened in its place.
+pub fn closed(stream: StandardStream) -> Ending
+    ensures { result ≡ closed_as stream }
+{
+    match stream {
+        StandardStream::Input => Ending::ReadFault,
+        StandardStream::Output | StandardStream::Error => Ending::WriteFault,
     }
 }
 

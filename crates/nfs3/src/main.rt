@@ -10,14 +10,19 @@ mod run;
 mod schedule_file;
 mod serving;
 
-use crate::ending::{Ending, message};
+use crate::ending::{Ending, closed, message};
+use net_edge::StandIns;
 use std::alloc::AllocError;
 use std::env;
 use std::io::ErrorKind;
 use std::process::ExitCode;
 
 fn main(rt: HostRuntime) -> ExitCode {
-    let ending = program(&rt);
+    let stand_ins = StandIns::open(&rt, &rt.stdin(), &rt.stdout(), &rt.stderr());
+    let ending = match &stand_ins {
+        Ok(_) => program(&rt),
+        Err(stream) => closed(*stream),
+    };
     report(&rt, ending);
     ExitCode::from(ending.status())
 }

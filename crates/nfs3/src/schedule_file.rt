@@ -4,8 +4,8 @@ ghost use Rattle.std.specs.Prelude.{◌≡◌};
 ghost use Rattle.nfs3.specs.Endings.{refused_as};
 
 use crate::ending::Ending;
+use net_edge::read_again;
 use std::fs::File;
-use std::io::Read;
 use world_link::ScheduleFault;
 
 /// A schedule with more bytes than this is refused unread.
@@ -22,7 +22,7 @@ pub fn schedule_text(rt: &HostRuntime, path: &str) -> Result<Vec<u8>, Ending> {
     let mut text = Vec::new(rt.alloc());
     let mut piece = [0; PIECE];
     while text.len() <= MOST_BYTES {
-        match file.read(&mut piece) {
+        match read_again(&mut file, &mut piece) {
             Ok(0) => break,
             Ok(count) => {
                 if text.extend_from_slice(&piece[..count]).is_err() {

@@ -1,7 +1,7 @@
 //! Runs what the lines of standard input describe, and prints each line and what comes of it. A line is a word and what
 //! it needs:
 //!
-//! - `settings WORDS` prints the settings of a command line
+//! - `settings WORDS` prints the settings of a command line, and `modes WORDS` for how long it lets attributes be believed
 //! - `words WORDS`, `script LINE`, `schedule LINE` and `reply HEX` describe a session: its words, lines of its script, lines of
 //!   the schedule of a simulated server, and records that a hostile link hands out; `read N` and `write N` make that call
 //!   of the script's source or of the sink fail
@@ -44,6 +44,7 @@ fn row(
 ) -> io::Result<bool> {
     match word {
         "settings" => settings::show(rt, alloc, rest)?,
+        "modes" => settings::show_modes(rt, alloc, rest)?,
         "parse" => session::show_parsed(rt, alloc, case)?,
         "plan" => session::show_planned(rt, alloc, case)?,
         "run" => session::run_over_world(rt, alloc, case)?,

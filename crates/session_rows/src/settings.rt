@@ -6,15 +6,40 @@ use session_words::{Export, Settings, WordsFault, read_words};
 use std::alloc::Global;
 use std::io;
 
-/// Prints the settings of a command line.
+/// Prints the settings of a command line, but for its modes.
 pub fn show(rt: &impl Print, alloc: Global, line: &str) -> io::Result<()> {
-    let Ok(words) = words_of(alloc, line) else {
-        return println!(rt; "  out of memory");
-    };
-    match read_words(alloc, words.as_slice()) {
+    match settings_of(alloc, line) {
         Ok(settings) => show_settings(rt, &settings),
-        Err(WordsFault::Refused) => println!(rt; "  refused"),
-        Err(WordsFault::Memory) => println!(rt; "  out of memory"),
+        Err(fault) => show_fault(rt, fault),
+    }
+}
+
+/// Prints for how long a command line lets attributes be believed, and what goes by them.
+pub fn show_modes(rt: &impl Print, alloc: Global, line: &str) -> io::Result<()> {
+    match settings_of(alloc, line) {
+        Ok(settings) => {
+            let lives = settings.lives;
+            print!(rt; "  reg {} {}", lives.reg_min, lives.reg_max)?;
+            print!(rt; " dir {} {}", lives.dir_min, lives.dir_max)?;
+            print!(rt; "{}", if settings.noac { " noac" } else { "" })?;
+            println!(rt; "{}", if settings.nocto { " nocto" } else { "" })
+        }
+        Err(fault) => show_fault(rt, fault),
+    }
+}
+
+/// The settings of a command line.
+fn settings_of(alloc: Global, line: &str) -> Result<Settings, WordsFault> {
+    match words_of(alloc, line) {
+        Ok(words) => read_words(alloc, words.as_slice()),
+        Err(_) => Err(WordsFault::Memory),
+    }
+}
+
+fn show_fault(rt: &impl Print, fault: WordsFault) -> io::Result<()> {
+    match fault {
+        WordsFault::Refused => println!(rt; "  refused"),
+        WordsFault::Memory => println!(rt; "  out of memory"),
     }
 }
 

@@ -1,4 +1,4 @@
--- The command line as `clap` sees it: one positional, ten options that take a value, and a flag.
+-- The command line as `clap` sees it: one positional, eleven options that take a value, and three flags.
 use Rattle.std.specs.Prelude.{Some, codes}
 use Rattle.clap.specs.Words.{App, Rule, Text, new_app, new_rule, with_rule}
 use Rattle.clap.specs.declared.builder.ArgAction.TheVariants.{SetTrue}
@@ -14,6 +14,9 @@ flag_rule name = record (new_rule name) { long = Some name; action = Some SetTru
 abbrev pub with_option : App → Text → App
 with_option app name = with_rule app (option_rule name)
 
+abbrev pub with_flag : App → Text → App
+with_flag app name = with_rule app (flag_rule name)
+
 -- the client's command
 unfoldable pub client_app : App
 client_app =
@@ -28,4 +31,7 @@ client_app =
     let a8 = with_option a7 (codes "wsize") in
     let a9 = with_option a8 (codes "calls") in
     let a10 = with_option a9 (codes "xid") in
-    with_rule a10 (flag_rule (codes "count"))
+    let a11 = with_option a10 (codes "actimeo") in
+    let a12 = with_flag a11 (codes "noac") in
+    let a13 = with_flag a12 (codes "nocto") in
+    with_flag a13 (codes "count")

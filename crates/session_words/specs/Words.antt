@@ -1,11 +1,13 @@
 -- Which words are a command line, and the settings that they give. `clap` says which words it takes and what text they
 -- give each argument; the rest is a table with a row for each argument.
-use Rattle.std.specs.Prelude.{◌≡◌, ◌≤◌, ◌⊎◌, ◌↔◌, IsTrue, ℕ, Bool, List, [], codes, length, Option, Some, None, unwrap_or, Ok, MatchOption}
+use Rattle.std.specs.Prelude.{◌≡◌, ◌≤◌, ◌*◌, ◌⊎◌, ◌↔◌, IsTrue, ℕ, Bool, true, false, List, [], codes, length, Option, Some, None, unwrap_or, Ok, MatchOption}
 use Rattle.std.specs.Str.Parse.{IsNumeral, digits_value}
 use Rattle.std.specs.Str.{IsUtf8}
 use Rattle.hex.specs.Hex.{decode_of}
 use Rattle.clap.specs.Words.{Row, Text, fault_of, first_of, matches_of, found_of, rows_of}
 use Rattle.clap.specs.declared.parser.matches.ArgMatches.{ArgMatches}
+use Rattle.attr_cache.specs.Attrs.{usual_lives}
+use Rattle.attr_cache.specs.declared.lives.Lives.{Lives}
 use Rattle.rpc_message.specs.declared.cred.Cred.{Cred}
 use Rattle.rpc_message.specs.declared.cred.Cred.TheVariants as creds
 use Rattle.session_words.specs.declared.settings.Export.{Export}
@@ -90,6 +92,29 @@ IsExport _ _ _ = ⊥
 abbrev pub IsFlag : Option Text → Bool → Type 0
 IsFlag text flag = IsTrue flag ↔ (text ≡ Some (codes "true"))
 
+-- each lifetime is so many seconds
+abbrev pub lives_of : ℕ → Lives
+lives_of seconds = record { reg_min = seconds * 1000; reg_max = seconds * 1000; dir_min = seconds * 1000; dir_max = seconds * 1000 }
+
+-- the lifetimes by `--actimeo` (nfs(5), actimeo): 0 to 3,600 seconds each
+pub record IsActimeo (digits : Text) (lives : Lives) : Type 0 where
+  pub seconds : ℕ
+  pub given : IsNumberIn 0 3600 digits seconds
+  pub are : lives ≡ lives_of seconds
+
+-- How long attributes are believed: not at all with `--noac` (nfs(5), noac), else by `--actimeo`, and as usual where neither is given. The two don't go
+-- together.
+abbrev pub IsLives : Bool → Option Text → Lives → Type 0
+IsLives true None lives = lives ≡ lives_of 0
+IsLives true (Some digits) lives = ⊥
+IsLives false None lives = lives ≡ usual_lives
+IsLives false (Some digits) lives = IsActimeo digits lives
+
+-- whether an open may go by attributes that are kept (nfs(5), nocto): `--nocto` has no effect with `--noac`
+abbrev pub IsNocto : Bool → Option Text → Bool → Type 0
+IsNocto true text nocto = nocto ≡ false
+IsNocto false text nocto = IsFlag text nocto
+
 -- the settings that the matches give, argument by argument
 pub record GivesSettings (matches : List Row) (settings : Settings) : Type 0 where
   pub export : IsExport (first_of (codes "export") matches) (first_of (codes "root") matches) settings.export
@@ -100,6 +125,9 @@ pub record GivesSettings (matches : List Row) (settings : Settings) : Type 0 whe
   pub wsize : IsSize (first_of (codes "wsize") matches) settings.wsize
   pub calls : IsCalls (first_of (codes "calls") matches) settings.calls
   pub xid : IsXid (first_of (codes "xid") matches) settings.xid
+  pub noac : IsFlag (first_of (codes "noac") matches) settings.noac
+  pub lives : IsLives settings.noac (first_of (codes "actimeo") matches) settings.lives
+  pub nocto : IsNocto settings.noac (first_of (codes "nocto") matches) settings.nocto
   pub count : IsFlag (first_of (codes "count") matches) settings.count
 
 -- the words are a command line of these settings: `clap` takes them, and its matches give the settings

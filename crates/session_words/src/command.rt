@@ -45,7 +45,10 @@ fn client_command<'a>(alloc: Global) -> Result<Command<'a>, AllocError>
     let command = with_option(alloc, command, "wsize")?;
     let command = with_option(alloc, command, "calls")?;
     let command = with_option(alloc, command, "xid")?;
-    command.arg(flag(alloc, "count"))
+    let command = with_option(alloc, command, "actimeo")?;
+    let command = with_flag(alloc, command, "noac")?;
+    let command = with_flag(alloc, command, "nocto")?;
+    with_flag(alloc, command, "count")
 }
 
 fn with_option<'a>(
@@ -57,6 +60,17 @@ fn with_option<'a>(
 {
     let option = option(alloc, name);
     command.arg(option)
+}
+
+fn with_flag<'a>(
+    alloc: Global,
+    command: Command<'a>,
+    name: &'a str,
+) -> Result<Command<'a>, AllocError>
+    ensures { IfOk result (λ c. app_of c ≡ with_rule (app_of command.entry) (flag_rule name.entry.now)) }
+{
+    let flag = flag(alloc, name);
+    command.arg(flag)
 }
 
 fn option<'a>(alloc: Global, name: &'a str) -> Arg<'a>

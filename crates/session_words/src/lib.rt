@@ -2,6 +2,7 @@
 #![tactic(auto)]
 
 mod command;
+mod modes;
 mod number;
 mod rows;
 mod settings;

@@ -25,7 +25,7 @@ const MIN_SIZE: u32 = 512;
 const MAX_SIZE: u32 = 65_536;
 
 /// The text that the words give the argument of this name.
-fn given<'a>(matches: &ArgMatches<'a>, name: &str) -> Option<&'a str>
+pub(crate) fn given<'a>(matches: &ArgMatches<'a>, name: &str) -> Option<&'a str>
     ensures { option_map (λ t. t.now) result ≡ given_in matches.now name.now }
 {
     matches.get_str(name)

@@ -1,5 +1,6 @@
 //! What a command line asks for.
 
+use attr_cache::Lives;
 use nfs_types::Handle;
 use rpc_message::Cred;
 use xdr_codec::Blob;
@@ -32,6 +33,12 @@ pub struct Settings {
     pub calls: u32,
     /// The first xid. Where it is None the caller takes one from a clock.
     pub xid: Option<u32>,
+    /// For how long attributes are believed.
+    pub lives: Lives,
+    /// Whether each read asks for its file's attributes again.
+    pub noac: bool,
+    /// Whether an open may go by attributes that are kept; never with `noac`.
+    pub nocto: bool,
     /// Whether a line of counts comes at the end.
     pub count: bool,
 }

@@ -5,6 +5,7 @@ ghost use Rattle.session_words.specs.Words.{FindsOne, given_in, rows_in, IsComma
 ghost use Rattle.session_words.specs.declared.settings.Settings.{Settings as Setting};
 
 use crate::command::match_words;
+use crate::modes::{lives, nocto};
 use crate::rows::{calls, cred, export, flag, port, size, xid};
 use crate::settings::{Export, Settings, WordsFault};
 use clap::ArgMatches;
@@ -49,6 +50,8 @@ fn settings_of(matches: &ArgMatches<'_>, export: Export) -> Option<Settings>
     let wsize = size(matches, "wsize")?;
     let calls = calls(matches)?;
     let xid = xid(matches)?;
+    let noac = flag(matches, "noac");
+    let lives = lives(matches, noac)?;
     Some(Settings {
         export,
         mount_port,
@@ -58,6 +61,9 @@ fn settings_of(matches: &ArgMatches<'_>, export: Export) -> Option<Settings>
         wsize,
         calls,
         xid,
+        lives,
+        noac,
+        nocto: nocto(matches, noac),
         count: flag(matches, "count"),
     })
 }

@@ -1,7 +1,7 @@
 use Rattle.std.proofs.Common.{ap, ap₂, ◌∙◌, codes}
 use Rattle.std.proofs.lemmas.Result.{IfOk-weaker}
 use Rattle.clap.specs.Words.{App, with_rule}
-use Rattle.session_words.specs.Command.{with_option, client_app}
+use Rattle.session_words.specs.Command.{with_option, with_flag, client_app}
 use Rattle.session_words.proofs.command.client_command.Goals as goal
 
 pub returns : goal.returns
@@ -18,4 +18,7 @@ returns c =
     let a8 = c.in_ok-command-9.ensures ∙ ap (λ (a : App). with_option a (codes "wsize")) a7 in
     let a9 = c.in_ok-command-10.ensures ∙ ap (λ (a : App). with_option a (codes "calls")) a8 in
     let a10 = c.in_ok-command-11.ensures ∙ ap (λ (a : App). with_option a (codes "xid")) a9 in
-    IfOk-weaker c.arg-2.result _ _ (λ d h. h.shape c.flag.ensures.local ∙ ap₂ with_rule a10 c.flag.ensures.rule) c.arg-2.ensures
+    let a11 = c.in_ok-command-12.ensures ∙ ap (λ (a : App). with_option a (codes "actimeo")) a10 in
+    let a12 = c.in_ok-command-13.ensures ∙ ap (λ (a : App). with_flag a (codes "noac")) a11 in
+    let a13 = c.in_ok-command-14.ensures ∙ ap (λ (a : App). with_flag a (codes "nocto")) a12 in
+    IfOk-weaker c.with_flag-3.result _ _ (λ d h. h ∙ ap (λ (a : App). with_flag a (codes "count")) a13) c.with_flag-3.ensures
