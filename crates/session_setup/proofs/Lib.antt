@@ -1,0 +1,14 @@
+pub mod Alongs
+pub mod Stills
+pub mod Bases
+pub mod Attempts
+pub mod Connecting
+pub mod Turns
+pub mod Readings
+pub mod Hearing
+pub mod Counting
+pub mod Phases
+pub mod Finishing
+pub mod Requests
+pub mod Sizing
+pub mod Unmarked

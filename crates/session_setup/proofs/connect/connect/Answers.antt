@@ -1,0 +1,26 @@
+use Rattle.std.proofs.Common.{[], ◌∷◌, arith}
+use Rattle.world_model.specs.declared.entry.Entry.TheVariants.{Dialed}
+use Rattle.session_setup.proofs.Alongs.{along_call, along_then, along_less}
+use Rattle.session_setup.proofs.Connecting.{Goes, Fails, goes_by, fails_by, tries_then, connects_ok, connects_memory, connects_lost}
+use Rattle.session_setup.proofs.connect.connect.Goals as goal
+
+pub returns-in-Ok-clause-goes : goal.returns-in-Ok-clause-goes
+returns-in-Ok-clause-goes g c =
+    let told = c.in-Ok.ensures.told in
+    along_then _ _ _ _ Goes _ (λ h k l p q t w. connects_ok c.loop.counter h k l t w) c.loop.invariant.goes (along_call _ _ _ _ told (λ a b p. goes_by a b (Dialed c.args.port ∷ []) (tt, tt) p))
+
+pub returns-in-Err-Memory-clause-goes : goal.returns-in-Err-Memory-clause-goes
+returns-in-Err-Memory-clause-goes g c =
+    let told = (rw c.in-Err-Memory.field-0-is at c.in-Err-Memory.ensures).told in
+    along_then _ _ _ _ Goes _ (λ h k l p q t w. connects_memory c.loop.counter h k l t w) c.loop.invariant.goes (along_call _ _ _ _ told (λ a b p. goes_by a b [] tt p))
+
+pub loop-preserved : goal.loop-preserved
+loop-preserved g c =
+    let r = rw c.in-Err-Failed.field-0-is at c.in-Err-Failed.ensures in
+    record {
+      goes = along_then _ _ _ _ Fails _ (λ h k l p q t w. tries_then c.loop.counter h k l t w) c.loop.invariant.goes (along_call _ _ _ _ r.told (λ a b p. fails_by c.args.port a b p));
+      honest = λ h. r.honest (c.loop.invariant.honest h);
+    }
+
+pub returns-clause-goes : goal.returns-clause-goes
+returns-clause-goes g c = along_less _ _ _ _ (λ h k p t. connects_lost c.loop.counter h k (omega (arith, c.loop-test.false, c.loop.auto.counter-end)) t) c.loop.invariant.goes

@@ -1,0 +1,9 @@
+use Rattle.session_setup.specs.Along.{Along}
+use Rattle.session_setup.proofs.Connecting.{Tries}
+use Rattle.session_setup.proofs.connect.connect.Given as goal
+
+abbrev pub invariant-loop : goal.invariant-loop
+invariant-loop g l = record {
+  goes : Along (g.L.Link.told l.fn.link) (g.L.Link.told l.link) (Tries l.counter);
+  honest : g.L.Link.honest l.fn.link → g.L.Link.honest l.link;
+}

@@ -1,0 +1,16 @@
+use Rattle.std.proofs.Common.{◌≤◌, ◌-◌}
+use Rattle.session_setup.specs.Along.{Along}
+use Rattle.session_setup.specs.Exchanges.{KeepsCalls}
+use Rattle.session_setup.proofs.Turns.{WaitsOn}
+use Rattle.session_setup.proofs.exchange.await_reply.Given as goal
+
+abbrev pub invariant-loop-dropped : goal.invariant-loop-dropped
+invariant-loop-dropped g l = record {
+  few : l.dropped ≤ 65536;
+  goes : Along (g.L.Link.told l.fn.link) (g.L.Link.told l.link) (WaitsOn l.fn.calls l.calls l.fn.dropped l.dropped);
+  keeps : KeepsCalls l.fn.calls l.calls;
+  honest : g.L.Link.honest l.fn.link → g.L.Link.honest l.link;
+}
+
+abbrev pub decreases-loop-dropped : goal.decreases-loop-dropped
+decreases-loop-dropped g l = 65536 - l.dropped

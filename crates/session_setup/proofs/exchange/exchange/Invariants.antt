@@ -1,0 +1,13 @@
+use Rattle.std.proofs.Common.{◌≤◌}
+use Rattle.session_setup.specs.Along.{Along}
+use Rattle.session_setup.specs.Exchanges.{KeepsCalls}
+use Rattle.session_setup.proofs.Turns.{DueAfter}
+use Rattle.session_setup.proofs.exchange.exchange.Given as goal
+
+abbrev pub invariant-loop : goal.invariant-loop
+invariant-loop g l = record {
+  few : l.dropped ≤ 65536;
+  goes : Along (g.L.Link.told l.fn.link) (g.L.Link.told l.link) (DueAfter l.fn.calls l.calls l.counter l.dropped);
+  keeps : KeepsCalls l.fn.calls l.calls;
+  honest : g.L.Link.honest l.fn.link → g.L.Link.honest l.link;
+}

@@ -1,0 +1,22 @@
+use Rattle.session_setup.proofs.Alongs.{along_less, along_then}
+use Rattle.session_setup.proofs.Phases.{inform_undialed, inform_unmade, inform_lost, inform_answered}
+use Rattle.session_setup.proofs.opening.inform.Goals as goal
+
+pub returns-in-Err-clause-goes : goal.returns-in-Err-clause-goes
+returns-in-Err-clause-goes g c =
+    rw c.fault_after.ensures (along_less _ _ _ _ (λ h k p con. inform_undialed c.args.root c.args.settings.now.rsize c.args.settings.now.wsize c.args.calls.now c.in-Err.stop h k con) c.in-Err.ensures.goes)
+
+pub returns-in_default-clause-goes : goal.returns-in_default-clause-goes
+returns-in_default-clause-goes g c =
+    along_less _ _ _ _ (λ h k p con. inform_unmade c.args.root c.args.settings.now.rsize c.args.settings.now.wsize c.args.calls.now c.ask_sizes.new.calls h k c.ask_sizes.ensures.keeps con) c.in-Ok.ensures.goes
+
+pub returns-in-Ok-exchange-clause-goes : goal.returns-in-Ok-exchange-clause-goes
+returns-in-Ok-exchange-clause-goes g c =
+    let says = rw c.bytes.ensures at c.hear_sizes.ensures in
+    along_then _ _ _ _ _ _ (λ h k l p q con ex. inform_answered c.args.root c.in-Ok-exchange.record c.args.settings.now.rsize c.args.settings.now.wsize c.args.calls.now c.ask_sizes.new.calls c.exchange.new.calls c.hear_sizes.result
+    c.sizes_by.result h k l c.in-Ok-ask_sizes.ensures.makes c.exchange.ensures.keeps says c.sizes_by.ensures.is p con ex) c.in-Ok.ensures.goes c.in-Ok-exchange.ensures.goes
+
+pub returns-in-Err-exchange-clause-goes : goal.returns-in-Err-exchange-clause-goes
+returns-in-Err-exchange-clause-goes g c =
+    rw c.fault_after-in-Err-exchange.ensures (along_then _ _ _ _ _ _ (λ h k l p q con ex. inform_lost c.args.root c.args.settings.now.rsize c.args.settings.now.wsize c.args.calls.now c.ask_sizes.new.calls c.exchange.new.calls
+    c.in-Err-exchange.stop h k l c.in-Ok-ask_sizes.ensures.makes c.exchange.ensures.keeps p con ex) c.in-Ok.ensures.goes c.in-Err-exchange.ensures.goes)

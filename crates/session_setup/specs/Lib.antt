@@ -1,0 +1,8 @@
+pub mod Along
+pub mod Sendings
+pub mod Outcomes
+pub mod Records
+pub mod Takings
+pub mod Exchanges
+pub mod Replies
+pub mod Phases

@@ -1,0 +1,25 @@
+//! Connecting to the server.
+
+ghost use Rattle.session_setup.specs.Along.{Along};
+ghost use Rattle.session_setup.specs.Exchanges.{Connects};
+
+use crate::stop::Stop;
+use outside::{Link, LinkFault};
+
+/// After so many failed connects in a row the session is lost.
+const MAX_CONNECTS: u32 = 4;
+
+/// Connects to a port of the server.
+pub(crate) fn connect<L: Link>(port: u16, link: &mut L) -> Result<(), Stop>
+    ensures goes { Along (L.told link.old) (L.told link.new) (Connects result) }
+    ensures honest { L.honest link.old → L.honest link.new }
+{
+    for _ in 0..MAX_CONNECTS {
+        match link.dial(port) {
+            Ok(()) => return Ok(()),
+            Err(LinkFault::Memory) => return Err(Stop::Memory),
+            Err(LinkFault::Failed) => {}
+        }
+    }
+    Err(Stop::Lost)
+}
