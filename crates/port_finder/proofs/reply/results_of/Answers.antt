@@ -1,0 +1,29 @@
+use Rattle.std.proofs.Common.{◌≡◌, true, false}
+use Rattle.port_finder.proofs.Replies.{has_results, refused_so, denied_so, not_reply_heard, unspelled_heard}
+use Rattle.port_finder.proofs.reply.results_of.Goals as goal
+
+is_no_ok : false ≡ true → ⊥
+is_no_ok e = cc
+
+pub returns-in-Ok-Accepted : goal.returns-in-Ok-Accepted
+returns-in-Ok-Accepted c =
+    let f = rw c.in-Ok-Accepted.field-0-is at c.in-Ok-Accepted.ensures in
+    λ x has. has_results _ _ _ x f.spelled.found (λ r s. (f.spelled.only r s).0) f.exact has
+
+pub returns-in-Ok-Refused : goal.returns-in-Ok-Refused
+returns-in-Ok-Refused c =
+    let f = rw c.in-Ok-Refused.field-0-is at c.in-Ok-Refused.ensures in
+    λ x has. refused_so _ c.in-Ok-Refused.field-0-0 c.in-Ok-Refused.stat c.in-Ok-Refused.field-0-2 c.in-Ok-Refused.field-0-3 _ x f.spelled.found c.from.ensures has
+
+pub returns-in-Ok-Denied : goal.returns-in-Ok-Denied
+returns-in-Ok-Denied c =
+    let f = rw c.in-Ok-Denied.field-0-is at c.in-Ok-Denied.ensures in
+    λ x has. denied_so _ c.in-Ok-Denied.field-0-0 c.in-Ok-Denied.stat c.in-Ok-Denied.first c.in-Ok-Denied.field-0-3 _ x f.spelled.found c.denial.ensures has
+
+pub returns-in-Err-NotReply : goal.returns-in-Err-NotReply
+returns-in-Err-NotReply c = λ x has. not_reply_heard x _ (rw c.in-Err-NotReply.field-0-is at c.in-Err-NotReply.ensures.exact)
+
+pub returns-in-Err-Xdr : goal.returns-in-Err-Xdr
+returns-in-Err-Xdr c =
+    let f = rw c.in-Err-Xdr.field-0-is at c.in-Err-Xdr.ensures in
+    λ x has. unspelled_heard x _ _ (λ r s. absurd (is_no_ok (f.spelled.only r s).1)) f.exact

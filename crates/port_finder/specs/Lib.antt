@@ -1,0 +1,4 @@
+pub mod Does
+pub mod Talk
+pub mod Replies
+pub mod Found
