@@ -12,7 +12,7 @@ use Rattle.client_core.specs.declared.setup.Setup.{Setup}
 use Rattle.client_core.specs.View.{View}
 use Rattle.core_facts.specs.Reaches.{Reaches}
 
--- Of the file that it saves a COMMIT of the whole, sent since the sync began, was answered 0.
+-- A COMMIT of a whole file, sent since the sync began, was answered 0. (That it is the file of the sync's slot isn't said.)
 pub record IsCommitted (h : List Entry) (x y : ℕ) : Type 0 where
   pub f : List ℕ
   pub committed : Committed h x y f
