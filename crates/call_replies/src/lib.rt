@@ -5,4 +5,5 @@ mod record;
 mod reply;
 mod results;
 
+pub use record::results_of;
 pub use reply::came_of;

@@ -16,8 +16,9 @@ const MISMATCH: u64 = 100;
 
 const AUTH: u64 = 200;
 
-/// The results in the record, where the call was accepted (RFC 5531, section 9).
-pub(crate) fn results_of<'a>(rec: &'a [u8]) -> Result<&'a [u8], Fault>
+/// The results in the record, where the call was accepted (RFC 5531, section 9): `Bad(7)` where it has more than 131,072
+/// bytes, `Bad(1)` where it isn't a reply, `Bad(2)` where the grammar doesn't spell it, `Rpc` where RPC refuses the call.
+pub fn results_of<'a>(rec: &'a [u8]) -> Result<&'a [u8], Fault>
     ensures exact { result_map_both (λ r. r.now) (λ e. e) result ≡ results_in rec.entry.now }
     ensures means { (x : ℕ) → HasXid rec.entry.now x → ResultsIn x rec.entry.now (result_map_both (λ r. r.now) (λ e. e) result) }
 {

@@ -2,7 +2,7 @@
 use Rattle.std.proofs.Common.{ℕ, List, Result, Ok, Err, subst}
 use Rattle.nfs_file_calls.specs.Replies.{SpellsFileReply}
 use Rattle.mount_calls.specs.Replies.{SpellsMountReply}
-use Rattle.session_setup.specs.Records.{HasResults}
+use Rattle.call_replies.specs.Records.{HasResults}
 use Rattle.world_model.specs.declared.answer.Fault.{Fault}
 use Rattle.world_model.specs.declared.answer.Fault.TheVariants as faults
 use Rattle.world_model.specs.declared.message.Reply.{Reply}

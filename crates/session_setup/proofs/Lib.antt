@@ -4,7 +4,6 @@ pub mod Bases
 pub mod Attempts
 pub mod Connecting
 pub mod Turns
-pub mod Readings
 pub mod Hearing
 pub mod Counting
 pub mod Phases

@@ -1,7 +1,6 @@
 pub mod Along
 pub mod Sendings
 pub mod Outcomes
-pub mod Records
 pub mod Takings
 pub mod Exchanges
 pub mod Replies

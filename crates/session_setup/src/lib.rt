@@ -5,7 +5,6 @@
 mod connect;
 mod exchange;
 mod opening;
-mod record;
 mod reply;
 mod request;
 mod sizes;

@@ -5,8 +5,8 @@ ghost use Rattle.world_model.specs.Messages.{HasXid};
 ghost use Rattle.session_setup.specs.Replies.{MountHeard, InfoHeard, MountedBy, GrantedBy, InformedBy};
 
 use crate::opening::SetUpFault;
-use crate::record::results_of;
 use crate::sizes::Greatest;
+use call_replies::results_of;
 use mount_calls::{MountReply, read_mount_reply};
 use nfs_file_calls::{FileReply, read_file_reply};
 use nfs_types::Handle;
