@@ -106,10 +106,10 @@ file-takes (files.Put m) wsize sent turn came old next new after others one s =
 abbrev pub of_path : PathMachine → ℕ
 of_path m = path_by m.arrived (of_walk m.walk) (of_file (file_of m.opener))
 
-path-file : (m : PathMachine) → m.arrived ≡ true → of_path m ≡ of_file (file_of m.opener)
+pub path-file : (m : PathMachine) → m.arrived ≡ true → of_path m ≡ of_file (file_of m.opener)
 path-file m is = ap (λ (b : Bool). path_by b (of_walk m.walk) (of_file (file_of m.opener))) is
 
-path-walk : (m : PathMachine) → m.arrived ≡ false → of_path m ≡ of_walk m.walk
+pub path-walk : (m : PathMachine) → m.arrived ≡ false → of_path m ≡ of_walk m.walk
 path-walk m is = ap (λ (b : Bool). path_by b (of_walk m.walk) (of_file (file_of m.opener))) is
 
 -- no close is on its way
@@ -122,7 +122,7 @@ as-plain next before (openers.Open m) l = l
 as-plain next before (openers.Put m) l = l
 
 -- it starts from its directory with no call
-placed-none : (dir : List ℕ) (o : Opener) → of_file (file_of (placed dir o)) ≡ 0
+pub placed-none : (dir : List ℕ) (o : Opener) → of_file (file_of (placed dir o)) ≡ 0
 placed-none dir (openers.Open m) = refl
 placed-none dir (openers.Put m) = refl
 

@@ -1,11 +1,10 @@
 -- For which calls the operations wait that make a file stable.
-use Rattle.std.proofs.Common.{◌≡◌, ◌≤◌, ◌+◌, ℕ, Bool, true, false, List, [], Option, Some, None, Result, Ok, Err, refl, sym, ap, subst, ◌∙◌, arith}
+use Rattle.std.proofs.Common.{◌≡◌, ◌≤◌, ◌+◌, ◌-◌, ℕ, Bool, true, false, List, [], Option, Some, None, Result, Ok, refl, sym, ap, subst, ◌∙◌, arith}
 use Rattle.nfs_types.specs.declared.verf.Verf.{Verf}
 use Rattle.world_model.specs.declared.answer.Answer.{Answer}
 use Rattle.world_model.specs.declared.answer.Answer.TheVariants as answers
 use Rattle.world_model.specs.declared.answer.Fault.{Fault}
 use Rattle.world_model.specs.declared.answer.Fault.TheVariants as faults
-use Rattle.world_model.specs.declared.answer.Value.TheVariants as values
 use Rattle.world_model.specs.declared.message.Call.{Call}
 use Rattle.world_model.specs.declared.message.Reply.{Reply}
 use Rattle.client_shelf.specs.LaneFiles.{is_first}
@@ -13,6 +12,10 @@ use Rattle.client_shelf.specs.declared.next.Next.{Next}
 use Rattle.client_shelf.specs.declared.next.Next.TheVariants as nexts
 use Rattle.client_shelf.specs.declared.shelf.Shelf.{Shelf}
 use Rattle.client_shelf.specs.declared.turn.Turn.{Turn}
+use Rattle.file_ops.specs.declared.open_file.OpenFile.{OpenFile}
+use Rattle.file_ops.specs.declared.put_file.PutFile.{PutFile}
+use Rattle.file_ops.specs.declared.put_file.Putting.{Putting}
+use Rattle.file_ops.specs.declared.put_file.Putting.TheVariants as putting
 use Rattle.file_ops.specs.declared.saving.Saving.{Saving}
 use Rattle.file_ops.specs.declared.sync_file.SyncFile.{SyncFile}
 use Rattle.file_ops.specs.declared.sync_file.Syncing.{Syncing}
@@ -22,34 +25,27 @@ use Rattle.file_ops.specs.Saves as saves
 use Rattle.file_ops.specs.SlotFiles.{file_at, joined}
 use Rattle.file_ops.specs.Syncs as syncs
 use Rattle.file_ops.proofs.SaveCounts.{by-step}
+use Rattle.name_ops.specs.declared.walk.WalkNext.{WalkNext}
+use Rattle.name_ops.specs.declared.walk.WalkNext.TheVariants as walks
+use Rattle.name_ops.specs.Walking as walking
 use Rattle.op_machines.specs.declared.file_machine.FileMachine.{FileMachine}
 use Rattle.op_machines.specs.declared.file_machine.FileMachine.TheVariants as files
 use Rattle.op_machines.specs.declared.machine.Machine.{Machine}
 use Rattle.op_machines.specs.declared.machine.Machine.TheVariants as machines
+use Rattle.op_machines.specs.declared.opener.Opener.{Opener}
+use Rattle.op_machines.specs.declared.opener.Opener.TheVariants as openers
+use Rattle.op_machines.specs.declared.path_machine.PathMachine.{PathMachine}
 use Rattle.op_machines.specs.FileSteps as steps
+use Rattle.op_machines.specs.Openers.{file_of, slot_taken, begun_at, placed}
+use Rattle.op_machines.specs.PathSteps as paths
 use Rattle.op_machines.specs.Steps.{Starts, Resumes, Takes}
-use Rattle.core_facts.specs.InFlight.{of_saving, of_syncing, of_file, in_flight}
+use Rattle.core_facts.specs.InFlight.{of_walk, of_opening, of_saving, of_syncing, of_file, in_flight}
+use Rattle.core_facts.proofs.AllCounts.{of_path, path-file, path-walk, placed-none}
+use Rattle.core_facts.proofs.NameCounts.{WalkCounts, walk-counts, walk-takes, took-counts}
+use Rattle.core_facts.proofs.PutCounts.{of_put}
+use Rattle.core_facts.proofs.Putting.{PutExpects, PutHas, PutSteps, put-resumes, put-takes}
+use Rattle.core_facts.proofs.Steps.{AskedOf, KeptOf, ThenOf}
 use Rattle.core_facts.proofs.SaveCommits.{SaveExpects, WellDone, SaveSteps, goes-steps, takes-steps}
-
--- ---- what a step leads to
-
--- it expects the call that it asks for
-abbrev pub AskedOf : {S : Type 0} → (S → Call → Type 0) → Next → S → Type 0
-AskedOf E (nexts.Send call) new = E new call
-AskedOf E nexts.Wait new = Unit {0}
-AskedOf E (nexts.Done answer) new = Unit {0}
-
--- As long as it goes on, it expects still what it expected, if so many others wait.
-abbrev pub KeptOf : {S : Type 0} → (S → Call → Type 0) → ℕ → S → Next → S → Type 0
-KeptOf E others old (nexts.Send call) new = 1 ≤ others → (c : Call) → E old c → E new c
-KeptOf E others old nexts.Wait new = 1 ≤ others → (c : Call) → E old c → E new c
-KeptOf E others old (nexts.Done answer) new = Unit {0}
-
--- H holds as long as it goes on, and A of its answer
-abbrev pub ThenOf : {S : Type 0} → (S → Type 0) → (Answer → Type 0) → Next → S → Type 0
-ThenOf H A (nexts.Send call) new = H new
-ThenOf H A nexts.Wait new = H new
-ThenOf H A (nexts.Done answer) new = A answer
 
 -- ---- syncs
 
@@ -147,10 +143,16 @@ FileExpects (files.Close m) call = Unit {0}
 FileExpects (files.Truncate m) call = Unit {0}
 FileExpects (files.Put m) call = Unit {0}
 
+-- an open or a put, by whether its directory is found
+abbrev pub OpenerExpects : Bool → Opener → Call → Type 0
+OpenerExpects true (openers.Open m) call = Unit {0}
+OpenerExpects true (openers.Put m) call = PutExpects m.state call
+OpenerExpects false opener call = Unit {0}
+
 -- of the others nothing is said
 abbrev pub Expects : Machine → Call → Type 0
 Expects (machines.File m) call = FileExpects m call
-Expects (machines.Path m) call = Unit {0}
+Expects (machines.Path m) call = OpenerExpects m.arrived m.opener call
 Expects (machines.Name m) call = Unit {0}
 
 pub record Expected (others : ℕ) (old : Machine) (next : Next) (new : Machine) : Type 0 where
@@ -225,15 +227,145 @@ file-takes (files.Close m) wsize sent turn came old next new after others one s 
 file-takes (files.Truncate m) wsize sent turn came old next new after others one s = subst (λ (n : FileMachine). Expected others (machines.File (files.Truncate m)) next (machines.File n)) (sym s.machine_is) (plain-expected others _ _ next (λ c. tt))
 file-takes (files.Put m) wsize sent turn came old next new after others one s = subst (λ (n : FileMachine). Expected others (machines.File (files.Put m)) next (machines.File n)) (sym s.machine_is) (plain-expected others _ _ next (λ c. tt))
 
+-- ---- opens and puts on their way
+
+-- P is nothing here
+none-put : (state : Putting) → PutHas (λ f. Unit {0}) state
+none-put putting.Idle = tt
+none-put putting.Opens = tt
+none-put (putting.Adds file) = tt
+none-put (putting.Saves s) = λ again. tt
+
+pub some-put : (a b : PutFile) → files.Put a ≡ files.Put b → b ≡ a
+some-put a b e = cc
+
+no-put : (m : OpenFile) (q : PutFile) → files.Put q ≡ files.Open m → ⊥
+no-put m q e = cc
+
+pub no-open : (m : OpenFile) (q : PutFile) → files.Open m ≡ files.Put q → ⊥
+no-open m q e = cc
+
+-- a put that has its directory
+put-expected : (P : List ℕ → Type 0) (others : ℕ) (m : PathMachine) (p q : PutFile) (next : Next) (old : Machine) → m.arrived ≡ true → PutSteps P others p.state next q.state
+    → ((c : Call) → Expects old c → PutExpects p.state c) → Expected others old next (machines.Path (record m { opener = openers.Put q }))
+put-expected P others m p q next old there s was = by next s.asked s.kept
+  where
+    here : (c : Call) → PutExpects q.state c → OpenerExpects m.arrived (openers.Put q) c
+    here c e = subst (λ (b : Bool). OpenerExpects b (openers.Put q) c) (sym there) e
+
+    by : (n : Next) → AskedOf PutExpects n q.state → KeptOf PutExpects others p.state n q.state → Expected others old n (machines.Path (record m { opener = openers.Put q }))
+    by (nexts.Send call) a k = record { asked = here call a; kept = λ some c e. here c (k some c (was c e)) }
+    by nexts.Wait a k = record { asked = tt; kept = λ some c e. here c (k some c (was c e)) }
+    by (nexts.Done answer) a k = record { asked = tt; kept = tt }
+
+open-expected : (others : ℕ) (m : PathMachine) (o : OpenFile) (next : Next) (old : Machine) → m.arrived ≡ true → Expected others old next (machines.Path (record m { opener = openers.Open o }))
+open-expected others m o next old there = plain-expected others old (machines.Path (record m { opener = openers.Open o })) next (λ c. subst (λ (b : Bool). OpenerExpects b (openers.Open o) c) (sym there) tt)
+
+-- with the opener that it has then
+opener-as : (others : ℕ) (m : PathMachine) (opener to : Opener) (next : Next) (new : PathMachine) (old : Machine) → new ≡ record m { opener = opener } → opener ≡ to
+    → Expected others old next (machines.Path (record m { opener = to })) → Expected others old next (machines.Path new)
+opener-as others m opener to next new old is at e =
+    subst (λ (n : PathMachine). Expected others old next (machines.Path n)) (sym is)
+    (subst (λ (o : Opener). Expected others old next (machines.Path (record m { opener = o }))) (sym at) e)
+
+then-expected : (wsize : ℕ) (m : PathMachine) (turn : Turn) (was : Shelf) (next : Next) (new : PathMachine) (after : Shelf) (old : Machine) → m.arrived ≡ true
+    → ((p : PutFile) → m.opener ≡ openers.Put p → (c : Call) → Expects old c → PutExpects p.state c) → paths.ThenResumes wsize m turn was next new after
+    → Expected (of_file (file_of m.opener)) old next (machines.Path new)
+then-expected wsize m turn was next new after old there expects t = by m.opener t.opener refl refl t.step
+  where
+    by : (o k : Opener) → m.opener ≡ o → t.opener ≡ k → steps.Resumes wsize (file_of o) turn was next (file_of k) after → Expected (of_file (file_of o)) old next (machines.Path new)
+    by (openers.Open o) (openers.Open k) at to step = opener-as (of_opening o.opening) m t.opener (openers.Open k) next new old t.machine_is to (open-expected (of_opening o.opening) m k next old there)
+    by (openers.Open o) (openers.Put q) at to step = absurd (no-put _ q step.machine_is)
+    by (openers.Put p) (openers.Open k) at to step = absurd (no-open k _ step.machine_is)
+    by (openers.Put p) (openers.Put q) at to step =
+        let s = put-resumes (λ f. Unit {0}) p.state wsize p turn was next step.machine after refl (none-put p.state) step.step in
+        opener-as (of_put p) m t.opener (openers.Put q) next new old t.machine_is to
+        (put-expected (λ f. Unit {0}) (of_put p) m p q next old there
+        (subst (λ (k : PutFile). PutSteps (λ f. Unit {0}) (of_put p) p.state next k.state) (some-put q step.machine step.machine_is) s) (expects p at))
+
+walking-expects : (m : PathMachine) → m.arrived ≡ false → (c : Call) → Expects (machines.Path m) c
+walking-expects m on_way c = subst (λ (b : Bool). OpenerExpects b m.opener c) (sym on_way) tt
+
+placed-opens : (dir : List ℕ) (o : Opener) (p : PutFile) → placed dir o ≡ openers.Put p → (c : Call) → PutExpects p.state c
+placed-opens dir (openers.Open m) p is c = absurd (cc)
+placed-opens dir (openers.Put m) p is c =
+    let same : putting.Opens ≡ p.state = ap state_of is in subst (λ (s : Putting). PutExpects s c) same tt
+  where
+    state_of : Opener → Putting
+    state_of (openers.Open m) = putting.Idle
+    state_of (openers.Put m) = m.state
+
+follows-expected : (step : WalkNext) (wsize : ℕ) (m : PathMachine) (turn : Turn) (was : Shelf) (next : Next) (new : PathMachine) (after : Shelf) (others : ℕ) (old : Machine) → m.arrived ≡ false
+    → WalkCounts step others (of_walk m.walk) → paths.Follows step wsize m turn was next new after → Expected others old next (machines.Path new)
+follows-expected (walks.Send call) wsize m turn was next new after others old on_way c f =
+    subst (λ (n : PathMachine). Expected others old next (machines.Path n)) (sym f.1) (plain-expected others old (machines.Path m) next (walking-expects m on_way))
+follows-expected walks.Wait wsize m turn was next new after others old on_way c f =
+    subst (λ (n : PathMachine). Expected others old next (machines.Path n)) (sym f.1) (plain-expected others old (machines.Path m) next (walking-expects m on_way))
+follows-expected (walks.At dir) wsize m turn was next new after others old on_way c f =
+    subst (λ (n : ℕ). Expected n old next (machines.Path new)) (placed-none dir m.opener ∙ sym c.0)
+    (then-expected wsize (record m { opener = placed dir m.opener; arrived = true }) turn was next new after old refl (λ p is k e. placed-opens dir m.opener p is k) f)
+follows-expected (walks.Refused fault) wsize m turn was next new after others old on_way c f =
+    subst (λ (n : Next). Expected others old n (machines.Path new)) (sym f.0) (record { asked = tt; kept = tt })
+
+-- what an arrived put expects is what its save does
+pub arrived-expects : (m : PathMachine) → m.arrived ≡ true → (p : PutFile) → m.opener ≡ openers.Put p → (c : Call) → Expects (machines.Path m) c → PutExpects p.state c
+arrived-expects m there p is c e = subst (λ (o : Opener). OpenerExpects true o c) is (subst (λ (b : Bool). OpenerExpects b m.opener c) there e)
+
+path-resumes : (b : Bool) (wsize : ℕ) (m : PathMachine) (turn : Turn) (was : Shelf) (next : Next) (new : PathMachine) (after : Shelf) → m.arrived ≡ b
+    → paths.PathResumes b wsize m turn was next new after → Expected (of_path m) (machines.Path m) next (machines.Path new)
+path-resumes true wsize m turn was next new after is r =
+    subst (λ (n : ℕ). Expected n (machines.Path m) next (machines.Path new)) (sym (path-file m is))
+    (then-expected wsize m turn was next new after (machines.Path m) is (arrived-expects m is) r)
+path-resumes false wsize m turn was next new after is r =
+    subst (λ (n : ℕ). Expected n (machines.Path m) next (machines.Path new)) (sym (path-walk m is))
+    (follows-expected (walking.go_next m.walk turn was) wsize (record m { walk = walking.go_after m.walk turn was }) turn (walking.go_shelf m.walk turn was) next new after (of_walk m.walk)
+    (machines.Path m) is (walk-counts m.walk turn was) r)
+
+-- of a step before which none of its calls waits only the call that it asks for counts
+none-expected : (others : ℕ) (was old : Machine) (next : Next) (new : Machine) → Expected others was next new → Expected 0 old next new
+none-expected others was old (nexts.Send call) new e = record { asked = e.asked; kept = λ some. absurd (omega (arith, some)) }
+none-expected others was old nexts.Wait new e = record { asked = tt; kept = λ some. absurd (omega (arith, some)) }
+none-expected others was old (nexts.Done answer) new e = record { asked = tt; kept = tt }
+
+path-starts : (taken : Bool) (wsize : ℕ) (m : PathMachine) (turn : Turn) (was : Shelf) (next : Next) (new : PathMachine) (after : Shelf)
+    → paths.StartsIf taken wsize m turn was next new after → Expected 0 (machines.Path m) next (machines.Path new)
+path-starts true wsize m turn was next new after s = subst (λ (n : Next). Expected 0 (machines.Path m) n (machines.Path new)) (sym s.0) (record { asked = tt; kept = tt })
+path-starts false wsize m turn was next new after s =
+    none-expected (of_path (record m { opener = begun_at (turn.moment - 1) m.opener })) (machines.Path (record m { opener = begun_at (turn.moment - 1) m.opener })) (machines.Path m) next (machines.Path new)
+    (path-resumes m.arrived wsize (record m { opener = begun_at (turn.moment - 1) m.opener }) turn was next new after refl s)
+
+path-takes : (b : Bool) (wsize : ℕ) (m : PathMachine) (sent turn : Turn) (came : Result Reply Fault) (was : Shelf) (next : Next) (new : PathMachine) (after : Shelf) (others : ℕ) → m.arrived ≡ b
+    → of_path m ≡ others + 1 → paths.PathTakes b wsize m sent turn came was next new after → Expected others (machines.Path m) next (machines.Path new)
+path-takes true wsize m sent turn came was next new after others is one t = by m.opener t.opener refl refl (sym (path-file m is) ∙ one) t.step
+  where
+    by : (o k : Opener) → m.opener ≡ o → t.opener ≡ k → of_file (file_of o) ≡ others + 1 → steps.Takes wsize (file_of o) sent turn came was next (file_of k) after
+        → Expected others (machines.Path m) next (machines.Path new)
+    by (openers.Open o) (openers.Open k) at to count step = opener-as others m t.opener (openers.Open k) next new (machines.Path m) t.machine_is to (open-expected others m k next (machines.Path m) is)
+    by (openers.Open o) (openers.Put q) at to count step = absurd (no-put _ q step.machine_is)
+    by (openers.Put p) (openers.Open k) at to count step = absurd (no-open k _ step.machine_is)
+    by (openers.Put p) (openers.Put q) at to count step =
+        let s = put-takes (λ f. Unit {0}) p.state wsize p sent turn came was next step.machine after others refl count (none-put p.state) (λ k at idle verf told. tt) step.step in
+        opener-as others m t.opener (openers.Put q) next new (machines.Path m) t.machine_is to
+        (put-expected (λ f. Unit {0}) others m p q next (machines.Path m) is
+        (subst (λ (k : PutFile). PutSteps (λ f. Unit {0}) others p.state next k.state) (some-put q step.machine step.machine_is) s) (arrived-expects m is p at))
+path-takes false wsize m sent turn came was next new after others is one t =
+    let took = walk-takes m.walk sent turn came was t.step t.walked.walk t.heard others (sym (path-walk m is) ∙ one) t.takes in
+    follows-expected t.step wsize t.walked turn t.heard next new after others (machines.Path m) (ap (λ (w : PathMachine). w.arrived) t.walked_is ∙ is)
+    (took-counts others t.step t.walked.walk took) t.follows
+
+-- ---- any operation
+
 pub expects-starts : (m : Machine) (wsize : ℕ) (turn : Turn) (old : Shelf) (next : Next) (new : Machine) (after : Shelf) → Starts wsize m turn old next new after → Expected 0 m next new
 expects-starts (machines.File m) wsize turn old next new after s = expected-as 0 (machines.File m) (machines.File s.machine) next new s.machine_is (file-starts m wsize turn old next s.machine after s.step)
-expects-starts (machines.Path m) wsize turn old next new after s = expected-as 0 (machines.Path m) (machines.Path s.machine) next new s.machine_is (plain-expected 0 _ _ next (λ c. tt))
+expects-starts (machines.Path m) wsize turn old next new after s =
+    expected-as 0 (machines.Path m) (machines.Path s.machine) next new s.machine_is (path-starts (slot_taken m.opener old.opens) wsize m turn old next s.machine after s.step)
 expects-starts (machines.Name m) wsize turn old next new after s = expected-as 0 (machines.Name m) (machines.Name s.machine) next new s.machine_is (plain-expected 0 _ _ next (λ c. tt))
 
 pub expects-resumes : (m : Machine) (wsize : ℕ) (turn : Turn) (old : Shelf) (next : Next) (new : Machine) (after : Shelf) → Resumes wsize m turn old next new after
     → Expected (in_flight m) m next new
 expects-resumes (machines.File m) wsize turn old next new after s = expected-as _ (machines.File m) (machines.File s.machine) next new s.machine_is (file-resumes m wsize turn old next s.machine after s.step)
-expects-resumes (machines.Path m) wsize turn old next new after s = expected-as _ (machines.Path m) (machines.Path s.machine) next new s.machine_is (plain-expected _ _ _ next (λ c. tt))
+expects-resumes (machines.Path m) wsize turn old next new after s =
+    expected-as (of_path m) (machines.Path m) (machines.Path s.machine) next new s.machine_is (path-resumes m.arrived wsize m turn old next s.machine after refl s.step)
 expects-resumes (machines.Name m) wsize turn old next new after s = expected-as _ (machines.Name m) (machines.Name s.machine) next new s.machine_is (plain-expected _ _ _ next (λ c. tt))
 
 pub expects-takes : (m : Machine) (wsize : ℕ) (sent turn : Turn) (came : Result Reply Fault) (old : Shelf) (next : Next) (new : Machine) (after : Shelf) (others : ℕ)
@@ -241,6 +373,6 @@ pub expects-takes : (m : Machine) (wsize : ℕ) (sent turn : Turn) (came : Resul
 expects-takes (machines.File m) wsize sent turn came old next new after others one s =
     expected-as others (machines.File m) (machines.File s.machine) next new s.machine_is (file-takes m wsize sent turn came old next s.machine after others one s.step)
 expects-takes (machines.Path m) wsize sent turn came old next new after others one s =
-    expected-as others (machines.Path m) (machines.Path s.machine) next new s.machine_is (plain-expected others _ _ next (λ c. tt))
+    expected-as others (machines.Path m) (machines.Path s.machine) next new s.machine_is (path-takes m.arrived wsize m sent turn came old next s.machine after others refl one s.step)
 expects-takes (machines.Name m) wsize sent turn came old next new after others one s =
     expected-as others (machines.Name m) (machines.Name s.machine) next new s.machine_is (plain-expected others _ _ next (λ c. tt))

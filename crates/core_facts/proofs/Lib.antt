@@ -21,3 +21,14 @@ pub mod SaveCommits
 pub mod Expecting
 pub mod Stories
 pub mod Syncing
+pub mod Steps
+pub mod Putting
+pub mod PutStory
+pub mod Faults
+pub mod SaveFaults
+pub mod ReadFaults
+pub mod FileFaults
+pub mod NameFaults
+pub mod SaidFaults
+pub mod AllFaults
+pub mod LostAnswers

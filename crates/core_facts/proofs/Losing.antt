@@ -44,7 +44,7 @@ dial-grow h e at to within d = record {
 dialed-within : (h : List Entry) (at to : ℕ) → FailedDial h at to → at ≤ length h
 dialed-within h at to d = let below = At-below h at (Dialed d.port) d.dialed in omega (arith, below)
 
-loses-grow : (h : List Entry) (e : Entry) (to : ℕ) → to ≤ length h → Loses h to → Loses (h ++ e ∷ []) to
+pub loses-grow : (h : List Entry) (e : Entry) (to : ℕ) → to ≤ length h → Loses h to → Loses (h ++ e ∷ []) to
 loses-grow h e to within (given_up xid a b c d first second third fourth unheard) =
     given_up xid a b c d (attempt-grow h e xid a b first) (attempt-grow h e xid b c second) (attempt-grow h e xid c d third) (attempt-grow h e xid d to fourth)
     (λ j bytes there has after before. unheard j bytes (At-back h (e ∷ []) j (Delivered bytes) there (omega (arith, before, within))) has after before)
@@ -53,7 +53,7 @@ loses-grow h e to within (undialed a b c d first second third fourth) =
     (dial-grow h e c d (dialed-within h d to fourth) third) (dial-grow h e d to within fourth)
 loses-grow h e to within (dropped run) = dropped (DropRun-grow h (e ∷ []) most_dropped to within run)
 
-lost-grow : (h : List Entry) (e : Entry) → IsLost h (length h) → IsLost (h ++ e ∷ []) (length (h ++ e ∷ []))
+pub lost-grow : (h : List Entry) (e : Entry) → IsLost h (length h) → IsLost (h ++ e ∷ []) (length (h ++ e ∷ []))
 lost-grow h e l = record { to = l.to; by = let long = longer h e in let within = l.by in omega (arith, long, within); loses = loses-grow h e l.to l.by l.loses }
 
 -- ---- four attempts

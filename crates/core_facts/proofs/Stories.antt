@@ -1,8 +1,7 @@
 -- What the steps of operations keep along a history holds of each operation that is under way, and of each answer.
-use Rattle.std.proofs.Common.{◌≡◌, ◌≢◌, ◌<◌, ◌≤◌, ◌+◌, ◌-◌, ◌⊎◌, inl, inr, ℕ, zero, suc, List, [], ◌∷◌, ◌++◌, length, map, remove, Bool, true, false, nat_eq, Option, Some, None, MatchOption, position, slice_get, slice_set, Result, Ok, Err, refl, sym, ap, subst, ◌∙◌, arith, append_assoc}
+use Rattle.std.proofs.Common.{◌≡◌, ◌≢◌, ◌<◌, ◌≤◌, ◌+◌, ◌-◌, ◌⊎◌, inl, inr, ℕ, zero, suc, List, [], ◌∷◌, ◌++◌, length, map, Bool, true, false, nat_eq, Option, Some, None, MatchOption, position, slice_get, slice_set, Result, Ok, Err, refl, sym, ap, subst, ◌∙◌, arith, append_assoc}
 use Rattle.std.proofs.lemmas.Bool.{eqb-true, eqb-false, eq-eqb, cases_lt}
 use Rattle.rpc_message.specs.Call.{xid_at}
-use Rattle.rpc_message.specs.declared.cred.Cred.{Cred}
 use Rattle.rpc_retry.specs.declared.waiting.Waiting.{Waiting}
 use Rattle.rpc_retry.specs.Fail.{failed_after}
 use Rattle.rpc_retry.specs.Held.{next_xid}
@@ -21,9 +20,10 @@ use Rattle.world_model.specs.declared.message.Reply.{Reply}
 use Rattle.world_model.specs.declared.op.Op.{Op}
 use Rattle.world_model.specs.Entries.{At}
 use Rattle.world_model.specs.Heard.{Asked, Heard as IsHeard}
-use Rattle.world_model.specs.Messages.{HasXid, SpellsCallBy, proc_of}
-use Rattle.world_model.specs.Operations.{Ended, AnsweredBefore, UnderWay}
-use Rattle.world_model.proofs.Places.{At-grow, At-below, At-back, At-one, At-cases, At-last, length_last}
+use Rattle.world_model.specs.Lost.{IsLost}
+use Rattle.world_model.specs.Messages.{SpellsCallBy, proc_of}
+use Rattle.world_model.specs.Operations.{Ended, UnderWay}
+use Rattle.world_model.proofs.Places.{At-grow, At-below, At-back, At-one, At-cases, length_last}
 use Rattle.call_replies.specs.Says.{said_of, Says}
 use Rattle.client_shelf.specs.declared.next.Next.{Next}
 use Rattle.client_shelf.specs.declared.next.Next.TheVariants.{Send, Wait, Done}
@@ -36,34 +36,39 @@ use Rattle.client_core.specs.declared.lane.Purpose.{Purpose}
 use Rattle.client_core.specs.declared.lane.State.{State}
 use Rattle.client_core.specs.declared.lane.State.TheVariants.{Busy, Over}
 use Rattle.client_core.specs.declared.setup.Setup.{Setup}
-use Rattle.client_core.specs.Lanes.{is_busy, lost_lane, lost_state}
+use Rattle.client_core.specs.Lanes.{is_busy, lost_lane}
 use Rattle.client_core.specs.Numbers.{IsOther, numbers_of}
-use Rattle.client_core.specs.Steps.{IsBusyAt, with_state, record_of, Makes, Refuses, IsRefused, Leads, Stirs, Moves, moves_none, moves_more, counted, StartsLane, BeginsIf, TakesAt, HearsFor, failed_view, lost, AnswersAt}
+use Rattle.client_core.specs.Steps.{with_state, record_of, Makes, IsRefused, Leads, Stirs, Moves, moves_none, moves_more, counted, BeginsIf, TakesAt}
 use Rattle.client_core.specs.View.{View, turn_at, unmade_turn}
-use Rattle.core_facts.specs.InFlight.{in_flight, IsUnbegun, IsCounted, Counts}
-use Rattle.core_facts.specs.Counted.{where_, calls_for, known_by}
+use Rattle.core_facts.specs.InFlight.{in_flight, IsUnbegun, Counts}
+use Rattle.core_facts.specs.Counted.{where_, calls_for}
 use Rattle.core_facts.specs.Reaches.{StepsTo, HearsRecord, Reaches, begins, goes, loses, last_reading}
 use Rattle.core_facts.specs.Resting.{NoneBusy}
-use Rattle.core_facts.specs.Tries.{IsMade, IsOutstanding, Tried, unsent, runs, ended}
+use Rattle.core_facts.specs.Tries.{IsMade, Tried, unsent, runs, ended}
 use Rattle.core_facts.proofs.AllCounts.{counts-calls}
 use Rattle.core_facts.proofs.Cases.{Heard, dropped, replied, heard, sent_now, FailedNow, goes_on, gives_up, failed_now, answered_now, taken_one}
-use Rattle.core_facts.proofs.Counting.{IsKnown, calls-some, calls-without, known-only, known-none, one_for, stirs-count, moves-count, starts-count, hears-count, reached-count, none-busy, none-idle}
-use Rattle.core_facts.proofs.Expecting.{AskedOf, KeptOf, ThenOf, Expects, Expected, expects-starts, expects-resumes, expects-takes}
+use Rattle.core_facts.proofs.Counting.{IsKnown, calls-some, calls-without, known-only, known-none, one_for, stirs-count, starts-count, hears-count, reached-count, none-busy, none-idle}
+use Rattle.core_facts.proofs.Steps.{AskedOf, KeptOf, ThenOf}
+use Rattle.core_facts.proofs.Expecting.{Expects, Expected, expects-starts, expects-resumes, expects-takes}
+use Rattle.core_facts.proofs.Faults.{FineResult}
+use Rattle.core_facts.proofs.SaidFaults.{said-fine, unmade-fine}
+use Rattle.core_facts.proofs.Losing.{reached-shown, lost-grow}
 use Rattle.core_facts.proofs.Hearing.{was-sent, says-of, heard-of}
 use Rattle.core_facts.proofs.LaneMarks.{LanesKnown, quiet-facts, lanes-stay, lanes-begin, lanes-under-way, reached-lanes, idle-numbers, number_of}
 use Rattle.core_facts.proofs.Lists.{at-set, at-push, at-position, get-push, get-remove, skip, in-map, to-map}
-use Rattle.core_facts.proofs.Owning.{IsSince, reached-since}
+use Rattle.core_facts.proofs.Owning.{reached-since}
 use Rattle.core_facts.proofs.Resting.{comes-to-rest, none-moves, own-none}
 use Rattle.core_facts.proofs.Rows.{Rows, rows-stay, same-rows, rows-grow, silent-grow, taken-quiet, not-sent, taken-rows, made-known, made-asked, reached-rows}
-use Rattle.core_facts.proofs.Walks.{stirs-stay, moves-stay, starts-stay, steps-stay}
+use Rattle.core_facts.proofs.Walks.{stirs-stay, starts-stay, steps-stay}
 
 -- ---- what is kept
 
--- What came of a call that the machine waited for: a reply to it is in the history.
+-- What came of a call that the machine waited for: a reply to it is in the history. A lost link gives nothing.
 pub record IsTold (h : List Entry) (x : ℕ) (machine : Machine) (came : Result Reply Fault) : Type 0 where
   pub call : Call
   pub expects : Expects machine call
   pub heard : (reply : Reply) → came ≡ Ok reply → Asked h x (length h) call reply
+  pub fine : FineResult came
 
 -- A fact of an operation, which began at a place, that its steps keep, and each entry.
 pub record StoryLaws (machine_of : ℕ → Op → Machine) (S : List Entry → ℕ → Op → State → Type 0) : Type 0 where
@@ -76,7 +81,7 @@ pub record StoryLaws (machine_of : ℕ → Op → Machine) (S : List Entry → �
       (after : Shelf) (others : ℕ) → S h x op (Busy machine) → in_flight machine ≡ others + 1 → IsTold h x machine came → Takes wsize machine sent turn came old next new after
       → ThenOf (λ m. S h x op (Busy m)) (λ a. S h x op (Over a)) next new
   pub grows : (h : List Entry) (e : Entry) (x : ℕ) (op : Op) (state : State) → S h x op state → S (h ++ e ∷ []) x op state
-  pub lost : (h : List Entry) (x : ℕ) (op : Op) → S h x op (Over (Refused faults.Lost))
+  pub lost : (h : List Entry) (x : ℕ) (op : Op) → IsLost h (length h) → S h x op (Over (Refused faults.Lost))
 
 -- ---- operations under way
 
@@ -240,7 +245,7 @@ module _ (machine_of : ℕ → Op → Machine) (unbegun : (lane : ℕ) (op : Op)
 
       told : (x : ℕ) (op : Op) → UnderWay h number x (length h) op → ThenOf (λ m. S h x op (Busy m)) (λ a. S h x op (Over a)) f.next f.after
       told x op u = laws.takes h x op machine v.wsize (turn_at v) (unmade_turn v) (Err f.fault) v.shelf f.next f.after f.left others (o.told x op u) o.counts.0
-          (record { call = call; expects = o.asked; heard = λ reply is. absurd (cc) }) f.takes
+          (record { call = call; expects = o.asked; heard = λ reply is. absurd (cc); fine = unmade-fine v f.fault f.unmade }) f.takes
 
       by : (next : Next) (state : State) → IsRefused f.after next state → KeptOf Expects others machine next f.after
           → ((x : ℕ) (op : Op) → UnderWay h number x (length h) op → ThenOf (λ m. S h x op (Busy m)) (λ a. S h x op (Over a)) next f.after)
@@ -363,7 +368,7 @@ module _ (machine_of : ℕ → Op → Machine) (unbegun : (lane : ℕ) (op : Op)
       (pushed-good (h ++ Began lane line op ∷ []) old.lanes old.calls.calls (record { number = lane; state = Over (Refused faults.Lost) })
       (λ k l there. lane-grows h (Began lane line op) old.calls.calls l
       (λ n o e. idle-numbers lane (numbers_of old.lanes) t.idle.other k (to-map number_of old.lanes k l there ∙ ap Some (sym (began-is lane line l.number n op o e)))) (g k l there))
-      (tt, λ x o u. laws.lost (h ++ Began lane line op ∷ []) x o))
+      (tt, λ x o u. laws.lost (h ++ Began lane line op ∷ []) x o (lost-grow h (Began lane line op) (reached-shown machine_of setup h old r was))))
   begins-good false h old new lane line op was t r b g =
       (moves-good later b.first new b.rest (record { rows = rows; lanes = lanes; known = known; all = first })).all
     where
@@ -462,6 +467,7 @@ module _ (machine_of : ℕ → Op → Machine) (unbegun : (lane : ℕ) (op : Op)
           let said = says-of old rec t.result new xid call t.hears named waits xid named e.made.asked (record { nfs = e.made.nfs; is = sym e.made.proc }) in
           (subst (Says xid e.made.asked rec) is said).is;
     };
+    fine = said-fine call.purpose.proc rec;
   }
     where
       by : Tried h xid call → IsHeard (h ++ Delivered rec ∷ []) x (length h + 1) e.made.asked xid rec
@@ -587,21 +593,21 @@ module _ (machine_of : ℕ → Op → Machine) (unbegun : (lane : ℕ) (op : Op)
   waited-good h old new same was g k lane there =
       waited-lane h old.calls.calls new.calls.calls lane was (g k lane (ap (λ (lanes : List Lane). slice_get lanes k) (sym same) ∙ there))
 
-  lost-lane-good : (h : List Entry) (calls later : List (ℕ × Waiting Purpose)) (number : ℕ) (state : State) → LaneGood h calls (record { number = number; state = state })
+  lost-lane-good : (h : List Entry) (calls later : List (ℕ × Waiting Purpose)) (number : ℕ) (state : State) → IsLost h (length h) → LaneGood h calls (record { number = number; state = state })
       → LaneGood h later (lost_lane (record { number = number; state = state }))
-  lost-lane-good h calls later number (Busy machine) g = (tt, λ x op u. laws.lost h x op)
-  lost-lane-good h calls later number (Over answer) g = (tt, g.1)
+  lost-lane-good h calls later number (Busy machine) l g = (tt, λ x op u. laws.lost h x op l)
+  lost-lane-good h calls later number (Over answer) l g = (tt, g.1)
 
-  lost-good : (h : List Entry) (old new : View) → new.lanes ≡ map lost_lane old.lanes → AllGood h old → AllGood h new
-  lost-good h old new is g k lane there =
+  lost-good : (h : List Entry) (old new : View) → IsLost h (length h) → new.lanes ≡ map lost_lane old.lanes → AllGood h old → AllGood h new
+  lost-good h old new l is g k lane there =
       let m = in-map lost_lane old.lanes k lane (ap (λ (lanes : List Lane). slice_get lanes k) (sym is) ∙ there) in
-      subst (LaneGood h new.calls.calls) (sym m.2) (lost-lane-good h old.calls.calls new.calls.calls m.0.number m.0.state (g k m.0 m.1))
+      subst (LaneGood h new.calls.calls) (sym m.2) (lost-lane-good h old.calls.calls new.calls.calls m.0.number m.0.state l (g k m.0 m.1))
 
-  failed-good : (h : List Entry) (old new : View) → FailedNow old new → AllGood h old → AllGood h new
-  failed-good h old new (goes_on none is) g =
+  failed-good : (h : List Entry) (old new : View) → (new.lost ≡ true → IsLost h (length h)) → FailedNow old new → AllGood h old → AllGood h new
+  failed-good h old new shown (goes_on none is) g =
       waited-good h old new (ap (λ (v : View). v.lanes) is) (λ xid w at. before_failed true old.calls.calls xid w
       (sym (ap (λ (v : View). waiting_at xid v.calls.calls) is ∙ ap (λ (o : Option ℕ). waiting_at xid (failed_after o old.calls.calls)) none) ∙ at)) g
-  failed-good h old new (gives_up xid up is) g = lost-good h old new (ap (λ (v : View). v.lanes) is) g
+  failed-good h old new shown (gives_up xid up is) g = lost-good h old new (shown (ap (λ (v : View). v.lost) is)) (ap (λ (v : View). v.lanes) is) g
 
   same-good : (h : List Entry) (e : Entry) (old new : View) → ((lane line : ℕ) (op : Op) → e ≡ Began lane line op → ⊥) → new ≡ old → AllGood h old → AllGood (h ++ e ∷ []) new
   same-good h e old new other is g = subst (AllGood (h ++ e ∷ [])) (sym is) (all-grows h e old other g)
@@ -618,7 +624,8 @@ module _ (machine_of : ℕ → Op → Machine) (unbegun : (lane : ℕ) (op : Op)
       (λ xid w at. before_sent old.calls.calls xid w (sym (ap (λ (v : View). waiting_at xid v.calls.calls) n.is) ∙ at))
       (all-grows h (Sent bytes) old (λ lane line op e. cc) g)
   good-step h old (Delivered bytes) new t r g = heard-good old.lost h old bytes new refl t r (heard old bytes t.result new t.hears) g
-  good-step h old Failed new (inl t) r g = failed-good (h ++ Failed ∷ []) old new (failed_now old t.0 new t.1) (all-grows h Failed old (λ lane line op e. cc) g)
+  good-step h old Failed new (inl t) r g = failed-good (h ++ Failed ∷ []) old new
+      (reached-shown machine_of setup (h ++ Failed ∷ []) new (goes (h ++ Failed ∷ []) h new old Failed r refl (inl t))) (failed_now old t.0 new t.1) (all-grows h Failed old (λ lane line op e. cc) g)
   good-step h old Failed new (inr t) r g = same-good h Failed old new (λ lane line op e. cc) t g
   good-step h old (Dialed port) new t r g = same-good h (Dialed port) old new (λ lane line op e. cc) t g
   good-step h old (Executed xid call reply) new t r g = same-good h (Executed xid call reply) old new (λ lane line op e. cc) t g
@@ -630,7 +637,7 @@ module _ (machine_of : ℕ → Op → Machine) (unbegun : (lane : ℕ) (op : Op)
   pub reached-good : (h : List Entry) (v : View) → Reaches machine_of setup h v → AllGood h v
   reached-good _ _ (begins h v may up fresh) = λ k lane there. absurd (let no_way : None ≡ Some lane = ap (λ (lanes : List Lane). slice_get lanes k) (sym fresh.lanes) ∙ there in cc)
   reached-good _ _ (goes h before v b e r is t) = subst (λ (k : List Entry). AllGood k v) (sym is) (good-step before b e v t r (reached-good before b r))
-  reached-good _ _ (loses h v b r shown is) = lost-good h b v (ap (λ (w : View). w.lanes) is) (reached-good h b r)
+  reached-good _ _ (loses h v b r shown is) = lost-good h b v (record { to = length h; by = omega arith; loses = shown }) (ap (λ (w : View). w.lanes) is) (reached-good h b r)
 
   -- ---- answers
 

@@ -1,5 +1,5 @@
 -- A sync that went well: COMMIT of its file was answered 0 since it began.
-use Rattle.std.proofs.Common.{◌≡◌, ◌≤◌, ◌+◌, ℕ, Bool, true, false, List, [], ◌∷◌, ◌++◌, length, Option, Some, None, Result, Ok, Err, refl, sym, ap, subst, ◌∙◌, arith}
+use Rattle.std.proofs.Common.{◌≡◌, ◌+◌, ℕ, false, List, [], ◌∷◌, ◌++◌, length, Result, Ok, Err, refl, sym, ap, subst, ◌∙◌, arith}
 use Rattle.nfs_types.specs.declared.verf.Verf.{Verf}
 use Rattle.nfs_types.specs.declared.wcc.Wcc.{Wcc}
 use Rattle.nfs_file_calls.specs.declared.owned.FileKept.{FileKept}
@@ -7,8 +7,6 @@ use Rattle.nfs_file_calls.specs.declared.owned.FileKept.TheVariants as kept
 use Rattle.world_model.specs.declared.answer.Answer.{Answer}
 use Rattle.world_model.specs.declared.answer.Answer.TheVariants as answers
 use Rattle.world_model.specs.declared.answer.Fault.{Fault}
-use Rattle.world_model.specs.declared.answer.Fault.TheVariants as faults
-use Rattle.world_model.specs.declared.answer.Value.{Value}
 use Rattle.world_model.specs.declared.entry.Entry.{Entry}
 use Rattle.world_model.specs.declared.entry.Entry.TheVariants.{Began}
 use Rattle.world_model.specs.declared.message.Call.{Call}
@@ -17,7 +15,6 @@ use Rattle.world_model.specs.declared.message.Reply.TheVariants as replies
 use Rattle.world_model.specs.declared.op.Op.{Op}
 use Rattle.world_model.specs.declared.op.Op.TheVariants as ops
 use Rattle.world_model.specs.Heard.{Asked}
-use Rattle.world_model.specs.Operations.{Ended}
 use Rattle.world_model.specs.Puts.{Committed}
 use Rattle.world_model.proofs.Growth.{Asked-grow, Asked-wide, Committed-grow}
 use Rattle.world_model.proofs.Places.{length_last}
@@ -40,13 +37,11 @@ use Rattle.op_machines.specs.Begun.{machine_of}
 use Rattle.op_machines.specs.Steps.{Starts, Resumes, Takes}
 use Rattle.client_core.specs.declared.lane.State.{State}
 use Rattle.client_core.specs.declared.lane.State.TheVariants.{Busy, Over}
-use Rattle.client_core.specs.declared.setup.Setup.{Setup}
-use Rattle.client_core.specs.View.{View}
 use Rattle.core_facts.specs.InFlight.{of_syncing, in_flight}
-use Rattle.core_facts.specs.Reaches.{Reaches}
 use Rattle.core_facts.specs.Synced.{SyncsCommitted}
 use Rattle.core_facts.proofs.AllCounts.{begins-unbegun}
-use Rattle.core_facts.proofs.Expecting.{ThenOf, SyncExpects, SyncHas, SyncSteps, SyncStarts, sync-starts, sync-resumes, sync-takes}
+use Rattle.core_facts.proofs.Steps.{ThenOf}
+use Rattle.core_facts.proofs.Expecting.{SyncExpects, SyncHas, sync-starts, sync-resumes, sync-takes}
 use Rattle.core_facts.proofs.SaveCommits.{WellDone}
 use Rattle.core_facts.proofs.Stories.{IsTold, StoryLaws, reached-answered}
 
@@ -73,7 +68,7 @@ told-by (kept.Write wcc count committed v) verf is = absurd cc
 told-by (kept.WriteFail status wcc) verf is = absurd cc
 told-by reply verf is = absurd cc
 
-told-commit : (came : Result Reply Fault) (verf : Verf) → commit_told came ≡ Ok verf → CameCommitted verf came
+pub told-commit : (came : Result Reply Fault) (verf : Verf) → commit_told came ≡ Ok verf → CameCommitted verf came
 told-commit (Ok (replies.File reply)) verf is = told-by reply verf is
 told-commit (Ok (replies.Dir reply)) verf is = absurd cc
 told-commit (Ok (replies.Mount reply)) verf is = absurd cc
@@ -157,7 +152,7 @@ sync-hears h x wsize sent turn came m f old next new after others has one told s
     (then-runs h x f m next s.step.state t.then_)
 
 -- one entry more
-committed-later : (h : List Entry) (e : Entry) (x : ℕ) (f : List ℕ) → Committed h x (length h) f → Committed (h ++ e ∷ []) x (length (h ++ e ∷ [])) f
+pub committed-later : (h : List Entry) (e : Entry) (x : ℕ) (f : List ℕ) → Committed h x (length h) f → Committed (h ++ e ∷ []) x (length (h ++ e ∷ [])) f
 committed-later h e x f c =
     let grown = Asked-grow h (e ∷ []) x (length h) (saves.commit_of f) (replies.File (kept.Commit c.wcc c.verf)) c.asked in
     let more = length_last h e in
@@ -193,7 +188,7 @@ sync-laws mounted = record {
       sync-hears h x wsize sent turn came k.m k.f old next new after others k.has (sym (ap in_flight k.is) ∙ one)
       (subst (λ (n : Machine). IsTold h x n came) k.is told) (subst (λ (n : Machine). Takes wsize n sent turn came old next new after) k.is t));
   grows = λ h e x op state story slot is. state-later h e x state (story slot is);
-  lost = λ h x op slot is. record { f = []; well = tt };
+  lost = λ h x op shown slot is. record { f = []; well = tt };
 }
 
 pub syncs-committed : SyncsCommitted

@@ -2,11 +2,16 @@
 use Rattle.std.specs.Prelude.{◌≡◌, ℕ, List, length, Some, true, slice_get}
 use Rattle.rpc_retry.specs.Sound.{IsSound}
 use Rattle.bond_calls.specs.Calls.{Numbered}
+use Rattle.world_model.specs.declared.answer.Answer.TheVariants.{Refused}
+use Rattle.world_model.specs.declared.answer.Fault.TheVariants as faults
 use Rattle.world_model.specs.declared.entry.Entry.{Entry}
 use Rattle.world_model.specs.declared.op.Op.{Op}
 use Rattle.world_model.specs.Follows.{marks_of, Alternates}
 use Rattle.world_model.specs.LanesTogether.{IsBusy}
 use Rattle.world_model.specs.Lost.{IsLost}
+use Rattle.world_model.specs.Operations.{Ended}
+use Rattle.op_machines.specs.Begun.{machine_of}
+use Rattle.op_machines.specs.declared.begun.Mounted.{Mounted}
 use Rattle.op_machines.specs.declared.machine.Machine.{Machine}
 use Rattle.client_core.specs.declared.lane.Lane.{Lane}
 use Rattle.client_core.specs.declared.setup.Setup.{Setup}
@@ -44,3 +49,8 @@ LanesUnderWay = (machine_of : ℕ → Op → Machine) (setup : Setup) (h : List 
 abbrev pub LossesShown : Type 0
 LossesShown = (machine_of : ℕ → Op → Machine) (setup : Setup) (h : List Entry) (v : View) → Reaches machine_of setup h v
     → v.lost ≡ true → IsLost h (length h)
+
+-- An operation is answered that the session is lost only where one of them came before its answer.
+abbrev pub LostAnswersShown : Type 0
+LostAnswersShown = (m : Mounted) (setup : Setup) (h : List Entry) (v : View) → Reaches (machine_of m) setup h v
+    → (lane x : ℕ) (op : Op) (y : ℕ) → Ended h lane x op y (Refused faults.Lost) → IsLost h y

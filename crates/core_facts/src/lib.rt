@@ -7,8 +7,8 @@ ghost use Rattle.core_facts.specs.InFlight.{CountsCalls};
 ghost use Rattle.core_facts.specs.Counted.{CallsOwned};
 ghost use Rattle.core_facts.specs.Resting.{ComeToRest};
 ghost use Rattle.core_facts.specs.Hearing.{RepliesHeard};
-ghost use Rattle.core_facts.specs.Synced.{SyncsCommitted};
-ghost use Rattle.core_facts.specs.Lanes.{CallsSound, ReachedNumbered, LanesAlternate, LanesUnderWay, LossesShown};
+ghost use Rattle.core_facts.specs.Synced.{SyncsCommitted, PutsCommitted};
+ghost use Rattle.core_facts.specs.Lanes.{CallsSound, ReachedNumbered, LanesAlternate, LanesUnderWay, LossesShown, LostAnswersShown};
 
 /// The calls that wait have different xids, which rise and lie below the next one; at most 32 wait, and no more were made than may be.
 pub fn waiting_calls_are_sound()
@@ -29,6 +29,11 @@ pub fn calls_are_numbered()
 /// A session is lost only where a call was sent four times in vain, four dials in a row failed, or too many records were dropped.
 pub fn losses_are_shown()
     ensures { LossesShown }
+{}
+
+/// An operation is answered that the session is lost only where the history shows one of these before the answer.
+pub fn lost_answers_are_lost()
+    ensures { LostAnswersShown }
 {}
 
 /// In each lane the lines begin one after the other: each but the last is answered before the next begins.
@@ -66,4 +71,9 @@ pub fn replies_are_heard()
 /// A sync is answered ok only where a COMMIT of the whole file that it saves, sent since the sync began, was answered 0.
 pub fn syncs_are_committed()
     ensures { SyncsCommitted }
+{}
+
+/// A put is answered ok only where a COMMIT of the whole file that it saves, sent since the put began, was answered 0.
+pub fn puts_are_committed()
+    ensures { PutsCommitted }
 {}

@@ -1,0 +1,107 @@
+-- An operation is answered that the session is lost only where the history shows it.
+use Rattle.std.proofs.Common.{◌≤◌, ℕ, List, [], ◌∷◌, ◌++◌, length, sym, subst, arith, append_assoc}
+use Rattle.std.proofs.lemmas.List.{append-nil}
+use Rattle.world_model.specs.declared.answer.Answer.{Answer}
+use Rattle.world_model.specs.declared.answer.Answer.TheVariants.{Done, Refused}
+use Rattle.world_model.specs.declared.answer.Fault.TheVariants as faults
+use Rattle.world_model.specs.declared.entry.Entry.{Entry}
+use Rattle.world_model.specs.declared.op.Op.{Op}
+use Rattle.world_model.specs.Lost.{Loses, IsLost}
+use Rattle.world_model.proofs.Places.{length_last}
+use Rattle.client_shelf.specs.declared.next.Next.{Next}
+use Rattle.client_shelf.specs.declared.next.Next.TheVariants as nexts
+use Rattle.op_machines.specs.declared.begun.Mounted.{Mounted}
+use Rattle.op_machines.specs.declared.machine.Machine.{Machine}
+use Rattle.op_machines.specs.Begun.{machine_of}
+use Rattle.client_core.specs.declared.lane.State.{State}
+use Rattle.client_core.specs.declared.lane.State.TheVariants.{Busy, Over}
+use Rattle.core_facts.specs.Lanes.{LostAnswersShown}
+use Rattle.core_facts.proofs.AllCounts.{begins-unbegun}
+use Rattle.core_facts.proofs.AllFaults.{FineMachine, MachineStep, all-starts, all-resumes, all-takes, begins-fine}
+use Rattle.core_facts.proofs.Faults.{FineAnswer}
+use Rattle.core_facts.proofs.Losing.{lost-grow, loses-grow}
+use Rattle.core_facts.proofs.Steps.{ThenOf}
+use Rattle.core_facts.proofs.Stories.{StoryLaws, reached-answered}
+
+-- an answer that the session is lost has a cause before it
+abbrev AnswerShown : List Entry → Answer → Type 0
+AnswerShown h (Done value) = Unit {0}
+AnswerShown h (Refused faults.Lost) = IsLost h (length h)
+AnswerShown h (Refused (faults.Nfs status)) = Unit {0}
+AnswerShown h (Refused (faults.Rpc n)) = Unit {0}
+AnswerShown h (Refused (faults.Bad rule)) = Unit {0}
+AnswerShown h (Refused faults.Spent) = Unit {0}
+AnswerShown h (Refused faults.Slot) = Unit {0}
+AnswerShown h (Refused faults.Mode) = Unit {0}
+AnswerShown h (Refused faults.Kind) = Unit {0}
+AnswerShown h (Refused faults.Many) = Unit {0}
+AnswerShown h (Refused faults.Memory) = Unit {0}
+
+abbrev StateShown : List Entry → State → Type 0
+StateShown h (Busy machine) = FineMachine machine
+StateShown h (Over answer) = AnswerShown h answer
+
+abbrev Shown : List Entry → ℕ → Op → State → Type 0
+Shown h x op state = StateShown h state
+
+-- another answer needs none
+fine-shown : (h : List Entry) (answer : Answer) → FineAnswer answer → AnswerShown h answer
+fine-shown h (Done value) f = tt
+fine-shown h (Refused faults.Lost) f = absurd f
+fine-shown h (Refused (faults.Nfs status)) f = tt
+fine-shown h (Refused (faults.Rpc n)) f = tt
+fine-shown h (Refused (faults.Bad rule)) f = tt
+fine-shown h (Refused faults.Spent) f = tt
+fine-shown h (Refused faults.Slot) f = tt
+fine-shown h (Refused faults.Mode) f = tt
+fine-shown h (Refused faults.Kind) f = tt
+fine-shown h (Refused faults.Many) f = tt
+fine-shown h (Refused faults.Memory) f = tt
+
+step-shown : (h : List Entry) (next : Next) (new : Machine) → MachineStep next new → ThenOf (λ m. StateShown h (Busy m)) (λ a. StateShown h (Over a)) next new
+step-shown h (nexts.Send call) new s = s.1
+step-shown h nexts.Wait new s = s.1
+step-shown h (nexts.Done answer) new s = fine-shown h answer s.0
+
+answer-later : (h : List Entry) (e : Entry) (answer : Answer) → AnswerShown h answer → AnswerShown (h ++ e ∷ []) answer
+answer-later h e (Done value) s = tt
+answer-later h e (Refused faults.Lost) s = lost-grow h e s
+answer-later h e (Refused (faults.Nfs status)) s = tt
+answer-later h e (Refused (faults.Rpc n)) s = tt
+answer-later h e (Refused (faults.Bad rule)) s = tt
+answer-later h e (Refused faults.Spent) s = tt
+answer-later h e (Refused faults.Slot) s = tt
+answer-later h e (Refused faults.Mode) s = tt
+answer-later h e (Refused faults.Kind) s = tt
+answer-later h e (Refused faults.Many) s = tt
+answer-later h e (Refused faults.Memory) s = tt
+
+state-later : (h : List Entry) (e : Entry) (state : State) → StateShown h state → StateShown (h ++ e ∷ []) state
+state-later h e (Busy machine) s = s
+state-later h e (Over answer) s = answer-later h e answer s
+
+shown-laws : (m : Mounted) → StoryLaws (machine_of m) Shown
+shown-laws m = record {
+  starts = λ h lane line op wsize turn old next new after s.
+      step-shown _ next new (all-starts (machine_of m lane op) wsize turn old next new after (begins-fine m lane op) s);
+  resumes = λ h x op machine wsize turn old next new after story r. step-shown h next new (all-resumes machine wsize turn old next new after story r);
+  takes = λ h x op machine wsize sent turn came old next new after others story one told t.
+      step-shown h next new (all-takes machine wsize sent turn came old next new after told.fine story t);
+  grows = λ h e x op state story. state-later h e state story;
+  lost = λ h x op shown. shown;
+}
+
+-- what was shown goes on being shown
+loses-more : (h more : List Entry) (to : ℕ) → to ≤ length h → Loses h to → Loses (h ++ more) to
+loses-more h [] to within l = subst (λ (k : List Entry). Loses k to) (sym (append-nil h)) l
+loses-more h (e ∷ more) to within l =
+    let long = length_last h e in
+    subst (λ (k : List Entry). Loses k to) (append_assoc h (e ∷ []) more) (loses-more (h ++ e ∷ []) more to (omega (arith, within, long)) (loses-grow h e to within l))
+
+pub lost-answers : LostAnswersShown
+lost-answers m setup h v r lane x op y ended =
+    let s = reached-answered (machine_of m) (begins-unbegun m) setup Shown (shown-laws m) h v r lane x op y (Refused faults.Lost) ended in
+    let story : IsLost s.before (length s.before) = s.story in
+    let there = s.there in
+    let by = story.by in
+    record { to = story.to; by = omega (arith, by, there); loses = subst (λ (k : List Entry). Loses k story.to) (sym s.is) (loses-more s.before s.after story.to story.by story.loses) }
