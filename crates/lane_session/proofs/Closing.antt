@@ -1,0 +1,116 @@
+-- What a session promises, once its lines have ended and its counts are written.
+use Rattle.std.proofs.Common.{◌≡◌, ◌≢◌, ◌≤◌, ◌⊎◌, inl, inr, ℕ, Bool, List, [], ◌++◌, length, Option, Result, Ok, Err, refl, sym, ap, subst, ◌∙◌, arith, append-nil, append_assoc}
+use Rattle.outside.specs.Causes.{Rose}
+use Rattle.world_model.specs.declared.entry.Entry.{Entry}
+use Rattle.world_model.specs.declared.tally.Tally.{Tally}
+use Rattle.world_model.specs.Clocked.{clocks}
+use Rattle.world_model.specs.Counts.{tally_of}
+use Rattle.world_model.specs.History.{History}
+use Rattle.world_model.specs.Told.{Relates}
+use Rattle.world_model.specs.Transcript.{transcript}
+use Rattle.nfs_script.specs.declared.script.ScriptLine.{ScriptLine}
+use Rattle.lane_session.specs.declared.halt.Halt.{Halt}
+use Rattle.lane_session.specs.declared.halt.Halt.TheVariants as halts
+use Rattle.lane_session.specs.declared.top.End.{End}
+use Rattle.lane_session.specs.Sessions.{SessionIs, EndsAs, whole, cut, TextOf, whole_text, front_text, NotesAll, IsDone, IsBroken, counts_text, TellsEnd, tells, tells_front}
+use Rattle.lane_session.specs.Statuses.{of_halt, IsCutOff, IsLeft, HasStatus, IsEnding, CausedBy}
+use Rattle.lane_session.specs.Streams.{Says, Passes}
+use Rattle.lane_session.proofs.Passing.{appends_then, relates_less}
+use Rattle.lane_session.proofs.Reaching.{relates-both}
+
+module _ (r0 r1 : Option (List ℕ)) (t0 t1 : Option History) (w0 w1 w2 : Option (List ℕ)) (R S : List ℕ → List ℕ → List Entry → List Entry → Type 0) (Q : List ℕ → Type 0) where
+  -- a text more is written
+  pub passes-more : ((g t u : List ℕ) (h k : List Entry) → R g t h k → Q u → S g (t ++ u) h k) → Passes r0 r1 t0 t1 w0 w1 R → Says w1 w2 Q → Passes r0 r1 t0 t1 w0 w2 S
+  passes-more join p q = record {
+    given = p.given;
+    read = p.read;
+    text = p.text ++ q.text;
+    added = appends_then w0 w1 w2 p.text q.text p.added q.added;
+    told = relates_less t0 t1 _ _ (λ h k x. join p.given p.text q.text h k x q.is) p.told;
+  }
+
+cut-off : (halt : Halt) → IsCutOff (of_halt halt)
+cut-off halts.Output = inl refl
+cut-off halts.Memory = inr refl
+
+few-left : (halt : Halt) (last : List ℕ) → IsLeft halt last → length last ≤ 1
+few-left halts.Output last is = rw is (omega arith)
+few-left halts.Memory last few = few
+
+none-left : (halt : Halt) (last : List ℕ) → IsLeft halt last → of_halt halt ≢ 7 → last ≡ []
+none-left halts.Output last is other = is
+none-left halts.Memory last few other = absurd (other refl)
+
+pub done-session : (count : Bool) (script : List ScriptLine) (end : End) (status : ℕ) (given text more : List ℕ) (h k : List Entry) → IsDone script end given text h k → TellsEnd end count status more
+    → SessionIs count script given h k status (text ++ more)
+done-session count script end status given text more h k d (tells is shown) = record {
+  grown = d.grown;
+  follows = d.follows;
+  ends = whole d.finishes (subst (HasStatus k) (sym is) d.status);
+  tally = end.tally;
+  says = whole_text (ap (λ (t : List ℕ). t ++ more) d.shown ∙ ap (λ (t : List ℕ). transcript k ++ t) shown);
+  clock = record { last = []; is = sym d.clocked ∙ sym (append-nil (clocks k)); few = omega arith; whole = λ other. refl };
+  timed = d.timed;
+}
+done-session count script end status given text more h k d (tells_front off front) = record {
+  grown = d.grown;
+  follows = d.follows;
+  ends = cut off;
+  tally = end.tally;
+  says = front_text off (record {
+    rest = front.rest;
+    is = ap (λ (t : List ℕ). transcript k ++ t) front.is ∙ sym (append_assoc (transcript k) more front.rest) ∙ ap (λ (t : List ℕ). (t ++ more) ++ front.rest) (sym d.shown);
+  });
+  clock = record { last = []; is = sym d.clocked ∙ sym (append-nil (clocks k)); few = omega arith; whole = λ other. refl };
+  timed = d.timed;
+}
+
+pub broken-session : (count : Bool) (script : List ScriptLine) (tally : Tally) (halt : Halt) (status : ℕ) (given text : List ℕ) (h k : List Entry) → status ≡ of_halt halt → IsBroken script halt given text h k
+    → SessionIs count script given h k status text
+broken-session count script tally halt status given text h k is b =
+    let off : IsCutOff status = subst IsCutOff (sym is) (cut-off halt) in
+    record {
+      grown = b.grown;
+      follows = b.follows;
+      ends = cut off;
+      tally = tally;
+      says = front_text off (record {
+        rest = b.shown.rest ++ counts_text count tally;
+        is = ap (λ (t : List ℕ). t ++ counts_text count tally) b.shown.is ∙ append_assoc text b.shown.rest (counts_text count tally);
+      });
+      clock = record { last = b.last; is = b.clocked; few = few-left halt b.last b.left; whole = λ other. none-left halt b.last b.left (λ same. other (is ∙ same)) };
+      timed = b.timed;
+    }
+
+-- ---- with the counts of the history
+
+pub done-counted : (count : Bool) (script : List ScriptLine) (end : End) (status : ℕ) (given text more : List ℕ) (h k : List Entry) → IsDone script end given text h k → TellsEnd end count status more → end.tally ≡ tally_of k
+    → TextOf count (tally_of k) k status (text ++ more)
+done-counted count script end status given text more h k d told is = subst (λ (t : Tally). TextOf count t k status (text ++ more)) is (by told)
+  where
+    by : TellsEnd end count status more → TextOf count end.tally k status (text ++ more)
+    by (tells same shown) = whole_text (ap (λ (t : List ℕ). t ++ more) d.shown ∙ ap (λ (t : List ℕ). transcript k ++ t) shown)
+    by (tells_front off front) = front_text off (record {
+      rest = front.rest;
+      is = ap (λ (t : List ℕ). transcript k ++ t) front.is ∙ sym (append_assoc (transcript k) more front.rest) ∙ ap (λ (t : List ℕ). (t ++ more) ++ front.rest) (sym d.shown);
+    })
+
+pub broken-counted : (count : Bool) (script : List ScriptLine) (halt : Halt) (status : ℕ) (given text : List ℕ) (h k : List Entry) → status ≡ of_halt halt → IsBroken script halt given text h k
+    → TextOf count (tally_of k) k status text
+broken-counted count script halt status given text h k is b = front_text (subst IsCutOff (sym is) (cut-off halt)) (record {
+  rest = b.shown.rest ++ counts_text count (tally_of k);
+  is = ap (λ (t : List ℕ). t ++ counts_text count (tally_of k)) b.shown.is ∙ append_assoc text b.shown.rest (counts_text count (tally_of k));
+})
+
+module _ (r0 r1 : Option (List ℕ)) (t0 t1 : Option History) (w0 w1 : Option (List ℕ)) (R : List ℕ → List ℕ → List Entry → List Entry → Type 0) (S : List Entry → List Entry → Type 0) where
+  -- what is so of the histories, too
+  pub passes-both : Passes r0 r1 t0 t1 w0 w1 R → Relates t0 t1 S → Passes r0 r1 t0 t1 w0 w1 (λ g t h k. R g t h k × S h k)
+  passes-both p s = record { given = p.given; read = p.read; text = p.text; added = p.added; told = relates-both t0 t1 (λ h k. R p.given p.text h k) S p.told s }
+
+pub halted : (halt : Halt) (status : ℕ) → status ≡ of_halt halt → IsEnding status
+halted halts.Output status is = inr (inr (inr (inl is)))
+halted halts.Memory status is = inr (inr (inr (inr is)))
+
+pub sink-caused : (halt : Halt) (status : ℕ) (P : Type 0) → status ≡ of_halt halt → CausedBy {T = End} (Err halt) P → status ≡ 5 → P
+sink-caused halts.Output status P is p five = p
+sink-caused halts.Memory status P is p five = absurd (omega (arith, is, five))

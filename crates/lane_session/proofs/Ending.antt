@@ -1,0 +1,173 @@
+-- What a session comes to, whose lines were all begun and answered, or that was cut off.
+use Rattle.std.proofs.Common.{Bool, ◌≡◌, ◌≢◌, ◌≤◌, ◌<◌, ◌-◌, ◌⊎◌, inl, inr, ℕ, zero, suc, List, [], ◌∷◌, ◌++◌, length, take, replicate, slice_get, All, true, false, cond, nat_eq, nat_lt, Option, Some, None, Result, Ok, Err, refl, sym, ap, subst, ◌∙◌, arith, append-nil}
+use Rattle.world_model.specs.declared.entry.Entry.{Entry}
+use Rattle.world_model.specs.declared.entry.Entry.TheVariants.{Began}
+use Rattle.world_model.specs.declared.op.Op.{Op}
+use Rattle.world_model.specs.Clocked.{clocks}
+use Rattle.world_model.specs.Entries.{At}
+use Rattle.world_model.specs.Follows.{begun, marks_of, Follows, Finishes}
+use Rattle.world_model.specs.Operations.{AnsweredBefore}
+use Rattle.world_model.specs.Transcript.{transcript}
+use Rattle.nfs_script.specs.Asked.{IsAskedLine}
+use Rattle.nfs_script.specs.declared.script.ScriptLine.{ScriptLine}
+use Rattle.std.proofs.lemmas.Bool.{ltb-true, ltb-false}
+use Rattle.rpc_retry.specs.Sound.{IsSound}
+use Rattle.session_words.specs.declared.settings.Settings.{Settings}
+use Rattle.client_core.specs.declared.lane.Lane.{Lane}
+use Rattle.client_core.specs.declared.setup.Setup.{Setup}
+use Rattle.client_core.specs.Numbers.{IsOther, numbers_of}
+use Rattle.core_facts.specs.Reaches.{MaySetUp}
+use Rattle.lane_session.specs.declared.halt.Halt.{Halt}
+use Rattle.lane_session.specs.declared.halt.Halt.TheVariants as halts
+use Rattle.lane_session.specs.declared.lanes.Place.{Place}
+use Rattle.lane_session.specs.declared.running.Session.{Session}
+use Rattle.lane_session.specs.declared.top.End.{End}
+use Rattle.lane_session.specs.Going.{Goes, Went, GoesOn, CutsOff, GoesBy}
+use Rattle.lane_session.specs.Holding.{AreQuiet, IsHeld}
+use Rattle.lane_session.specs.LaneMarks.{IsResting}
+use Rattle.lane_session.specs.Places.{entries_of, IsOpen, IsPlaced, AreIdle}
+use Rattle.lane_session.specs.Sessions.{IsUnmarked, IsDone, IsBroken, EndsBy}
+use Rattle.lane_session.specs.Statuses.{HasStatus}
+use Rattle.lane_session.specs.Running.{IsFreshFor, first_place}
+use Rattle.lane_session.specs.Streams.{IsFrontOf}
+use Rattle.lane_session.proofs.LaneLaws.{resting-alternates}
+use Rattle.lane_session.proofs.LostLaws.{Gone, none-gone, untold}
+use Rattle.lane_session.proofs.Placing.{begun-other}
+use Rattle.lane_session.proofs.Pushes.{begun-append}
+
+-- ---- all lines were begun and answered
+
+-- a lane is one of 1 to 16, or another
+which : (lane : ℕ) → ((n : ℕ) × (n < 16) × (lane ≡ suc n)) ⊎ ((lane ≡ 0) ⊎ (16 < lane))
+which zero = inr (inl refl)
+which (suc n) = by n (nat_lt n 16) refl
+  where
+    by : (n : ℕ) (b : Bool) → nat_lt n 16 ≡ b → ((m : ℕ) × (m < 16) × (suc n ≡ suc m)) ⊎ ((suc n ≡ 0) ⊎ (16 < suc n))
+    by n true e = inl (n, ltb-true n 16 e, refl)
+    by n false e = let over = ltb-false n 16 e in inr (inr (omega (arith, over)))
+
+in-list : (ps : List Place) (n : ℕ) → n < length ps → (p : Place) × (slice_get ps n ≡ Some p)
+in-list [] n lt = absurd (omega (arith, lt))
+in-list (p ∷ ps) zero lt = (p, refl)
+in-list (p ∷ ps) (suc n) lt = in-list ps n (omega (arith, lt))
+
+take-whole : (script : List ScriptLine) (n : ℕ) → n ≡ length script → take n script ≡ script
+take-whole [] zero is = refl
+take-whole [] (suc n) is = refl
+take-whole (x ∷ xs) zero is = absurd (omega (arith, is))
+take-whole (x ∷ xs) (suc n) is = ap (λ (t : List ScriptLine). x ∷ t) (take-whole xs n (omega (arith, is)))
+
+-- no line is that of a lane out of bounds
+out-differs : (lane other : ℕ) → 1 ≤ other → other ≤ 16 → (lane ≡ 0) ⊎ (16 < lane) → other ≢ lane
+out-differs lane other least most (inl is) same = omega (arith, least, is, same)
+out-differs lane other least most (inr over) same = omega (arith, most, over, same)
+
+none-out : (script : List ScriptLine) (lane : ℕ) → All IsAskedLine script → (lane ≡ 0) ⊎ (16 < lane) → begun lane (entries_of script) ≡ []
+none-out [] lane asked out = refl
+none-out (l ∷ ls) lane asked out =
+    let one : IsAskedLine l = asked 0 l (omega arith) in
+    begun-append lane (Began l.lane l.line l.op ∷ []) (entries_of ls)
+    ∙ ap (λ (t : List Entry). t ++ begun lane (entries_of ls)) (begun-other lane l.lane l.line l.op (out-differs lane l.lane one.lane.least one.lane.most out))
+    ∙ none-out ls lane (λ k d lt. asked (suc k) d (omega (arith, lt))) out
+
+module _ (script : List ScriptLine) (k : List Entry) (s : Session) (asked : All IsAskedLine script) (long : length s.lanes ≡ 16) (idle : AreIdle s.lanes) (quiet : AreQuiet script s) (g : Goes script k s) where
+  -- a lane has begun all of its lines, and answered them
+  at-end : (lane : ℕ) → (begun lane k ≡ begun lane (entries_of script)) × IsResting k lane
+  at-end lane = by (which lane)
+    where
+      by : ((n : ℕ) × (n < 16) × (lane ≡ suc n)) ⊎ ((lane ≡ 0) ⊎ (16 < lane)) → (begun lane k ≡ begun lane (entries_of script)) × IsResting k lane
+      by (inl w) =
+          let n : ℕ = w.0 in
+          let lt : n < 16 = w.1 in
+          let p = in-list s.lanes n (omega (arith, lt, long)) in
+          let none : p.0.line ≡ None = idle n p.0 p.1 in
+          let next : p.0.next ≡ length script = (quiet n lt).none p.0 p.1 none in
+          let placed : IsPlaced script k (suc n) p.0 = g.placed n p.0 p.1 in
+          subst (λ (m : ℕ). (begun m k ≡ begun m (entries_of script)) × IsResting k m) (sym w.2) (
+            placed.begins ∙ ap (λ (t : List ScriptLine). begun (suc n) (entries_of t)) (take-whole script p.0.next next),
+            subst (IsOpen k (suc n)) none placed.open_line,
+          )
+      by (inr out) = ((g.others lane out).0 ∙ sym (none-out script lane asked out), (g.others lane out).1)
+
+  pub session-ends : (end : End) (old : Session) (given text : List ℕ) (h : List Entry) → end.status ≡ s.status → IsUnmarked h → GoesOn script old s given text h k → IsDone script end given text h k
+  session-ends end old given text h status u on = record {
+    follows = record {
+      alternates = λ lane. resting-alternates k lane (at-end lane).1;
+      begins = λ lane. record { rest = []; is = sym (at-end lane).0 ∙ sym (append-nil (begun lane k)) };
+    };
+    finishes = record { all = λ lane. (at-end lane).0; answered = λ x lane line op at. (at-end lane).1.answered x line op at };
+    status = subst (HasStatus k) (sym status) g.status;
+    shown = sym (on.shown ∙ ap (λ (t : List ℕ). t ++ text) (untold h u));
+    grown = on.grown;
+    clocked = on.clocked;
+    timed = g.timed;
+  }
+
+pub session-breaks : (script : List ScriptLine) (old : Session) (halt : Halt) (given text : List ℕ) (h k : List Entry) → IsUnmarked h → Goes script h old → CutsOff script old halt given text h k → IsBroken script halt given text h k
+session-breaks script old halt given text h k u g c =
+    let w : Went script k = c.went g in
+    record {
+      follows = record { alternates = w.alternates; begins = w.begins };
+      shown = record { rest = c.shown.rest; is = c.shown.is ∙ ap (λ (t : List ℕ). (t ++ text) ++ c.shown.rest) (untold h u) };
+      last = c.last;
+      grown = c.grown;
+      clocked = c.clocked;
+      left = c.left;
+      timed = w.timed;
+    }
+
+-- ---- a session that begins
+
+replicate-get : (m n : ℕ) (p q : Place) → slice_get (replicate m q) n ≡ Some p → p ≡ q
+replicate-get zero n p q there = absurd (cc)
+replicate-get (suc m) zero p q there = let is : q ≡ p = cc in sym is
+replicate-get (suc m) (suc n) p q there = replicate-get m n p q there
+
+module _ (script : List ScriptLine) (settings : Settings) (setup : Setup) (s : Session) (f : IsFreshFor settings setup s) where
+  first-place : (n : ℕ) (p : Place) → slice_get s.lanes n ≡ Some p → p ≡ first_place
+  first-place n p there = replicate-get 16 n p first_place (subst (λ (ps : List Place). slice_get ps n ≡ Some p) f.lanes there)
+
+  pub fresh-held : MaySetUp setup → IsHeld script s
+  fresh-held may = record {
+    live = record {
+      calls = subst IsSound (sym f.core.calls) (record { first = may.first; last = may.last; within = omega arith; few = omega arith; each = omega arith });
+      some = λ left. f.core.lost;
+      few = let a = f.attempts in omega (arith, a);
+      dropped = let d = f.dropped in omega (arith, d);
+      undropped = λ left. let d = f.dropped in omega (arith, d);
+    };
+    seated = record {
+      sixteen = ap length f.lanes;
+      idle = λ n p there none. subst (λ (ls : List Lane). IsOther (suc n) (numbers_of ls)) (sym f.core.lanes) tt;
+      within = λ n p there. let next : p.next ≡ 0 = ap (λ (q : Place). q.next) (first-place n p there) in omega (arith, next);
+      begun = let b = f.core.begun in omega (arith, b);
+    };
+    status = inl f.status;
+  }
+
+  pub fresh-goes : (h : List Entry) → IsUnmarked h → Goes script h s
+  fresh-goes h u =
+      let g : Gone [] h = none-gone h u in
+      record {
+        others = λ lane out. (g.begins lane, g.resting lane);
+        placed = λ n p there. subst (IsPlaced script h (suc n)) (sym (first-place n p there)) (record { begins = g.begins (suc n); open_line = g.resting (suc n) });
+        status = subst (HasStatus h) (sym f.status) g.status;
+        timed = g.all_timed;
+      }
+
+-- nothing was begun, for want of memory
+pub broken-none : (script : List ScriptLine) (h : List Entry) → IsUnmarked h → IsBroken script halts.Memory [] [] h h
+broken-none script h u =
+    let g : Gone [] h = none-gone h u in
+    record {
+      follows = record {
+        alternates = λ lane. resting-alternates h lane (g.resting lane);
+        begins = λ lane. record { rest = begun lane (entries_of script); is = sym (ap (λ (t : List Entry). t ++ begun lane (entries_of script)) (g.begins lane)) };
+      };
+      shown = record { rest = []; is = untold h u };
+      last = [];
+      grown = ([], sym (append-nil h));
+      clocked = refl;
+      left = omega arith;
+      timed = g.all_timed;
+    }

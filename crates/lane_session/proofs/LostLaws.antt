@@ -1,0 +1,282 @@
+-- The history of a session that was lost before any of its lines began.
+use Rattle.std.proofs.Common.{◌≡◌, ◌≢◌, ℕ, zero, suc, List, [], ◌∷◌, ◌++◌, take, drop, slice_get, true, false, cond, nat_eq, Some, Err, inl, inr, refl, sym, ap, subst, ◌∙◌, arith, append-nil, append_assoc}
+use Rattle.std.specs.Prelude.{length}
+use Rattle.std.proofs.lemmas.Bool.{eqb-true, eqb-false}
+use Rattle.std.proofs.lemmas.List.{take-append-drop}
+use Rattle.world_model.specs.declared.answer.Answer.{Answer}
+use Rattle.world_model.specs.declared.answer.Answer.TheVariants.{Refused}
+use Rattle.world_model.specs.declared.answer.Fault.TheVariants as faults
+use Rattle.world_model.specs.declared.entry.Entry.{Entry}
+use Rattle.world_model.specs.declared.entry.Entry.TheVariants.{Began, Answered, Dialed, Sent, Executed, Foreign, Flushed, Reboot, Delivered, Failed, Clock}
+use Rattle.world_model.specs.declared.op.Op.{Op}
+use Rattle.world_model.specs.Clocked.{clocks}
+use Rattle.world_model.specs.Entries.{At}
+use Rattle.world_model.specs.Follows.{begun, marks_of, Alternates, IsFront, Follows, Finishes}
+use Rattle.world_model.specs.Transcript.{transcript, line_text}
+use Rattle.nfs_script.specs.declared.script.ScriptLine.{ScriptLine}
+use Rattle.core_facts.proofs.Marks.{not-began, not-answered, began-other, answered-other}
+use Rattle.lane_session.specs.declared.halt.Halt.{Halt}
+use Rattle.lane_session.specs.declared.top.End.{End}
+use Rattle.lane_session.specs.Going.{AllTimed}
+use Rattle.lane_session.specs.LaneMarks.{IsRunning, IsResting, closed_none}
+use Rattle.lane_session.specs.Losing.{lost_line, LostLines, no_line, one_line, LostPart, nothing, timed, begun as part_begun, answered as part_answered, IsToldOf, LosesBy, status_of}
+use Rattle.lane_session.specs.Places.{entries_of}
+use Rattle.lane_session.specs.Sessions.{IsUnmarked, IsDone, IsBroken, EndsBy}
+use Rattle.lane_session.specs.Statuses.{HasStatus, well, IsSessionStatus}
+use Rattle.lane_session.specs.Streams.{IsFrontOf}
+use Rattle.lane_session.proofs.LaneLaws.{running-alternates, resting-alternates, resting-grow, begins-now, answers-now}
+use Rattle.lane_session.proofs.Placing.{status-quiet, status-answer, timed-quiet, timed-begin}
+use Rattle.lane_session.proofs.Pushes.{clocks-append, transcript-append, begun-append}
+
+-- ---- no mark
+
+pub apart : (lane : ℕ) (e : Entry) (es : List Entry) → marks_of lane (e ∷ es) ≡ [] → (marks_of lane (e ∷ []) ≡ []) × (marks_of lane es ≡ [])
+apart lane (Began l line op) es q = (elim (nat_eq l lane) as (λ b. cond b (Began l line op ∷ marks_of lane es) (marks_of lane es) ≡ [] → (cond b (Began l line op ∷ []) [] ≡ []) × (marks_of lane es ≡ [])) [
+  | true ↦ λ h. absurd cc
+  | false ↦ λ h. (refl, h)
+]) q
+apart lane (Answered l line a) es q = (elim (nat_eq l lane) as (λ b. cond b (Answered l line a ∷ marks_of lane es) (marks_of lane es) ≡ [] → (cond b (Answered l line a ∷ []) [] ≡ []) × (marks_of lane es ≡ [])) [
+  | true ↦ λ h. absurd cc
+  | false ↦ λ h. (refl, h)
+]) q
+apart lane (Clock ms) es q = (refl, q)
+apart lane (Dialed port) es q = (refl, q)
+apart lane (Sent bytes) es q = (refl, q)
+apart lane (Executed xid call reply) es q = (refl, q)
+apart lane (Foreign call reply) es q = (refl, q)
+apart lane (Flushed file from len) es q = (refl, q)
+apart lane (Reboot verf) es q = (refl, q)
+apart lane (Delivered bytes) es q = (refl, q)
+apart lane Failed es q = (refl, q)
+
+never-began : (lane : ℕ) (h : List Entry) (n line : ℕ) (op : Op) → At h n (Began lane line op) → marks_of lane h ≡ [] → ⊥
+never-began lane [] n line op at q = absurd (cc)
+never-began lane (e ∷ es) zero line op at q = not-began lane e (apart lane e es q).0 line op cc
+never-began lane (e ∷ es) (suc n) line op at q = never-began lane es n line op at (apart lane e es q).1
+
+never-answered : (lane : ℕ) (h : List Entry) (n line : ℕ) (a : Answer) → At h n (Answered lane line a) → marks_of lane h ≡ [] → ⊥
+never-answered lane [] n line a at q = absurd (cc)
+never-answered lane (e ∷ es) zero line a at q = not-answered lane e (apart lane e es q).0 line a cc
+never-answered lane (e ∷ es) (suc n) line a at q = never-answered lane es n line a at (apart lane e es q).1
+
+unbegun-one : (lane : ℕ) (e : Entry) → marks_of lane (e ∷ []) ≡ [] → begun lane (e ∷ []) ≡ []
+unbegun-one lane (Began l line op) q = q
+unbegun-one lane (Answered l line a) q = refl
+unbegun-one lane (Clock ms) q = refl
+unbegun-one lane (Dialed port) q = refl
+unbegun-one lane (Sent bytes) q = refl
+unbegun-one lane (Executed xid call reply) q = refl
+unbegun-one lane (Foreign call reply) q = refl
+unbegun-one lane (Flushed file from len) q = refl
+unbegun-one lane (Reboot verf) q = refl
+unbegun-one lane (Delivered bytes) q = refl
+unbegun-one lane Failed q = refl
+
+unbegun : (lane : ℕ) (h : List Entry) → marks_of lane h ≡ [] → begun lane h ≡ []
+unbegun lane [] q = refl
+unbegun lane (e ∷ es) q =
+    let two = apart lane e es q in
+    begun-append lane (e ∷ []) es ∙ ap (λ (t : List Entry). t ++ begun lane es) (unbegun-one lane e two.0) ∙ unbegun lane es two.1
+
+untold-one : (e : Entry) → ((lane : ℕ) → marks_of lane (e ∷ []) ≡ []) → transcript (e ∷ []) ≡ []
+untold-one (Began l line op) q = refl
+untold-one (Answered l line a) q = absurd (not-answered l (Answered l line a) (q l) line a refl)
+untold-one (Clock ms) q = refl
+untold-one (Dialed port) q = refl
+untold-one (Sent bytes) q = refl
+untold-one (Executed xid call reply) q = refl
+untold-one (Foreign call reply) q = refl
+untold-one (Flushed file from len) q = refl
+untold-one (Reboot verf) q = refl
+untold-one (Delivered bytes) q = refl
+untold-one Failed q = refl
+
+pub untold : (h : List Entry) → IsUnmarked h → transcript h ≡ []
+untold [] u = refl
+untold (e ∷ es) u =
+    transcript-append (e ∷ []) es
+    ∙ ap (λ (t : List ℕ). t ++ transcript es) (untold-one e (λ lane. (apart lane e es (u lane)).0))
+    ∙ untold es (λ lane. (apart lane e es (u lane)).1)
+
+-- ---- lines that were lost, one after the other
+
+status-last : (front : List ScriptLine) (l : ScriptLine) → status_of (front ++ l ∷ []) ≡ 6
+status-last [] l = refl
+status-last (x ∷ xs) l = refl
+
+-- the first lines of a script were begun and answered
+pub record Gone (front : List ScriptLine) (h : List Entry) : Type 0 where
+  pub resting : (lane : ℕ) → IsResting h lane
+  pub begins : (lane : ℕ) → begun lane h ≡ begun lane (entries_of front)
+  pub status : HasStatus h (status_of front)
+  pub all_timed : AllTimed h
+
+-- and a further one was begun
+record Going (front : List ScriptLine) (l : ScriptLine) (h : List Entry) : Type 0 where
+  pub running : IsRunning h l.lane l.line
+  pub others : (lane : ℕ) → lane ≢ l.lane → IsResting h lane
+  pub begins : (lane : ℕ) → begun lane h ≡ begun lane (entries_of (front ++ l ∷ []))
+  pub status : HasStatus h (status_of front)
+  pub all_timed : AllTimed h
+
+-- nothing was begun
+pub none-gone : (h : List Entry) → IsUnmarked h → Gone [] h
+none-gone h u = record {
+  resting = λ lane. record { answered = λ k line op at. absurd (never-began lane h k line op at (u lane)); closed = closed_none (marks_of lane h) (u lane) };
+  begins = λ lane. unbegun lane h (u lane);
+  status = well refl (λ fault i. never-answered i.lane h i.at i.line (Refused fault) i.is (u i.lane));
+  all_timed = λ x lane line op at. absurd (never-began lane h x line op at (u lane));
+}
+
+clocked-gone : (front : List ScriptLine) (h : List Entry) (ms : ℕ) → Gone front h → Gone front (h ++ Clock ms ∷ [])
+clocked-gone front h ms g = record {
+  resting = λ lane. resting-grow h (Clock ms) lane refl (g.resting lane);
+  begins = λ lane. begun-append lane h (Clock ms ∷ []) ∙ append-nil (begun lane h) ∙ g.begins lane;
+  status = status-quiet h (Clock ms) (status_of front) (λ fault l m is. absurd cc) g.status;
+  all_timed = timed-quiet h (Clock ms) (λ l m op is. absurd cc) g.all_timed;
+}
+
+entries-both : (a b : List ScriptLine) → entries_of (a ++ b) ≡ entries_of a ++ entries_of b
+entries-both [] b = refl
+entries-both (x ∷ a) b = ap (λ (t : List Entry). Began x.lane x.line x.op ∷ t) (entries-both a b)
+
+begins-gone : (front : List ScriptLine) (l : ScriptLine) (h : List Entry) (ms : ℕ) → Gone front h → Going front l ((h ++ Clock ms ∷ []) ++ Began l.lane l.line l.op ∷ [])
+begins-gone front l h ms g =
+    let mid : List Entry = h ++ Clock ms ∷ [] in
+    let e : Entry = Began l.lane l.line l.op in
+    let m : Gone front mid = clocked-gone front h ms g in
+    record {
+      running = begins-now mid l.lane l.line l.op (m.resting l.lane);
+      others = λ lane differs. resting-grow mid e lane (began-other lane l.lane l.line l.op (λ same. differs (sym same))) (m.resting lane);
+      begins = λ lane. begun-append lane mid (e ∷ []) ∙ ap (λ (t : List Entry). t ++ begun lane (e ∷ [])) (m.begins lane) ∙ sym (begun-append lane (entries_of front) (e ∷ []))
+          ∙ ap (begun lane) (sym (entries-both front (l ∷ [])));
+      status = status-quiet mid e (status_of front) (λ fault n k is. absurd cc) m.status;
+      all_timed = timed-begin h ms l.lane l.line l.op g.all_timed;
+    }
+
+answers-gone : (front : List ScriptLine) (l : ScriptLine) (h : List Entry) → Going front l h → Gone (front ++ l ∷ []) (h ++ Answered l.lane l.line (Refused faults.Lost) ∷ [])
+answers-gone front l h g =
+    let e : Entry = Answered l.lane l.line (Refused faults.Lost) in
+    record {
+      resting = λ lane. (elim (nat_eq lane l.lane) as (λ b. nat_eq lane l.lane ≡ b → IsResting (h ++ Answered l.lane l.line (Refused faults.Lost) ∷ []) lane) [
+        | true ↦ λ is. subst (IsResting (h ++ Answered l.lane l.line (Refused faults.Lost) ∷ [])) (sym (eqb-true lane l.lane is)) (answers-now h l.lane l.line (Refused faults.Lost) g.running)
+        | false ↦ λ is. resting-grow h (Answered l.lane l.line (Refused faults.Lost)) lane (answered-other lane l.lane l.line (Refused faults.Lost) (λ same. eqb-false lane l.lane is (sym same))) (g.others lane (eqb-false lane l.lane is))
+      ]) refl;
+      begins = λ lane. begun-append lane h (e ∷ []) ∙ append-nil (begun lane h) ∙ g.begins lane;
+      status = subst (HasStatus (h ++ e ∷ [])) (sym (status-last front l)) (status-answer h l.lane l.line (status_of front) (Refused faults.Lost) g.status);
+      all_timed = timed-quiet h e (λ m n op is. absurd cc) g.all_timed;
+    }
+
+three : (h : List Entry) (a b c : Entry) → ((h ++ a ∷ []) ++ b ∷ []) ++ c ∷ [] ≡ h ++ a ∷ b ∷ c ∷ []
+three h a b c = ap (λ (t : List Entry). t ++ c ∷ []) (append_assoc h (a ∷ []) (b ∷ [])) ∙ append_assoc h (a ∷ b ∷ []) (c ∷ [])
+
+line-gone : (front : List ScriptLine) (l : ScriptLine) (h : List Entry) (ms : ℕ) → Gone front h → Gone (front ++ l ∷ []) (h ++ lost_line l ms)
+line-gone front l h ms g = subst (Gone (front ++ l ∷ [])) (three h (Clock ms) (Began l.lane l.line l.op) (Answered l.lane l.line (Refused faults.Lost)))
+    (answers-gone front l ((h ++ Clock ms ∷ []) ++ Began l.lane l.line l.op ∷ []) (begins-gone front l h ms g))
+
+lines-gone : (h : List Entry) (front : List ScriptLine) (es : List Entry) → LostLines front es → IsUnmarked h → Gone front (h ++ es)
+lines-gone h _ _ (no_line front es none is) u =
+    subst (λ (s : List ScriptLine). Gone s (h ++ es)) (sym none) (subst (λ (t : List Entry). Gone [] (h ++ t)) (sym is) (subst (Gone []) (sym (append-nil h)) (none-gone h u)))
+lines-gone h _ _ (one_line front before es more l ms one is rest) u =
+    subst (λ (s : List ScriptLine). Gone s (h ++ es)) (sym one) (subst (λ (t : List Entry). Gone (before ++ l ∷ []) (h ++ t)) (sym is)
+    (subst (Gone (before ++ l ∷ [])) (append_assoc h more (lost_line l ms)) (line-gone before l (h ++ more) ms (lines-gone h before more rest u))))
+
+-- ---- a session that is cut off
+
+record Cut (script : List ScriptLine) (k : List Entry) : Type 0 where
+  pub alternates : (lane : ℕ) → Alternates (marks_of lane k)
+  pub begins : (lane : ℕ) → IsFront (begun lane k) (begun lane (entries_of script))
+  pub all_timed : AllTimed k
+
+front-begun : (script : List ScriptLine) (n lane : ℕ) (h : List Entry) → begun lane h ≡ begun lane (entries_of (take n script)) → IsFront (begun lane h) (begun lane (entries_of script))
+front-begun script n lane h is = record {
+  rest = begun lane (entries_of (drop n script));
+  is = ap (λ (t : List ScriptLine). begun lane (entries_of t)) (sym (take-append-drop n script))
+      ∙ ap (begun lane) (entries-both (take n script) (drop n script))
+      ∙ begun-append lane (entries_of (take n script)) (entries_of (drop n script))
+      ∙ ap (λ (t : List Entry). t ++ begun lane (entries_of (drop n script))) (sym is);
+}
+
+gone-cut : (script : List ScriptLine) (n : ℕ) (h : List Entry) → Gone (take n script) h → Cut script h
+gone-cut script n h g = record {
+  alternates = λ lane. resting-alternates h lane (g.resting lane);
+  begins = λ lane. front-begun script n lane h (g.begins lane);
+  all_timed = g.all_timed;
+}
+
+going-alternates : (front : List ScriptLine) (l : ScriptLine) (h : List Entry) (lane : ℕ) → Going front l h → Alternates (marks_of lane h)
+going-alternates front l h lane g = (elim (nat_eq lane l.lane) as (λ b. nat_eq lane l.lane ≡ b → Alternates (marks_of lane h)) [
+  | true ↦ λ is. subst (λ (n : ℕ). Alternates (marks_of n h)) (sym (eqb-true lane l.lane is)) (running-alternates h l.lane l.line g.running)
+  | false ↦ λ is. resting-alternates h lane (g.others lane (eqb-false lane l.lane is))
+]) refl
+
+pub take-more : (script : List ScriptLine) (n : ℕ) (l : ScriptLine) → slice_get script n ≡ Some l → take (suc n) script ≡ take n script ++ l ∷ []
+take-more [] n l there = absurd (cc)
+take-more (x ∷ xs) zero l there = let is : x ≡ l = cc in ap (λ (z : ScriptLine). z ∷ []) is
+take-more (x ∷ xs) (suc n) l there = ap (λ (t : List ScriptLine). x ∷ t) (take-more xs n l there)
+
+going-cut : (script : List ScriptLine) (n : ℕ) (l : ScriptLine) (h : List Entry) → slice_get script n ≡ Some l → Going (take n script) l h → Cut script h
+going-cut script n l h there g = record {
+  alternates = λ lane. going-alternates (take n script) l h lane g;
+  begins = λ lane. front-begun script (suc n) lane h (g.begins lane ∙ ap (λ (t : List ScriptLine). begun lane (entries_of t)) (sym (take-more script n l there)));
+  all_timed = g.all_timed;
+}
+
+part-cut : (script : List ScriptLine) (n : ℕ) (l : ScriptLine) (h part : List Entry) → slice_get script n ≡ Some l → Gone (take n script) h → LostPart l part → Cut script (h ++ part)
+part-cut script n l h part there g (nothing is) = subst (λ (t : List Entry). Cut script (h ++ t)) (sym is) (subst (Cut script) (sym (append-nil h)) (gone-cut script n h g))
+part-cut script n l h part there g (timed ms is) = subst (λ (t : List Entry). Cut script (h ++ t)) (sym is) (gone-cut script n (h ++ Clock ms ∷ []) (clocked-gone (take n script) h ms g))
+part-cut script n l h part there g (part_begun ms is) = subst (λ (t : List Entry). Cut script (h ++ t)) (sym is)
+    (subst (Cut script) (append_assoc h (Clock ms ∷ []) (Began l.lane l.line l.op ∷ [])) (going-cut script n l ((h ++ Clock ms ∷ []) ++ Began l.lane l.line l.op ∷ []) there (begins-gone (take n script) l h ms g)))
+part-cut script n l h part there g (part_answered ms is) = subst (λ (t : List Entry). Cut script (h ++ t)) (sym is)
+    (gone-cut script (suc n) (h ++ lost_line l ms) (subst (λ (s : List ScriptLine). Gone s (h ++ lost_line l ms)) (sym (take-more script n l there)) (line-gone (take n script) l h ms g)))
+
+-- ---- what all lines come to
+
+shown-of : (h es k : List Entry) → IsUnmarked h → k ≡ h ++ es → transcript k ≡ transcript es
+shown-of h es k u is = ap transcript is ∙ transcript-append h es ∙ ap (λ (t : List ℕ). t ++ transcript es) (untold h u)
+
+pub lost-ends : (script : List ScriptLine) (end : End) (given text : List ℕ) (h k es : List Entry) → end.status ≡ status_of script → IsUnmarked h → k ≡ h ++ es → LostLines script es → given ≡ clocks es → text ≡ transcript es
+    → IsDone script end given text h k
+lost-ends script end given text h k es status u is lines given_is text_is =
+    let g : Gone script k = subst (Gone script) (sym is) (lines-gone h script es lines u) in
+    record {
+      follows = record {
+        alternates = λ lane. resting-alternates k lane (g.resting lane);
+        begins = λ lane. record { rest = []; is = sym (g.begins lane) ∙ sym (append-nil (begun lane k)) };
+      };
+      finishes = record { all = g.begins; answered = λ x lane line op at. (g.resting lane).answered x line op at };
+      status = subst (HasStatus k) (sym status) g.status;
+      shown = text_is ∙ sym (shown-of h es k u is);
+      grown = (es, is);
+      clocked = ap clocks is ∙ clocks-append h es ∙ ap (λ (t : List ℕ). clocks h ++ t) (sym given_is);
+      timed = g.all_timed;
+    }
+
+pub lost-breaks : (script : List ScriptLine) (halt : Halt) (given text : List ℕ) (h k : List Entry) → IsUnmarked h → LosesBy script (Err halt) given text h k → IsBroken script halt given text h k
+lost-breaks script halt given text h k u p = by p.0 p.1 p.2 p.3.0 p.3.1 p.3.2 p.3.3 p.3.4 p.3.5
+  where
+    by : (n : ℕ) (l : ScriptLine) → slice_get script n ≡ Some l → (es part : List Entry) → k ≡ h ++ (es ++ part) → LostLines (take n script) es → LostPart l part → IsToldOf halt given text (es ++ part) → IsBroken script halt given text h k
+    by n l there es part is lines cut told =
+        let c : Cut script k = subst (Cut script) (append_assoc h es part ∙ sym is) (part-cut script n l (h ++ es) part there (lines-gone h (take n script) es lines u) cut) in
+        record {
+          follows = record { alternates = c.alternates; begins = c.begins };
+          shown = record { rest = told.shown.rest; is = shown-of h (es ++ part) k u is ∙ told.shown.is };
+          last = told.last;
+          grown = (es ++ part, is);
+          clocked = ap (λ (t : List ℕ). clocks h ++ t) told.clocked ∙ sym (append_assoc (clocks h) (clocks (es ++ part)) told.last)
+              ∙ ap (λ (t : List ℕ). t ++ told.last) (sym (ap clocks is ∙ clocks-append h (es ++ part)));
+          left = told.left;
+          timed = c.all_timed;
+        }
+
+pub empty-status : (script : List ScriptLine) (n : ℕ) → n ≡ length script → nat_eq n 0 ≡ true → 0 ≡ status_of script
+empty-status [] n is e = refl
+empty-status (l ∷ ls) n is e = absurd (let none = eqb-true n 0 e in omega (arith, is, none))
+
+pub some-status : (script : List ScriptLine) (n : ℕ) → n ≡ length script → nat_eq n 0 ≡ false → 6 ≡ status_of script
+some-status [] n is e = absurd (let other = eqb-false n 0 e in omega (arith, is, other))
+some-status (l ∷ ls) n is e = refl
+
+pub status-ends : (script : List ScriptLine) (n : ℕ) → n ≡ status_of script → IsSessionStatus n
+status-ends [] n is = inl is
+status-ends (l ∷ ls) n is = inr (inr is)

@@ -1,0 +1,193 @@
+-- What is left to be tried after each part of the exchange with the server.
+use Rattle.std.proofs.Common.{◌≡◌, ◌≢◌, ◌≤◌, ◌<◌, ◌+◌, ◌-◌, ◌*◌, ◌⊎◌, inl, inr, ℕ, zero, suc, List, [], ◌∷◌, ◌++◌, length, position, slice_get, Bool, true, false, Option, Some, None, refl, sym, ap, subst, ◌∙◌, arith}
+use Rattle.rpc_retry.specs.Sound.{IsSound}
+use Rattle.nfs_script.specs.declared.script.ScriptLine.{ScriptLine}
+use Rattle.client_core.specs.Lanes.{is_over}
+use Rattle.client_core.specs.Numbers.{IsOther, numbers_of}
+use Rattle.client_core.specs.Steps.{Hears, SendsBy, FailsBy, WereSent, lost}
+use Rattle.client_core.specs.View.{View}
+use Rattle.lane_session.specs.declared.lanes.Place.{Place}
+use Rattle.lane_session.specs.declared.running.Session.{Session}
+use Rattle.lane_session.specs.Holding.{IsHeld, IsLive, IsSeated, AreQuiet, IsQuiet, SameTries, calls_left, tries_left}
+use Rattle.lane_session.specs.Places.{passed}
+use Rattle.lane_session.specs.Running.{SameLines, Exchanges, Sends, Fails, Takes, TakesBy, Redialed, given_up, attempts_after, NoneOver, dues}
+use Rattle.lane_session.specs.Statuses.{IsSessionStatus}
+use Rattle.lane_session.proofs.Cores.{Keeps, HeardSo, heard_none, heard_one, heard-so, SentSo, sends-so, FailedSo, lost-so, fails-so}
+use Rattle.lane_session.proofs.Sounds.{sound-hears, sound-sends, sound-fails}
+
+-- ---- the attempts have ended
+
+pub fails-on : (old new : Session) → 1 ≤ old.attempts → IsLive old → Fails old new → Exchanges old new
+fails-on old new some live f = subst (Exchanges old) (sym f.is) (by f.result (fails-so old.core f.result new.core f.core))
+  where
+    by : (b : Bool) → FailedSo old.core b new.core → Exchanges old (record old { core = new.core; attempts = attempts_after b old.attempts })
+    by b k = record {
+      lines = record { mounted = refl; lanes = refl; status = refl; numbers = k.numbers_are; begun = k.begun_is };
+      live = record {
+        calls = sound-fails old.core f.result new.core f.core live.calls;
+        some = λ left. alive b k left;
+        few = few b;
+        dropped = live.dropped;
+        undropped = λ left. live.undropped some;
+      };
+      less = less b (k.left_is);
+    }
+      where
+        alive : (b : Bool) → FailedSo old.core b new.core → 1 ≤ attempts_after b old.attempts → new.core.lost ≡ false
+        alive true k left = k.lost_is refl ∙ live.some some
+        alive false k left = absurd (omega (arith, left))
+
+        few : (b : Bool) → attempts_after b old.attempts ≤ 4
+        few true = let n = live.few in omega (arith, n)
+        few false = omega arith
+
+        less : (b : Bool) → calls_left new.core ≡ calls_left old.core → 65541 * calls_left new.core + attempts_after b old.attempts + (65536 - old.dropped) < 65541 * calls_left old.core + old.attempts + (65536 - old.dropped)
+        less true e = omega (arith, e, some)
+        less false e = omega (arith, e, some)
+
+-- the session is given up
+pub given-up-on : (old mid : Session) → Exchanges old mid → Exchanges old (given_up mid)
+given-up-on old mid x =
+    let k = lost-so mid.core in
+    record {
+      lines = record {
+        mounted = x.lines.mounted;
+        lanes = x.lines.lanes;
+        status = x.lines.status;
+        numbers = k.numbers_are ∙ x.lines.numbers;
+        begun = k.begun_is ∙ x.lines.begun;
+      };
+      live = record { calls = x.live.calls; some = λ left. absurd (omega (arith, left)); few = omega arith; dropped = x.live.dropped; undropped = λ left. absurd (omega (arith, left)) };
+      less = let l = x.less in let e = k.left_is in omega (arith, l, e);
+    }
+
+pub redialed-on : (old mid new : Session) → Exchanges old mid → Redialed mid new → Exchanges old new
+redialed-on old mid new x (inl is) = subst (Exchanges old) (sym is) x
+redialed-on old mid new x (inr is) = subst (Exchanges old) (sym is) (given-up-on old mid x)
+
+-- ---- a record came
+
+pub takes-on : (old new : Session) (rec : List ℕ) → 1 ≤ old.attempts → IsLive old → Takes old rec new → Exchanges old new
+takes-on old new rec some live t = by t.result t.is (heard-so old.core rec t.result t.core live.calls.within t.hears)
+  where
+    sound : IsSound t.core.calls
+    sound = sound-hears old.core rec t.result t.core t.hears live.calls
+
+    alive : old.core.lost ≡ false
+    alive = live.some some
+
+    dropped-on : t.core ≡ old.core → (old.dropped + 1 ≡ 65536 → ⊥) → Exchanges old (record old { core = t.core; dropped = old.dropped + 1 })
+    dropped-on is other = record {
+      lines = record { mounted = refl; lanes = refl; status = refl; numbers = ap (λ (v : View). numbers_of v.lanes) is; begun = ap (λ (v : View). v.begun) is };
+      live = record {
+        calls = sound;
+        some = λ left. ap (λ (v : View). v.lost) is ∙ alive;
+        few = live.few;
+        dropped = let d = live.undropped some in omega (arith, d);
+        undropped = λ left. let d = live.undropped some in omega (arith, d, other);
+      };
+      less = let e : calls_left t.core ≡ calls_left old.core = ap calls_left is in let d = live.undropped some in omega (arith, e, d);
+    }
+
+    last-on : t.core ≡ old.core → old.dropped + 1 ≡ 65536 → Exchanges old (given_up (record old { core = t.core; dropped = old.dropped + 1 }))
+    last-on is last =
+        let k = lost-so t.core in
+        record {
+          lines = record {
+            mounted = refl;
+            lanes = refl;
+            status = refl;
+            numbers = k.numbers_are ∙ ap (λ (v : View). numbers_of v.lanes) is;
+            begun = k.begun_is ∙ ap (λ (v : View). v.begun) is;
+          };
+          live = record { calls = sound; some = λ left. absurd (omega (arith, left)); few = omega arith; dropped = omega (arith, last); undropped = λ left. absurd (omega (arith, left)) };
+          less = let e : calls_left t.core ≡ calls_left old.core = ap calls_left is in let m = k.left_is in omega (arith, e, m, some, last);
+        }
+
+    by : (b : Bool) → TakesBy old b t.core new → HeardSo old.core b t.core → Exchanges old new
+    by true is (heard_none no_way same) = absurd (cc)
+    by true is (heard_one yes_way k one) = subst (Exchanges old) (sym is) (record {
+      lines = record { mounted = refl; lanes = refl; status = refl; numbers = k.numbers_are; begun = k.begun_is };
+      live = record { calls = sound; some = λ left. k.lost_is ∙ alive; few = omega arith; dropped = omega arith; undropped = λ left. omega arith };
+      less = let l = k.left_is in let d = live.dropped in omega (arith, l, one, d);
+    })
+    by false (inl p) (heard_none no_way same) = subst (Exchanges old) (sym p.1) (dropped-on same p.0)
+    by false (inr p) (heard_none no_way same) = subst (Exchanges old) (sym p.1) (last-on same p.0)
+    by false is (heard_one no_way k one) = absurd (cc)
+
+-- ---- a record was sent
+
+pub sends-on : (old : Session) (result : Option (List ℕ)) (core : View) (new : Session) → IsLive old → SendsBy old.core result core → new.core ≡ core → new.mounted ≡ old.mounted → new.lanes ≡ old.lanes → new.status ≡ old.status
+    → new.attempts ≡ old.attempts → new.dropped ≡ old.dropped → Sends old new
+sends-on old result core new live t core_is mounted lanes status attempts dropped =
+    let k : SentSo old.core new.core = subst (SentSo old.core) (sym core_is) (sends-so old.core result core t) in
+    record {
+      lines = record { mounted = mounted; lanes = lanes; status = status; numbers = ap numbers_of k.lanes; begun = k.begun };
+      same = k.lanes;
+      tries = record { attempts = attempts; dropped = dropped };
+      calls = k.left;
+      lost_is = k.lost_is;
+      live = record {
+        calls = subst (λ (v : View). IsSound v.calls) (sym core_is) (sound-sends old.core result core t live.calls);
+        some = λ left. k.lost_is ∙ live.some (omega (arith, left, attempts));
+        few = let f = live.few in omega (arith, f, attempts);
+        dropped = let d = live.dropped in omega (arith, d, dropped);
+        undropped = λ left. let d = live.undropped (omega (arith, left, attempts)) in omega (arith, d, dropped);
+      };
+    }
+
+pub sends-none : (old : Session) → IsLive old → Sends old old
+sends-none old live = record {
+  lines = record { mounted = refl; lanes = refl; status = refl; numbers = refl; begun = refl };
+  same = refl;
+  tries = record { attempts = refl; dropped = refl };
+  calls = refl;
+  lost_is = refl;
+  live = live;
+}
+
+pub sends-then : (old mid new : Session) → Sends old mid → Sends mid new → Sends old new
+sends-then old mid new p q = record {
+  lines = record {
+    mounted = q.lines.mounted ∙ p.lines.mounted;
+    lanes = q.lines.lanes ∙ p.lines.lanes;
+    status = q.lines.status ∙ p.lines.status;
+    numbers = q.lines.numbers ∙ p.lines.numbers;
+    begun = q.lines.begun ∙ p.lines.begun;
+  };
+  same = q.same ∙ p.same;
+  tries = record { attempts = q.tries.attempts ∙ p.tries.attempts; dropped = q.tries.dropped ∙ p.tries.dropped };
+  calls = q.calls ∙ p.calls;
+  lost_is = q.lost_is ∙ p.lost_is;
+  live = q.live;
+}
+
+pub sends-exchange : (old mid new : Session) → Sends old mid → Exchanges mid new → Exchanges old new
+sends-exchange old mid new p x = record {
+  lines = record {
+    mounted = x.lines.mounted ∙ p.lines.mounted;
+    lanes = x.lines.lanes ∙ p.lines.lanes;
+    status = x.lines.status ∙ p.lines.status;
+    numbers = x.lines.numbers ∙ p.lines.numbers;
+    begun = x.lines.begun ∙ p.lines.begun;
+  };
+  live = x.live;
+  less = let l = x.less in let c = p.calls in let a = p.tries.attempts in let d = p.tries.dropped in omega (arith, l, c, a, d);
+}
+
+-- ---- what is held
+
+pub exchanged-held : (script : List ScriptLine) (old new : Session) → IsHeld script old → Exchanges old new → IsHeld script new
+exchanged-held script old new h x = record {
+  live = x.live;
+  status = subst IsSessionStatus (sym x.lines.status) h.status;
+  seated = record {
+    sixteen = ap length x.lines.lanes ∙ h.seated.sixteen;
+    idle = λ n p there none. subst (IsOther (suc n)) (sym x.lines.numbers) (h.seated.idle n p (subst (λ (ps : List Place). slice_get ps n ≡ Some p) x.lines.lanes there) none);
+    within = λ n p there. h.seated.within n p (subst (λ (ps : List Place). slice_get ps n ≡ Some p) x.lines.lanes there);
+    begun = let b = h.seated.begun in let e = x.lines.begun in subst (λ (ps : List Place). new.core.begun ≤ passed ps) (sym x.lines.lanes) (omega (arith, b, e));
+  };
+}
+
+pub none-over : (script : List ScriptLine) (s : Session) → AreQuiet script s → NoneOver s.core
+none-over script s q n lt = (q n lt).told

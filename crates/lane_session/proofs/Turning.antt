@@ -1,0 +1,177 @@
+-- How a session goes on along its history.
+use Rattle.std.proofs.Common.{◌≡◌, ◌≢◌, ◌≤◌, ◌<◌, ◌+◌, ◌-◌, ◌⊎◌, inl, inr, ℕ, zero, suc, List, [], ◌∷◌, ◌++◌, length, take, drop, slice_get, slice_set, nat_lt, Bool, true, false, Option, Some, None, Result, Ok, Err, refl, sym, ap, subst, ◌∙◌, arith, append-nil, append_assoc}
+use Rattle.std.proofs.lemmas.Bool.{cases_lt}
+use Rattle.std.proofs.lemmas.List.{take-append-drop}
+use Rattle.xdr_codec.specs.declared.blob.Memory.{Memory}
+use Rattle.world_model.specs.declared.answer.Answer.{Answer}
+use Rattle.world_model.specs.declared.answer.Answer.TheVariants.{Refused}
+use Rattle.world_model.specs.declared.entry.Entry.{Entry}
+use Rattle.world_model.specs.declared.entry.Entry.TheVariants.{Began, Answered, Clock}
+use Rattle.world_model.specs.declared.op.Op.{Op}
+use Rattle.world_model.specs.Clocked.{clocks}
+use Rattle.world_model.specs.Follows.{begun, marks_of, Alternates, IsFront}
+use Rattle.world_model.specs.Transcript.{transcript, line_text}
+use Rattle.nfs_script.specs.declared.script.ScriptLine.{ScriptLine}
+use Rattle.client_core.specs.View.{View}
+use Rattle.core_facts.proofs.Marks.{began-other, answered-other}
+use Rattle.lane_session.specs.declared.halt.Halt.{Halt}
+use Rattle.lane_session.specs.declared.halt.Halt.TheVariants as halts
+use Rattle.lane_session.specs.declared.lanes.Place.{Place}
+use Rattle.lane_session.specs.declared.running.Session.{Session}
+use Rattle.lane_session.specs.Bonds.{CoreGoes, CoreWent}
+use Rattle.lane_session.specs.Going.{Grows, Goes, Went, GoesOn, CutsOff, GoesBy, TellsAnswer, AllTimed}
+use Rattle.lane_session.specs.LaneMarks.{IsRunning, IsResting}
+use Rattle.lane_session.specs.Places.{entries_of, IsOpen, IsPlaced, PlaceAt, FoundAt, Seeks, Ends}
+use Rattle.lane_session.specs.Running.{marks, Quietly, LineIs}
+use Rattle.lane_session.specs.Statuses.{after_answer, IsLeft, HasStatus}
+use Rattle.lane_session.specs.Streams.{IsFrontOf}
+use Rattle.lane_session.proofs.LaneLaws.{running-grow, resting-grow, begins-now, answers-now, running-alternates, resting-alternates}
+use Rattle.lane_session.proofs.Placing.{silent, no-mark, marks-none, status-quiet, status-answer, timed-quiet, timed-begin, get-set, begun-other, begun-own, passed-over, one-begun, placed-grow, entries-append}
+use Rattle.lane_session.proofs.Pushes.{clocks-append, transcript-append, begun-append, marks-append, quiet_by}
+use Rattle.lane_session.proofs.Reaching.{core-then, core-then-cut}
+use Rattle.lane_session.proofs.Seating.{line-of}
+
+-- ---- nothing is noted
+
+goes-one : (script : List ScriptLine) (h : List Entry) (e : Entry) (s : Session) → marks (e ∷ []) ≡ [] → Goes script h s → Goes script (h ++ e ∷ []) s
+goes-one script h e s q g = record {
+  others = λ lane out. let o = g.others lane out in let m = silent e q lane in
+      (begun-append lane h (e ∷ []) ∙ ap (λ (t : List Entry). begun lane h ++ t) m.1 ∙ append-nil (begun lane h) ∙ o.0, resting-grow h e lane m.0 o.1);
+  placed = λ n p there. let m = silent e q (suc n) in placed-grow script h e (suc n) p m.0 m.1 (g.placed n p there);
+  status = status-quiet h e s.status (λ fault l m is. (no-mark e q).0 l m (Refused fault) is) g.status;
+  timed = timed-quiet h e (no-mark e q).1 g.timed;
+}
+
+-- only lanes and status count
+goes-like : (script : List ScriptLine) (h : List Entry) (s t : Session) → t.lanes ≡ s.lanes → t.status ≡ s.status → Goes script h s → Goes script h t
+goes-like script h s t lanes status g = record {
+  others = g.others;
+  placed = λ n p there. g.placed n p (subst (λ (ps : List Place). slice_get ps n ≡ Some p) lanes there);
+  status = subst (HasStatus h) (sym status) g.status;
+  timed = g.timed;
+}
+
+pub goes-quietly : (script : List ScriptLine) (h k : List Entry) (s : Session) → Quietly h k → Goes script h s → Goes script k s
+goes-quietly script h k s q g = subst (λ (t : List Entry). Goes script t s) (sym q.is) (quiet_by (λ (t : List Entry). Goes script t s) (λ t e. goes-one script t e s) h q.more q.unmarked g)
+
+pub quiet-clocks : (h k : List Entry) → Quietly h k → clocks k ≡ clocks h ++ []
+quiet-clocks h k q = ap clocks q.is ∙ clocks-append h q.more ∙ ap (λ (t : List ℕ). clocks h ++ t) (marks-none q.more q.unmarked).0
+
+pub quiet-transcript : (h k : List Entry) → Quietly h k → transcript k ≡ transcript h ++ []
+quiet-transcript h k q = ap transcript q.is ∙ transcript-append h q.more ∙ ap (λ (t : List ℕ). transcript h ++ t) (marks-none q.more q.unmarked).1
+
+pub quietly-then : (h k l : List Entry) → Quietly h k → Quietly k l → Quietly h l
+quietly-then h k l p q = record {
+  more = p.more ++ q.more;
+  is = q.is ∙ ap (λ (t : List Entry). t ++ q.more) p.is ∙ append_assoc h p.more q.more;
+  unmarked = marks-append p.more q.more ∙ ap (λ (t : List Entry). t ++ marks q.more) p.unmarked ∙ q.unmarked;
+}
+
+pub quietly-none : (h : List Entry) → Quietly h h
+quietly-none h = record { more = []; is = sym (append-nil h); unmarked = refl }
+
+-- ---- a session that is cut off
+
+in-list : {A : Type 0} → (xs : List A) (n : ℕ) → n < length xs → (x : A) × (slice_get xs n ≡ Some x)
+in-list [] n lt = absurd (omega (arith, lt))
+in-list (x ∷ xs) zero lt = (x, refl)
+in-list (x ∷ xs) (suc n) lt = in-list xs n (omega (arith, lt))
+
+placed-front : (script : List ScriptLine) (h : List Entry) (lane : ℕ) (p : Place) → IsPlaced script h lane p → IsFront (begun lane h) (begun lane (entries_of script))
+placed-front script h lane p i = record {
+  rest = begun lane (entries_of (drop p.next script));
+  is = ap (λ (t : List ScriptLine). begun lane (entries_of t)) (sym (take-append-drop p.next script))
+      ∙ ap (begun lane) (entries-append (take p.next script) (drop p.next script))
+      ∙ begun-append lane (entries_of (take p.next script)) (entries_of (drop p.next script))
+      ∙ ap (λ (t : List Entry). t ++ begun lane (entries_of (drop p.next script))) (sym i.begins);
+}
+
+open-alternates : (h : List Entry) (lane : ℕ) (line : Option ℕ) → IsOpen h lane line → Alternates (marks_of lane h)
+open-alternates h lane None o = resting-alternates h lane o
+open-alternates h lane (Some line) o = running-alternates h lane line o
+
+-- a lane is one of 1 to 16, or another
+which : (lane : ℕ) → ((n : ℕ) × (n < 16) × (lane ≡ suc n)) ⊎ ((lane ≡ 0) ⊎ (16 < lane))
+which zero = inr (inl refl)
+which (suc n) = elim (cases_lt n 16) [
+  | inl lt ↦ inl (n, lt, refl)
+  | inr ge ↦ inr (inr (omega (arith, ge)))
+]
+
+pub went-of : (script : List ScriptLine) (h : List Entry) (s : Session) → length s.lanes ≡ 16 → Goes script h s → Went script h
+went-of script h s long g = record {
+  alternates = λ lane. elim (which lane) [
+    | inl w ↦ let p = in-list s.lanes w.0 (let lt = w.1 in omega (arith, lt, long)) in
+        subst (λ (n : ℕ). Alternates (marks_of n h)) (sym w.2) (open-alternates h (suc w.0) p.0.line (g.placed w.0 p.0 p.1).open_line)
+    | inr out ↦ resting-alternates h lane (g.others lane out).1
+  ];
+  begins = λ lane. elim (which lane) [
+    | inl w ↦ let p = in-list s.lanes w.0 (let lt = w.1 in omega (arith, lt, long)) in
+        subst (λ (n : ℕ). IsFront (begun n h) (begun n (entries_of script))) (sym w.2) (placed-front script h (suc w.0) p.0 (g.placed w.0 p.0 p.1))
+    | inr out ↦ record { rest = begun lane (entries_of script); is = sym (ap (λ (t : List Entry). t ++ begun lane (entries_of script)) (g.others lane out).0) }
+  ];
+  timed = g.timed;
+}
+
+-- ---- one part after another
+
+pub goes-none : (script : List ScriptLine) (s t : Session) (h : List Entry) → t.lanes ≡ s.lanes → t.status ≡ s.status → CoreGoes s t h h → GoesOn script s t [] [] h h
+goes-none script s t h lanes status core = record {
+  grown = ([], sym (append-nil h));
+  clocked = sym (append-nil (clocks h));
+  shown = sym (append-nil (transcript h));
+  goes = λ g. goes-like script h s t lanes status g;
+  core = λ g. core;
+}
+
+-- the exchange with the server
+pub goes-turned : (script : List ScriptLine) (s t : Session) (h k : List Entry) → t.lanes ≡ s.lanes → t.status ≡ s.status → Quietly h k → CoreGoes s t h k → GoesOn script s t [] [] h k
+goes-turned script s t h k lanes status q core = record {
+  grown = (q.more, q.is);
+  clocked = quiet-clocks h k q;
+  shown = quiet-transcript h k q;
+  goes = λ g. goes-like script k s t lanes status (goes-quietly script h k s q g);
+  core = λ g. core;
+}
+
+pub cut-turned : (script : List ScriptLine) (s : Session) (halt : Halt) (h k : List Entry) → length s.lanes ≡ 16 → Quietly h k → CoreWent s h k → CutsOff script s halt [] [] h k
+cut-turned script s halt h k long q core = record {
+  last = [];
+  grown = (q.more, q.is);
+  clocked = append-nil (clocks h) ∙ sym (append-nil (clocks h)) ∙ sym (quiet-clocks h k q) ∙ sym (append-nil (clocks k));
+  left = none halt;
+  shown = record { rest = []; is = quiet-transcript h k q ∙ append-nil (transcript h) ∙ sym (append-nil (transcript h)) ∙ sym (append-nil (transcript h ++ [])) };
+  went = λ g. went-of script k s long (goes-quietly script h k s q g);
+  core = λ g. core;
+}
+  where
+    none : (halt : Halt) → IsLeft halt []
+    none halts.Output = refl
+    none halts.Memory = omega arith
+
+grows-then : (h k l : List Entry) → Grows h k → Grows k l → Grows h l
+grows-then h k l (a, p) (b, q) = (a ++ b, q ∙ ap (λ (t : List Entry). t ++ b) p ∙ append_assoc h a b)
+
+pub goes-then-on : (script : List ScriptLine) (s t u : Session) (g i x y : List ℕ) (h k l : List Entry) → GoesOn script s t g x h k → GoesOn script t u i y k l → GoesOn script s u (g ++ i) (x ++ y) h l
+goes-then-on script s t u g i x y h k l p q = record {
+  grown = grows-then h k l p.grown q.grown;
+  clocked = q.clocked ∙ ap (λ (z : List ℕ). z ++ i) p.clocked ∙ append_assoc (clocks h) g i;
+  shown = q.shown ∙ ap (λ (z : List ℕ). z ++ y) p.shown ∙ append_assoc (transcript h) x y;
+  goes = λ w. q.goes (p.goes w);
+  core = λ w. core-then s t u h k l (p.core w) (q.core (p.goes w));
+}
+
+pub goes-then-off : (script : List ScriptLine) (s t : Session) (halt : Halt) (g i x y : List ℕ) (h k l : List Entry) → GoesOn script s t g x h k → CutsOff script t halt i y k l → CutsOff script s halt (g ++ i) (x ++ y) h l
+goes-then-off script s t halt g i x y h k l p q = record {
+  last = q.last;
+  grown = grows-then h k l p.grown q.grown;
+  clocked = sym (append_assoc (clocks h) g i) ∙ ap (λ (z : List ℕ). z ++ i) (sym p.clocked) ∙ q.clocked;
+  left = q.left;
+  shown = record { rest = q.shown.rest; is = q.shown.is ∙ ap (λ (z : List ℕ). z ++ q.shown.rest) (ap (λ (z : List ℕ). z ++ y) p.shown ∙ append_assoc (transcript h) x y) };
+  went = λ w. q.went (p.goes w);
+  core = λ w. core-then-cut s t h k l (p.core w) (q.core (p.goes w));
+}
+
+pub goes-after : {T : Type 0} → (script : List ScriptLine) (s t u : Session) (result : Result T Halt) (g i x y : List ℕ) (h k l : List Entry) → GoesOn script s t g x h k → GoesBy script t u result i y k l → GoesBy script s u result (g ++ i) (x ++ y) h l
+goes-after script s t u (Ok d) g i x y h k l p q = goes-then-on script s t u g i x y h k l p q
+goes-after script s t u (Err d) g i x y h k l p q = goes-then-off script s t d g i x y h k l p q

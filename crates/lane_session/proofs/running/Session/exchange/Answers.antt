@@ -1,0 +1,29 @@
+use Rattle.lane_session.specs.Bonds.{CoreWent}
+use Rattle.lane_session.proofs.Outcomes.{ok-map}
+use Rattle.lane_session.proofs.Passing.{relates_same, relates_then}
+use Rattle.lane_session.proofs.Quiets.{quiet_then}
+use Rattle.lane_session.proofs.Reaching.{core-cut, core-then-by}
+use Rattle.lane_session.proofs.Trying.{redialed-on}
+use Rattle.lane_session.proofs.running.Session.exchange.Goals as goal
+
+pub returns-then-went-clause-goes : goal.returns-then-went-clause-goes
+returns-then-went-clause-goes g c = quiet_then _ _ _ c.in-Ok.ensures.goes c.hear.ensures.goes
+
+pub returns-else-went-clause-exchanges : goal.returns-else-went-clause-exchanges
+returns-else-went-clause-exchanges g c =
+    let ended = rw c.if-went.false at c.in-Ok.ensures.sends in
+    ok-map c.reconnect.result _ _ (λ r. redialed-on c.args.self.now c.send_all.new.self c.reconnect.new.self ended r) c.reconnect.ensures.redials
+
+pub returns-else-went-clause-goes : goal.returns-else-went-clause-goes
+returns-else-went-clause-goes g c = quiet_then _ _ _ c.in-Ok.ensures.goes c.reconnect.ensures.goes
+
+pub returns-then-self-eq0-clause-core : goal.returns-then-self-eq0-clause-core
+returns-then-self-eq0-clause-core g c = relates_same (g.L.Link.told c.args.link.now) (CoreWent c.args.self.now) (λ h. core-cut c.args.self.now h)
+
+pub returns-then-went-clause-core : goal.returns-then-went-clause-core
+returns-then-went-clause-core g c =
+    relates_then _ _ _ _ _ _ (λ h k l p q. core-then-by c.args.self.now c.send_all.new.self c.hear.new.self c.hear.result h k l p q) c.in-Ok.ensures.core c.hear.ensures.core
+
+pub returns-else-went-clause-core : goal.returns-else-went-clause-core
+returns-else-went-clause-core g c =
+    relates_then _ _ _ _ _ _ (λ h k l p q. core-then-by c.args.self.now c.send_all.new.self c.reconnect.new.self c.reconnect.result h k l p q) c.in-Ok.ensures.core c.reconnect.ensures.core

@@ -1,0 +1,18 @@
+use Rattle.std.proofs.Common.{◌≤◌, length, Ok}
+use Rattle.lane_session.specs.Going.{GoesOn}
+use Rattle.lane_session.specs.Holding.{IsHeld, tries_left}
+use Rattle.lane_session.specs.Places.{lines_left}
+use Rattle.lane_session.specs.Streams.{Passes}
+use Rattle.lane_session.proofs.running.Session.settle.Given as goal
+
+abbrev pub invariant-settling : goal.invariant-settling
+invariant-settling g l = record {
+  held : IsHeld l.script l.self;
+  less : tries_left l.self ≤ tries_left l.fn.self;
+  goes : Passes (g.C.Clock.readings l.fn.clock) (g.C.Clock.readings l.clock) (g.L.Link.told l.fn.link) (g.L.Link.told l.link) (g.K.Sink.written l.fn.out) (g.K.Sink.written l.out) (GoesOn l.script l.fn.self l.self);
+  honest : g.L.Link.honest l.fn.link → g.L.Link.honest l.link;
+  later : g.K.Sink.faults l.fn.out ≤ g.K.Sink.faults l.out;
+}
+
+abbrev pub decreases-settling : goal.decreases-settling
+decreases-settling g l = lines_left (length l.script) l.self.lanes

@@ -1,0 +1,18 @@
+use Rattle.std.proofs.Common.{subst}
+use Rattle.op_machines.specs.Fits.{Fits}
+use Rattle.lane_session.proofs.Starting.{start-none, start-now, start-cut}
+use Rattle.lane_session.proofs.running.Session.start.Goals as goal
+
+pub returns-in_default-clause-goes : goal.returns-in_default-clause-goes
+returns-in_default-clause-goes g c = start-none _ _ c.args.lane c.args.line c.args.op.now c.args.self.now c.args.self.now _
+
+pub returns-in-Ok-note_beginning-clause-goes : goal.returns-in-Ok-note_beginning-clause-goes
+returns-in-Ok-note_beginning-clause-goes g c =
+    start-now _ _ _ _ c.args.lane c.args.line c.args.op.now c.in-Ok-copy.noted c.in-Ok.machine c.args.self.now c.begin.new.self c.in-Ok-note_beginning.now c.in-Ok-copy.ensures c.in-Ok.ensures.is
+    c.in-Ok-note_beginning.ensures.reading c.begin.ensures c.in-Ok-note_beginning.ensures.goes
+
+pub returns-in-Err-clause-goes : goal.returns-in-Err-clause-goes
+returns-in-Err-clause-goes g c = start-cut _ _ _ _ c.args.lane c.args.line c.args.op.now c.in-Ok-copy.noted c.args.self.now c.args.self.now c.in-Err.wanting c.in-Err.ensures.goes
+
+pub returns-in-Ok-note_beginning-clause-fits : goal.returns-in-Ok-note_beginning-clause-fits
+returns-in-Ok-note_beginning-clause-fits g c = subst Fits c.in-Ok.ensures.is c.in-Ok.ensures.fits

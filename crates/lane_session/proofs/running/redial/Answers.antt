@@ -1,0 +1,29 @@
+use Rattle.std.proofs.Common.{[], ◌∷◌, arith}
+use Rattle.world_model.specs.declared.entry.Entry.TheVariants.{Dialed, Failed}
+use Rattle.lane_session.proofs.Passing.{relates_same, relates_less}
+use Rattle.lane_session.proofs.Reaching.{relates-call}
+use Rattle.lane_session.proofs.Redialing.{Dials, dials-none, dials-more, redialed, undialed-memory, all-undialed}
+use Rattle.lane_session.proofs.running.redial.Goals as goal
+
+pub loop-init : goal.loop-init
+loop-init g c = record { goes = relates_same (g.L.Link.told c.args.link.now) (λ h k. Dials h 0 k) dials-none; honest = λ h. h }
+
+pub loop-preserved : goal.loop-preserved
+loop-preserved g c =
+    let r = rw c.in-Err-Failed.field-0-is at c.in-Err-Failed.ensures in
+    record {
+      goes = relates-call _ _ _ (Dialed c.args.port ∷ Failed ∷ []) _ _ (λ h a b d p. dials-more h c.loop.counter c.args.port a b p d) c.loop.invariant.goes r.told;
+      honest = λ h. r.honest (c.loop.invariant.honest h);
+    }
+
+pub returns-in-Ok-clause-goes : goal.returns-in-Ok-clause-goes
+returns-in-Ok-clause-goes g c =
+    relates-call _ _ _ (Dialed c.args.port ∷ []) _ _ (λ h a b d p. redialed h c.loop.counter c.args.port a b p d) c.loop.invariant.goes c.in-Ok.ensures.told
+
+pub returns-in-Err-Memory-clause-goes : goal.returns-in-Err-Memory-clause-goes
+returns-in-Err-Memory-clause-goes g c =
+    let r = rw c.in-Err-Memory.field-0-is at c.in-Err-Memory.ensures in
+    relates-call _ _ _ [] _ _ (λ h a b d p. undialed-memory h c.loop.counter a b p d) c.loop.invariant.goes r.told
+
+pub returns-clause-goes : goal.returns-clause-goes
+returns-clause-goes g c = relates_less _ _ _ _ (λ h k d. all-undialed h k c.loop.counter (omega (arith, c.loop-test.false, c.loop.auto.counter-end)) d) c.loop.invariant.goes

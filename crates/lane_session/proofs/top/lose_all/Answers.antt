@@ -1,0 +1,28 @@
+use Rattle.std.proofs.Common.{Ok, Err, refl}
+use Rattle.lane_session.specs.declared.top.End.{End}
+use Rattle.lane_session.proofs.CoreEnds.{told-lost, told-lost-counted}
+use Rattle.lane_session.proofs.LostLaws.{lost-ends, lost-breaks, status-ends}
+use Rattle.lane_session.proofs.Passing.{passes_less}
+use Rattle.lane_session.proofs.top.lose_all.Goals as goal
+
+pub returns-in-Ok-clause-goes : goal.returns-in-Ok-clause-goes
+returns-in-Ok-clause-goes g c =
+    passes_less _ _ _ _ _ _ _ _ (λ given text h k p u. lost-ends c.args.script.now _ given text h k p.0 c.lost_status.ensures u p.1 p.2 p.3 p.4) c.in-Ok.ensures.goes
+
+pub returns-in-Err-clause-goes : goal.returns-in-Err-clause-goes
+returns-in-Err-clause-goes g c = passes_less _ _ _ _ _ _ _ _ (λ given text h k p u. lost-breaks c.args.script.now _ given text h k u p) c.in-Err.ensures.goes
+
+pub returns-in-Ok-clause-ending : goal.returns-in-Ok-clause-ending
+returns-in-Ok-clause-ending g c = status-ends c.args.script.now c.lost_status.result c.lost_status.ensures
+
+pub returns-in-Ok-clause-core : goal.returns-in-Ok-clause-core
+returns-in-Ok-clause-core g c = let p = c.in-Ok.ensures.goes in told-lost _ _ c.args.script.now p.given p.text (Ok tt) p.told
+
+pub returns-in-Err-clause-core : goal.returns-in-Err-clause-core
+returns-in-Err-clause-core g c = let p = c.in-Err.ensures.goes in told-lost _ _ c.args.script.now p.given p.text (Err c.in-Err.halt) p.told
+
+pub returns-in-Ok-clause-counted : goal.returns-in-Ok-clause-counted
+returns-in-Ok-clause-counted g c =
+    let p = c.in-Ok.ensures.goes in
+    let end : End = record { status = c.lost_status.result; tally = c.args.tally } in
+    told-lost-counted _ _ c.args.script.now p.given p.text end c.args.tally refl p.told

@@ -1,0 +1,62 @@
+-- What holds of a session at any time, whatever its link tells.
+use Rattle.std.specs.Prelude.{◌≡◌, ◌≤◌, ◌<◌, ◌+◌, ◌-◌, ◌*◌, ℕ, suc, List, length, position, slice_get, Bool, true, false, Option, Some, None}
+use Rattle.nfs_script.specs.declared.script.ScriptLine.{ScriptLine}
+use Rattle.rpc_retry.specs.Sound.{IsSound}
+use Rattle.client_core.specs.Lanes.{is_over}
+use Rattle.client_core.specs.Numbers.{IsOther, numbers_of}
+use Rattle.client_core.specs.Steps.{WereSent}
+use Rattle.client_core.specs.View.{View}
+use Rattle.lane_session.specs.declared.lanes.Place.{Place}
+use Rattle.lane_session.specs.declared.running.Session.{Session}
+use Rattle.lane_session.specs.Places.{lines_left, passed}
+use Rattle.lane_session.specs.Statuses.{IsSessionStatus}
+
+-- what may still come of the calls: a call that is made takes 2 and adds 1, and a reply takes 1
+abbrev pub calls_left : View → ℕ
+calls_left v = 2 * (v.calls.limit - v.calls.made) + length v.calls.calls
+
+-- The calls that wait are sound, and a session that has attempts left isn't lost and has records left that may be dropped.
+pub record IsLive (s : Session) : Type 0 where
+  pub calls : IsSound s.core.calls
+  pub some : 1 ≤ s.attempts → s.core.lost ≡ false
+  pub few : s.attempts ≤ 4
+  pub dropped : s.dropped ≤ 65536
+  pub undropped : 1 ≤ s.attempts → s.dropped < 65536
+
+-- A lane without a line is idle in the core, too; and no more lines were begun than were passed.
+pub record IsSeated (script : List ScriptLine) (s : Session) : Type 0 where
+  pub sixteen : length s.lanes ≡ 16
+  pub idle : (n : ℕ) (p : Place) → slice_get s.lanes n ≡ Some p → p.line ≡ None → IsOther (suc n) (numbers_of s.core.lanes)
+  pub within : (n : ℕ) (p : Place) → slice_get s.lanes n ≡ Some p → p.next ≤ length script
+  pub begun : s.core.begun ≤ passed s.lanes
+
+pub record IsHeld (script : List ScriptLine) (s : Session) : Type 0 where
+  pub live : IsLive s
+  pub seated : IsSeated script s
+  pub status : IsSessionStatus s.status
+
+-- what working on lines leaves as it is
+pub record SameTries (old new : Session) : Type 0 where
+  pub attempts : new.attempts ≡ old.attempts
+  pub dropped : new.dropped ≡ old.dropped
+
+-- the lane has told its answer, and has no line left where none is under way
+pub record IsQuiet (script : List ScriptLine) (s : Session) (n : ℕ) : Type 0 where
+  pub told : position (is_over (suc n)) s.core.lanes ≡ None
+  pub none : (p : Place) → slice_get s.lanes n ≡ Some p → p.line ≡ None → p.next ≡ length script
+
+-- each lane is
+abbrev pub AreQuiet : List ScriptLine → Session → Type 0
+AreQuiet script s = (n : ℕ) → n < 16 → IsQuiet script s n
+
+-- ---- how much is left of a session
+
+-- a lane that went on leaves less to be done
+pub record Lessens (script : List ScriptLine) (old new : Session) : Type 0 where
+  pub tries : SameTries old new
+  pub calls : calls_left new.core ≤ calls_left old.core
+  pub lines : lines_left (length script) new.lanes < lines_left (length script) old.lanes
+
+-- so much is left of the calls, and between two replies
+abbrev pub tries_left : Session → ℕ
+tries_left s = 65541 * calls_left s.core + s.attempts + (65536 - s.dropped)

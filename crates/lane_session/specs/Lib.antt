@@ -1,0 +1,11 @@
+pub mod Streams
+pub mod LaneMarks
+pub mod Places
+pub mod Statuses
+pub mod Holding
+pub mod Running
+pub mod Tallies
+pub mod Bonds
+pub mod Going
+pub mod Losing
+pub mod Sessions

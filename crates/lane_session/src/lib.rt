@@ -1,0 +1,15 @@
+//! A session of sixteen lanes: the lines of a script are begun, their calls are sent, what comes is taken, and each answer is noted and
+//! written at once.
+#![tactic(auto)]
+
+mod counts;
+mod halt;
+mod lanes;
+mod lines;
+mod lost_lines;
+mod output;
+mod running;
+mod status;
+mod top;
+
+pub use top::session;

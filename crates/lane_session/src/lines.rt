@@ -1,0 +1,98 @@
+//! How the lines of a script begin and are answered: what is noted, and what is written.
+
+ghost use Rattle.std.specs.Prelude.{◌≡◌, ◌≤◌, IfOk, OnOk, OnErr};
+ghost use Rattle.outside.specs.Causes.{Rose};
+ghost use Rattle.outside.specs.Clock.{ReadsClock};
+ghost use Rattle.world_model.specs.Counts.{tally_text};
+ghost use Rattle.world_model.specs.Told.{Relates};
+ghost use Rattle.world_model.specs.Transcript.{line_text};
+ghost use Rattle.lane_session.specs.Going.{NotesBeginning, TellsAnswer};
+ghost use Rattle.lane_session.specs.Streams.{Appends, IsFrontOf, ReadsOnce, Says};
+ghost use Rattle.lane_session.specs.Statuses.{CausedBy};
+
+use crate::halt::Halt;
+use crate::output::write_all;
+use nfs_script::{line, tally_line};
+use outside::{Clock, Link, Sink};
+use std::alloc::Global;
+use world_model::{Answer, Mark, Op, Tally};
+use xdr_codec::{Blob, Memory, Writer};
+
+/// Notes the time, and right after it that a line begins: the time.
+pub fn note_beginning<L: Link, C: Clock>(
+    lane: u8,
+    line: u32,
+    op: Op,
+    link: &mut L,
+    clock: &mut C,
+) -> Result<u64, Memory>
+    ensures goes { ReadsOnce (C.readings clock.old) (C.readings clock.new) (λ ms.
+        Relates (L.told link.old) (L.told link.new) (NotesBeginning lane line op ms result)) }
+    ensures reading { IfOk result (ReadsClock (C.readings clock.old) (C.readings clock.new)) }
+    ensures honest { L.honest link.old → L.honest link.new }
+{
+    let ms = clock.now();
+    match link.note(Mark::Clock { ms }) {
+        Ok(()) => {}
+        Err(wanting) => return Err(wanting),
+    }
+    match link.note(Mark::Began { lane, line, op }) {
+        Ok(()) => Ok(ms),
+        Err(wanting) => Err(wanting),
+    }
+}
+
+/// Notes an answer, and writes its line.
+pub fn tell_answer<L: Link, K: Sink>(
+    alloc: Global,
+    lane: u8,
+    line: u32,
+    answer: Answer,
+    link: &mut L,
+    out: &mut K,
+) -> Result<(), Halt>
+    ensures goes { Says (K.written out.old) (K.written out.new) (λ text.
+        Relates (L.told link.old) (L.told link.new) (TellsAnswer lane line answer result text)) }
+    ensures honest { L.honest link.old → L.honest link.new }
+    ensures later { K.faults out.old ≤ K.faults out.new }
+    ensures cause { CausedBy result (Rose (K.faults out.old) (K.faults out.new)) }
+{
+    let Ok(text) = text_of(alloc, lane, line, &answer) else {
+        return Err(Halt::Memory);
+    };
+    match link.note(Mark::Answered { lane, line, answer }) {
+        Ok(()) => write_all(out, text.bytes()),
+        Err(_) => Err(Halt::Memory),
+    }
+}
+
+/// The line of an answer.
+fn text_of(alloc: Global, lane: u8, number: u32, answer: &Answer) -> Result<Blob, Memory>
+    ensures { IfOk result (λ text. text ≡ line_text lane number answer.now) }
+{
+    let mut text = Writer::new(alloc);
+    line(&mut text, lane, number, answer)?;
+    Ok(text.finish())
+}
+
+/// Writes the line of counts.
+pub fn tell_counts<K: Sink>(alloc: Global, tally: &Tally, out: &mut K) -> Result<(), Halt>
+    ensures ok { OnOk result (Appends (K.written out.old) (K.written out.new) (tally_text tally.now)) }
+    ensures err { OnErr result (Says (K.written out.old) (K.written out.new) (IsFrontOf (tally_text tally.now))) }
+    ensures later { K.faults out.old ≤ K.faults out.new }
+    ensures cause { CausedBy result (Rose (K.faults out.old) (K.faults out.new)) }
+{
+    let Ok(text) = counts_text(alloc, tally) else {
+        return Err(Halt::Memory);
+    };
+    write_all(out, text.bytes())
+}
+
+/// The line of counts.
+fn counts_text(alloc: Global, tally: &Tally) -> Result<Blob, Memory>
+    ensures { IfOk result (λ text. text ≡ tally_text tally.now) }
+{
+    let mut text = Writer::new(alloc);
+    tally_line(&mut text, tally)?;
+    Ok(text.finish())
+}

@@ -1,0 +1,63 @@
+//! The lines of a session that was lost before any of them began.
+
+ghost use Rattle.std.specs.Prelude.{◌≡◌, ◌≤◌, ◌<◌, [], length};
+ghost use Rattle.outside.specs.Causes.{Rose};
+ghost use Rattle.lane_session.specs.Losing.{LosesBy, LosesLine};
+ghost use Rattle.lane_session.specs.Statuses.{CausedBy};
+ghost use Rattle.lane_session.specs.Streams.{Passes};
+
+use crate::halt::Halt;
+use crate::lines::{note_beginning, tell_answer};
+use nfs_script::Script;
+use outside::{Clock, Link, Sink};
+use std::alloc::Global;
+use world_model::{Answer, Fault};
+
+/// Each line begins, and is answered that the session is lost.
+pub fn lose_lines<L: Link, C: Clock, K: Sink>(
+    alloc: Global,
+    script: &Script,
+    link: &mut L,
+    clock: &mut C,
+    out: &mut K,
+) -> Result<(), Halt>
+    ensures goes { Passes (C.readings clock.old) (C.readings clock.new) (L.told link.old) (L.told link.new) (K.written out.old) (K.written out.new)
+        (LosesBy script.now result) }
+    ensures honest { L.honest link.old → L.honest link.new }
+    ensures later { K.faults out.old ≤ K.faults out.new }
+    ensures cause { CausedBy result (Rose (K.faults out.old) (K.faults out.new)) }
+{
+    for at in 0..script.count() {
+        match lose_line(alloc, script, at, link, clock, out) {
+            Ok(()) => {}
+            Err(halt) => return Err(halt),
+        }
+    }
+    Ok(())
+}
+
+/// A line begins, and is answered that the session is lost.
+fn lose_line<L: Link, C: Clock, K: Sink>(
+    alloc: Global,
+    script: &Script,
+    at: usize,
+    link: &mut L,
+    clock: &mut C,
+    out: &mut K,
+) -> Result<(), Halt>
+    requires { at < length script.now }
+    ensures goes { Passes (C.readings clock.old) (C.readings clock.new) (L.told link.old) (L.told link.new) (K.written out.old) (K.written out.new)
+        (LosesLine script.now at result) }
+    ensures honest { L.honest link.old → L.honest link.new }
+    ensures later { K.faults out.old ≤ K.faults out.new }
+    ensures cause { CausedBy result (Rose (K.faults out.old) (K.faults out.new)) }
+{
+    let (lane, line, op) = script.op(at);
+    let Ok(op) = op.copy(alloc) else {
+        return Err(Halt::Memory);
+    };
+    match note_beginning(lane, line, op, link, clock) {
+        Ok(_) => tell_answer(alloc, lane, line, Answer::Refused(Fault::Lost), link, out),
+        Err(_) => Err(Halt::Memory),
+    }
+}

@@ -1,0 +1,541 @@
+//! A session over the core: its lines begin, calls are sent, records are taken, answers are told.
+
+ghost use Rattle.std.specs.Prelude.{◌≡◌, ◌≤◌, ◌<◌, ◌^◌, [], List, All, None, Some, false, IfOk, OnOk, length};
+ghost use Rattle.outside.specs.Causes.{Rose};
+ghost use Rattle.world_model.specs.Told.{Relates};
+ghost use Rattle.nfs_script.specs.Asked.{IsAsked, IsAskedLine};
+ghost use Rattle.nfs_script.specs.declared.script.ScriptLine.{ScriptLine};
+ghost use Rattle.op_machines.specs.Begun.{machine_of};
+ghost use Rattle.op_machines.specs.Fits.{Fits};
+ghost use Rattle.client_core.specs.Numbers.{IsIdle};
+ghost use Rattle.client_core.specs.Steps.{WereSent};
+ghost use Rattle.core_facts.specs.Reaches.{MaySetUp};
+ghost use Rattle.lane_session.specs.Bonds.{CoreBy, RedialsBy};
+ghost use Rattle.lane_session.specs.Going.{GoesBy};
+ghost use Rattle.lane_session.specs.Holding.{IsHeld, IsLive, AreQuiet, tries_left};
+ghost use Rattle.lane_session.specs.Places.{AreIdle};
+ghost use Rattle.lane_session.specs.Running.{IsFreshFor, StepsSo, StepsLane, LineIs, Starts, NotesStart, Quietly, Exchanges, Redialed, NoneOver, SendsAll, SendsOne, Fails, Takes, given_up};
+ghost use Rattle.lane_session.specs.Statuses.{CausedBy};
+ghost use Rattle.lane_session.specs.Streams.{Passes, Reads, Says};
+
+use crate::counts::Counts;
+use crate::halt::Halt;
+use crate::lanes::Lanes;
+use crate::lines::{note_beginning, tell_answer};
+use crate::status;
+use client_core::{Core, Setup};
+use nfs_script::Script;
+use op_machines::{Machine, Mounted};
+use outside::{Clock, Link, LinkFault, Received, Sink};
+use session_words::Settings;
+use std::alloc::Global;
+use world_model::{Op, Tally};
+use xdr_codec::Memory;
+
+/// How many lanes there are.
+const LANES: u8 = 16;
+/// How long a record is waited for, in milliseconds.
+const WAIT_MS: u32 = 15_000;
+/// How many attempts are made of a call.
+const ATTEMPTS: u32 = 4;
+/// So many dials in a row that fail lose the session.
+const DIALS: u32 = 4;
+/// So many records in a row that answer no call lose the session.
+const MOST_DROPPED: u32 = 65_536;
+
+/// A session that is under way.
+#[derive(Drop)]
+pub struct Session {
+    alloc: Global,
+    mounted: Mounted,
+    port: u16,
+    core: Core,
+    lanes: Lanes,
+    /// The calls that were sent.
+    pub counts: Counts,
+    /// The status by the answers so far.
+    pub status: u8,
+    /// How many attempts may still end in a row before a reply comes; none in a lost session.
+    attempts: u32,
+    /// How many records that answered no call came in a row.
+    dropped: u32,
+}
+
+/// What came of the sending of a record.
+enum Sending {
+    /// None was due.
+    Nothing,
+    /// It went out.
+    Went,
+    /// The link failed.
+    Failed,
+}
+
+impl Session {
+    /// No line has begun.
+    pub fn new(
+        alloc: Global,
+        settings: &Settings,
+        setup: &Setup,
+        tally: Tally,
+    ) -> Result<Session, Memory>
+        requires may { MaySetUp setup.now }
+        ensures fresh { IfOk result (IsFreshFor settings.now setup.now) }
+        ensures counts { IfOk result (λ s. s.counts ≡ record { tally = tally; next = setup.now.first_xid }) }
+    {
+        Ok(Session {
+            alloc,
+            mounted: Mounted {
+                root: setup.root,
+                rsize: setup.rsize,
+                noac: settings.noac,
+                nocto: settings.nocto,
+            },
+            port: settings.nfs_port,
+            core: Core::new(alloc, setup)?,
+            lanes: Lanes::new(alloc)?,
+            counts: Counts {
+                tally,
+                next: setup.first_xid,
+            },
+            status: status::WELL,
+            attempts: ATTEMPTS,
+            dropped: 0,
+        })
+    }
+
+    /// Works until each line of the script has its answer.
+    pub fn work<L: Link, C: Clock, K: Sink>(
+        &mut self,
+        script: &Script,
+        link: &mut L,
+        clock: &mut C,
+        out: &mut K,
+    ) -> Result<(), Halt>
+        requires asked { All IsAskedLine script.now }
+        requires few { length script.now ≤ 16384 }
+        requires held { IsHeld script.now self.old }
+        ensures idle { OnOk result (AreIdle self.new.lanes) }
+        ensures quiet { OnOk result (AreQuiet script.now self.new) }
+        ensures held { OnOk result (IsHeld script.now self.new) }
+        ensures goes { Passes (C.readings clock.old) (C.readings clock.new) (L.told link.old) (L.told link.new) (K.written out.old) (K.written out.new)
+            (GoesBy script.now self.old self.new result) }
+        ensures honest { L.honest link.old → L.honest link.new }
+        ensures later { K.faults out.old ≤ K.faults out.new }
+        ensures cause { CausedBy result (Rose (K.faults out.old) (K.faults out.new)) }
+    {
+        match self.settle(script, link, clock, out) {
+            Ok(()) => {}
+            Err(halt) => return Err(halt),
+        }
+        'working: while self.lanes.are_busy() {
+            match self.turn(script, link, clock, out) {
+                Ok(()) => {}
+                Err(halt) => return Err(halt),
+            }
+        }
+        Ok(())
+    }
+
+    /// An exchange with the server, and what the lanes do after it.
+    fn turn<L: Link, C: Clock, K: Sink>(
+        &mut self,
+        script: &Script,
+        link: &mut L,
+        clock: &mut C,
+        out: &mut K,
+    ) -> Result<(), Halt>
+        requires asked { All IsAskedLine script.now }
+        requires few { length script.now ≤ 16384 }
+        requires held { IsHeld script.now self.old }
+        requires quiet { AreQuiet script.now self.old }
+        ensures held { OnOk result (IsHeld script.now self.new) }
+        ensures quiet { OnOk result (AreQuiet script.now self.new) }
+        ensures less { OnOk result (tries_left self.new < tries_left self.old) }
+        ensures goes { Passes (C.readings clock.old) (C.readings clock.new) (L.told link.old) (L.told link.new) (K.written out.old) (K.written out.new)
+            (GoesBy script.now self.old self.new result) }
+        ensures honest { L.honest link.old → L.honest link.new }
+        ensures later { K.faults out.old ≤ K.faults out.new }
+        ensures cause { CausedBy result (Rose (K.faults out.old) (K.faults out.new)) }
+    {
+        match self.exchange(link) {
+            Ok(()) => self.settle(script, link, clock, out),
+            Err(halt) => Err(halt),
+        }
+    }
+
+    /// Lanes go on until each has a line under way without an answer, or none left.
+    fn settle<L: Link, C: Clock, K: Sink>(
+        &mut self,
+        script: &Script,
+        link: &mut L,
+        clock: &mut C,
+        out: &mut K,
+    ) -> Result<(), Halt>
+        requires asked { All IsAskedLine script.now }
+        requires few { length script.now ≤ 16384 }
+        requires held { IsHeld script.now self.old }
+        ensures held { OnOk result (IsHeld script.now self.new) }
+        ensures quiet { OnOk result (AreQuiet script.now self.new) }
+        ensures less { OnOk result (tries_left self.new ≤ tries_left self.old) }
+        ensures goes { Passes (C.readings clock.old) (C.readings clock.new) (L.told link.old) (L.told link.new) (K.written out.old) (K.written out.new)
+            (GoesBy script.now self.old self.new result) }
+        ensures honest { L.honest link.old → L.honest link.new }
+        ensures later { K.faults out.old ≤ K.faults out.new }
+        ensures cause { CausedBy result (Rose (K.faults out.old) (K.faults out.new)) }
+    {
+        'settling: loop {
+            match self.step_one(script, link, clock, out) {
+                Ok(went) => {
+                    if !went {
+                        return Ok(());
+                    }
+                }
+                Err(halt) => return Err(halt),
+            }
+        }
+    }
+
+    /// The first lane that can goes on: whether there was one.
+    fn step_one<L: Link, C: Clock, K: Sink>(
+        &mut self,
+        script: &Script,
+        link: &mut L,
+        clock: &mut C,
+        out: &mut K,
+    ) -> Result<bool, Halt>
+        requires asked { All IsAskedLine script.now }
+        requires few { length script.now ≤ 16384 }
+        requires held { IsHeld script.now self.old }
+        ensures held { OnOk result (IsHeld script.now self.new) }
+        ensures steps { IfOk result (λ went. StepsSo script.now self.old went self.new) }
+        ensures goes { Passes (C.readings clock.old) (C.readings clock.new) (L.told link.old) (L.told link.new) (K.written out.old) (K.written out.new)
+            (GoesBy script.now self.old self.new result) }
+        ensures honest { L.honest link.old → L.honest link.new }
+        ensures later { K.faults out.old ≤ K.faults out.new }
+        ensures cause { CausedBy result (Rose (K.faults out.old) (K.faults out.new)) }
+    {
+        for index in 0..LANES {
+            match self.step(index + 1, script, link, clock, out) {
+                Ok(went) => {
+                    if went {
+                        return Ok(true);
+                    }
+                }
+                Err(halt) => return Err(halt),
+            }
+        }
+        Ok(false)
+    }
+
+    /// The lane tells its answer, or begins its next line: whether it had either.
+    fn step<L: Link, C: Clock, K: Sink>(
+        &mut self,
+        lane: u8,
+        script: &Script,
+        link: &mut L,
+        clock: &mut C,
+        out: &mut K,
+    ) -> Result<bool, Halt>
+        requires least { 1 ≤ lane }
+        requires most { lane ≤ 16 }
+        requires asked { All IsAskedLine script.now }
+        requires few { length script.now ≤ 16384 }
+        requires held { IsHeld script.now self.old }
+        ensures held { OnOk result (IsHeld script.now self.new) }
+        ensures steps { IfOk result (λ went. StepsLane script.now lane self.old went self.new) }
+        ensures goes { Passes (C.readings clock.old) (C.readings clock.new) (L.told link.old) (L.told link.new) (K.written out.old) (K.written out.new)
+            (GoesBy script.now self.old self.new result) }
+        ensures honest { L.honest link.old → L.honest link.new }
+        ensures later { K.faults out.old ≤ K.faults out.new }
+        ensures cause { CausedBy result (Rose (K.faults out.old) (K.faults out.new)) }
+    {
+        match self.lanes.line(lane) {
+            Some(line) => self.end(lane, line, link, out),
+            None => self.begin(lane, script, link, clock),
+        }
+    }
+
+    /// The lane tells the answer of its line, if it is there.
+    fn end<L: Link, K: Sink>(
+        &mut self,
+        lane: u8,
+        line: u32,
+        link: &mut L,
+        out: &mut K,
+    ) -> Result<bool, Halt>
+        requires least { 1 ≤ lane }
+        requires most { lane ≤ 16 }
+        requires line { LineIs lane (Some line) self.old }
+        ensures held { OnOk result ((script : List ScriptLine) → IsHeld script self.old → IsHeld script self.new) }
+        ensures steps { IfOk result (λ went. (script : List ScriptLine) → IsHeld script self.old → StepsLane script lane self.old went self.new) }
+        ensures goes { Says (K.written out.old) (K.written out.new) (λ text.
+            Relates (L.told link.old) (L.told link.new) (λ h k. (script : List ScriptLine) → IsHeld script self.old → GoesBy script self.old self.new result [] text h k)) }
+        ensures honest { L.honest link.old → L.honest link.new }
+        ensures later { K.faults out.old ≤ K.faults out.new }
+        ensures cause { CausedBy result (Rose (K.faults out.old) (K.faults out.new)) }
+    {
+        self.core.is_sound();
+        let Some(answer) = self.core.answer(lane) else {
+            return Ok(false);
+        };
+        let status = status::after_answer(self.status, &answer);
+        match tell_answer(self.alloc, lane, line, answer, link, out) {
+            Ok(()) => {
+                self.lanes.end(lane);
+                self.status = status;
+                Ok(true)
+            }
+            Err(halt) => Err(halt),
+        }
+    }
+
+    /// The lane begins its next line, if there is one.
+    fn begin<L: Link, C: Clock>(
+        &mut self,
+        lane: u8,
+        script: &Script,
+        link: &mut L,
+        clock: &mut C,
+    ) -> Result<bool, Halt>
+        requires least { 1 ≤ lane }
+        requires most { lane ≤ 16 }
+        requires asked { All IsAskedLine script.now }
+        requires few { length script.now ≤ 16384 }
+        requires held { IsHeld script.now self.old }
+        requires line { LineIs lane None self.old }
+        ensures held { OnOk result (IsHeld script.now self.new) }
+        ensures steps { IfOk result (λ went. StepsLane script.now lane self.old went self.new) }
+        ensures goes { Reads (C.readings clock.old) (C.readings clock.new) (λ given.
+            Relates (L.told link.old) (L.told link.new) (GoesBy script.now self.old self.new result given [])) }
+        ensures honest { L.honest link.old → L.honest link.new }
+        ensures only { CausedBy result ⊥ }
+    {
+        let Some(place) = self.lanes.seek(lane, script) else {
+            return Ok(false);
+        };
+        let (_, line, op) = script.op(place);
+        match self.start(lane, line, op, link, clock) {
+            Ok(()) => {
+                self.lanes.begin(lane, place, line);
+                Ok(true)
+            }
+            Err(_) => Err(Halt::Memory),
+        }
+    }
+
+    /// An operation begins at the time that is noted just before it.
+    fn start<L: Link, C: Clock>(
+        &mut self,
+        lane: u8,
+        line: u32,
+        op: &Op,
+        link: &mut L,
+        clock: &mut C,
+    ) -> Result<(), Memory>
+        requires asked { IsAsked op.now }
+        requires idle { IsIdle lane self.old.core.lanes }
+        requires begun { self.old.core.begun < 2 ^ 32 }
+        ensures goes { Reads (C.readings clock.old) (C.readings clock.new) (λ given.
+            Starts lane op.now self.old self.new result given × Relates (L.told link.old) (L.told link.new) (NotesStart lane line op.now result given)) }
+        ensures fits { OnOk result (Fits (machine_of self.old.mounted lane op.now)) }
+        ensures honest { L.honest link.old → L.honest link.new }
+    {
+        let Ok(machine) = self.machine(lane, op) else {
+            return Err(Memory);
+        };
+        let Ok(noted) = op.copy(self.alloc) else {
+            return Err(Memory);
+        };
+        match note_beginning(lane, line, noted, link, clock) {
+            Ok(now) => {
+                self.core.begin(lane, machine, now);
+                Ok(())
+            }
+            Err(wanting) => Err(wanting),
+        }
+    }
+
+    /// The machine of an operation.
+    fn machine(&self, lane: u8, op: &Op) -> Result<Machine, Memory>
+        requires { IsAsked op.now }
+        ensures is { IfOk result (λ machine. machine ≡ machine_of self.now.mounted lane op.now) }
+        ensures fits { IfOk result Fits }
+    {
+        let own = op.copy(self.alloc)?;
+        Machine::new(self.alloc, &self.mounted, lane, own)
+    }
+
+    /// Sends each record that is due, and waits once for one that comes.
+    fn exchange<L: Link>(&mut self, link: &mut L) -> Result<(), Halt>
+        requires live { IsLive self.old }
+        requires told { NoneOver self.old.core }
+        ensures exchanges { OnOk result (Exchanges self.old self.new) }
+        ensures goes { Relates (L.told link.old) (L.told link.new) Quietly }
+        ensures core { Relates (L.told link.old) (L.told link.new) (CoreBy self.old self.new result) }
+        ensures honest { L.honest link.old → L.honest link.new }
+        ensures only { CausedBy result ⊥ }
+    {
+        if self.attempts == 0 {
+            // Never so: a lost session has answered each line, and after so many attempts no call waits.
+            return Err(Halt::Memory);
+        }
+        match self.send_all(link) {
+            Ok(went) => {
+                if went {
+                    return self.hear(link);
+                }
+                self.reconnect(link)
+            }
+            Err(halt) => Err(halt),
+        }
+    }
+
+    /// Sends each record that is due: whether all went out.
+    fn send_all<L: Link>(&mut self, link: &mut L) -> Result<bool, Halt>
+        requires live { IsLive self.old }
+        requires some { 1 ≤ self.old.attempts }
+        ensures sends { IfOk result (λ went. SendsAll self.old went self.new) }
+        ensures goes { Relates (L.told link.old) (L.told link.new) Quietly }
+        ensures core { Relates (L.told link.old) (L.told link.new) (CoreBy self.old self.new result) }
+        ensures honest { L.honest link.old → L.honest link.new }
+        ensures only { CausedBy result ⊥ }
+    {
+        'sending: loop {
+            match self.send_next(link) {
+                Ok(sending) => match sending {
+                    Sending::Nothing => return Ok(true),
+                    Sending::Went => {}
+                    Sending::Failed => return Ok(false),
+                },
+                Err(_) => return Err(Halt::Memory),
+            }
+        }
+    }
+
+    /// Sends the next record that is due. Where the link fails, the attempts that run have ended.
+    fn send_next<L: Link>(&mut self, link: &mut L) -> Result<Sending, Memory>
+        requires live { IsLive self.old }
+        requires some { 1 ≤ self.old.attempts }
+        ensures sends { IfOk result (λ sending. SendsOne self.old sending self.new) }
+        ensures goes { Relates (L.told link.old) (L.told link.new) Quietly }
+        ensures core { Relates (L.told link.old) (L.told link.new) (CoreBy self.old self.new result) }
+        ensures honest { L.honest link.old → L.honest link.new }
+    {
+        let Some(rec) = self.core.next_send() else {
+            return Ok(Sending::Nothing);
+        };
+        self.counts.count(rec);
+        match link.send(rec) {
+            Ok(()) => Ok(Sending::Went),
+            Err(LinkFault::Failed) => {
+                self.fail();
+                Ok(Sending::Failed)
+            }
+            Err(LinkFault::Memory) => Err(Memory),
+        }
+    }
+
+    /// Waits for a record once.
+    fn hear<L: Link>(&mut self, link: &mut L) -> Result<(), Halt>
+        requires live { IsLive self.old }
+        requires some { 1 ≤ self.old.attempts }
+        requires told { NoneOver self.old.core }
+        requires sent { WereSent self.old.core.calls.calls }
+        ensures exchanges { OnOk result (Exchanges self.old self.new) }
+        ensures goes { Relates (L.told link.old) (L.told link.new) Quietly }
+        ensures core { Relates (L.told link.old) (L.told link.new) (CoreBy self.old self.new result) }
+        ensures honest { L.honest link.old → L.honest link.new }
+        ensures only { CausedBy result ⊥ }
+    {
+        let mut rec = Vec::new(self.alloc);
+        match link.receive(WAIT_MS, &mut rec) {
+            Received::Whole => {
+                self.take(rec.as_slice());
+                Ok(())
+            }
+            Received::Silent => {
+                self.fail();
+                Ok(())
+            }
+            Received::Failed => {
+                self.fail();
+                self.reconnect(link)
+            }
+            Received::Memory => Err(Halt::Memory),
+        }
+    }
+
+    /// A record came.
+    fn take(&mut self, rec: &[u8])
+        requires dropped { self.old.dropped < 65536 }
+        requires sent { WereSent self.old.core.calls.calls }
+        ensures { Takes self.old rec.now self.new }
+    {
+        if self.core.take(rec) {
+            self.attempts = ATTEMPTS;
+            self.dropped = 0;
+            return;
+        }
+        self.dropped += 1;
+        if self.dropped == MOST_DROPPED {
+            self.lose();
+        }
+    }
+
+    /// The attempts that run have ended. Where a call is given up the session is lost.
+    fn fail(&mut self)
+        requires { 1 ≤ self.old.attempts }
+        ensures { Fails self.old self.new }
+    {
+        if self.core.failed() {
+            self.attempts -= 1;
+        } else {
+            self.attempts = 0;
+        }
+    }
+
+    /// Dials again after the link failed, unless the session is lost; where that doesn't work it is lost.
+    fn reconnect<L: Link>(&mut self, link: &mut L) -> Result<(), Halt>
+        ensures redials { OnOk result (Redialed self.old self.new) }
+        ensures goes { Relates (L.told link.old) (L.told link.new) Quietly }
+        ensures core { Relates (L.told link.old) (L.told link.new) (CoreBy self.old self.new result) }
+        ensures honest { L.honest link.old → L.honest link.new }
+        ensures only { CausedBy result ⊥ }
+    {
+        if self.attempts == 0 {
+            return Ok(());
+        }
+        match redial(self.port, link) {
+            Ok(true) => Ok(()),
+            Ok(false) => {
+                self.lose();
+                Ok(())
+            }
+            Err(_) => Err(Halt::Memory),
+        }
+    }
+
+    /// The session is lost.
+    fn lose(&mut self)
+        ensures { self.new ≡ given_up self.old }
+    {
+        self.core.lose();
+        self.attempts = 0;
+    }
+}
+
+/// Dials again, a few times if need be: whether that worked.
+fn redial<L: Link>(port: u16, link: &mut L) -> Result<bool, Memory>
+    ensures goes { Relates (L.told link.old) (L.told link.new) (RedialsBy result) }
+    ensures honest { L.honest link.old → L.honest link.new }
+{
+    for _ in 0..DIALS {
+        match link.dial(port) {
+            Ok(()) => return Ok(true),
+            Err(LinkFault::Failed) => {}
+            Err(LinkFault::Memory) => return Err(Memory),
+        }
+    }
+    Ok(false)
+}

@@ -1,0 +1,190 @@
+//! The session as a whole.
+
+ghost use Rattle.std.specs.Prelude.{◌≡◌, ◌≤◌, All, None, Some, length, IfOk, option_map};
+ghost use Rattle.outside.specs.Causes.{Rose};
+ghost use Rattle.nfs_script.specs.Asked.{IsAskedLine};
+ghost use Rattle.world_model.specs.Counts.{tally_of};
+ghost use Rattle.world_model.specs.Lost.{IsLost};
+ghost use Rattle.world_model.specs.Told.{Relates};
+ghost use Rattle.core_facts.specs.Reaches.{MaySetUp};
+ghost use Rattle.lane_session.specs.Bonds.{IsOpened, EndsWith, AreCounted};
+ghost use Rattle.lane_session.specs.Losing.{status_of};
+ghost use Rattle.lane_session.specs.Sessions.{MayGo, IsUnmarked, SessionIs, EndsBy, TellsEnd, TextOf};
+ghost use Rattle.lane_session.specs.Statuses.{IsEnding, IsSessionStatus, CausedBy};
+ghost use Rattle.lane_session.specs.Streams.{Passes, Says};
+
+use crate::halt::Halt;
+use crate::lines::tell_counts;
+use crate::lost_lines::lose_lines;
+use crate::running::Session;
+use crate::status;
+use client_core::Setup;
+use nfs_script::Script;
+use outside::{Clock, Link, Sink};
+use session_words::Settings;
+use std::alloc::Global;
+use world_model::Tally;
+
+/// What a session comes to.
+#[derive(Clone, Copy, Debug)]
+pub struct End {
+    /// The status by its answers.
+    pub status: u8,
+    /// The calls that were sent.
+    pub tally: Tally,
+}
+
+/// Runs each line of the script in its lane, and answers the status: 0 where each operation went well, 1 where one was refused, 5 where the
+/// sink failed, 6 where the link is lost, 7 for lack of memory outside an operation. Without a set-up the session is lost.
+pub fn session<L: Link, C: Clock, K: Sink>(
+    alloc: Global,
+    settings: &Settings,
+    script: &Script,
+    setup: Option<&Setup>,
+    tally: Tally,
+    link: &mut L,
+    clock: &mut C,
+    out: &mut K,
+) -> u8
+    requires may { MayGo (option_map (λ s. s.now) setup) }
+    requires asked { All IsAskedLine script.now }
+    requires few { length script.now ≤ 16384 }
+    ensures ending { IsEnding result }
+    ensures sink { result ≡ 5 → Rose (K.faults out.old) (K.faults out.new) }
+    ensures core { Relates (L.told link.old) (L.told link.new)
+        (λ h k. IsOpened (option_map (λ s. s.now) setup.entry) h → EndsWith settings.now (option_map (λ s. s.now) setup.entry) k) }
+    ensures counted { Passes (C.readings clock.old) (C.readings clock.new) (L.told link.old) (L.told link.new) (K.written out.old) (K.written out.new)
+        (λ given text h k. IsUnmarked h → IsOpened (option_map (λ s. s.now) setup.entry) h → tally ≡ tally_of h
+        → TextOf settings.now.count (tally_of k) k result text) }
+    ensures honest { L.honest link.old → L.honest link.new }
+    ensures shown { Passes (C.readings clock.old) (C.readings clock.new) (L.told link.old) (L.told link.new) (K.written out.old) (K.written out.new)
+        (λ given text h k. IsUnmarked h → SessionIs settings.now.count script.now given h k result text) }
+{
+    match all_lines(alloc, settings, script, setup, tally, link, clock, out) {
+        Ok(end) => finish(alloc, &end, settings.count, out),
+        Err(halt) => status::of_halt(halt),
+    }
+}
+
+/// Runs the lines, or answers that they are lost where there is no set-up.
+fn all_lines<L: Link, C: Clock, K: Sink>(
+    alloc: Global,
+    settings: &Settings,
+    script: &Script,
+    setup: Option<&Setup>,
+    tally: Tally,
+    link: &mut L,
+    clock: &mut C,
+    out: &mut K,
+) -> Result<End, Halt>
+    requires may { MayGo (option_map (λ s. s.now) setup) }
+    requires asked { All IsAskedLine script.now }
+    requires few { length script.now ≤ 16384 }
+    ensures ending { IfOk result (λ end. IsSessionStatus end.status) }
+    ensures goes { Passes (C.readings clock.old) (C.readings clock.new) (L.told link.old) (L.told link.new) (K.written out.old) (K.written out.new)
+        (λ given text h k. IsUnmarked h → EndsBy script.now result given text h k) }
+    ensures core { Relates (L.told link.old) (L.told link.new)
+        (λ h k. IsOpened (option_map (λ s. s.now) setup.entry) h → EndsWith settings.now (option_map (λ s. s.now) setup.entry) k) }
+    ensures counted { Relates (L.told link.old) (L.told link.new)
+        (λ h k. IsOpened (option_map (λ s. s.now) setup.entry) h → tally ≡ tally_of h → AreCounted result k) }
+    ensures honest { L.honest link.old → L.honest link.new }
+    ensures later { K.faults out.old ≤ K.faults out.new }
+    ensures cause { CausedBy result (Rose (K.faults out.old) (K.faults out.new)) }
+{
+    match setup {
+        Some(setup) => run_lines(alloc, settings, script, setup, tally, link, clock, out),
+        None => lose_all(alloc, script, tally, link, clock, out),
+    }
+}
+
+/// Runs the lines of a session that has a set-up.
+fn run_lines<L: Link, C: Clock, K: Sink>(
+    alloc: Global,
+    settings: &Settings,
+    script: &Script,
+    setup: &Setup,
+    tally: Tally,
+    link: &mut L,
+    clock: &mut C,
+    out: &mut K,
+) -> Result<End, Halt>
+    requires may { MaySetUp setup.now }
+    requires asked { All IsAskedLine script.now }
+    requires few { length script.now ≤ 16384 }
+    ensures ending { IfOk result (λ end. IsSessionStatus end.status) }
+    ensures goes { Passes (C.readings clock.old) (C.readings clock.new) (L.told link.old) (L.told link.new) (K.written out.old) (K.written out.new)
+        (λ given text h k. IsUnmarked h → EndsBy script.now result given text h k) }
+    ensures core { Relates (L.told link.old) (L.told link.new)
+        (λ h k. IsOpened (Some setup.now) h → EndsWith settings.now (Some setup.now) k) }
+    ensures counted { Relates (L.told link.old) (L.told link.new) (λ h k. IsOpened (Some setup.now) h → tally ≡ tally_of h → AreCounted result k) }
+    ensures honest { L.honest link.old → L.honest link.new }
+    ensures later { K.faults out.old ≤ K.faults out.new }
+    ensures cause { CausedBy result (Rose (K.faults out.old) (K.faults out.new)) }
+{
+    let Ok(mut session) = Session::new(alloc, settings, setup, tally) else {
+        return Err(Halt::Memory);
+    };
+    match session.work(script, link, clock, out) {
+        Ok(()) => Ok(End {
+            status: session.status,
+            tally: session.counts.tally,
+        }),
+        Err(halt) => Err(halt),
+    }
+}
+
+/// Answers each line of a session that was lost before.
+fn lose_all<L: Link, C: Clock, K: Sink>(
+    alloc: Global,
+    script: &Script,
+    tally: Tally,
+    link: &mut L,
+    clock: &mut C,
+    out: &mut K,
+) -> Result<End, Halt>
+    requires asked { All IsAskedLine script.now }
+    ensures ending { IfOk result (λ end. IsSessionStatus end.status) }
+    ensures goes { Passes (C.readings clock.old) (C.readings clock.new) (L.told link.old) (L.told link.new) (K.written out.old) (K.written out.new)
+        (λ given text h k. IsUnmarked h → EndsBy script.now result given text h k) }
+    ensures core { Relates (L.told link.old) (L.told link.new) (λ h k. IsLost h (length h) → IsLost k (length k)) }
+    ensures counted { Relates (L.told link.old) (L.told link.new) (λ h k. IsOpened None h → tally ≡ tally_of h → AreCounted result k) }
+    ensures honest { L.honest link.old → L.honest link.new }
+    ensures later { K.faults out.old ≤ K.faults out.new }
+    ensures cause { CausedBy result (Rose (K.faults out.old) (K.faults out.new)) }
+{
+    match lose_lines(alloc, script, link, clock, out) {
+        Ok(()) => Ok(End {
+            status: lost_status(script),
+            tally,
+        }),
+        Err(halt) => Err(halt),
+    }
+}
+
+/// The status of a session that was lost before: an empty script has no answer.
+fn lost_status(script: &Script) -> u8
+    ensures { result ≡ status_of script.now }
+{
+    if script.count() == 0 {
+        status::WELL
+    } else {
+        status::LINK_LOST
+    }
+}
+
+/// Writes the line of counts where it is wanted.
+fn finish<K: Sink>(alloc: Global, end: &End, count: bool, out: &mut K) -> u8
+    requires { IsSessionStatus end.now.status }
+    ensures ending { IsEnding result }
+    ensures sink { result ≡ 5 → Rose (K.faults out.old) (K.faults out.new) }
+    ensures said { Says (K.written out.old) (K.written out.new) (TellsEnd end.now count result) }
+{
+    if count {
+        match tell_counts(alloc, &end.tally, out) {
+            Ok(()) => end.status,
+            Err(halt) => status::of_halt(halt),
+        }
+    } else {
+        end.status
+    }
+}
