@@ -12,4 +12,6 @@ pub mod Mounting
 pub mod Working
 pub mod Conversing
 pub mod Ending
+pub mod ScriptLines
+pub mod LaneRuns
 pub mod Runs

@@ -13,7 +13,7 @@ use Rattle.session_words.specs.declared.settings.Settings.{Settings}
 use Rattle.session_words.specs.Words.{IsCommand}
 use Rattle.nfs_client.specs.Streams.{script_limit, TakesAll}
 use Rattle.nfs_client.specs.Putting.{IsBuilt}
-use Rattle.nfs_client.specs.Run.{SessionBy, one_line, IsDoable, IsScript, unbuilt, fault_in, fault_of, IsFaultOf, AsksFor, RefusesWith, no_script, whole, cut, Unbegun, Refuses, RefusalIs, RunIs, session, unbegun, Says}
+use Rattle.nfs_client.specs.Run.{SessionBy, one_line, IsDoable, IsScript, IsReadAs, IsFaultOf, AsksFor, RefusesWith, no_script, whole, cut, Unbegun, Refuses, RefusalIs, LanesBy, RunIs, session, in_lanes, unbegun, Says}
 use Rattle.nfs_client.specs.Reports.{IsEnding}
 use Rattle.nfs_client.specs.Session.{Reads}
 use Rattle.nfs_client.proofs.Alongs.{reads_none}
@@ -48,45 +48,32 @@ one_by (x ∷ []) first one g lane line = ap (λ (y : ScriptLine). y ∷ []) (sa
     parts_are y a b = ap (λ (n : ℕ). made n y.line y.op) a ∙ ap (λ (n : ℕ). made 1 n y.op) b
 one_by (x ∷ y ∷ lines) first one g lane line = absurd (omega (arith, one))
 
--- a text that asks for no script that can be done was all that the source had
+-- a text that spells no script was all that the source had
 pub unscripted : (left : Option (List ℕ)) (status : ℕ) (text items : List ℕ) → (IsScript text → ⊥) → text ≡ items → TakesAll left items → IfSome left (λ l. status ≡ 3 → IsScript (take script_limit l) → ⊥)
 unscripted None status text items none v t = tt
 unscripted (Some l) status text items none v t = λ q s. none (subst IsScript (sym (v ∙ t)) s)
 
--- a text that asks for one was all that the source had
+-- a text that spells one was all that the source had
 pub scripted : (left : Option (List ℕ)) (status : ℕ) (text items : List ℕ) → IsScript text → text ≡ items → TakesAll left items → IfSome left (λ l. (IsScript (take script_limit l) → ⊥) → Refuses status)
 scripted None status text items one v t = tt
 scripted (Some l) status text items one v t = λ none. absurd (none (subst IsScript (v ∙ t) one))
 
--- a faulty text asks for none
+-- a faulty text spells none
 pub faulty : (text : List ℕ) (fault : ScriptFault) → script_of text ≡ Err fault → IsScript text → ⊥
 faulty text fault e s = let p = s.parsed in cc
 
--- nor does one that can't be done
-pub undoable : (text : List ℕ) (lines : List ScriptLine) → script_of text ≡ Ok lines → (IsDoable lines → ⊥) → IsScript text → ⊥
-undoable text lines e none s = none (subst IsDoable (same_lines s.lines lines (sym s.parsed ∙ e)) s.doable)
-  where
-    same_lines : (a b : List ScriptLine) → found a ≡ found b → a ≡ b
-    same_lines a b q = cc
-
-pub asks_one : (text : List ℕ) (lines : List ScriptLine) (op : Op) → script_of text ≡ Ok lines → lines ≡ one_line op → IsBuilt op → IsScript text
-asks_one text lines op e one built = record { lines = lines; parsed = e; doable = record { op = op; one = one; built = built } }
+pub spells : (text : List ℕ) (lines : List ScriptLine) → script_of text ≡ Ok lines → IsScript text
+spells text lines e = record { lines = lines; parsed = e }
 
 -- the operation of a script is what the script asks for
 pub asks_for : (left : Option (List ℕ)) (lines : List ScriptLine) (text items : List ℕ) (op : Op) → script_of text ≡ Ok lines → lines ≡ one_line op → IsBuilt op → text ≡ items → TakesAll left items → AsksFor left op
 asks_for None lines text items op e one built v t = (text, e ∙ ap found one, built)
 asks_for (Some l) lines text items op e one built v t = ap script_of (sym (v ∙ t)) ∙ e ∙ ap found one
 
--- why a text is refused is why what the source had is refused
-pub fault_for : (left : Option (List ℕ)) (text items : List ℕ) (fault : ScriptFault) → fault ≡ fault_of text → text ≡ items → TakesAll left items → IsFaultOf left fault
-fault_for None text items fault e v t = (text, e)
-fault_for (Some l) text items fault e v t = e ∙ ap fault_of (v ∙ t)
-
-pub own_fault : (text : List ℕ) (fault : ScriptFault) → script_of text ≡ Err fault → fault ≡ fault_of text
-own_fault text fault e = sym (ap fault_in e)
-
-pub later_fault : (text : List ℕ) (lines : List ScriptLine) → script_of text ≡ Ok lines → unbuilt ≡ fault_of text
-later_fault text lines e = sym (ap fault_in e)
+-- as a text is read, so is what the source had
+pub read_for : (left : Option (List ℕ)) (text items : List ℕ) (read : Result (List ScriptLine) ScriptFault) → script_of text ≡ read → text ≡ items → TakesAll left items → IsReadAs left read
+read_for None text items read e v t = (text, e)
+read_for (Some l) text items read e v t = ap script_of (sym (v ∙ t)) ∙ e
 
 -- ---- what a run says
 
@@ -104,6 +91,22 @@ run_says v w a b old new cause words left s op status c asks said = record {
   text = said.text;
   added = said.added;
   is = (said.is.0, said.is.1, relates_run old new cause said.is.0 words left s op status said.text c asks said.is.2);
+}
+
+relates_lanes : (old new : Option History) (cause : Type 0) (given : List ℕ) (words : List (List ℕ)) (left : Option (List ℕ)) (s : Settings) (lines : List ScriptLine) (status : ℕ) (text : List ℕ) → IsCommand words s → IsReadAs left (Ok lines)
+    → (IsDoable lines → ⊥) → Relates old new (λ before h. before ≡ [] → LanesBy s lines given h status text) → Relates old new (λ before h. before ≡ [] → RunIs cause given words left h status text)
+relates_lanes None new cause given words left s lines status text w a none r = tt
+relates_lanes (Some x) None cause given words left s lines status text w a none r = absurd r
+relates_lanes (Some x) (Some y) cause given words left s lines status text w a none r = λ e. in_lanes s lines w a none (r e)
+
+-- there was a session of lines
+pub lanes_say : (v w : Option (List ℕ)) (a b : Option (List ℕ)) (old new : Option History) (cause : Type 0) (words : List (List ℕ)) (left : Option (List ℕ)) (s : Settings) (lines : List ScriptLine) (status : ℕ) → IsCommand words s → IsReadAs left (Ok lines)
+    → (IsDoable lines → ⊥) → Says v w (λ text. Reads a b (λ given. Relates old new (λ before h. before ≡ [] → LanesBy s lines given h status text)))
+    → Says v w (λ text. Reads a b (λ given. Relates old new (λ before h. before ≡ [] → RunIs cause given words left h status text)))
+lanes_say v w a b old new cause words left s lines status c asks none said = record {
+  text = said.text;
+  added = said.added;
+  is = (said.is.0, said.is.1, relates_lanes old new cause said.is.0 words left s lines status said.text c asks none said.is.2);
 }
 
 relates_none : (old : Option History) (cause : Type 0) (words : List (List ℕ)) (left : Option (List ℕ)) (status : ℕ) (text : List ℕ) → Unbegun left status text

@@ -6,6 +6,7 @@ pub mod Results
 pub mod SetUp
 pub mod Putting
 pub mod Streams
+pub mod LaneRuns
 pub mod Run
 pub mod Working
 pub mod Reports

@@ -23,6 +23,8 @@ use Rattle.nfs_script.specs.Script.{script_of}
 use Rattle.nfs_script.specs.RefusalText.{refusal_text}
 use Rattle.session_words.specs.declared.settings.Settings.{Settings}
 use Rattle.session_words.specs.Words.{IsCommand}
+use Rattle.lane_session.specs.Sessions.{SessionIs as SessionIsLanes}
+use Rattle.nfs_client.specs.LaneRuns.{SetUpAndRun}
 use Rattle.nfs_client.specs.SetUp.{origin_of}
 use Rattle.nfs_client.specs.Putting.{IsBuilt}
 use Rattle.nfs_client.specs.Streams.{script_limit, IsFront, Appends}
@@ -165,34 +167,25 @@ pub record SessionBy (cause : Type 0) (given : List ℕ) (s : Settings) (op : Op
 abbrev pub one_line : Op → List ScriptLine
 one_line op = record { lane = 1; line = 1; op = op } ∷ []
 
--- a script that this client can do: one put of a file in the root itself, of lane 1 and in line 1
+-- one put of a file in the root itself, of lane 1 and in line 1
 pub record IsDoable (lines : List ScriptLine) : Type 0 where
   pub op : Op
   pub one : lines ≡ one_line op
   pub built : IsBuilt op
 
--- the text asks for such a script
+-- the text spells a script
 pub record IsScript (text : List ℕ) : Type 0 where
   pub lines : List ScriptLine
   pub parsed : script_of text ≡ Ok lines
-  pub doable : IsDoable lines
 
--- line 0, and kind 10: a script that can't be done yet
-abbrev pub unbuilt : ScriptFault
-unbuilt = record { line = 0; kind = 10 }
+-- the script's text is read so; where the source doesn't tell its bytes, some text is
+abbrev pub IsReadAs : Option (List ℕ) → Result (List ScriptLine) ScriptFault → Type 0
+IsReadAs None read = (text : List ℕ) × (script_of text ≡ read)
+IsReadAs (Some left) read = script_of (take script_limit left) ≡ read
 
--- why a text is refused: for its own fault, and else because it can't be done yet
-abbrev pub fault_in : Result (List ScriptLine) ScriptFault → ScriptFault
-fault_in (Ok lines) = unbuilt
-fault_in (Err fault) = fault
-
-abbrev pub fault_of : List ℕ → ScriptFault
-fault_of text = fault_in (script_of text)
-
--- the script is refused so; where the source doesn't tell its bytes, some text is
+-- the script is refused so
 abbrev pub IsFaultOf : Option (List ℕ) → ScriptFault → Type 0
-IsFaultOf None fault = (text : List ℕ) × (fault ≡ fault_of text)
-IsFaultOf (Some left) fault = fault ≡ fault_of (take script_limit left)
+IsFaultOf left fault = IsReadAs left (Err fault)
 
 -- the script asks for this operation; where the source doesn't tell its bytes, some text does
 abbrev pub AsksFor : Option (List ℕ) → Op → Type 0
@@ -212,12 +205,20 @@ pub data Unbegun (left : Option (List ℕ)) (status : ℕ) (text : List ℕ) : T
   cut_before : IsCutOff status → text ≡ [] → Unbegun left status text
   no_script : (fault : ScriptFault) → IsFaultOf left fault → RefusesWith fault status text → Unbegun left status text
 
--- What the history is at the end, and what was written: nothing was begun, or there was a session of the put that the
--- script asks for, by the settings that the words give. The clock gave these readings.
+-- A session of any script. Without lines no call is made; else the first reading of the clock, for the first xid, isn't noted.
+pub data LanesBy (s : Settings) (lines : List ScriptLine) (given : List ℕ) (h : List Entry) (status : ℕ) (text : List ℕ) : Type 0 where
+  no_lines : lines ≡ [] → SessionIsLanes s.count [] given [] h status text → LanesBy s lines given h status text
+  some_lines : (ms first : ℕ) (rest : List ℕ) → given ≡ ms ∷ rest → IsFirst given s.xid first → SetUpAndRun s lines first rest h status text
+      → LanesBy s lines given h status text
+
+-- What the history is at the end, and what was written: nothing was begun; or there was a session of the put that the script asks for, or
+-- else of its lines, by the settings that the words give. The clock gave these readings.
 pub data RunIs (cause : Type 0) (given : List ℕ) (words : List (List ℕ)) (left : Option (List ℕ)) (h : List Entry) (status : ℕ) (text : List ℕ) : Type 0 where
   unbegun : h ≡ [] → Unbegun left status text → RunIs cause given words left h status text
   session : (s : Settings) (op : Op) → IsCommand words s → AsksFor left op → SessionBy cause given s op h status text
       → RunIs cause given words left h status text
+  in_lanes : (s : Settings) (lines : List ScriptLine) → IsCommand words s → IsReadAs left (Ok lines) → (IsDoable lines → ⊥)
+      → LanesBy s lines given h status text → RunIs cause given words left h status text
 
 -- no operation was answered: the words or the script were refused, the source failed, or the session was cut off
 abbrev pub Refuses : ℕ → Type 0

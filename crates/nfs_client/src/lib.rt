@@ -7,6 +7,7 @@ mod exchange;
 mod halt;
 mod heard;
 mod input;
+mod lanes;
 mod output;
 mod put;
 mod record;

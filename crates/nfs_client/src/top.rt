@@ -16,6 +16,7 @@ ghost use Rattle.nfs_client.specs.Run.{IsXidOption, IsFirst, IsCutOff, IsDoable,
 ghost use Rattle.nfs_client.specs.Reports.{IsEnding};
 
 use crate::input::{ReadFault, read_script};
+use crate::lanes::run_lanes;
 use crate::output::write_all;
 use crate::report::report;
 use crate::session::converse;
@@ -27,8 +28,6 @@ use std::alloc::Global;
 use world_model::Op;
 use xdr_codec::{Blob, Memory, Writer};
 
-/// The whole script is refused: it asks for what can't be done yet.
-const UNBUILT: ScriptFault = ScriptFault { line: 0, kind: 10 };
 /// The greatest offset of a put.
 const MOST_OFFSET: u64 = 4_611_686_018_427_387_904;
 /// The most bytes of a put.
@@ -38,9 +37,6 @@ const MOST_BYTES: usize = 65_536;
 /// are and how they are asked for. It answers the status of the session: 0 where each operation went well, 1 where one
 /// was refused, 2 where the words are refused, 3 where the script is, 4 where the source failed, 5 where the sink
 /// failed, 6 where the link is lost, 7 for lack of memory outside an operation, 8 where the mount is refused.
-///
-/// For now only a script whose one operation is `1 put /NAME OFF HEX` in line 1 is done. Any other that is well formed
-/// is refused as a whole.
 pub fn run<S: Source, L: Link, C: Clock, K: Sink>(
     alloc: Global,
     words: &[String],
@@ -55,8 +51,7 @@ pub fn run<S: Source, L: Link, C: Clock, K: Sink>(
     ensures words { result ≡ 2 → (s : SettingsOf) → IsCommand (map string_bytes words.now) s → ⊥ }
     ensures no_words { ((s : SettingsOf) → IsCommand (map string_bytes words.now) s → ⊥) → (result ≡ 2) ⊎ (result ≡ 7) }
 
-    // 3 comes only where the script's bytes ask for none that can be done, and where they don't no operation is
-    // answered.
+    // 3 comes only where the script's bytes spell none, and where they don't no operation is answered.
     ensures script { IfSome (S.left script.old) (λ left. result ≡ 3 → IsScript (take script_limit left) → ⊥) }
     ensures unspelled { IfSome (S.left script.old) (λ left. (IsScript (take script_limit left) → ⊥) → Refuses result) }
 
@@ -90,14 +85,14 @@ pub fn run<S: Source, L: Link, C: Clock, K: Sink>(
     match parse(alloc, text.as_slice()) {
         Ok(script) => match doable(&script) {
             Some(op) => session(alloc, &settings, op, link, clock, out),
-            None => refuse(alloc, &UNBUILT, out),
+            None => run_lanes(alloc, &settings, &script, link, clock, out),
         },
         Err(ParseFault::Script(fault)) => refuse(alloc, &fault, out),
         Err(ParseFault::Memory) => status::NO_MEMORY,
     }
 }
 
-/// The operation of a script that this client can do. None exactly where it can't.
+/// The operation of a script that is one put of a file in the root. None exactly where it is another script.
 fn doable(script: &Script) -> Option<&Op>
     ensures { MatchOption result (¬ IsDoable script.now) (λ op. (script.now ≡ one_line op.now) × IsBuilt op.now) }
 {
@@ -193,7 +188,7 @@ fn session<L: Link, C: Clock, K: Sink>(
 }
 
 /// The xid of the first call: the one that is wanted, or one by the time.
-fn first_xid<C: Clock>(wanted: Option<u32>, clock: &mut C) -> u32
+pub(crate) fn first_xid<C: Clock>(wanted: Option<u32>, clock: &mut C) -> u32
     requires { IsXidOption wanted }
     ensures range { (1 ≤ result) × (result ≤ 2 ^ 31) }
     ensures read { ReadsOnce (C.readings clock.old) (C.readings clock.new) (λ ms. IsFirst (ms ∷ []) wanted result) }

@@ -1,6 +1,7 @@
 use Rattle.std.proofs.Common.{inr, refl}
 use Rattle.nfs_client.specs.Run.{no_words, no_source, cut_before}
-use Rattle.nfs_client.proofs.Runs.{unscripted, scripted, faulty, undoable, asks_one, asks_for, fault_for, own_fault, later_fault, run_says, refuse_says, none_says, refused_text}
+use Rattle.nfs_client.proofs.Runs.{unscripted, scripted, faulty, spells, asks_for, read_for, run_says, lanes_say, refuse_says, none_says, refused_text}
+use Rattle.nfs_client.proofs.ScriptLines.{few_lines}
 use Rattle.nfs_client.proofs.top.run.Goals as goal
 
 pub returns-in-Err-Failed-clause-no_words : goal.returns-in-Err-Failed-clause-no_words
@@ -11,7 +12,7 @@ returns-in-Some-clause-no_words g c = λ none. absurd (none c.in-Ok.settings c.i
 
 pub returns-in-Some-clause-unspelled : goal.returns-in-Some-clause-unspelled
 returns-in-Some-clause-unspelled g c =
-    scripted _ _ _ _ (asks_one _ _ _ c.in-Ok-parse.ensures.read c.in-Some.ensures.0 c.in-Some.ensures.1) c.as_slice.ensures.value c.in-Ok-read_script.ensures.text
+    scripted _ _ _ _ (spells _ _ c.in-Ok-parse.ensures.read) c.as_slice.ensures.value c.in-Ok-read_script.ensures.text
 
 pub returns-in-Some-clause-shown : goal.returns-in-Some-clause-shown
 returns-in-Some-clause-shown g c =
@@ -20,13 +21,15 @@ returns-in-Some-clause-shown g c =
 pub returns-in-Ok-parse-clause-no_words : goal.returns-in-Ok-parse-clause-no_words
 returns-in-Ok-parse-clause-no_words g c = λ none. absurd (none c.in-Ok.settings c.in-Ok.ensures.found)
 
-pub returns-in-Ok-parse-clause-script : goal.returns-in-Ok-parse-clause-script
-returns-in-Ok-parse-clause-script g c =
-    unscripted _ _ _ _ (undoable _ _ c.in-Ok-parse.ensures.read c.in-None.ensures) c.as_slice.ensures.value c.in-Ok-read_script.ensures.text
+pub returns-in-Ok-parse-clause-unspelled : goal.returns-in-Ok-parse-clause-unspelled
+returns-in-Ok-parse-clause-unspelled g c = scripted _ _ _ _ (spells _ _ c.in-Ok-parse.ensures.read) c.as_slice.ensures.value c.in-Ok-read_script.ensures.text
 
 pub returns-in-Ok-parse-clause-shown : goal.returns-in-Ok-parse-clause-shown
 returns-in-Ok-parse-clause-shown g c =
-    refuse_says _ _ _ _ _ _ _ _ _ (fault_for _ _ _ _ (later_fault _ _ c.in-Ok-parse.ensures.read) c.as_slice.ensures.value c.in-Ok-read_script.ensures.text) c.refuse.ensures.said
+    lanes_say _ _ _ _ _ _ _ _ _ _ _ _ c.in-Ok.ensures.found (read_for _ _ _ _ c.in-Ok-parse.ensures.read c.as_slice.ensures.value c.in-Ok-read_script.ensures.text) c.in-None.ensures c.run_lanes.ensures.shown
+
+pub run_lanes-requires-clause-few : goal.run_lanes-requires-clause-few
+run_lanes-requires-clause-few g c = few_lines _ _ c.in-Ok-parse.ensures.read
 
 pub returns-in-Err-Script-clause-no_words : goal.returns-in-Err-Script-clause-no_words
 returns-in-Err-Script-clause-no_words g c = λ none. absurd (none c.in-Ok.settings c.in-Ok.ensures.found)
@@ -39,16 +42,12 @@ returns-in-Err-Script-clause-script g c =
 pub returns-in-Err-Script-clause-shown : goal.returns-in-Err-Script-clause-shown
 returns-in-Err-Script-clause-shown g c =
     let e = rw c.in-Err-Script.field-0-is at c.in-Err-Script.ensures.read in
-    refuse_says _ _ _ _ _ _ _ _ _ (fault_for _ _ _ _ (own_fault _ _ e) c.as_slice.ensures.value c.in-Ok-read_script.ensures.text) c.refuse-in-Err-Script.ensures.said
-
-pub returns-in-Ok-parse-clause-refused : goal.returns-in-Ok-parse-clause-refused
-returns-in-Ok-parse-clause-refused g c =
-    refused_text _ _ _ _ _ (fault_for _ _ _ _ (later_fault _ _ c.in-Ok-parse.ensures.read) c.as_slice.ensures.value c.in-Ok-read_script.ensures.text) c.refuse.ensures.said
+    refuse_says _ _ _ _ _ _ _ _ _ (read_for _ _ _ _ e c.as_slice.ensures.value c.in-Ok-read_script.ensures.text) c.refuse.ensures.said
 
 pub returns-in-Err-Script-clause-refused : goal.returns-in-Err-Script-clause-refused
 returns-in-Err-Script-clause-refused g c =
     let e = rw c.in-Err-Script.field-0-is at c.in-Err-Script.ensures.read in
-    refused_text _ _ _ _ _ (fault_for _ _ _ _ (own_fault _ _ e) c.as_slice.ensures.value c.in-Ok-read_script.ensures.text) c.refuse-in-Err-Script.ensures.said
+    refused_text _ _ _ _ _ (read_for _ _ _ _ e c.as_slice.ensures.value c.in-Ok-read_script.ensures.text) c.refuse.ensures.said
 
 pub returns-in-Err-Refused-clause-shown : goal.returns-in-Err-Refused-clause-shown
 returns-in-Err-Refused-clause-shown g c = none_says _ _ _ _ _ _ _ (no_words refl refl)
