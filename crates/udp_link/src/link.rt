@@ -1,0 +1,252 @@
+//! A link over datagrams.
+
+ghost use Rattle.std.specs.Prelude.{◌≡◌, ◌≤◌, ◌<◌, ◌+◌, ◌++◌, None, length};
+ghost use Rattle.std.specs.Bool.{OnTrue, OnFalse};
+ghost use Rattle.world_model.specs.Told.{Tells};
+ghost use Rattle.outside.specs.Causes.{HasCause, HasCauseReceived};
+ghost use Rattle.outside.specs.Link.{NotesOnly, dialed_as, sent_as, received_as, noted_as};
+ghost use Rattle.outside.specs.Datagrams.{is_aimed};
+ghost use Rattle.udp_link.specs.declared.kept.Adds.TheVariants as added;
+ghost use Rattle.udp_link.specs.Placing.{if_told};
+ghost use Rattle.udp_link.specs.Honest.{HonestOver, IsFresh};
+ghost use Rattle.udp_link.specs.Shown.{IsBegun, KeepsNone, DeliversExactly, Turned, Waited, told_by};
+
+use crate::kept::{Adds, give_back, keep, put};
+use outside::{Arrived, Datagrams, Link, LinkFault, Received};
+use std::alloc::Global;
+use std::marker::Model;
+use world_model::Mark;
+use xdr_codec::{Blob, Memory};
+
+/// The most datagrams from other ports that one wait passes over.
+const MOST_PASSED: u32 = 1_024;
+
+/// A link over datagrams, each of them one record. It delivers those that come from the port dialed last, and passes over
+/// those from others.
+#[derive(Drop)]
+pub struct UdpLink<D: Datagrams> {
+    alloc: Global,
+    over: D,
+    kept: Vec<Adds>,
+    port: Option<u16>,
+    faults: u64,
+}
+
+impl<D: Datagrams> Model for UdpLink<D> {
+    ghost use Rattle.udp_link.specs.Placing.{IsPlaced};
+    ghost use Rattle.udp_link.specs.Shown.{Held};
+
+    ghost Value = { Held D };
+
+    ghost view = { λ s. record { over = s.over; kept = s.kept.items; below = D.faults s.over; own = s.faults; port = s.port } };
+
+    ghost invariant = { λ s. IsPlaced (D.told s.over) s.kept.items s.port };
+}
+
+/// Keeps a place for a record that is to go out, as one that didn't. When out of memory nothing is changed, and the answer
+/// is false.
+fn keep_unsent(alloc: Global, kept: &mut Vec<Adds>, telling: bool, rec: &[u8]) -> bool
+    ensures yes { OnTrue result (kept.new.items ≡ kept.old.items ++ if_told telling (added.Unsent rec.now)) }
+    ensures no { OnFalse result (kept.new.items ≡ kept.old.items) }
+{
+    if !telling {
+        return true;
+    }
+    let Ok(bytes) = Blob::copy(alloc, rec) else {
+        return false;
+    };
+    keep(kept, telling, Adds::Unsent { bytes })
+}
+
+/// Whether a datagram from that port is from the one dialed last.
+fn is_dialed(port: Option<u16>, from: u16) -> bool
+    ensures { result ≡ is_aimed port from }
+{
+    match port {
+        Some(port) => port == from,
+        None => false,
+    }
+}
+
+impl<D: Datagrams + Drop> UdpLink<D> {
+    /// A link over datagrams, with an empty history: what they did before is no part of it, and no port is dialed. Over
+    /// honest datagrams that did nothing yet the link is honest.
+    #[tactic(auto, using(crate::proofs::Begins::begins_placed, crate::proofs::Begins::begins_told))]
+    pub fn new(alloc: Global, over: D) -> UdpLink<D>
+        ensures begun { IsBegun (D.told over) (told_by D.told result) }
+        ensures honest { IsFresh (D.told over) → D.honest over → HonestOver D.told D.honest result.over result.kept }
+        ensures faults { result.below + result.own ≡ D.faults over }
+        ensures port { result.port ≡ None }
+    {
+        UdpLink {
+            alloc,
+            over,
+            kept: Vec::new(alloc),
+            port: None,
+            faults: 0,
+        }
+    }
+
+    /// The datagrams.
+    pub fn into_datagrams(self) -> D
+        ensures { D.faults result ≡ self.below }
+    {
+        self.over
+    }
+
+    /// How many places it keeps, each for a call of the datagrams. Over datagrams that don't tell their calls it keeps none,
+    /// so that a call takes no memory that stays.
+    pub fn kept(&self) -> usize
+        ensures untold { KeepsNone (D.told self.now.over) self.now.kept }
+        ensures count { result ≡ length self.now.kept }
+    {
+        self.kept.len()
+    }
+
+    /// The records that were delivered are exactly the datagrams that came from the port dialed last, in order.
+    pub fn delivers_exactly(&self)
+        ensures { DeliversExactly (D.told self.now.over) self.now.kept }
+    {
+        let _port = &self.port;
+    }
+
+    /// One turn of a wait, after so many datagrams that were passed over. None where another one was.
+    fn turn(&mut self, wait_ms: u32, rec: &mut Vec<u8>, passed: u32) -> Option<Received>
+        requires patient { 15000 ≤ wait_ms }
+        requires few { passed < 1024 }
+        ensures turned { Turned D.told passed rec.new.items result self.old self.new }
+        ensures honest { HonestOver D.told D.honest self.old.over self.old.kept → HonestOver D.told D.honest self.new.over self.new.kept }
+    {
+        let telling = self.over.tells();
+        if !keep(&mut self.kept, telling, Adds::Failed) {
+            return Some(Received::Memory);
+        }
+        match self.over.receive(wait_ms, rec) {
+            Arrived::From(from) => {
+                if is_dialed(self.port, from) {
+                    put(&mut self.kept, Adds::Nothing);
+                    return Some(Received::Whole);
+                }
+                if passed + 1 == MOST_PASSED {
+                    self.faults = self.faults.saturating_add(1);
+                    return Some(Received::Silent);
+                }
+                put(&mut self.kept, Adds::Nothing);
+                None
+            }
+            Arrived::Silent => Some(Received::Silent),
+            Arrived::Failed => Some(Received::Failed),
+            Arrived::Memory => {
+                give_back(&mut self.kept);
+                Some(Received::Memory)
+            }
+        }
+    }
+
+    /// Waits for a record.
+    fn wait(&mut self, wait_ms: u32, rec: &mut Vec<u8>) -> Received
+        requires { 15000 ≤ wait_ms }
+        ensures waited { Waited D.told rec.new.items result self.old self.new }
+        ensures honest { HonestOver D.told D.honest self.old.over self.old.kept → HonestOver D.told D.honest self.new.over self.new.kept }
+    {
+        let mut passed = 0;
+        while passed < MOST_PASSED {
+            match self.turn(wait_ms, rec, passed) {
+                Some(came) => return came,
+                None => passed += 1,
+            }
+        }
+        unreachable!()
+    }
+}
+
+impl<D: Datagrams + Drop> Link for UdpLink<D> {
+    ghost use Rattle.udp_link.specs.Shown.{Dials, Sends, Notes};
+
+    ghost told = { λ s. told_by D.told s };
+
+    ghost faults = { λ s. s.below + s.own };
+
+    ghost honest = { λ s. HonestOver D.told D.honest s.over s.kept };
+
+    ghost lawful = { λ s h. h.lawful };
+
+    fn dial(&mut self, port: u16) -> Result<(), LinkFault>
+        ensures told { Tells (told_by D.told self.old) (told_by D.told self.new) (dialed_as port result) }
+        ensures honest { HonestOver D.told D.honest self.old.over self.old.kept → HonestOver D.told D.honest self.new.over self.new.kept }
+        ensures cause { HasCause (self.old.below + self.old.own) (self.new.below + self.new.own) result }
+        ensures dials { Dials self.old self.new port result }
+    {
+        let telling = self.over.tells();
+        if !keep(&mut self.kept, telling, Adds::Failed) {
+            return Err(LinkFault::Memory);
+        }
+        match self.over.aim(port) {
+            Ok(()) => {
+                put(&mut self.kept, Adds::Nothing);
+                self.port = Some(port);
+                Ok(())
+            }
+            Err(LinkFault::Failed) => {
+                self.port = Some(port);
+                Err(LinkFault::Failed)
+            }
+            Err(LinkFault::Memory) => {
+                give_back(&mut self.kept);
+                Err(LinkFault::Memory)
+            }
+        }
+    }
+
+    fn send(&mut self, rec: &[u8]) -> Result<(), LinkFault>
+        ensures told { Tells (told_by D.told self.old) (told_by D.told self.new) (sent_as rec.now result) }
+        ensures honest { HonestOver D.told D.honest self.old.over self.old.kept → HonestOver D.told D.honest self.new.over self.new.kept }
+        ensures cause { HasCause (self.old.below + self.old.own) (self.new.below + self.new.own) result }
+        ensures sends { Sends D.told self.old self.new rec.now result }
+    {
+        let telling = self.over.tells();
+        if !keep_unsent(self.alloc, &mut self.kept, telling, rec) {
+            return Err(LinkFault::Memory);
+        }
+        match self.over.send(rec) {
+            Ok(()) => {
+                put(&mut self.kept, Adds::Nothing);
+                Ok(())
+            }
+            Err(LinkFault::Failed) => Err(LinkFault::Failed),
+            Err(LinkFault::Memory) => {
+                give_back(&mut self.kept);
+                Err(LinkFault::Memory)
+            }
+        }
+    }
+
+    fn receive(&mut self, wait_ms: u32, rec: &mut Vec<u8>) -> Received
+        requires { 15000 ≤ wait_ms }
+        ensures told { Tells (told_by D.told self.old) (told_by D.told self.new) (received_as rec.new.items result) }
+        ensures honest { HonestOver D.told D.honest self.old.over self.old.kept → HonestOver D.told D.honest self.new.over self.new.kept }
+        ensures cause { HasCauseReceived (self.old.below + self.old.own) (self.new.below + self.new.own) result }
+        ensures waited { Waited D.told rec.new.items result self.old self.new }
+    {
+        self.wait(wait_ms, rec)
+    }
+
+    fn note(&mut self, mark: Mark) -> Result<(), Memory>
+        ensures told { NotesOnly (told_by D.told self.old) (told_by D.told self.new) (noted_as mark result) }
+        ensures honest { HonestOver D.told D.honest self.old.over self.old.kept → HonestOver D.told D.honest self.new.over self.new.kept }
+        ensures cause { self.old.below + self.old.own ≤ self.new.below + self.new.own }
+        ensures notes { Notes self.old self.new }
+    {
+        let telling = self.over.tells();
+        if !keep(&mut self.kept, telling, Adds::Nothing) {
+            return Err(Memory);
+        }
+        match self.over.note(mark) {
+            Ok(()) => Ok(()),
+            Err(_) => {
+                give_back(&mut self.kept);
+                Err(Memory)
+            }
+        }
+    }
+}
