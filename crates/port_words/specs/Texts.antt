@@ -1,0 +1,16 @@
+-- Words that are looked for, and the sizes of a session over UDP (RFC 768: a datagram holds fewer than 65,536 bytes).
+use Rattle.std.specs.Prelude.{ℕ, Bool, List, [], ◌∷◌, ◌++◌, codes, eqb, if◌then◌else◌}
+use Rattle.std.specs.List.{list_any, starts_with}
+
+-- whether a word is the option, or begins with it
+abbrev pub names : List ℕ → List (List ℕ) → Bool
+names option words = list_any (λ (w : List ℕ). starts_with eqb w option) words
+
+-- the option with 8,192 bytes, where no word is or begins with it
+abbrev pub missing_size : List ℕ → List (List ℕ) → List (List ℕ)
+missing_size option words = if names option words then [] else option ∷ codes "8192" ∷ []
+
+-- the sizes that are missing stand after the first word
+abbrev pub with_sizes : List (List ℕ) → List (List ℕ)
+with_sizes [] = []
+with_sizes (w ∷ ws) = w ∷ (missing_size (codes "--rsize") (w ∷ ws) ++ (missing_size (codes "--wsize") (w ∷ ws) ++ ws))
