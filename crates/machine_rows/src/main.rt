@@ -1,129 +1,112 @@
-//! Runs operations on files over made replies: each line of standard input begins an operation or is the reply to its call, and
-//! what the step comes to is printed. A line that begins with `#` is printed as it is.
+//! Runs operations over made replies, and prints each line of standard input and what it comes to. A line is one of
+//!
+//! - `new`: nothing is kept, and no operation is under way
+//! - `rsize N`, `wsize N`: how many bytes a READ or a WRITE carries at most
+//! - `clock N`: the reading of the clock from now on
+//! - `full`, `room`: from now on there is no room for a call, or there is
+//! - `LANE OPERATION`: an operation of lane 1 or 2 begins, as in a script, but with bytes as text: `open SLOT MODE PATH`,
+//!   `read SLOT OFFSET COUNT`, `write SLOT OFFSET TEXT`, `fill SLOT OFFSET COUNT BYTE`, `sync SLOT`, `close SLOT`, `truncate SLOT SIZE`,
+//!   `put PATH OFFSET TEXT`, `stat PATH`, `access PATH BITS`, `readlink PATH`, `list PATH`, `mkdir PATH`, `rmdir PATH`, `remove PATH`,
+//!   `rename PATH PATH`, `link PATH PATH`, `symlink PATH TARGET`; `open` and `put` may end in `nocto`, and `read` in `noac`
+//! - `LANE go`: its operation makes a step without a reply
+//! - `LANE REPLY`: its operation takes a reply to the call that it made last, in the words of `replies`, or `record PROCEDURE HEX`,
+//!   or `zeros PROCEDURE COUNT` for a record of zeros
+//! - `LANE to N REPLY`: it takes a reply to its N-th call
+//!
+//! Any other line is only printed.
 #![tactic(auto)]
 
-ghost use Rattle.std.specs.Prelude.{◌≤◌};
-
+mod asked;
+mod bench;
+mod lanes;
+mod operations;
 mod replies;
 mod shown;
 mod words;
 
-use crate::replies::came;
-use crate::shown::show;
-use crate::words::{file, mode_of, name, numbers, small, tiny};
-use client_shelf::{Next, Shelf, Turn};
-use file_ops::{OpenFile, ReadFile, TruncateFile};
+use crate::bench::{Bench, Setting};
+use crate::lanes::{Lane, run};
+use crate::words::{first_word, numbers, small};
 use std::alloc::Global;
 use std::io;
 
-/// The operation that is under way.
+/// The bench, and the lanes that work on it.
 #[derive(Drop)]
-enum Machine {
-    Open(OpenFile),
-    Read(ReadFile),
-    Truncate(TruncateFile),
-}
-
-/// The turn of a step: its number is the xid and the moment of the call that it makes.
-fn turn(step: u32) -> Turn
-    ensures { 1 ≤ result.moment }
-{
-    Turn {
-        xid: step,
-        moment: u64::from(step) + 1,
-        now: 0,
-        room: true,
-    }
-}
-
-/// The operation that a line begins.
-fn operation(line: &str) -> Option<Machine> {
-    let [a, b, c, d, e, _] = numbers(line);
-    match line.split_whitespace().next() {
-        Some("open") => Some(Machine::Open(OpenFile::new(
-            1,
-            tiny(a),
-            mode_of(b),
-            c == 1,
-            &file(1),
-            &name(),
-        ))),
-        Some("read") => Some(Machine::Read(ReadFile::new(
-            1,
-            tiny(a),
-            b,
-            small(c),
-            small(d),
-            e == 1,
-        ))),
-        Some("truncate") => Some(Machine::Truncate(TruncateFile::new(1, tiny(a), b))),
-        _ => None,
-    }
-}
-
-/// The first step of an operation.
-fn start(alloc: Global, machine: &mut Machine, step: u32, shelf: &mut Shelf) -> Next {
-    match machine {
-        Machine::Open(machine) => machine.start(turn(step), shelf),
-        Machine::Read(machine) => machine.start(alloc, turn(step), shelf),
-        Machine::Truncate(machine) => machine.start(turn(step), shelf),
-    }
-}
-
-/// The step at the reply in a line, to the call that was made last.
-fn take(alloc: Global, machine: &mut Machine, line: &str, step: u32, shelf: &mut Shelf) -> Next {
-    let sent = turn(step.saturating_sub(1));
-    let came = came(line);
-    match machine {
-        Machine::Open(machine) => machine.took(sent, &came, turn(step), shelf),
-        Machine::Read(machine) => machine.took(alloc, sent, &came, turn(step), shelf),
-        Machine::Truncate(machine) => machine.took(sent, &came, turn(step), shelf),
-    }
+struct Rows {
+    bench: Bench,
+    first: Lane,
+    second: Lane,
+    setting: Setting,
 }
 
 /// Makes the step of a line, and prints what it comes to.
-fn step(
-    rt: &impl Print,
-    alloc: Global,
-    under_way: &mut Option<Machine>,
-    shelf: &mut Shelf,
-    line: &str,
-    number: u32,
-) -> io::Result<()> {
-    if line.split_whitespace().next() == Some("#") {
-        return println!(rt; "{line}");
+fn step(rt: &impl Print, alloc: Global, rows: &mut Rows, line: &str) -> io::Result<()> {
+    println!(rt; "{line}")?;
+    let (word, words) = first_word(line);
+    match word {
+        "1" => run(
+            rt,
+            alloc,
+            1,
+            &mut rows.first,
+            &mut rows.bench,
+            &rows.setting,
+            words,
+        ),
+        "2" => run(
+            rt,
+            alloc,
+            2,
+            &mut rows.second,
+            &mut rows.bench,
+            &rows.setting,
+            words,
+        ),
+        "new" => renew(alloc, rows),
+        _ => set(rows, word, numbers(words)[0]),
     }
-    if let Some(begun) = operation(line) {
-        let mut begun = begun;
-        let next = start(alloc, &mut begun, number, shelf);
-        *under_way = Some(begun);
-        return show(rt, &next);
+}
+
+/// Nothing is kept any more.
+fn renew(alloc: Global, rows: &mut Rows) -> io::Result<()> {
+    rows.bench.renew(alloc);
+    rows.first.rest();
+    rows.second.rest();
+    rows.setting = Setting::new();
+    Ok(())
+}
+
+/// Takes a setting.
+fn set(rows: &mut Rows, word: &str, number: u64) -> io::Result<()> {
+    match word {
+        "rsize" => rows.setting.rsize = small(number),
+        "wsize" => rows.setting.wsize = small(number),
+        "clock" => rows.setting.now = number,
+        "full" => rows.setting.room = false,
+        "room" => rows.setting.room = true,
+        _ => {}
     }
-    let Some(machine) = under_way else {
-        return println!(rt; "{line}");
-    };
-    let next = take(alloc, machine, line, number, shelf);
-    show(rt, &next)
+    Ok(())
 }
 
 fn main(rt: HostRuntime) -> io::Result<()> {
-    let Ok(shelf) = Shelf::new(rt.alloc()) else {
+    let Ok(bench) = Bench::new(rt.alloc()) else {
         return println!(rt; "memory");
     };
-    let mut shelf = shelf;
-    let mut under_way = None;
-    let mut number: u32 = 0;
+    let mut rows = Rows {
+        bench,
+        first: Lane::new(),
+        second: Lane::new(),
+        setting: Setting::new(),
+    };
+    step_all(&rt, &mut rows)
+}
+
+/// Makes the step of each line of standard input.
+fn step_all(rt: &HostRuntime, rows: &mut Rows) -> io::Result<()> {
     for line in rt.lines(rt.alloc()) {
         let line = line?;
-        number = number.saturating_add(1);
-        step(
-            &rt,
-            rt.alloc(),
-            &mut under_way,
-            &mut shelf,
-            line.as_str(),
-            number,
-        )?;
+        step(rt, rt.alloc(), rows, line.as_str())?;
     }
     Ok(())
 }

@@ -1,6 +1,6 @@
 //! The words of a line.
 
-use nfs_types::{Handle, Mode, Name};
+use nfs_types::{Handle, Mode};
 
 /// A number below 2^32; 0 for a greater one.
 pub(crate) fn small(number: u64) -> u32 {
@@ -12,11 +12,16 @@ pub(crate) fn tiny(number: u64) -> u8 {
     u8::try_from(number).unwrap_or(0)
 }
 
-/// The numbers of a line after its first word; a word that isn't in decimal digits counts as 0.
-pub(crate) fn numbers(line: &str) -> [u64; 6] {
-    let mut found = [0; 6];
-    for (at, word) in line.split_whitespace().skip(1).enumerate() {
-        if at < 6 {
+/// The first word of a line, and the rest.
+pub(crate) fn first_word(line: &str) -> (&str, &str) {
+    line.split_once(' ').unwrap_or((line, ""))
+}
+
+/// The numbers of a line; a word that isn't in decimal digits counts as 0.
+pub(crate) fn numbers(words: &str) -> [u64; 7] {
+    let mut found = [0; 7];
+    for (at, word) in words.split_whitespace().enumerate() {
+        if at < 7 {
             found[at] = word.parse::<u64>().unwrap_or(0);
         }
     }
@@ -24,8 +29,8 @@ pub(crate) fn numbers(line: &str) -> [u64; 6] {
 }
 
 /// The last word; `-` stands for none.
-pub(crate) fn text(line: &str) -> &str {
-    match line.split_whitespace().last() {
+pub(crate) fn text(words: &str) -> &str {
+    match words.split_whitespace().last() {
         Some("-") => "",
         Some(word) => word,
         None => "",
@@ -33,22 +38,27 @@ pub(crate) fn text(line: &str) -> &str {
 }
 
 /// The file handle of a number below 256.
-pub(crate) fn file(number: u8) -> Handle {
-    Handle::make(&[number]).unwrap_or(Handle::make(&[]).unwrap())
+pub(crate) fn file(number: u64) -> Handle {
+    Handle::make(&[tiny(number)]).unwrap_or(Handle::make(&[]).unwrap())
 }
 
-/// The name that is opened.
-pub(crate) fn name() -> Name {
-    Name::make(b"a").unwrap()
+/// A word of a line, counted from 0; no text where there are fewer.
+pub(crate) fn word_at(words: &str, at: usize) -> &str {
+    words.split_whitespace().nth(at).unwrap_or("")
 }
 
-/// The modes in order.
-pub(crate) fn mode_of(number: u64) -> Mode {
-    match number {
-        0 => Mode::R,
-        1 => Mode::W,
-        2 => Mode::RW,
-        3 => Mode::C,
+/// A number of a line; a word that isn't in decimal digits counts as 0.
+pub(crate) fn number_at(words: &str, at: usize) -> u64 {
+    word_at(words, at).parse::<u64>().unwrap_or(0)
+}
+
+/// The mode of an open.
+pub(crate) fn mode_of(word: &str) -> Mode {
+    match word {
+        "r" => Mode::R,
+        "w" => Mode::W,
+        "rw" => Mode::RW,
+        "c" => Mode::C,
         _ => Mode::X,
     }
 }
