@@ -1,15 +1,13 @@
 #!/usr/bin/env bash
-# Tries nfs3 with programs of others, on this machine alone: it puts files on the server nfs-ganesha and compares them
-# with what lies in the server's folder and with what nfs-cat reads; it lets nfs-ls and nfs-cat read what `nfs3 export`
-# serves; and it lets tshark read all that went over the wire. Run it as root on Debian 12: it installs what is missing.
-# The last line is 'N passed, M failed', and the status is 0 where nothing failed.
+# Tries nfs3 with programs of others, on this machine alone: it lets every command of a script work on the server nfs-ganesha
+# and compares the files with what lies in the server's folder and with what libnfs reads; it lets nfs-ls and nfs-cat read what
+# `nfs3 export` serves; it lets tshark read what went over the wire; and then the server crashes and connections are cut. Run it
+# as root on Debian 12: it installs what is missing. The words are the parts that are tried, of wire, names, sizes and failures;
+# without words all are. The last line is 'N passed, M failed', and the status is 0 where nothing failed.
 set -u
 
 here=$(dirname -- "$(readlink -f -- "${BASH_SOURCE[0]}")")
-nfs3=$here/../../bin/nfs3
-. "$here/../lib.sh"
-nfs_port=22049
-mount_port=22048
+nfs3=${NFS3:-$here/../../bin/nfs3}
 export_port=22050
 
 sizes=(1 2 3 511 513 4095 4097 65535 65536)
@@ -17,72 +15,16 @@ offsets=(0 1 1000000)
 limits=(512 65536)
 
 writes=0
-started=()
 work=$(mktemp -d -t nfs3-interop.XXXXXX)
 chmod 755 "$work"
+mkdir "$work/served"
 
-end_all() {
-    for process in "${started[@]}"; do
-        end "$process"
-    done
-    rm -rf -- "$work"
-}
-
-# Gives up: what is tried can't be tried here.
-stop() {
-    echo "interop: $1"
-    exit 1
-}
-
-install_programs() {
-    local program
-    for program in ganesha.nfsd rpcbind rpcinfo nfs-ls nfs-cat tshark dumpcap; do
-        command -v "$program" >/dev/null && continue
-        apt-get update && DEBIAN_FRONTEND=noninteractive apt-get install -y --no-install-recommends \
-            nfs-ganesha nfs-ganesha-vfs rpcbind libnfs-utils tshark || return 1
-        return 0
-    done >"$work/install.log" 2>&1
-}
-
-# nfs-ganesha registers its ports, and doesn't start where it can't.
-start_rpcbind() {
-    rpcinfo -p 127.0.0.1 >/dev/null 2>&1 && return
-    rpcbind -f >"$work/rpcbind.log" 2>&1 &
-    started+=($!)
-    await rpcinfo -p 127.0.0.1
-}
-
-write_server_settings() {
-    cat >"$work/ganesha.conf" <<END
-NFS_CORE_PARAM {
-    Protocols = 3;
-    Bind_addr = 127.0.0.1;
-    NFS_Port = $nfs_port;
-    MNT_Port = $mount_port;
-    Enable_NLM = false;
-    Enable_RQUOTA = false;
-    mount_path_pseudo = true;
-}
-EXPORT {
-    Export_Id = 1;
-    Path = $work/served;
-    Pseudo = /srv;
-    Access_Type = RW;
-    Squash = No_Root_Squash;
-    SecType = none, sys;
-    PrivilegedPort = false;
-    FSAL { Name = VFS; }
-}
-END
-}
-
-start_server() {
-    mkdir "$work/served"
-    write_server_settings
-    ganesha.nfsd -F -f "$work/ganesha.conf" -L "$work/ganesha.log" -p "$work/ganesha.pid" >"$work/ganesha.out" 2>&1 &
-    started+=($!)
-    await nfs-ls "$(server_url '')"
-}
+. "$here/../lib.sh"
+. "$here/../ganesha.sh"
+. "$here/scripts.sh"
+. "$here/sizes.sh"
+. "$here/names.sh"
+. "$here/failures.sh"
 
 # What the capture is to show: packets of the servers' ports on the loopback.
 start_capture() {
@@ -98,10 +40,6 @@ captures() {
     nfs-ls "$(server_url '')" && [ -n "$(packets rpc frame.number)" ]
 }
 
-server_url() {
-    echo "nfs://127.0.0.1/srv$1?version=3&nfsport=$nfs_port&mountport=$mount_port"
-}
-
 export_url() {
     echo "nfs://127.0.0.1/srv$1?version=3&nfsport=$export_port&mountport=$export_port"
 }
@@ -109,27 +47,19 @@ export_url() {
 # Puts so many bytes at an offset of a file that is there, in pieces of a greatest size: SIZE OFFSET LIMIT.
 put() {
     local name=put_$1_$2_$3 words=()
-    local served=$work/served/$name expected=$work/expected
     [ "$3" -lt 65536 ] && words=(--wsize "$3")
-    head -c 40000 "$work/before" >"$served"
-    chmod 666 "$served"
-    cp "$served" "$expected"
-    head -c "$1" "$work/bytes" | dd of="$expected" bs=64K seek="$2" oflag=seek_bytes conv=notrunc status=none
+    cp "$work/before" "$work/served/$name"
+    cp "$work/before" "$expected"
+    lay_over "$bytes" 0 "$1" "$2"
     writes=$((writes + ($1 + $3 - 1) / $3))
-
-    printf '1 put /%s %s %s' "$name" "$2" "$(head -c "$1" "$work/bytes" | od -An -v -tx1 | tr -d ' \n')" |
-        "$nfs3" run 127.0.0.1 /srv --nfs-port "$nfs_port" --mount-port "$mount_port" "${words[@]}" >"$work/said" 2>&1
-    [ "$?/$(cat "$work/said")" = '0/1 1 ok' ]
-    count $? "$name is answered: $(head -c 200 "$work/said")"
-    cmp -s "$served" "$expected"
-    count $? "$name lies in the server's folder"
-    nfs-cat "$(server_url "/$name")" 2>/dev/null | cmp -s - "$expected"
-    count $? "$name is read by nfs-cat"
+    new_script
+    line "put /$name $2 $(hex "$bytes" 0 "$1")"
+    run_script "$name" "${words[@]}"
+    same_file "$name"
 }
 
 try_puts() {
     local size offset limit
-    head -c 65536 /dev/urandom >"$work/bytes"
     head -c 40000 /dev/urandom >"$work/before"
     for size in "${sizes[@]}"; do
         for offset in "${offsets[@]}"; do
@@ -236,18 +166,32 @@ build_program() {
     [ $? -eq 2 ]
 }
 
-main() {
-    trap end_all EXIT
+# Prepares what the parts stand on.
+prepare() {
     build_program || stop "nfs3 can't be built: $(tail -1 "$work/build.log")"
-    install_programs || stop "nfs-ganesha, libnfs-utils, tshark or rpcbind can't be installed: $(tail -1 "$work/install.log")"
-    start_rpcbind || stop "rpcbind doesn't start: $(tail -1 "$work/rpcbind.log")"
-    start_server || stop "nfs-ganesha doesn't start: $(tail -1 "$work/ganesha.log")"
+    have ganesha.nfsd rpcbind rpcinfo nfs-ls nfs-cat nfs-cp tshark dumpcap python3 ||
+        install nfs-ganesha nfs-ganesha-vfs rpcbind libnfs-utils tshark python3
+    start_all
+    head -c 2000000 /dev/urandom >"$bytes"
+}
+
+try_wire() {
     start_capture || stop "the loopback can't be captured: $(tail -1 "$work/dumpcap.log")"
     try_puts
     try_refusals
     try_streams
     try_export
     read_capture
+}
+
+main() {
+    local part parts=(wire names sizes failures)
+    [ $# -gt 0 ] && parts=("$@")
+    trap end_all EXIT
+    prepare
+    for part in "${parts[@]}"; do
+        "try_$part"
+    done
     sum_up
 }
 

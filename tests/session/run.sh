@@ -55,6 +55,14 @@ try_a_put() {
     ended 0
 }
 
+# A script of several lines: MNT, FSINFO, LOOKUP, GETATTR and READ.
+try_a_read() {
+    printf 'file /a 6869\n' >"$work/schedule"
+    serve 5 "$work/schedule"
+    session $'1 open 1 r /a\n1 read 1 0 10\n1 close 1' $'1 1 ok\n1 2 ok 6869\n1 3 ok' 0
+    ended 0
+}
+
 # Without a schedule there is no file: MNT, FSINFO and LOOKUP.
 try_an_empty_export() {
     serve 3
@@ -181,6 +189,7 @@ trap end_all EXIT
     exit 1
 }
 try_a_put
+try_a_read
 try_an_empty_export
 try_a_silent_connection
 try_closed_streams

@@ -1,0 +1,105 @@
+#!/usr/bin/env bash
+# Takes the time of the same work through `nfs3 run` and through libnfs, on one nfs-ganesha on this machine whose files lie in
+# memory: alternating runs, each a process that mounts, works and ends. A line for each kind of work has the medians of seven
+# runs and their ratio, and what the two took of the processor, which tells more where other programs run beside. Run it as root on Debian 12: it installs what is missing. The program is the one that bin/nfs3 built,
+# or the one that NFS3 names; a build without a proof isn't optimised, and its times tell nothing. The status is 0 where all
+# work was done.
+set -u
+
+here=$(dirname -- "$(readlink -f -- "${BASH_SOURCE[0]}")")
+nfs3=${NFS3:-$here/../../crates/nfs3/out/nfs3}
+runs=7
+work=$(mktemp -d -p /dev/shm nfs3-bench.XXXXXX)
+chmod 755 "$work"
+mkdir "$work/served" "$work/served/small" "$work/served/names"
+
+. "$here/../lib.sh"
+. "$here/../ganesha.sh"
+
+prepare() {
+    [ -x "$nfs3" ] || stop "$nfs3 isn't built: bin/nfs3 --prove builds it"
+    have ganesha.nfsd rpcbind rpcinfo nfs-ls gcc && [ -e /usr/include/nfsc/libnfs.h ] ||
+        install nfs-ganesha nfs-ganesha-vfs rpcbind libnfs-utils libnfs-dev gcc libc6-dev
+    gcc -O2 -o "$work/libnfs_work" "$here/libnfs_work.c" -lnfs || stop "libnfs_work can't be built"
+    start_all
+    head -c 67108864 /dev/urandom >"$work/served/read"
+    (cd -- "$work/served/names" && seq -f 'name_%04g' 1000 | xargs touch)
+}
+
+# The scripts of nfs3, each by the path that libnfs_work gets too. With a number of lanes the work is shared out among them.
+script_of_write() {
+    local at
+    echo "1 open 1 x $1"
+    for ((at = 0; at < 67108864; at += 1048576)); do
+        echo "1 fill 1 $at 1048576 61"
+    done
+    echo '1 close 1'
+}
+
+script_of_read() {
+    local lane lanes=${2-1} piece
+    for lane in $(seq "$lanes"); do
+        echo "$lane open 1 r $1"
+    done
+    for piece in {0..1023}; do
+        echo "$((piece % lanes + 1)) read 1 $((piece * 65536)) 65536"
+    done
+}
+
+script_of_small() {
+    local lane lanes=${2-1} file digits
+    printf -v digits '61%.0s' {1..100}
+    for file in {0..999}; do
+        lane=$((file % lanes + 1))
+        printf '%s\n' "$lane open 1 c $1$file" "$lane write 1 0 $digits" "$lane close 1"
+    done
+}
+
+script_of_list() {
+    echo "1 list $1"
+}
+
+through_nfs3() {
+    "$nfs3" run 127.0.0.1 /srv --uid 0 --gid 0 --mount-port "$mount_port" --nfs-port "$nfs_port" <"$work/script" >/dev/null
+}
+
+through_libnfs() {
+    "$work/libnfs_work" "$(server_url '')" "$@"
+}
+
+# Takes the seconds that a command takes, and those of the processor: whose they are, and the command.
+take_time() {
+    local TIMEFORMAT='%R %U %S'
+    { time "${@:2}" 2>"$work/told"; } 2>>"$work/times_$1" || stop "${*:2} ended with the status $?: $(tail -1 "$work/told")"
+}
+
+# The median of what was taken: whose, and an expression of awk over a line's fields.
+median() {
+    awk "{ print $2 }" "$work/times_$1" | sort -g | sed -n "$(((runs + 1) / 2))p"
+}
+
+# Compares one kind of work: what it is, the kind, the path, how many pieces, files or names, and lanes. A path that is made
+# ends in another number at each run.
+compare() {
+    local run path=$3
+    rm -f -- "$work"/times_*
+    for run in $(seq "$runs"); do
+        "script_of_$2" "${path/%-/_nfs3_$run-}" "${@:5}" >"$work/script"
+        take_time nfs3 through_nfs3
+        take_time libnfs through_libnfs "$2" "${path/%-/_libnfs_$run-}" "$4"
+        truncate -s 0 "$work/served"/written* 2>/dev/null
+    done
+    awk -v what="$1" -v ours="$(median nfs3 '$1')" -v theirs="$(median libnfs '$1')" \
+        -v our_work="$(median nfs3 '$2 + $3')" -v their_work="$(median libnfs '$2 + $3')" 'BEGIN {
+            printf "%s: nfs3 %.3f s, libnfs %.3f s, ratio %.2f", what, ours, theirs, ours / theirs
+            printf "; of the processor %.3f s and %.3f s\n", our_work, their_work }'
+}
+
+trap end_all EXIT
+prepare
+compare 'write 64 MiB and sync' write /written- 1024
+compare 'read 64 MiB' read /read 1024
+compare 'read 64 MiB, nfs3 in 16 lanes' read /read 1024 16
+compare '1,000 small files' small "/small/lane$$-" 1000
+compare '1,000 small files, nfs3 in 16 lanes' small "/small/lanes$$-" 1000 16
+compare 'list of 1,000 names' list /names 1000
