@@ -83,7 +83,7 @@ set_proceeds : (v : View) (place : Option ℕ) (set : SetAttr) → Proceeds v (a
 set_proceeds v place set =
     takes_proceeds v (changed_at (with_set (next v) set) place v.nodes) (changed_at_keeps v.counter (next v) (with_set (next v) set) place v.nodes (set_moves v.counter (next v) (next v) set (omega arith) (omega arith)))
 
-file_proceeds : (v : View) (call : FileCall) → Proceeds v (after_file v call)
+pub file_proceeds : (v : View) (call : FileCall) → Proceeds v (after_file v call)
 file_proceeds v files.Null = stays v
 file_proceeds v (files.GetAttr file) = stays v
 file_proceeds v (files.SetAttr file set guard) = set_proceeds v (place_of file) set

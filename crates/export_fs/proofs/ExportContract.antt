@@ -40,7 +40,7 @@ is_file_spelled (files.FsInfo file) b k = b
 is_file_spelled (files.PathConf file) b k = b
 is_file_spelled (files.Commit file offset count) b k = b
 
-is_spelled : (call : Call) → HandlesAreBytes call → HasSpellingCall call → IsSpelled call
+pub is_spelled : (call : Call) → HandlesAreBytes call → HasSpellingCall call → IsSpelled call
 is_spelled (calls.File call) b k = is_file_spelled call b k
 is_spelled (calls.Dir call) b k = b
 is_spelled (calls.Mount call) b k = tt

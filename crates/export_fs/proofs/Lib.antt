@@ -36,6 +36,7 @@ pub mod CookiesIncrease
 pub mod WorkedOutHistory
 pub mod Numbers
 pub mod FreshCalls
+pub mod PartialWrites
 pub mod Reboots
 pub mod RowCalls
 pub mod StatusRows

@@ -101,7 +101,7 @@ written_kind offset how bytes (File content) = refl
 written_kind offset how bytes (Directory listing) = refl
 written_kind offset how bytes (Link text) = refl
 
-write_changed : (v : View) (file : List ℕ) (offset how : ℕ) (bytes : List ℕ) (f : Found v file) → OneChanged v (after_file v (files.Write file offset how bytes)) file f (written (next v) offset how bytes)
+pub write_changed : (v : View) (file : List ℕ) (offset how : ℕ) (bytes : List ℕ) (f : Found v file) → OneChanged v (after_file v (files.Write file offset how bytes)) file f (written (next v) offset how bytes)
 write_changed v file offset how bytes f = record { nodes = refl; reboots = refl; gone = refl; kind = written_kind offset how bytes f.node.holds }
 
 pub stable_kind : (offset count : ℕ) (holds : Holds) → kind_of (with_stable offset count holds) ≡ kind_of holds

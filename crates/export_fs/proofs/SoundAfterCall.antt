@@ -66,15 +66,8 @@ set_stays v s place set room =
       held = λ count p node h. held_sized count p set.size node.holds h;
     })
 
-stays_file : (v : View) (call : FileCall) → Sound v → file_refusal v call ≡ 0 → Sound (after_file v call)
-stays_file v files.Null s e = s
-stays_file v (files.GetAttr file) s e = s
-stays_file v (files.SetAttr file set guard) s e = let p = file_passes v (files.SetAttr file set guard) file e in set_stays v s (place_of file) set (numbers_left v p.full)
-stays_file v (files.Access file bits) s e = s
-stays_file v (files.Read file offset count) s e = s
-stays_file v (files.Write file offset how bytes) s e =
-    let p = file_passes v (files.Write file offset how bytes) file e in
-    let room = numbers_left v p.full in
+pub write_stays : (v : View) → Sound v → (file : List ℕ) (offset how : ℕ) (bytes : List ℕ) → v.counter < last_number → Sound (after_file v (files.Write file offset how bytes))
+write_stays v s file offset how bytes room =
     one_stays v (after_file v (files.Write file offset how bytes)) s (written (next v) offset how bytes) (place_of file)
     (record {
       nodes = refl;
@@ -85,6 +78,16 @@ stays_file v (files.Write file offset how bytes) s e =
       rows = λ node. written_rows offset how bytes node.holds;
       held = λ count q node h. held_written count q offset how bytes node.holds h;
     })
+
+stays_file : (v : View) (call : FileCall) → Sound v → file_refusal v call ≡ 0 → Sound (after_file v call)
+stays_file v files.Null s e = s
+stays_file v (files.GetAttr file) s e = s
+stays_file v (files.SetAttr file set guard) s e = let p = file_passes v (files.SetAttr file set guard) file e in set_stays v s (place_of file) set (numbers_left v p.full)
+stays_file v (files.Access file bits) s e = s
+stays_file v (files.Read file offset count) s e = s
+stays_file v (files.Write file offset how bytes) s e =
+    let p = file_passes v (files.Write file offset how bytes) file e in
+    write_stays v s file offset how bytes (numbers_left v p.full)
 stays_file v (files.FsStat file) s e = s
 stays_file v (files.FsInfo file) s e = s
 stays_file v (files.PathConf file) s e = s

@@ -14,31 +14,35 @@ use Rattle.export_fs.proofs.Objects.{get_last, get_front_other, get_within}
 use Rattle.export_fs.proofs.Fresh.{fresh}
 use Rattle.export_fs.proofs.CookiesIncrease.{rising}
 
--- `replay` makes one step for each entry, in order
-pub record IsReplay (step : View → Entry → View) (replay : View → List Entry → View) : Type 0 where
-  pub none : (v : View) → replay v [] ≡ v
-  pub more : (v : View) (e : Entry) (es : List Entry) → replay v (e ∷ es) ≡ replay (step v e) es
-  pub proceeds : (v : View) (e : Entry) → Proceeds v (step v e)
+-- `replay` makes one step for each entry, in order, with what is known beside it
+pub record IsReplay {A : Type 0} (step : A → View → Entry → View) (replay : (ℕ → A) → View → List Entry → View) : Type 0 where
+  pub none : (known : ℕ → A) (v : View) → replay known v [] ≡ v
+  pub more : (known : ℕ → A) (v : View) (e : Entry) (es : List Entry) → replay known v (e ∷ es) ≡ replay (λ n. known (suc n)) (step (known 0) v e) es
+  pub proceeds : (a : A) (v : View) (e : Entry) → Proceeds v (step a v e)
 
 -- entry n leads from moment n to the next
-pub replay_next : (step : View → Entry → View) (replay : View → List Entry → View) → IsReplay step replay → (v : View) (list : List Entry) (n : ℕ) → n < length list → Proceeds (replay v (take n list)) (replay v (take (suc n) list))
-replay_next step replay r v [] n l = absurd (omega arith)
-replay_next step replay r v (e ∷ list) zero l =
-    let a : replay v (take 0 (e ∷ list)) ≡ v = r.none v in
-    let b : replay v (take (suc 0) (e ∷ list)) ≡ step v e = r.more v e [] ∙ r.none (step v e) in
-    subst (λ (z : View). Proceeds z (replay v (take (suc 0) (e ∷ list)))) (sym a) (subst (Proceeds v) (sym b) (r.proceeds v e))
-replay_next step replay r v (e ∷ list) (suc n) l =
-    let p = replay_next step replay r (step v e) list n (omega arith) in
-    subst (λ (z : View). Proceeds z (replay v (e ∷ take (suc n) list))) (sym (r.more v e (take n list))) (subst (Proceeds (replay (step v e) (take n list))) (sym (r.more v e (take (suc n) list))) p)
+pub replay_next : {A : Type 0} (step : A → View → Entry → View) (replay : (ℕ → A) → View → List Entry → View) → IsReplay step replay → (known : ℕ → A) (v : View) (list : List Entry) (n : ℕ) → n < length list
+    → Proceeds (replay known v (take n list)) (replay known v (take (suc n) list))
+replay_next step replay r known v [] n l = absurd (omega arith)
+replay_next step replay r known v (e ∷ list) zero l =
+    let a : replay known v (take 0 (e ∷ list)) ≡ v = r.none known v in
+    let b : replay known v (take (suc 0) (e ∷ list)) ≡ step (known 0) v e = r.more known v e [] ∙ r.none (λ n. known (suc n)) (step (known 0) v e) in
+    subst (λ (z : View). Proceeds z (replay known v (take (suc 0) (e ∷ list)))) (sym a) (subst (Proceeds v) (sym b) (r.proceeds (known 0) v e))
+replay_next step replay r known v (e ∷ list) (suc n) l =
+    let p = replay_next step replay r (λ n. known (suc n)) (step (known 0) v e) list n (omega arith) in
+    subst (λ (z : View). Proceeds z (replay known v (e ∷ take (suc n) list))) (sym (r.more known v e (take n list)))
+    (subst (Proceeds (replay (λ n. known (suc n)) (step (known 0) v e) (take n list))) (sym (r.more known v e (take (suc n) list))) p)
 
-stamped_start : (step : View → Entry → View) (replay : View → List Entry → View) → IsReplay step replay → (v : View) (list : List Entry) → Stamped v → Stamped (replay v (take 0 list))
-stamped_start step replay r v list s = subst Stamped (sym (r.none v)) s
+stamped_start : {A : Type 0} (step : A → View → Entry → View) (replay : (ℕ → A) → View → List Entry → View) → IsReplay step replay → (known : ℕ → A) (v : View) (list : List Entry) → Stamped v → Stamped (replay known v (take 0 list))
+stamped_start step replay r known v list s = subst Stamped (sym (r.none known v)) s
 
-pub fresh_replay : (step : View → Entry → View) (replay : View → List Entry → View) → IsReplay step replay → (v : View) (list : List Entry) → Stamped v → Fresh (record { entries = list; at = λ n. server_of (replay v (take n list)) })
-fresh_replay step replay r v list s = fresh list (λ n. replay v (take n list)) (stamped_start step replay r v list s) (λ n l. replay_next step replay r v list n l)
+pub fresh_replay : {A : Type 0} (step : A → View → Entry → View) (replay : (ℕ → A) → View → List Entry → View) → IsReplay step replay → (known : ℕ → A) (v : View) (list : List Entry) → Stamped v
+    → Fresh (record { entries = list; at = λ n. server_of (replay known v (take n list)) })
+fresh_replay step replay r known v list s = fresh list (λ n. replay known v (take n list)) (stamped_start step replay r known v list s) (λ n l. replay_next step replay r known v list n l)
 
-pub rising_replay : (step : View → Entry → View) (replay : View → List Entry → View) → IsReplay step replay → (v : View) (list : List Entry) → Stamped v → PagesRise replay v list → Rising (record { entries = list; at = λ n. server_of (replay v (take n list)) })
-rising_replay step replay r v list s pages = rising list (λ n. replay v (take n list)) (stamped_start step replay r v list s) (λ n l. replay_next step replay r v list n l) pages
+pub rising_replay : {A : Type 0} (step : A → View → Entry → View) (replay : (ℕ → A) → View → List Entry → View) → IsReplay step replay → (known : ℕ → A) (v : View) (list : List Entry) → Stamped v → PagesRise (replay known) v list
+    → Rising (record { entries = list; at = λ n. server_of (replay known v (take n list)) })
+rising_replay step replay r known v list s pages = rising list (λ n. replay known v (take n list)) (stamped_start step replay r known v list s) (λ n l. replay_next step replay r known v list n l) pages
 
 -- ---- one more entry
 

@@ -9,6 +9,7 @@ pub mod After
 pub mod Pages
 pub mod Answer
 pub mod Executed
+pub mod Partial
 pub mod Restart
 pub mod Placing
 pub mod Spelling

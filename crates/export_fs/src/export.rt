@@ -1,6 +1,6 @@
 //! The export.
 
-ghost use Rattle.std.specs.Prelude.{◌≡◌, ◌∷◌, [], true, if◌then◌else◌, is_some, unwrap_or, option_copied, IfOk, OnOk, OnErr};
+ghost use Rattle.std.specs.Prelude.{◌≡◌, ◌<◌, ◌∷◌, [], true, if◌then◌else◌, is_some, unwrap_or, option_copied, IfOk, OnOk, OnErr};
 ghost use Rattle.world_model.specs.Lawful.{Flushes};
 ghost use Rattle.world_model.specs.NameService.{keeps_all};
 ghost use Rattle.world_model.specs.Rising.{RisesAt};
@@ -9,6 +9,7 @@ ghost use Rattle.export_fs.specs.Changes.{new_dir};
 ghost use Rattle.export_fs.specs.Executed.{executed};
 ghost use Rattle.export_fs.specs.Finding as findings;
 ghost use Rattle.export_fs.specs.Later.{RestartsLater};
+ghost use Rattle.export_fs.specs.Partial.{IsWrite, partly_executed};
 ghost use Rattle.export_fs.specs.Parts.{kind, verifier};
 ghost use Rattle.export_fs.specs.Placing.{placed};
 ghost use Rattle.export_fs.specs.Restart.{may_restart, after_restart, after_flush};
@@ -77,6 +78,24 @@ impl Export {
         ensures rises { IfOk result (λ reply. RisesAt (server_of self.old) call.now reply) }
     {
         self.tree.execute(call)
+    }
+
+    /// Executes a WRITE that breaks off: its first bytes, at most so many, are in the file as a change of their own, none
+    /// of them stable, and the reply has the status (RFC 1813, section 3.3.7). No bytes are no change. A call that
+    /// `execute` would refuse is answered as by `execute`. Memory means out of memory, and then nothing is changed.
+    ///
+    /// Each call that has a spelling is what a server may do. What changes takes a stamp that was never given. The reply
+    /// has a spelling.
+    pub fn execute_partial(&mut self, call: &Call, bytes: u32, status: u32) -> Result<Reply, Memory>
+        requires write { IsWrite call.now }
+        requires fails { 0 < status }
+        ensures ok { IfOk result (λ reply. (self.new ≡ (partly_executed self.old call.now bytes status).0) × (reply ≡ (partly_executed self.old call.now bytes status).1)) }
+        ensures spelled { IfOk result HasSpellingReply }
+        ensures err { OnErr result (self.new ≡ self.old) }
+        ensures serves { HasSpellingCall call.now → IfOk result (λ reply. Serves (server_of self.old) call.now reply (server_of self.new)) }
+        ensures fresh { TakesNew self.old self.new }
+    {
+        self.tree.execute_partial(call, bytes, status)
     }
 
     /// Restarts: each file is left with its stable bytes, and the write verifier is new. It is false, and nothing is

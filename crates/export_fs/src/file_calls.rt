@@ -142,7 +142,13 @@ impl Tree {
     }
 
     /// WRITE (RFC 1813, section 3.3.7). When out of memory nothing is changed.
-    fn write(&mut self, file: &Handle, offset: u64, how: u32, bytes: &[u8]) -> Result<(), Memory>
+    pub(crate) fn write(
+        &mut self,
+        file: &Handle,
+        offset: u64,
+        how: u32,
+        bytes: &[u8],
+    ) -> Result<(), Memory>
         ensures ok { OnOk result (self.new ≡ after_write self.old file.now offset how bytes.now) }
         ensures err { OnErr result (self.new ≡ self.old) }
     {

@@ -17,6 +17,7 @@ mod mounts;
 mod node;
 mod nodes;
 mod pages;
+mod partial;
 mod places;
 mod placing;
 mod restart;

@@ -116,7 +116,7 @@ impl Tree {
         }
     }
 
-    fn execute_call(&mut self, call: &Call) -> Result<Reply, Memory>
+    pub(crate) fn execute_call(&mut self, call: &Call) -> Result<Reply, Memory>
         ensures ok { IfOk result (λ reply. (self.new ≡ (executed self.old call.now).0) × (reply ≡ (executed self.old call.now).1)) }
         ensures err { OnErr result (self.new ≡ self.old) }
     {

@@ -4,6 +4,7 @@
 //! - `new` begins with a new export and a new service
 //! - `file PROC HEX`, `dir PROC HEX` and `mount PROC HEX` execute the call of that procedure with these arguments, of which
 //!   NULL has none
+//! - `partial BYTES STATUS HEX` executes a WRITE of these arguments that breaks off after so many bytes
 //! - `place PATH HEX`, `place PATH -` and `mkdir PATH` place a file or a directory
 //! - `find PATH` finds an object, and the size of a file
 //! - `flush HEX OFFSET COUNT` makes bytes of a file stable, and `reboot` restarts the export
@@ -52,6 +53,7 @@ fn ask_export(
 ) -> io::Result<()> {
     match word {
         "file" | "dir" | "mount" => calls::call(rt, alloc, export, word, rest),
+        "partial" => calls::partial(rt, alloc, export, rest),
         "place" => objects::place(rt, alloc, export, rest),
         "mkdir" => objects::place_dir(rt, alloc, export, rest),
         "find" => objects::find(rt, alloc, export, rest),

@@ -1,6 +1,7 @@
 -- What the server answers in the turn of a transmission is what an honest server may do, also where a status is given
 -- or a READ or WRITE handles less than was asked (RFC 1813, sections 3.3.6 and 3.3.7).
-use Rattle.std.proofs.Common.{◌≡◌, ◌≤◌, ℕ, Bool, true, min, List, length, take, Option, Some, None, refl, subst, ◌==◌, arith, inl, inr, ⊎_elim, length-take}
+use Rattle.std.proofs.Common.{◌≡◌, ◌≤◌, ◌<◌, ℕ, Bool, true, min, List, length, take, Option, Some, None, refl, subst, ◌==◌, arith, inl, inr, ⊎_elim, length-take}
+use Rattle.std.specs.Prelude.{⊤}
 use Rattle.std.proofs.lemmas.List.{take-take}
 use Rattle.std.proofs.lemmas.Bool.{cond_both, eqb-true, eqb-false}
 use Rattle.xdr_codec.specs.Bytes.{IsBytes}
@@ -28,16 +29,19 @@ use Rattle.export_fs.specs.After.{after_file}
 use Rattle.export_fs.specs.Answer.{file_answer}
 use Rattle.export_fs.specs.Answer.{file_refused as refused_file}
 use Rattle.export_fs.specs.Executed.{file_executed}
+use Rattle.export_fs.specs.Partial.{IsWrite}
 use Rattle.export_fs.specs.Seen.{server_of}
 use Rattle.export_fs.specs.Sound.{Sound}
 use Rattle.export_fs.specs.Spelled.{IsFileSpelled, IsSpelled, HandlesAreBytes}
 use Rattle.export_fs.proofs.RefusalsShowTruth.{refuses_file}
 use Rattle.export_fs.proofs.ServerOfExport.{same_server}
 use Rattle.export_fs.proofs.ExecuteServes.{serves}
+use Rattle.export_fs.proofs.PartialWrites.{partly_serves, partly_sound}
 use Rattle.export_fs.proofs.SoundAfterCall.{stays_sound}
 use Rattle.export_fs.proofs.ServesFileCalls.{does_file}
 use Rattle.world_link.specs.declared.manner.Manner.{Manner}
-use Rattle.world_link.specs.Handling.{answered, answered_as}
+use Rattle.world_link.specs.declared.directive.PartialWrite.{PartialWrite}
+use Rattle.world_link.specs.Handling.{answered, handled}
 use Rattle.world_link.specs.Honest.{IsBound}
 use Rattle.world_link.specs.Refused.{refused_by, refused_with, status_for}
 
@@ -175,8 +179,23 @@ by_given None limit v call m s b = executed_with limit v call m s b
 by_given (Some n) limit v call m s b =
     cond_both (n == 0) None (refused_with n call) (λ (o : Option Reply). Answers o limit v call) (λ e. executed_with limit v call m s b) (λ e. with_given n limit v call (eqb-false n 0 e) m s b)
 
-pub answered_serves : (manner : Manner) (v : View) (call : Call) → IsBound manner.limit → Sound v → IsSpelled call → Serves (server_of v) call (answered_as manner v call).1 (server_of (answered_as manner v call).0)
-answered_serves manner v call m s b = (by_given (status_for manner.mount manner.answer call) manner.limit v call m s b).0
+-- ---- a WRITE breaks off
 
-pub answered_sound : (manner : Manner) (v : View) (call : Call) → IsBound manner.limit → Sound v → IsSpelled call → Sound (answered_as manner v call).0
-answered_sound manner v call m s b = (by_given (status_for manner.mount manner.answer call) manner.limit v call m s b).1
+-- what breaks off is a WRITE, and fails
+abbrev pub MayBreak : Option PartialWrite → Call → Type 0
+MayBreak None call = ⊤
+MayBreak (Some part) call = IsWrite call × (0 < part.status)
+
+abbrev Handles : Option PartialWrite → Manner → View → Call → Type 0
+Handles part manner v call = Serves (server_of v) call (handled part manner v call).1 (server_of (handled part manner v call).0) × Sound (handled part manner v call).0
+
+by_part : (part : Option PartialWrite) (manner : Manner) (v : View) (call : Call) → MayBreak part call → IsBound manner.limit → Sound v → IsSpelled call → Handles part manner v call
+by_part None manner v call w m s b = by_given (status_for manner.mount manner.answer call) manner.limit v call m s b
+by_part (Some part) manner v call w m s b = (partly_serves v call part.bytes part.status w.0 w.1 s b, partly_sound v call part.bytes part.status w.0 s (handles call b))
+
+pub handled_serves : (part : Option PartialWrite) (manner : Manner) (v : View) (call : Call) → MayBreak part call → IsBound manner.limit → Sound v → IsSpelled call
+    → Serves (server_of v) call (handled part manner v call).1 (server_of (handled part manner v call).0)
+handled_serves part manner v call w m s b = (by_part part manner v call w m s b).0
+
+pub handled_sound : (part : Option PartialWrite) (manner : Manner) (v : View) (call : Call) → MayBreak part call → IsBound manner.limit → Sound v → IsSpelled call → Sound (handled part manner v call).0
+handled_sound part manner v call w m s b = (by_part part manner v call w m s b).1

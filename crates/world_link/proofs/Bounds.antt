@@ -98,6 +98,15 @@ counts digits =
     (λ e. leb-true 1 (digits_value 10 digits) (and_parts (nat_le 1 (digits_value 10 digits)) (nat_le (digits_value 10 digits) 4294967295) (and_parts (is_numeral digits) (is_within 1 4294967295 (digits_value 10 digits)) e).1).0)
     (λ e. tt)
 
+broken_limits : (s : Option RequestId) (bytes status : Option ℕ) → MayLimit (lines.broken s bytes status)
+broken_limits None bytes status = tt
+broken_limits (Some s) None status = tt
+broken_limits (Some s) (Some bytes) None = tt
+broken_limits (Some s) (Some bytes) (Some status) = cond_both (s.proc == 7) (Some (directives.Partial s (record { bytes = bytes; status = status }))) None MayLimit (λ e. tt) (λ e. tt)
+
+partial_limits : (words : List (List ℕ)) → MayLimit (lines.partial_of words)
+partial_limits words = and_then_limits _ (four words) (λ w. broken_limits (lines.sending_of w.0 w.1) (number_of 0 65536 w.2) (lines.count_of w.3))
+
 limited_limits : (s : Option RequestId) (most : Option ℕ) → IsCount most → MayLimit (lines.limited s most)
 limited_limits None most c = tt
 limited_limits (Some s) None c = tt
@@ -147,7 +156,8 @@ turn_limits command words =
     (one_of (bytes_eq command (codes "hold")) _ _ (hold_limits words)
     (one_of (bytes_eq command (codes "late")) _ _ (late_limits words)
     (one_of (bytes_eq command (codes "answer")) _ _ (answer_limits words)
-    (one_of (bytes_eq command (codes "limit")) _ None (limit_limits words) tt)))))))
+    (one_of (bytes_eq command (codes "partial")) _ _ (partial_limits words)
+    (one_of (bytes_eq command (codes "limit")) _ None (limit_limits words) tt))))))))
 
 either_limits : (first second : Option Directive) → MayLimit first → MayLimit second → MayLimit (lines.either first second)
 either_limits None second h k = k
@@ -177,4 +187,5 @@ planned_bounded plan (directives.Mute s) l b = destined_bounded plan s _ (b s) b
 planned_bounded plan (directives.Hold s turn) l b = destined_bounded plan s _ (b s) b
 planned_bounded plan (directives.Late s turn) l b = destined_bounded plan turn _ (b turn) b
 planned_bounded plan (directives.Answer s status) l b = destined_bounded plan s _ (b s) b
+planned_bounded plan (directives.Partial s part) l b = destined_bounded plan s _ (b s) b
 planned_bounded plan (directives.Limit s most) l b = destined_bounded plan s _ l b

@@ -2,6 +2,7 @@ pub mod ProcedureNames
 pub mod FateMap
 pub mod NextLine
 pub mod Replays
+pub mod Beside
 pub mod ServerEntriesOnly
 pub mod StepsInOrder
 pub mod Releases
@@ -10,6 +11,7 @@ pub mod TurnParts
 pub mod LastNames
 pub mod FreshAndRising
 pub mod LawfulPlusOne
+pub mod BreaksWrites
 pub mod AnswersAreHonest
 pub mod EntriesKeepHonest
 pub mod RepliesFit

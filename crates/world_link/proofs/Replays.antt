@@ -1,5 +1,5 @@
 -- What a call made of the export is what its entry tells.
-use Rattle.std.proofs.Common.{◌≡◌, ℕ, List, [], ◌∷◌, ◌++◌, length, take, min, Bool, true, false, ◌==◌, if◌then◌else◌, Option, Some, None, refl, sym, arith}
+use Rattle.std.proofs.Common.{◌≡◌, ◌<◌, ℕ, zero, suc, List, [], ◌∷◌, ◌++◌, length, take, min, Bool, true, false, ◌==◌, if◌then◌else◌, Option, Some, None, refl, sym, ap, ◌∙◌, arith}
 use Rattle.std.proofs.lemmas.List.{length-take, take_min, take_all}
 use Rattle.nfs_dir_calls.specs.declared.call.DirCall.{DirCall}
 use Rattle.nfs_dir_calls.specs.declared.call.DirCall.TheVariants as dirs
@@ -19,10 +19,14 @@ use Rattle.export_fs.specs.After.{after_file, after_dir}
 use Rattle.export_fs.specs.Answer.{file_answer, dir_answer}
 use Rattle.export_fs.specs.Answer.{file_refused as refused_file, dir_refused as refused_dir}
 use Rattle.export_fs.specs.Executed.{executed, file_executed, dir_executed}
+use Rattle.world_link.specs.declared.directive.PartialWrite.{PartialWrite}
 use Rattle.world_link.specs.declared.manner.Manner.{Manner}
 use Rattle.world_link.specs.Refused.{refused_by, refused_with, status_for}
-use Rattle.world_link.specs.Handling.{shortened, shortened_to, answered, answered_as}
-use Rattle.world_link.specs.Replay.{file_granted, dir_granted, stepped_by, replayed, stepped}
+use Rattle.world_link.specs.Handling.{shortened, shortened_to, answered, handled}
+use Rattle.world_link.specs.Replay.{file_granted, dir_granted, stepped_by, stepped_with, stepped, replayed, at_of, told_of}
+use Rattle.world_model.specs.History.{History}
+use Rattle.world_model.specs.Server.{Server}
+use Rattle.export_fs.specs.Seen.{server_of}
 
 abbrev chosen : {R : Type 0} → Bool → View → View → R → R → View × R
 chosen b after view done refused = if b then (after, done) else (view, refused)
@@ -198,10 +202,43 @@ by_given (Some n) limit view call = elim (n == 0) as (λ b. Steps (if b then Non
   | false ↦ with_given n limit view call
 ]
 
-pub answered_stepped : (manner : Manner) (view : View) (call : Call) → stepped_by view call (answered_as manner view call).1 ≡ (answered_as manner view call).0
-answered_stepped manner view call = by_given (status_for manner.mount manner.answer call) manner.limit view call
+-- a call that broke off, or didn't
+pub handled_stepped : (part : Option PartialWrite) (manner : Manner) (view : View) (call : Call) → stepped_with part view call (handled part manner view call).1 ≡ (handled part manner view call).0
+handled_stepped None manner view call = by_given (status_for manner.mount manner.answer call) manner.limit view call
+handled_stepped (Some part) manner view call = refl
 
--- entries one after the other
-pub replayed-append : (view : View) (first second : List Entry) → replayed view (first ++ second) ≡ replayed (replayed view first) second
-replayed-append view [] second = refl
-replayed-append view (entry ∷ first) second = replayed-append (stepped view entry) first second
+-- ---- entries one after the other
+
+-- what is known beside the entries from a place on
+abbrev pub later : ℕ → (ℕ → Option PartialWrite) → ℕ → Option PartialWrite
+later zero parts = parts
+later (suc k) parts = later k (λ n. parts (suc n))
+
+pub replayed-append : (parts : ℕ → Option PartialWrite) (view : View) (first second : List Entry) → replayed parts view (first ++ second) ≡ replayed (later (length first) parts) (replayed parts view first) second
+replayed-append parts view [] second = refl
+replayed-append parts view (entry ∷ first) second = replayed-append (λ n. parts (suc n)) (stepped (parts 0) view entry) first second
+
+pub replayed_last : (parts : ℕ → Option PartialWrite) (view : View) (es : List Entry) (e : Entry) → replayed parts view (es ++ e ∷ []) ≡ stepped (parts (length es)) (replayed parts view es) e
+replayed_last parts view [] e = refl
+replayed_last parts view (x ∷ es) e = replayed_last (λ n. parts (suc n)) (stepped (parts 0) view x) es e
+
+-- what is known beside later entries doesn't matter
+abbrev pub Agree : ℕ → (ℕ → Option PartialWrite) → (ℕ → Option PartialWrite) → Type 0
+Agree count p q = (n : ℕ) → n < count → p n ≡ q n
+
+pub replayed_same : (p q : ℕ → Option PartialWrite) (view : View) (es : List Entry) → Agree (length es) p q → replayed p view es ≡ replayed q view es
+replayed_same p q view [] h = refl
+replayed_same p q view (e ∷ es) h =
+    replayed_same (λ n. p (suc n)) (λ n. q (suc n)) (stepped (p 0) view e) es (λ n l. h (suc n) (omega (arith, l)))
+    ∙ ap (λ (o : Option PartialWrite). replayed (λ n. q (suc n)) (stepped o view e) es) (h 0 (omega arith))
+
+pub front_same : (p q : ℕ → Option PartialWrite) (view : View) (es : List Entry) → Agree (length es) p q → (n : ℕ) → replayed p view (take n es) ≡ replayed q view (take n es)
+front_same p q view es h n = replayed_same p q view (take n es) (λ k l. h k (omega (arith, l, length-take n es)))
+
+pub at_same : (p q : ℕ → Option PartialWrite) (view : View) (es : List Entry) → Agree (length es) p q → (n : ℕ) → at_of p view es n ≡ at_of q view es n
+at_same p q view es h n = ap server_of (front_same p q view es h n)
+
+pub told_same : (p q : ℕ → Option PartialWrite) (view : View) (es : List Entry) → Agree (length es) p q → told_of p view es ≡ told_of q view es
+told_same p q view es h =
+    let told : (ℕ → Server) → History = λ f. record { entries = es; at = f } in
+    ap told (λ i n. at_same p q view es h n i)

@@ -25,10 +25,12 @@ use Rattle.export_fs.specs.Refusals.{file_refusal, dir_refusal}
 use Rattle.export_fs.specs.After.{after_file, after_dir}
 use Rattle.export_fs.specs.Answer.{get_attr_answer, lookup_answer, read_link_answer, mount_answer, export_name, file_answer, dir_answer}
 use Rattle.export_fs.specs.Answer.{file_refused as refused_file, dir_refused as refused_dir}
-use Rattle.export_fs.specs.Executed.{executed}
+use Rattle.export_fs.specs.Executed.{executed, file_executed}
 use Rattle.export_serve.specs.Spelling.{RepliesTo}
 use Rattle.world_link.specs.declared.manner.Manner.{Manner}
-use Rattle.world_link.specs.Handling.{answered, answered_as}
+use Rattle.world_link.specs.Handling.{answered, handled}
+use Rattle.export_fs.specs.Partial.{partly_written, partly_executed}
+use Rattle.world_link.specs.declared.directive.PartialWrite.{PartialWrite}
 use Rattle.world_link.specs.Refused.{refused_by, refused_with, status_for}
 
 abbrev FileTo : FileCall → FileKept → Type 0
@@ -176,5 +178,22 @@ by_given : (given limit : Option ℕ) (v : View) (call : Call) → Replies (refu
 by_given None limit v call = short_replies limit v call
 by_given (Some n) limit v call = cond_both (n == 0) None (refused_with n call) (λ (o : Option Reply). Replies o limit v call) (λ e. short_replies limit v call) (λ e. with_given n limit v call)
 
-pub answered_replies : (manner : Manner) (v : View) (call : Call) → RepliesTo call (answered_as manner v call).1
-answered_replies manner v call = by_given (status_for manner.mount manner.answer call) manner.limit v call
+partly_replies : (v : View) (call : Call) (count number : ℕ) → RepliesTo call (partly_executed v call count number).1
+partly_replies v (calls.File files.Null) count number = executed_replies v (calls.File files.Null)
+partly_replies v (calls.File (files.GetAttr file)) count number = executed_replies v (calls.File (files.GetAttr file))
+partly_replies v (calls.File (files.SetAttr file set guard)) count number = executed_replies v (calls.File (files.SetAttr file set guard))
+partly_replies v (calls.File (files.Access file bits)) count number = executed_replies v (calls.File (files.Access file bits))
+partly_replies v (calls.File (files.Read file offset most)) count number = executed_replies v (calls.File (files.Read file offset most))
+partly_replies v (calls.File (files.Write file offset how bytes)) count number =
+    cond_both (file_refusal v (files.Write file offset how bytes) == 0) (partly_written v file offset (take count bytes) number) (file_executed v (files.Write file offset how bytes))
+    (λ (z : View × FileKept). FileTo (files.Write file offset how bytes) z.1) (λ e. refl) (λ e. executed_replies v (calls.File (files.Write file offset how bytes)))
+partly_replies v (calls.File (files.FsStat file)) count number = executed_replies v (calls.File (files.FsStat file))
+partly_replies v (calls.File (files.FsInfo file)) count number = executed_replies v (calls.File (files.FsInfo file))
+partly_replies v (calls.File (files.PathConf file)) count number = executed_replies v (calls.File (files.PathConf file))
+partly_replies v (calls.File (files.Commit file offset most)) count number = executed_replies v (calls.File (files.Commit file offset most))
+partly_replies v (calls.Dir call) count number = executed_replies v (calls.Dir call)
+partly_replies v (calls.Mount call) count number = executed_replies v (calls.Mount call)
+
+pub handled_replies : (part : Option PartialWrite) (manner : Manner) (v : View) (call : Call) → RepliesTo call (handled part manner v call).1
+handled_replies None manner v call = by_given (status_for manner.mount manner.answer call) manner.limit v call
+handled_replies (Some part) manner v call = partly_replies v call part.bytes part.status

@@ -31,16 +31,19 @@ use Rattle.export_serve.proofs.Refused.{spells_refusal}
 use Rattle.world_link.specs.declared.directive.RequestId.{RequestId}
 use Rattle.world_link.specs.declared.manner.Manner.{Manner}
 use Rattle.world_link.specs.Going.{Goes}
-use Rattle.world_link.specs.Handling.{answered_as, readied}
+use Rattle.world_link.specs.declared.broken.Broken.{Broken}
+use Rattle.world_link.specs.declared.directive.PartialWrite.{PartialWrite}
+use Rattle.world_link.specs.Handling.{kept, handled, readied}
 use Rattle.world_link.specs.Holding.{HeldView, are_past}
 use Rattle.world_link.specs.Honest.{IsSent, IsAsked, IsAnswer, MayAnswer, IsBound, IsHonest, StaysHonest, MayStand}
-use Rattle.world_link.specs.Replay.{stepped, stepped_by}
+use Rattle.world_link.specs.Replay.{stepped, stepped_by, stepped_with}
 use Rattle.world_link.specs.Turning.{held}
 use Rattle.world_link.specs.View.{ServerView}
-use Rattle.world_link.proofs.ServerEntriesOnly.{first_of_two}
+use Rattle.world_link.proofs.ServerEntriesOnly.{first_of_two, second_of_two}
 use Rattle.world_link.proofs.Releases.{due_there}
-use Rattle.world_link.proofs.Replays.{executed_stepped, answered_stepped}
-use Rattle.world_link.proofs.RepliesFit.{answered_replies}
+use Rattle.world_link.proofs.Replays.{executed_stepped, handled_stepped}
+use Rattle.world_link.proofs.RepliesFit.{handled_replies}
+use Rattle.world_link.proofs.AnswersAreHonest.{MayBreak}
 use Rattle.world_link.proofs.EntriesKeepHonest.{sent_on, answer_on, honest_more, told_stands, foreign_stands, restart_stands, flushed_stands, honest_ready, honest_held, honest_moved}
 
 -- ---- steps
@@ -52,16 +55,20 @@ pub then_stays : (a b c : ServerView) → StaysHonest a b → StaysHonest b c �
 then_stays a b c p q = record { stays = λ start h. q.stays start (p.stays start h) }
 
 -- neither the export nor what is told is changed
-pub left_stays : (old new : ServerView) → new ≡ record old { export = new.export; entries = new.entries } → new.export ≡ old.export → new.entries ≡ old.entries → StaysHonest old new
-left_stays old new shape export entries =
-    same_stays old new (shape ∙ ap (λ (z : View). record old { export = z; entries = new.entries }) export ∙ ap (λ (es : List Entry). record old { export = old.export; entries = es }) entries)
+pub left_stays : (old new : ServerView) → new ≡ record old { export = new.export; entries = new.entries; partials = new.partials } → new.export ≡ old.export → new.entries ≡ old.entries → new.partials ≡ old.partials → StaysHonest old new
+left_stays old new shape export entries partials =
+    same_stays old new (shape ∙ ap (λ (z : View). record old { export = z; entries = new.entries; partials = new.partials }) export
+    ∙ ap (λ (es : List Entry). record old { export = old.export; entries = es; partials = new.partials }) entries
+    ∙ ap (λ (t : List Broken). record old { export = old.export; entries = old.entries; partials = t }) partials)
 
 -- an entry was told, and the export took its step
-grown_stays : (old new : ServerView) (e : Entry) (w : View) → new ≡ record old { export = new.export; entries = new.entries } → new.entries ≡ old.entries ++ e ∷ [] → new.export ≡ w → w ≡ stepped old.export e
-    → ((start : View) → IsHonest start old → MayStand start old e) → StaysHonest old new
-grown_stays old new e w shape grown is step may =
-    let all : new ≡ record old { export = w; entries = old.entries ++ e ∷ [] } = shape ∙ ap (λ (z : View). record old { export = z; entries = new.entries }) is ∙ ap (λ (es : List Entry). record old { export = w; entries = es }) grown in
-    record { stays = λ start h. subst (IsHonest start) (sym all) (honest_more start old e w step h (may start h)) }
+grown_stays : (old new : ServerView) (part : Option PartialWrite) (e : Entry) (w : View) → new ≡ record old { export = new.export; entries = new.entries; partials = new.partials } → new.entries ≡ old.entries ++ e ∷ []
+    → new.partials ≡ kept old.partials (length old.entries) part → new.export ≡ w → w ≡ stepped part old.export e → ((start : View) → IsHonest start old → MayStand start old part e) → StaysHonest old new
+grown_stays old new part e w shape grown beside is step may =
+    let all : new ≡ record old { export = w; entries = old.entries ++ e ∷ []; partials = kept old.partials (length old.entries) part } =
+    shape ∙ ap (λ (z : View). record old { export = z; entries = new.entries; partials = new.partials }) is ∙ ap (λ (es : List Entry). record old { export = w; entries = es; partials = new.partials }) grown
+    ∙ ap (λ (t : List Broken). record old { export = w; entries = old.entries ++ e ∷ []; partials = t }) beside in
+    record { stays = λ start h. subst (IsHonest start) (sym all) (honest_more start old part e w step h (may start h)) }
 
 -- ---- calls
 
@@ -83,42 +90,39 @@ spelled_of (calls.Dir call) b k = b
 spelled_of (calls.Mount call) b k = tt
 
 -- a call of the client was answered, and it was told
-pub told_stays : (old new : ServerView) (manner : Manner) (xid : ℕ) (call : Call) (reply : Reply) → reply ≡ (answered_as manner old.export call).1 → new ≡ record old { export = new.export; entries = new.entries } → new.entries ≡ old.entries ++ entries.Executed xid call reply ∷ []
-    → new.export ≡ (answered_as manner old.export call).0 → HandlesAreBytes call → IsBound manner.limit → IsAsked old.entries (askings.Serve xid call) → StaysHonest old new
-told_stays old new manner xid call reply r shape grown is b m a =
-    grown_stays old new (entries.Executed xid call reply) (answered_as manner old.export call).0 shape grown is (sym (answered_stepped manner old.export call) ∙ ap (stepped_by old.export call) (sym r))
-    (λ start h. subst (λ (z : Reply). MayStand start old (entries.Executed xid call z)) (sym r) (told_stands start old manner xid call a.bytes h m (spelled_of call b a.sound.1) a.sent a.sound.0))
+pub told_stays : (old new : ServerView) (part : Option PartialWrite) (manner : Manner) (xid : ℕ) (call : Call) (reply : Reply) → reply ≡ (handled part manner old.export call).1 → new ≡ record old { export = new.export; entries = new.entries; partials = new.partials }
+    → new.entries ≡ old.entries ++ entries.Executed xid call reply ∷ [] → new.partials ≡ kept old.partials (length old.entries) part → new.export ≡ (handled part manner old.export call).0 → HandlesAreBytes call → MayBreak part call → IsBound manner.limit
+    → IsAsked old.entries (askings.Serve xid call) → StaysHonest old new
+told_stays old new part manner xid call reply r shape grown beside is b w m a =
+    grown_stays old new part (entries.Executed xid call reply) (handled part manner old.export call).0 shape grown beside is (sym (handled_stepped part manner old.export call) ∙ ap (stepped_with part old.export call) (sym r))
+    (λ start h. subst (λ (z : Reply). MayStand start old part (entries.Executed xid call z)) (sym r) (told_stands start old part manner xid call a.bytes h w m (spelled_of call b a.sound.1) a.sent a.sound.0))
 
 -- the record of its reply answers
-pub told_answers : {E : Type 0} (old new : List Entry) (manner : Manner) (v : View) (xid : ℕ) (call : Call) (reply : Reply) (result : Result (List ℕ) E) → reply ≡ (answered_as manner v call).1 → new ≡ old ++ entries.Executed xid call reply ∷ []
+pub told_answers : {E : Type 0} (old new : List Entry) (part : Option PartialWrite) (manner : Manner) (v : View) (xid : ℕ) (call : Call) (reply : Reply) (result : Result (List ℕ) E) → reply ≡ (handled part manner v call).1 → new ≡ old ++ entries.Executed xid call reply ∷ []
     → IfOk result (λ bytes. (c : Call) → RepliesTo c reply → SpellsReply xid c reply bytes) → IfOk result (λ bytes. length bytes ≤ most_bytes) → IfOk result (IsAnswer new)
-told_answers old new manner v xid call reply (Err e) r grown spells short = tt
-told_answers old new manner v xid call reply (Ok bytes) r grown spells short =
+told_answers old new part manner v xid call reply (Err e) r grown spells short = tt
+told_answers old new part manner v xid call reply (Ok bytes) r grown spells short =
     subst (λ (es : List Entry). IsAnswer es bytes) (sym grown) (record {
       most = short;
-      is = IsReplied.replied (length old) xid call reply (omega (arith, length_last old (entries.Executed xid call reply))) (At-last old (entries.Executed xid call reply)) (spells call (subst (RepliesTo call) (sym r) (answered_replies manner v call)));
+      is = IsReplied.replied (length old) xid call reply (omega (arith, length_last old (entries.Executed xid call reply))) (At-last old (entries.Executed xid call reply)) (spells call (subst (RepliesTo call) (sym r) (handled_replies part manner v call)));
     })
 
 -- a call of another client was executed, and it was told
-pub foreign_stays : (old new : ServerView) (call : Call) (reply : Reply) → reply ≡ (executed old.export call).1 → new ≡ record old { export = new.export; entries = new.entries } → new.entries ≡ old.entries ++ entries.Foreign call reply ∷ [] → new.export ≡ (executed old.export call).0 → IsSpelled call → StaysHonest old new
-foreign_stays old new call reply r shape grown is b =
-    grown_stays old new (entries.Foreign call reply) (executed old.export call).0 shape grown is (sym (executed_stepped old.export call) ∙ ap (stepped_by old.export call) (sym r))
-    (λ start h. subst (λ (z : Reply). MayStand start old (entries.Foreign call z)) (sym r) (foreign_stands start old call h b))
+pub foreign_stays : (old new : ServerView) (call : Call) (reply : Reply) → reply ≡ (executed old.export call).1 → new ≡ record old { export = new.export; entries = new.entries; partials = new.partials } → new.entries ≡ old.entries ++ entries.Foreign call reply ∷ [] → new.partials ≡ old.partials → new.export ≡ (executed old.export call).0 → IsSpelled call → StaysHonest old new
+foreign_stays old new call reply r shape grown beside is b =
+    grown_stays old new None (entries.Foreign call reply) (executed old.export call).0 shape grown beside is (sym (executed_stepped old.export call) ∙ ap (stepped_by old.export call) (sym r))
+    (λ start h. subst (λ (z : Reply). MayStand start old None (entries.Foreign call z)) (sym r) (foreign_stands start old call h b))
 
 -- a restart that was made, and it was told
-pub restarted_stays : (old new : ServerView) (made : Bool) (verf : Verf) → made ≡ may_restart old.export → new.export ≡ (if may_restart old.export then after_restart old.export else old.export) → made ≡ true → new ≡ record old { export = new.export; entries = new.entries } → new.entries ≡ old.entries ++ entries.Reboot verf ∷ [] → verf ≡ verifier new.export → StaysHonest old new
-restarted_stays old new made verf d f t shape grown v =
+pub restarted_stays : (old new : ServerView) (made : Bool) (verf : Verf) → made ≡ may_restart old.export → new.export ≡ (if may_restart old.export then after_restart old.export else old.export) → made ≡ true → new ≡ record old { export = new.export; entries = new.entries; partials = new.partials } → new.entries ≡ old.entries ++ entries.Reboot verf ∷ [] → new.partials ≡ old.partials → verf ≡ verifier new.export → StaysHonest old new
+restarted_stays old new made verf d f t shape grown beside v =
     let is : new.export ≡ after_restart old.export = f ∙ first_of_two (may_restart old.export) (after_restart old.export) old.export (sym d ∙ t) in
     let known : verf ≡ verifier (after_restart old.export) = v ∙ ap verifier is in
-    grown_stays old new (entries.Reboot verf) (after_restart old.export) shape grown is refl (λ start h. subst (λ (z : Verf). MayStand start old (entries.Reboot z)) (sym known) (restart_stands start old h (sym d ∙ t)))
-
-second_of_two : (b : Bool) (x y : View) → b ≡ false → (if b then x else y) ≡ y
-second_of_two true x y e = absurd cc
-second_of_two false x y e = refl
+    grown_stays old new None (entries.Reboot verf) (after_restart old.export) shape grown beside is refl (λ start h. subst (λ (z : Verf). MayStand start old None (entries.Reboot z)) (sym known) (restart_stands start old h (sym d ∙ t)))
 
 -- no restart was made
-pub unstarted_stays : (old new : ServerView) (made : Bool) → made ≡ may_restart old.export → new.export ≡ (if may_restart old.export then after_restart old.export else old.export) → made ≡ false → new ≡ record old { export = new.export; entries = new.entries } → new.entries ≡ old.entries → StaysHonest old new
-unstarted_stays old new made d f t shape same = left_stays old new shape (f ∙ second_of_two (may_restart old.export) (after_restart old.export) old.export (sym d ∙ t)) same
+pub unstarted_stays : (old new : ServerView) (made : Bool) → made ≡ may_restart old.export → new.export ≡ (if may_restart old.export then after_restart old.export else old.export) → made ≡ false → new ≡ record old { export = new.export; entries = new.entries; partials = new.partials } → new.entries ≡ old.entries → new.partials ≡ old.partials → StaysHonest old new
+unstarted_stays old new made d f t shape same beside = left_stays old new shape (f ∙ second_of_two (may_restart old.export) (after_restart old.export) old.export (sym d ∙ t)) same beside
 
 sized_file : (v : View) (file : List ℕ) (size : ℕ) → file_size v file ≡ Some size → kind v.nodes file ≡ 1
 sized_file v file size e = by_kind (kind v.nodes file == 1) refl e
@@ -128,9 +132,9 @@ sized_file v file size e = by_kind (kind v.nodes file == 1) refl e
     by_kind false q e = absurd (cc)
 
 -- a file became stable, and it was told
-pub flushed_stays : (old new : ServerView) (file : List ℕ) (size : ℕ) → new ≡ record old { export = new.export; entries = new.entries } → new.entries ≡ old.entries ++ entries.Flushed file 0 size ∷ [] → new.export ≡ after_flush old.export file 0 size → IsBytes file → file_size old.export file ≡ Some size → StaysHonest old new
-flushed_stays old new file size shape grown is b s =
-    grown_stays old new (entries.Flushed file 0 size) (after_flush old.export file 0 size) shape grown is refl (λ start h. flushed_stands start old file size h b (sized_file old.export file size s))
+pub flushed_stays : (old new : ServerView) (file : List ℕ) (size : ℕ) → new ≡ record old { export = new.export; entries = new.entries; partials = new.partials } → new.entries ≡ old.entries ++ entries.Flushed file 0 size ∷ [] → new.partials ≡ old.partials → new.export ≡ after_flush old.export file 0 size → IsBytes file → file_size old.export file ≡ Some size → StaysHonest old new
+flushed_stays old new file size shape grown beside is b s =
+    grown_stays old new None (entries.Flushed file 0 size) (after_flush old.export file 0 size) shape grown beside is refl (λ start h. flushed_stands start old file size h b (sized_file old.export file size s))
 
 -- ---- what a record asks for
 
@@ -168,6 +172,10 @@ ready_stays old new bytes e a = record { stays = λ start h. subst (IsHonest sta
 
 held_stays : (old new : ServerView) (x : HeldView) → new ≡ record old { held = old.held ++ x ∷ [] } → IsAnswer old.entries x.bytes → StaysHonest old new
 held_stays old new x e a = record { stays = λ start h. subst (IsHonest start) (sym e) (honest_held start old x a h) }
+
+-- the replies that are ready stay
+pub unready_stays : (old new : ServerView) → new ≡ record old { ready = new.ready } → new.ready ≡ old.ready → StaysHonest old new
+unready_stays old new shape e = same_stays old new (shape ∙ ap (λ (t : List (List ℕ)). record old { ready = t }) e)
 
 -- a reply is made ready, where there is one
 pub ready_result_stays : {T E : Type 0} (old new : ServerView) (reply : Option (List ℕ)) (result : Result T E) → OnOk result (new ≡ readied old reply) → OnErr result (new ≡ old) → MayAnswer old.entries reply → StaysHonest old new

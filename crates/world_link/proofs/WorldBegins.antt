@@ -58,6 +58,7 @@ directive_begins read new (directives.Mute sending) l h f = plan_begins read new
 directive_begins read new (directives.Hold sending turn) l h f = plan_begins read new (directives.Hold sending turn) l h f
 directive_begins read new (directives.Late sending turn) l h f = plan_begins read new (directives.Late sending turn) l h f
 directive_begins read new (directives.Answer sending status) l h f = plan_begins read new (directives.Answer sending status) l h f
+directive_begins read new (directives.Partial sending part) l h f = plan_begins read new (directives.Partial sending part) l h f
 directive_begins read new (directives.Limit sending most) l h f = plan_begins read new (directives.Limit sending most) l h f
 
 some_begins : (read new : ReadView) (o : Option Directive) → MayLimit o → MayBegin read → option_and_then (after_directive read) o ≡ Some new → MayBegin new

@@ -21,7 +21,7 @@ use Rattle.world_link.specs.Fates.{FateView}
 use Rattle.world_link.specs.Going.{Goes}
 use Rattle.world_link.specs.Honest.{Every, IsSent, IsBound, IsBounded, IsHonest, StaysHonest, IsHonestWorld}
 use Rattle.world_link.specs.Plans.{PlanView}
-use Rattle.world_link.specs.Replay.{told}
+use Rattle.world_link.specs.Replay.{part_at, told}
 use Rattle.world_link.specs.Steps.{Dials, Sends, Notes, LeftByMemory, noted}
 use Rattle.world_link.specs.Turning.{Hands, silent, delivered, after_send, after_dial, after_failed_dial, name_of, fate_of, manner_of}
 use Rattle.world_link.specs.View.{ServerView, WorldView}
@@ -40,10 +40,10 @@ pub honest_is_lawful : (w : WorldView) → IsHonestWorld w → Lawful (told w)
 honest_is_lawful w h = h.server.lawful
 
 pub honest_is_fresh : (w : WorldView) → IsHonestWorld w → Fresh (told w)
-honest_is_fresh w h = told_fresh w.start w.server.entries h.server.stamped
+honest_is_fresh w h = told_fresh (part_at w.server.partials) w.start w.server.entries h.server.stamped
 
 pub honest_is_rising : (w : WorldView) → IsHonestWorld w → Rising (told w)
-honest_is_rising w h = told_rising w.start w.server.entries h.server.stamped h.server.pages
+honest_is_rising w h = told_rising (part_at w.server.partials) w.start w.server.entries h.server.stamped h.server.pages
 
 -- ---- a turn
 

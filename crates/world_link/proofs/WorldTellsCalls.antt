@@ -14,34 +14,35 @@ use Rattle.world_model.specs.Entries.{ours}
 use Rattle.world_model.specs.Told.{Adds}
 use Rattle.world_model.proofs.Histories.{adds_then}
 use Rattle.world_link.specs.Going.{GoesOn}
-use Rattle.world_link.specs.Replay.{told}
+use Rattle.world_link.specs.declared.broken.Broken.{Broken}
+use Rattle.world_link.specs.Replay.{part_at, told}
 use Rattle.world_link.specs.Steps.{Dials, Sends, Notes, LeftByMemory}
 use Rattle.world_link.specs.Turning.{Hands}
 use Rattle.world_link.specs.View.{WorldView}
 use Rattle.world_link.proofs.ServerEntriesOnly.{adds, goes_adds, quiet_goes, on_goes}
 
 same_adds : (old new : WorldView) → new ≡ old → Adds (told old) (told new) []
-same_adds old new e = goes_adds old new (on_goes old new (quiet_goes _ _ (ap (λ (w : WorldView). w.server.entries) e) (ap (λ (w : WorldView). w.server.export) e)) (ap (λ (w : WorldView). w.start) e) (ap (λ (w : WorldView). w.faults) e))
+same_adds old new e = goes_adds old new (on_goes old new (quiet_goes _ _ (ap (λ (w : WorldView). w.server.entries) e) (ap (λ (w : WorldView). w.server.partials) e) (ap (λ (w : WorldView). w.server.export) e)) (ap (λ (w : WorldView). w.start) e) (ap (λ (w : WorldView). w.faults) e))
 
 -- these entries, which are the client's
-tells : (old new : WorldView) (es : List Entry) → ours es ≡ es → new.start ≡ old.start → new.server.entries ≡ old.server.entries ++ es → Adds (told old) (told new) es
-tells old new es quiet s e = adds old new es es s e quiet
+tells : (old new : WorldView) (es : List Entry) → ours es ≡ es → new.start ≡ old.start → new.server.entries ≡ old.server.entries ++ es → new.server.partials ≡ old.server.partials → Adds (told old) (told new) es
+tells old new es quiet s e p = adds old new es es s e (λ n l. ap (λ (t : List Broken). part_at t n) p) quiet
 
 pub dials_adds : {T : Type 0} (old new : WorldView) (port : ℕ) (result : Result T LinkFault) → Dials old new port result → Adds (told old) (told new) (dialed_as port result)
-dials_adds old new port (Ok x) h = tells old new (Dialed port ∷ []) refl (ap (λ (w : WorldView). w.start) h.1) (ap (λ (w : WorldView). w.server.entries) h.1)
+dials_adds old new port (Ok x) h = tells old new (Dialed port ∷ []) refl (ap (λ (w : WorldView). w.start) h.1) (ap (λ (w : WorldView). w.server.entries) h.1) (ap (λ (w : WorldView). w.server.partials) h.1)
 dials_adds old new port (Err faults.Failed) h =
-    tells old new (Dialed port ∷ Failed ∷ []) refl (ap (λ (w : WorldView). w.start) h.1) (ap (λ (w : WorldView). w.server.entries) h.1 ∙ append_assoc old.server.entries (Dialed port ∷ []) (Failed ∷ []))
+    tells old new (Dialed port ∷ Failed ∷ []) refl (ap (λ (w : WorldView). w.start) h.1) (ap (λ (w : WorldView). w.server.entries) h.1 ∙ append_assoc old.server.entries (Dialed port ∷ []) (Failed ∷ [])) (ap (λ (w : WorldView). w.server.partials) h.1)
 dials_adds old new port (Err faults.Memory) h = same_adds old new h
 
 pub sends_adds : {T : Type 0} (old new : WorldView) (rec : List ℕ) (result : Result T LinkFault) → Sends old new rec result → Adds (told old) (told new) (sent_as rec result)
-sends_adds old new rec (Ok x) h = tells old new (Sent rec ∷ []) refl (ap (λ (w : WorldView). w.start) h) (ap (λ (w : WorldView). w.server.entries) h)
+sends_adds old new rec (Ok x) h = tells old new (Sent rec ∷ []) refl (ap (λ (w : WorldView). w.start) h) (ap (λ (w : WorldView). w.server.entries) h) (ap (λ (w : WorldView). w.server.partials) h)
 sends_adds old new rec (Err faults.Failed) h = absurd h
 sends_adds old new rec (Err faults.Memory) h = same_adds old new h
 
 pub notes_append : {T E : Type 0} (old new : WorldView) (mark : Mark) (result : Result T E) → Notes old new mark result → Appends (told old) (told new) (noted_as mark result)
 notes_append old new mark (Ok x) h = record {
   grown = ap (λ (w : WorldView). w.server.entries) h;
-  earlier = (tells old new (entry_of mark ∷ []) (mark_ours mark) (ap (λ (w : WorldView). w.start) h) (ap (λ (w : WorldView). w.server.entries) h)).earlier;
+  earlier = (tells old new (entry_of mark ∷ []) (mark_ours mark) (ap (λ (w : WorldView). w.start) h) (ap (λ (w : WorldView). w.server.entries) h) (ap (λ (w : WorldView). w.server.partials) h)).earlier;
 }
 notes_append old new mark (Err e) h = record {
   grown = ap (λ (w : WorldView). w.server.entries) h ∙ sym (append-nil old.server.entries);
@@ -49,8 +50,8 @@ notes_append old new mark (Err e) h = record {
 }
 
 hands_adds : (old new : WorldView) (rec : List ℕ) (result : Received) → Hands old new rec result → LeftByMemory old new result → Adds (told old) (told new) (received_as rec result)
-hands_adds old new rec received.Whole h m = tells old new (Delivered rec ∷ []) refl (ap (λ (w : WorldView). w.start) h.2) (ap (λ (w : WorldView). w.server.entries) h.2)
-hands_adds old new rec received.Silent h m = tells old new (Failed ∷ []) refl (ap (λ (w : WorldView). w.start) h.1) (ap (λ (w : WorldView). w.server.entries) h.1)
+hands_adds old new rec received.Whole h m = tells old new (Delivered rec ∷ []) refl (ap (λ (w : WorldView). w.start) h.2) (ap (λ (w : WorldView). w.server.entries) h.2) (ap (λ (w : WorldView). w.server.partials) h.2)
+hands_adds old new rec received.Silent h m = tells old new (Failed ∷ []) refl (ap (λ (w : WorldView). w.start) h.1) (ap (λ (w : WorldView). w.server.entries) h.1) (ap (λ (w : WorldView). w.server.partials) h.1)
 hands_adds old new rec received.Failed h m = absurd h
 hands_adds old new rec received.Memory h m = same_adds old new m
 

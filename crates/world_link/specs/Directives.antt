@@ -96,6 +96,15 @@ answered s status = None
 abbrev pub answer_of : List (List ℕ) → Option Directive
 answer_of words = option_and_then (λ w. answered (sending_of w.0 w.1) (count_of w.2)) (three words)
 
+-- the procedure 7 is WRITE (RFC 1813, section 3.3.7)
+abbrev pub broken : Option RequestId → Option ℕ → Option ℕ → Option Directive
+broken (Some s) (Some bytes) (Some status) = if s.proc == 7 then Some (directives.Partial s (record { bytes = bytes; status = status })) else None
+broken s bytes status = None
+
+-- a transmission of WRITE, how many bytes it writes, and the status that it fails with then
+abbrev pub partial_of : List (List ℕ) → Option Directive
+partial_of words = option_and_then (λ w. broken (sending_of w.0 w.1) (number_of 0 65536 w.2) (count_of w.3)) (four words)
+
 abbrev pub limited : Option RequestId → Option ℕ → Option Directive
 limited (Some s) (Some most) = Some (directives.Limit s most)
 limited s most = None
@@ -131,7 +140,8 @@ turn_of command words =
     (if bytes_eq command (codes "hold") then hold_of words else
     (if bytes_eq command (codes "late") then late_of words else
     (if bytes_eq command (codes "answer") then answer_of words else
-    (if bytes_eq command (codes "limit") then limit_of words else None)))))))
+    (if bytes_eq command (codes "partial") then partial_of words else
+    (if bytes_eq command (codes "limit") then limit_of words else None))))))))
 
 -- ---- lines
 

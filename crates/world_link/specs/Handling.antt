@@ -1,5 +1,5 @@
 -- What the server makes of a record in its turn, or of a further copy of one.
-use Rattle.std.specs.Prelude.{ℕ, List, [], ◌∷◌, ◌++◌, take, min, false, Option, Some, None, if◌then◌else◌}
+use Rattle.std.specs.Prelude.{ℕ, List, [], ◌∷◌, ◌++◌, ◌==◌, length, take, min, false, Option, Some, None, if◌then◌else◌}
 use Rattle.nfs_file_calls.specs.declared.call.FileCall.{FileCall}
 use Rattle.nfs_file_calls.specs.declared.call.FileCall.TheVariants as files
 use Rattle.world_model.specs.declared.entry.Entry.TheVariants.{Executed}
@@ -8,10 +8,13 @@ use Rattle.world_model.specs.declared.message.Call.TheVariants as calls
 use Rattle.world_model.specs.declared.message.Reply.{Reply}
 use Rattle.export_fs.specs.View.{View}
 use Rattle.export_fs.specs.Executed.{executed}
+use Rattle.export_fs.specs.Partial.{partly_executed}
 use Rattle.export_serve.specs.declared.request.Asked.{Asked}
 use Rattle.export_serve.specs.declared.request.Asked.TheVariants as askings
 use Rattle.export_serve.specs.Asking.{asked_at}
 use Rattle.export_serve.specs.Spelling.{reply_bytes}
+use Rattle.world_link.specs.declared.broken.Broken.{Broken}
+use Rattle.world_link.specs.declared.directive.PartialWrite.{PartialWrite}
 use Rattle.world_link.specs.declared.directive.RequestId.{RequestId}
 use Rattle.world_link.specs.declared.manner.Manner.{Manner}
 use Rattle.world_link.specs.Refused.{status_for, refused_by}
@@ -36,23 +39,46 @@ abbrev pub answered : Option Reply → Option ℕ → View → Call → View × 
 answered (Some reply) limit view call = (view, reply)
 answered None limit view call = executed view (shortened limit call)
 
+-- how a WRITE breaks off, unless its status is given; a status of 0 is none
+abbrev pub broken_unless : Option ℕ → Option PartialWrite → Option PartialWrite
+broken_unless None (Some part) = if part.status == 0 then None else Some part
+broken_unless answer part = None
+
+abbrev pub breaks : Manner → Call → Option PartialWrite
+breaks manner (calls.File (files.Write file offset how bytes)) = broken_unless manner.answer manner.partial
+breaks manner call = None
+
+abbrev pub handled : Option PartialWrite → Manner → View → Call → View × Reply
+handled None manner view call = answered (refused_by (status_for manner.mount manner.answer call) call) manner.limit view call
+handled (Some part) manner view call = partly_executed view call part.bytes part.status
+
 abbrev pub answered_as : Manner → View → Call → View × Reply
-answered_as manner view call = answered (refused_by (status_for manner.mount manner.answer call) call) manner.limit view call
+answered_as manner view call = handled (breaks manner call) manner view call
+
+-- beside an entry at a place it is kept how its call broke off, where it did
+abbrev pub kept : List Broken → ℕ → Option PartialWrite → List Broken
+kept partials at None = partials
+kept partials at (Some part) = partials ++ record { at = at; part = part } ∷ []
 
 -- it is told as executed
-abbrev pub tells : ServerView → ℕ → Call → View × Reply → ServerView
-tells v xid call done = record v { export = done.0; entries = v.entries ++ Executed xid call done.1 ∷ [] }
+abbrev pub tells : ServerView → ℕ → Call → Option PartialWrite → View × Reply → ServerView
+tells v xid call part done = record v {
+  export = done.0;
+  entries = v.entries ++ Executed xid call done.1 ∷ [];
+  partials = kept v.partials (length v.entries) part;
+}
 
 -- the server after what a record asks for, and the record of the reply, where there is one
 abbrev pub done : Manner → ServerView → Asked → ServerView × Option (List ℕ)
 done manner v askings.NoCall = (v, None)
 done manner v (askings.Refuse xid bytes) = (v, Some bytes)
 done manner v (askings.Serve xid call) =
-    if manner.lost then (v, None) else (tells v xid call (answered_as manner v.export call), Some (reply_bytes xid (answered_as manner v.export call).1))
+    if manner.lost then (v, None)
+    else (tells v xid call (breaks manner call) (answered_as manner v.export call), Some (reply_bytes xid (answered_as manner v.export call).1))
 
 -- nothing is said of how it is handled
 abbrev pub plain : Manner
-plain = record { lost = false; mount = None; answer = None; limit = None }
+plain = record { lost = false; mount = None; answer = None; partial = None; limit = None }
 
 -- a reply is ready, where there is one
 abbrev pub readied : ServerView → Option (List ℕ) → ServerView

@@ -13,11 +13,13 @@ use Rattle.export_fs.specs.Sound.{Sound}
 use Rattle.export_fs.specs.Stamped.{Stamped}
 use Rattle.export_serve.specs.Asking.{IsSound}
 use Rattle.export_serve.specs.declared.request.Asked.{Asked}
+use Rattle.world_link.specs.declared.directive.PartialWrite.{PartialWrite}
 use Rattle.world_link.specs.declared.directive.RequestId.{RequestId}
 use Rattle.world_link.specs.declared.waiting.Waiting.{Waiting}
+use Rattle.world_link.specs.Going.{Follows}
 use Rattle.world_link.specs.Holding.{HeldView}
 use Rattle.world_link.specs.Plans.{PlanView}
-use Rattle.world_link.specs.Replay.{stepped, replayed, told_of}
+use Rattle.world_link.specs.Replay.{stepped, replayed, part_at, told_of}
 use Rattle.world_link.specs.View.{ServerView, WorldView}
 
 -- each of a list
@@ -54,9 +56,9 @@ IsBound (Some most) = 1 ≤ most
 pub record IsHonest (start : View) (v : ServerView) : Type 0 where
   pub stamped : Stamped start
   pub sound : Sound v.export
-  pub export : v.export ≡ replayed start v.entries
-  pub lawful : Lawful (told_of start v.entries)
-  pub pages : PagesRise replayed start v.entries
+  pub follows : Follows start v.export v.entries v.partials
+  pub lawful : Lawful (told_of (part_at v.partials) start v.entries)
+  pub pages : PagesRise (replayed (part_at v.partials)) start v.entries
   pub sent : (s : RequestId) (rec : List ℕ) → v.sent s ≡ Some rec → IsSent v.entries rec
   pub ready : Every (IsAnswer v.entries) v.ready
   pub held : Every (λ (h : HeldView). IsAnswer v.entries h.bytes) v.held
@@ -65,10 +67,10 @@ pub record IsHonest (start : View) (v : ServerView) : Type 0 where
 pub record StaysHonest (old new : ServerView) : Type 0 where
   pub stays : (start : View) → IsHonest start old → IsHonest start new
 
--- The entry may stand next.
-pub record MayStand (start : View) (v : ServerView) (e : Entry) : Type 0 where
-  pub law : LawfulAt (told_of start v.entries) (length v.entries) e (server_of v.export) (server_of (stepped v.export e))
-  pub sound : Sound (stepped v.export e)
+-- The entry may stand next, with what is known beside it.
+pub record MayStand (start : View) (v : ServerView) (part : Option PartialWrite) (e : Entry) : Type 0 where
+  pub law : LawfulAt (told_of (part_at v.partials) start v.entries) (length v.entries) e (server_of v.export) (server_of (stepped part v.export e))
+  pub sound : Sound (stepped part v.export e)
   pub page : PageRises v.export e
 
 -- bounds that a plan gives

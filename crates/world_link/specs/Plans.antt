@@ -2,7 +2,7 @@
 use Rattle.std.specs.Prelude.{ℕ, [], ◌∷◌, ◌++◌, ◌==◌, ◌&&◌, Bool, true, false, Option, Some, None, if◌then◌else◌}
 use Rattle.world_link.specs.declared.directive.RequestId.{RequestId}
 use Rattle.world_link.specs.declared.directive.Directive.{Directive}
-use Rattle.world_link.specs.declared.directive.Directive.TheVariants.{Tick, Place, Mount, NoDial, Before, After, Lose, Mute, Hold, Late, Answer, Limit}
+use Rattle.world_link.specs.declared.directive.Directive.TheVariants.{Tick, Place, Mount, NoDial, Before, After, Lose, Mute, Hold, Late, Answer, Partial, Limit}
 use Rattle.world_link.specs.Fates.{FateView, no_fate}
 
 pub record PlanView : Type 0 where
@@ -25,7 +25,7 @@ is_same s other = (s.proc == other.proc) && (s.k == other.k)
 abbrev pub destined : PlanView → RequestId → FateView → PlanView
 destined plan s fate = record plan { fate = λ other. if is_same s other then fate else plan.fate other }
 
--- The plan with one line more. The last status, bound and tick hold; copies, events and waits are kept in the order of
+-- The plan with one line more. The last status, break, bound and tick hold; copies, events and waits are kept in the order of
 -- their lines. Objects are no part of the plan.
 abbrev pub planned : PlanView → Directive → PlanView
 planned plan (Tick n) = record plan { tick = n }
@@ -39,4 +39,5 @@ planned plan (Mute s) = destined plan s (record (plan.fate s) { muted = true })
 planned plan (Hold s turn) = destined plan s (record (plan.fate s) { held = (plan.fate s).held ++ turn ∷ [] })
 planned plan (Late s turn) = destined plan turn (record (plan.fate turn) { late = (plan.fate turn).late ++ s ∷ [] })
 planned plan (Answer s status) = destined plan s (record (plan.fate s) { answer = Some status })
+planned plan (Partial s part) = destined plan s (record (plan.fate s) { partial = Some part })
 planned plan (Limit s most) = destined plan s (record (plan.fate s) { limit = Some most })

@@ -9,7 +9,7 @@ abbrev pub begun : PlanView → View → WorldView
 begun plan start = record {
   plan = plan;
   start = start;
-  server = record { export = start; entries = []; sent = λ s. None; ready = []; held = [] };
+  server = record { export = start; entries = []; partials = []; sent = λ s. None; ready = []; held = [] };
   waiting = [];
   counts = replicate 22 0;
   turns = replicate 22 0;

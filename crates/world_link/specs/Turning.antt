@@ -52,7 +52,7 @@ fate_of plan None = no_fate
 fate_of plan (Some s) = plan.fate s
 
 abbrev pub manner_of : PlanView → FateView → Manner
-manner_of plan fate = record { lost = fate.lost; mount = plan.mount; answer = fate.answer; limit = fate.limit }
+manner_of plan fate = record { lost = fate.lost; mount = plan.mount; answer = fate.answer; partial = fate.partial; limit = fate.limit }
 
 -- a reply is held until these turns
 abbrev pub held : ServerView → List ℕ → List RequestId → ServerView

@@ -4,6 +4,7 @@ use Rattle.std.specs.Ordering.{nat_cmp, ordering_then}
 use Rattle.std.specs.BTreeMap as tree
 use Rattle.world_model.specs.declared.entry.Entry.{Entry}
 use Rattle.export_fs.specs.View.{View}
+use Rattle.world_link.specs.declared.broken.Broken.{Broken}
 use Rattle.world_link.specs.declared.directive.RequestId.{RequestId}
 use Rattle.world_link.specs.declared.server.Server.{Server}
 use Rattle.world_link.specs.declared.waiting.Waiting.{Waiting}
@@ -16,6 +17,8 @@ use Rattle.world_link.specs.Shown.{shown}
 pub record ServerView : Type 0 where
   pub export : View
   pub entries : List Entry
+  -- beside some of the entries, how their WRITEs broke off
+  pub partials : List Broken
   -- the records that were sent, by their names
   pub sent : RequestId → Option (List ℕ)
   -- replies, the first one first, and replies that wait for turns, in order of transmission
@@ -39,6 +42,7 @@ abbrev pub served : Server → ServerView
 served server = record {
   export = server.export;
   entries = server.entries.items;
+  partials = server.partials.items;
   sent = λ s. tree.get (λ a b. ordering_then (nat_cmp a.proc b.proc) (nat_cmp a.k b.k)) server.sent s;
   ready = server.ready.items;
   held = server.held.items;

@@ -2,7 +2,7 @@
 
 ghost use Rattle.std.specs.Prelude.{◌≡◌, IfOk};
 ghost use Rattle.script_text.specs.Lines.{words};
-ghost use Rattle.world_link.specs.Directives.{count_of, sending_of, tick_of, dir_of, file_of, mount_of, no_dial_of, start_of, lose_of, mute_of, hold_of, late_of, answer_of, limit_of, before_of, after_of, turn_of, directive_of};
+ghost use Rattle.world_link.specs.Directives.{count_of, sending_of, tick_of, dir_of, file_of, mount_of, no_dial_of, start_of, lose_of, mute_of, hold_of, late_of, answer_of, partial_of, limit_of, before_of, after_of, turn_of, directive_of};
 
 use crate::event::{Event, read_event};
 use crate::procedures::proc_named;
@@ -28,7 +28,10 @@ pub enum Directive {
     /// So many milliseconds go by from one reading of the clock to the next.
     Tick(u32),
     /// A directory is there from the start, or a file with these bytes, which are stable.
-    Place { path: Path, file: Option<Blob> },
+    Place {
+        path: Path,
+        file: Option<Blob>,
+    },
     /// MNT is answered with this status.
     Mount(u32),
     /// That dial fails, counted from 1.
@@ -42,14 +45,47 @@ pub enum Directive {
     /// The transmission is executed, and its reply never comes.
     Mute(RequestId),
     /// The reply of the transmission isn't ready before that turn.
-    Hold { sending: RequestId, turn: RequestId },
+    Hold {
+        sending: RequestId,
+        turn: RequestId,
+    },
     /// A further copy of the transmission is executed just before that turn.
-    Late { sending: RequestId, turn: RequestId },
+    Late {
+        sending: RequestId,
+        turn: RequestId,
+    },
     /// The transmission is answered with this status and changes nothing. It isn't one of NULL.
-    Answer { sending: RequestId, status: u32 },
+    Answer {
+        sending: RequestId,
+        status: u32,
+    },
+    /// The transmission, a WRITE, breaks off.
+    Partial {
+        sending: RequestId,
+        part: PartialWrite,
+    },
     /// The transmission, a READ or WRITE, handles at most so many bytes.
-    Limit { sending: RequestId, most: u32 },
+    Limit {
+        sending: RequestId,
+        most: u32,
+    },
 }
+
+/// How a WRITE breaks off: so many of its first bytes are written, at most, and it fails with the status, which is 1 or
+/// above.
+#[derive(Clone, Copy, Debug, PartialEq, Eq)]
+pub struct PartialWrite {
+    /// How many bytes are written.
+    pub bytes: u32,
+    /// The status of the reply (RFC 1813, section 2.6, nfsstat3).
+    pub status: u32,
+}
+
+/// The number of WRITE (RFC 1813, section 3.3.7).
+const WRITE: u32 = 7;
+
+/// The most bytes that a line may let a WRITE write before it fails.
+const MOST_PARTIAL: u32 = 65_536;
 
 /// What a line's words ask for. None exactly where they are of no form.
 pub(crate) fn read_directive(alloc: Global, line: &[u8]) -> Result<Option<Directive>, Memory>
@@ -110,6 +146,9 @@ fn turn(alloc: Global, command: &[u8], line: &[u8]) -> Result<Option<Directive>,
     }
     if command == b"answer".as_slice() {
         return Ok(answer(line));
+    }
+    if command == b"partial".as_slice() {
+        return Ok(partial(line));
     }
     if command == b"limit".as_slice() {
         return Ok(limit(line));
@@ -215,6 +254,23 @@ fn answer(line: &[u8]) -> Option<Directive>
         None
     } else {
         Some(Directive::Answer { sending, status })
+    }
+}
+
+fn partial(line: &[u8]) -> Option<Directive>
+    ensures { result ≡ partial_of (words line.now) }
+{
+    let (proc, k, bytes, status) = four_words(line)?;
+    let sending = sending_named(proc, k)?;
+    let bytes = number(bytes, 0, MOST_PARTIAL)?;
+    let status = count(status)?;
+    if sending.proc == WRITE {
+        Some(Directive::Partial {
+            sending,
+            part: PartialWrite { bytes, status },
+        })
+    } else {
+        None
     }
 }
 

@@ -3,7 +3,7 @@
 ghost use Rattle.std.specs.Prelude.{◌≡◌, ◌++◌, [], ◌∷◌, true, Some, OnOk};
 ghost use Rattle.world_link.specs.Fates.{no_fate};
 
-use crate::directive::RequestId;
+use crate::directive::{PartialWrite, RequestId};
 use crate::event::Event;
 use std::alloc::Global;
 use std::marker::Model;
@@ -17,6 +17,7 @@ pub struct Fate {
     before: Vec<Event>,
     lost: bool,
     answer: Option<u32>,
+    partial: Option<PartialWrite>,
     limit: Option<u32>,
     after: Vec<Event>,
     muted: bool,
@@ -28,7 +29,7 @@ impl Model for Fate {
 
     ghost Value = { FateView };
 
-    ghost view = { λ f. record { late = f.late.items; before = f.before.items; lost = f.lost; answer = f.answer; limit = f.limit; after = f.after.items; muted = f.muted; held = f.held.items } };
+    ghost view = { λ f. record { late = f.late.items; before = f.before.items; lost = f.lost; answer = f.answer; partial = f.partial; limit = f.limit; after = f.after.items; muted = f.muted; held = f.held.items } };
 }
 
 impl Fate {
@@ -41,6 +42,7 @@ impl Fate {
             before: Vec::new(alloc),
             lost: false,
             answer: None,
+            partial: None,
             limit: None,
             after: Vec::new(alloc),
             muted: false,
@@ -74,6 +76,13 @@ impl Fate {
         ensures { result ≡ self.now.answer }
     {
         self.answer
+    }
+
+    /// How it breaks off, where it is a WRITE.
+    pub fn partial(&self) -> Option<PartialWrite>
+        ensures { result ≡ self.now.partial }
+    {
+        self.partial
     }
 
     /// The most bytes that it handles, 1 or above, where it is a READ or WRITE.
@@ -132,6 +141,13 @@ impl Fate {
         ensures { self.new ≡ record self.old { answer = Some status } }
     {
         self.answer = Some(status);
+    }
+
+    /// It breaks off so.
+    pub(crate) fn set_partial(&mut self, part: PartialWrite)
+        ensures { self.new ≡ record self.old { partial = Some part } }
+    {
+        self.partial = Some(part);
     }
 
     /// It handles at most so many bytes.

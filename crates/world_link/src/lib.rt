@@ -3,6 +3,7 @@
 //! client waits.
 #![tactic(auto)]
 
+mod broken;
 mod directive;
 mod event;
 mod fate;
@@ -20,7 +21,7 @@ mod turning;
 mod waiting;
 mod world;
 
-pub use directive::{Directive, RequestId};
+pub use directive::{Directive, PartialWrite, RequestId};
 pub use event::Event;
 pub use fate::Fate;
 pub use plan::Plan;

@@ -6,7 +6,7 @@ ghost use Rattle.world_link.specs.Plans.{no_plan, destined, planned};
 ghost use Rattle.world_link.specs.Shown.{shown};
 ghost use Rattle.world_link.specs.declared.directive.Directive.TheVariants as directives;
 
-use crate::directive::{Directive, RequestId};
+use crate::directive::{Directive, PartialWrite, RequestId};
 use crate::event::Event;
 use crate::fate::Fate;
 use std::alloc::Global;
@@ -91,6 +91,7 @@ impl Plan {
             Directive::Hold { sending, turn } => self.hold(sending, turn),
             Directive::Late { sending, turn } => self.repeat(sending, turn),
             Directive::Answer { sending, status } => self.answer(sending, status),
+            Directive::Partial { sending, part } => self.partial(sending, part),
             Directive::Limit { sending, most } => self.limit(sending, most),
         }
     }
@@ -155,6 +156,14 @@ impl Plan {
     {
         let mut fate = self.take(&sending);
         fate.set_answer(status);
+        self.put(sending, fate)
+    }
+
+    fn partial(&mut self, sending: RequestId, part: PartialWrite) -> Result<(), Memory>
+        ensures { OnOk result (shown self.new ≡ planned (shown self.old) (directives.Partial sending part)) }
+    {
+        let mut fate = self.take(&sending);
+        fate.set_partial(part);
         self.put(sending, fate)
     }
 

@@ -1,8 +1,9 @@
 //! The server's side of the simulated world.
 
-ghost use Rattle.std.specs.Prelude.{◌≡◌, ◌≤◌, ◌++◌, ◌∷◌, [], unwrap_or, length, take, IfOk, IfSome, OnOk, OnErr};
+ghost use Rattle.std.specs.Prelude.{◌≡◌, ◌≤◌, ◌<◌, ◌++◌, ◌∷◌, [], None, Some, unwrap_or, length, take, IfOk, IfSome, OnOk, OnErr};
 ghost use Rattle.export_fs.specs.Spelling.{HasSpellingReply};
 ghost use Rattle.export_fs.specs.Executed.{executed};
+ghost use Rattle.export_fs.specs.Partial.{IsWrite, partly_executed};
 ghost use Rattle.export_serve.specs.Spelling.{RepliesTo, reply_bytes};
 ghost use Rattle.export_serve.specs.declared.request.Asked.TheVariants as askings;
 ghost use Rattle.world_model.specs.declared.message.Call.{Call};
@@ -14,7 +15,8 @@ ghost use Rattle.world_link.specs.Going.{Goes};
 ghost use Rattle.world_link.specs.Honest.{IsAsked, IsBound, IsAnswer, MayAnswer, StaysHonest};
 ghost use Rattle.world_link.specs.View.{served};
 
-use crate::directive::RequestId;
+use crate::broken::Broken;
+use crate::directive::{PartialWrite, RequestId};
 use crate::held::Held;
 use crate::manner::{Manner, PLAIN};
 use crate::refused::refused_by;
@@ -35,6 +37,8 @@ pub(crate) struct Server {
     pub(crate) alloc: Global,
     pub(crate) export: Export,
     pub(crate) entries: Vec<Entry>,
+    /// Beside some of the entries, how their WRITEs broke off.
+    pub(crate) partials: Vec<Broken>,
     /// The records that were sent, by their names.
     pub(crate) sent: BTreeMap<RequestId, Blob>,
     /// The replies that are ready, the first one first.
@@ -72,8 +76,47 @@ impl Server {
 
     /// Answers a call, and tells it. When out of memory the call may be executed and told, with its reply lost.
     fn serve(&mut self, manner: &Manner, xid: u32, call: Call) -> Result<Blob, Memory>
-        ensures told { OnOk result (served self.new ≡ handling.tells (served self.old) xid call (handling.answered_as manner.now self.old.export call)) }
+        ensures told { OnOk result (served self.new ≡ handling.tells (served self.old) xid call (handling.breaks manner.now call) (handling.answered_as manner.now self.old.export call)) }
         ensures reply { IfOk result (λ bytes. bytes ≡ reply_bytes xid (handling.answered_as manner.now self.old.export call).1) }
+        ensures goes { Goes (served self.old) (served self.new) }
+        ensures stays { IsBound manner.now.limit → IsAsked (served self.old).entries (askings.Serve xid call) → StaysHonest (served self.old) (served self.new) }
+        ensures answers { IfOk result (IsAnswer (served self.new).entries) }
+    {
+        match manner.breaks(&call) {
+            Some(part) => self.serve_part(part, xid, call),
+            None => self.serve_whole(manner, xid, call),
+        }
+    }
+
+    /// Answers a WRITE that breaks off, and tells it with what its entry doesn't say. When out of memory the call may be
+    /// executed and told, with its reply lost.
+    fn serve_part(&mut self, part: PartialWrite, xid: u32, call: Call) -> Result<Blob, Memory>
+        requires write { IsWrite call }
+        requires fails { 0 < part.status }
+        ensures told { OnOk result (served self.new ≡ handling.tells (served self.old) xid call (Some part) (partly_executed self.old.export call part.bytes part.status)) }
+        ensures reply { IfOk result (λ bytes. bytes ≡ reply_bytes xid (partly_executed self.old.export call part.bytes part.status).1) }
+        ensures goes { Goes (served self.old) (served self.new) }
+        ensures stays { IsAsked (served self.old).entries (askings.Serve xid call) → StaysHonest (served self.old) (served self.new) }
+        ensures answers { IfOk result (IsAnswer (served self.new).entries) }
+    {
+        handles_fit(&call);
+        self.entries.reserve(1)?;
+        self.partials.reserve(1)?;
+        let reply = self.export.execute_partial(&call, part.bytes, part.status)?;
+        let bytes = reply_record(self.alloc, xid, &reply);
+        let at = self.entries.len();
+        self.partials.push(Broken { at, part }).unwrap();
+        self.entries
+            .push(Entry::Executed { xid, call, reply })
+            .unwrap();
+        bytes
+    }
+
+    /// Answers a call that doesn't break off, and tells it. When out of memory the call may be executed and told, with
+    /// its reply lost.
+    fn serve_whole(&mut self, manner: &Manner, xid: u32, call: Call) -> Result<Blob, Memory>
+        ensures told { OnOk result (served self.new ≡ handling.tells (served self.old) xid call None (handling.handled None manner.now self.old.export call)) }
+        ensures reply { IfOk result (λ bytes. bytes ≡ reply_bytes xid (handling.handled None manner.now self.old.export call).1) }
         ensures goes { Goes (served self.old) (served self.new) }
         ensures stays { IsBound manner.now.limit → IsAsked (served self.old).entries (askings.Serve xid call) → StaysHonest (served self.old) (served self.new) }
         ensures answers { IfOk result (IsAnswer (served self.new).entries) }
@@ -157,8 +200,8 @@ fn short_enough(bytes: Blob) -> Result<Blob, Memory>
 
 /// The reply to a call: one that fails where its status is given, or else that of the export.
 fn answer(alloc: Global, export: &mut Export, manner: &Manner, call: &Call) -> Result<Reply, Memory>
-    ensures after { OnOk result (export.new ≡ (handling.answered_as manner.now export.old call.now).0) }
-    ensures reply { IfOk result (λ reply. reply ≡ (handling.answered_as manner.now export.old call.now).1) }
+    ensures after { OnOk result (export.new ≡ (handling.handled None manner.now export.old call.now).0) }
+    ensures reply { IfOk result (λ reply. reply ≡ (handling.handled None manner.now export.old call.now).1) }
     ensures spelled { IfOk result HasSpellingReply }
     ensures err { OnErr result (export.new ≡ export.old) }
 {

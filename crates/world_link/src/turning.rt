@@ -43,6 +43,7 @@ pub(crate) fn manner_of(plan: &Plan, fate: &Fate) -> Manner
         lost: fate.is_lost(),
         mount: plan.mount(),
         answer: fate.answer(),
+        partial: fate.partial(),
         limit: fate.limit(),
     }
 }

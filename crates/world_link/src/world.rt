@@ -63,6 +63,7 @@ impl World {
                 alloc,
                 export,
                 entries: Vec::new(alloc),
+                partials: Vec::new(alloc),
                 sent: BTreeMap::new(alloc),
                 ready: VecDeque::new(alloc),
                 held: Vec::new(alloc),

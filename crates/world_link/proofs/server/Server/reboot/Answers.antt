@@ -1,16 +1,22 @@
 use Rattle.std.proofs.Common.{rules, refl}
 use Rattle.world_link.proofs.TurnStaysHonest.{left_stays, restarted_stays, unstarted_stays}
-use Rattle.world_link.proofs.ServerEntriesOnly.{restart_goes}
+use Rattle.world_link.proofs.ServerEntriesOnly.{restart_goes, unstarted_goes, quiet_goes}
 use Rattle.world_link.proofs.server.Server.reboot.Goals as goal
 
 pub returns-then-reboot-clause-goes : goal.returns-then-reboot-clause-goes
-returns-then-reboot-clause-goes c = restart_goes _ _ c.reboot.result c.verifier-verf.result c.reboot.ensures.done c.reboot.ensures.after c.if-reboot.true (search rules)
+returns-then-reboot-clause-goes c = restart_goes _ _ c.reboot.result c.verifier-verf.result c.reboot.ensures.done c.reboot.ensures.after c.if-reboot.true (search rules) refl
 
 pub returns-then-reboot-clause-stays : goal.returns-then-reboot-clause-stays
-returns-then-reboot-clause-stays c = restarted_stays _ _ c.reboot.result c.verifier-verf.result c.reboot.ensures.done c.reboot.ensures.after c.if-reboot.true refl (search rules) c.verifier-verf.ensures
+returns-then-reboot-clause-stays c = restarted_stays _ _ c.reboot.result c.verifier-verf.result c.reboot.ensures.done c.reboot.ensures.after c.if-reboot.true refl (search rules) refl c.verifier-verf.ensures
 
 pub returns-in_err-reserve-clause-stays : goal.returns-in_err-reserve-clause-stays
-returns-in_err-reserve-clause-stays c = left_stays _ _ refl refl (search rules)
+returns-in_err-reserve-clause-stays c = left_stays _ _ refl refl (search rules) refl
 
 pub returns-else-reboot-clause-stays : goal.returns-else-reboot-clause-stays
-returns-else-reboot-clause-stays c = unstarted_stays _ _ c.reboot.result c.reboot.ensures.done c.reboot.ensures.after c.if-reboot.false refl (search rules)
+returns-else-reboot-clause-stays c = unstarted_stays _ _ c.reboot.result c.reboot.ensures.done c.reboot.ensures.after c.if-reboot.false refl (search rules) refl
+
+pub returns-in_err-reserve-clause-goes : goal.returns-in_err-reserve-clause-goes
+returns-in_err-reserve-clause-goes c = quiet_goes _ _ (search rules) refl refl
+
+pub returns-else-reboot-clause-goes : goal.returns-else-reboot-clause-goes
+returns-else-reboot-clause-goes c = unstarted_goes _ _ c.reboot.result c.reboot.ensures.done c.reboot.ensures.after c.if-reboot.false (search rules) refl

@@ -1,19 +1,23 @@
-use Rattle.std.proofs.Common.{rules, refl}
-use Rattle.world_link.proofs.TurnStaysHonest.{left_stays, told_stays, told_answers}
-use Rattle.world_link.proofs.ServerEntriesOnly.{told_goes}
+-- A call breaks off, or it doesn't.
+use Rattle.std.proofs.Common.{sym, ◌∙◌, Some, None}
+use Rattle.world_link.proofs.BreaksWrites.{breaks_write, part_told, part_replied}
+use Rattle.world_link.specs.View.{served}
 use Rattle.world_link.proofs.server.Server.serve.Goals as goal
 
-pub returns-clause-goes : goal.returns-clause-goes
-returns-clause-goes c = told_goes _ _ c.args.manner.now c.args.xid c.args.call c.in_ok-reply.reply c.in_ok-reply.ensures.reply (search rules) c.in_ok-reply.ensures.after
+pub serve_part-requires-clause-write : goal.serve_part-requires-clause-write
+serve_part-requires-clause-write c = (breaks_write c.args.manner.now c.args.call c.in-Some.part (sym c.breaks.ensures ∙ c.in-Some.is)).0
 
-pub returns-clause-stays : goal.returns-clause-stays
-returns-clause-stays c = told_stays _ _ c.args.manner.now c.args.xid c.args.call c.in_ok-reply.reply c.in_ok-reply.ensures.reply refl (search rules) c.in_ok-reply.ensures.after c.handles_fit.ensures
+pub serve_part-requires-clause-fails : goal.serve_part-requires-clause-fails
+serve_part-requires-clause-fails c = (breaks_write c.args.manner.now c.args.call c.in-Some.part (sym c.breaks.ensures ∙ c.in-Some.is)).1
 
-pub returns-clause-answers : goal.returns-clause-answers
-returns-clause-answers c = told_answers c.args.self.now.entries.items _ c.args.manner.now c.args.self.now.export c.args.xid c.args.call c.in_ok-reply.reply c.reply_record-bytes.result c.in_ok-reply.ensures.reply (search rules) c.reply_record-bytes.ensures.spells c.reply_record-bytes.ensures.short
+pub returns-in-Some-clause-told : goal.returns-in-Some-clause-told
+returns-in-Some-clause-told c = part_told (served c.args.self.now) _ c.args.manner.now c.args.xid c.args.call (Some c.in-Some.part) c.serve_part.result (sym c.breaks.ensures ∙ c.in-Some.is) c.serve_part.ensures.told
 
-pub returns-in_err-reserve-clause-stays : goal.returns-in_err-reserve-clause-stays
-returns-in_err-reserve-clause-stays c m a = left_stays _ _ refl refl (search rules)
+pub returns-in-None-clause-told : goal.returns-in-None-clause-told
+returns-in-None-clause-told c = part_told (served c.args.self.now) _ c.args.manner.now c.args.xid c.args.call None c.serve_whole.result (sym c.breaks.ensures ∙ c.in-None.is) c.serve_whole.ensures.told
 
-pub returns-in_err-reply-clause-stays : goal.returns-in_err-reply-clause-stays
-returns-in_err-reply-clause-stays c m a = left_stays _ _ refl c.in_err-reply.ensures.err (search rules)
+pub returns-in-Some-clause-reply : goal.returns-in-Some-clause-reply
+returns-in-Some-clause-reply c = part_replied c.args.self.now.export c.args.manner.now c.args.xid c.args.call (Some c.in-Some.part) c.serve_part.result (sym c.breaks.ensures ∙ c.in-Some.is) c.serve_part.ensures.reply
+
+pub returns-in-None-clause-reply : goal.returns-in-None-clause-reply
+returns-in-None-clause-reply c = part_replied c.args.self.now.export c.args.manner.now c.args.xid c.args.call None c.serve_whole.result (sym c.breaks.ensures ∙ c.in-None.is) c.serve_whole.ensures.reply

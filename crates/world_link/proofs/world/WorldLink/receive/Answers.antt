@@ -1,6 +1,10 @@
+use Rattle.world_link.proofs.ServerEntriesOnly.{goes_adds}
 use Rattle.world_link.proofs.WorldTellsCalls.{receives_adds}
 use Rattle.world_link.proofs.WorldKeepsContract.{hands_honest}
 use Rattle.world_link.proofs.world.WorldLink.receive.Goals as goal
+
+pub returns-then-is_err-clause-told : goal.returns-then-is_err-clause-told
+returns-then-is_err-clause-told c = goes_adds _ _ c.turn_all.ensures.goes
 
 pub returns-clause-told : goal.returns-clause-told
 returns-clause-told c = receives_adds _ _ _ _ _ c.turn_all.ensures.goes c.hand_out.ensures.hands c.hand_out.ensures.memory
