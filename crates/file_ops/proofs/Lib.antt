@@ -26,3 +26,4 @@ pub mod Unmade
 pub mod Refusals
 pub mod Endings
 pub mod SaveCounts
+pub mod Landed

@@ -1,27 +1,47 @@
 //! What a read shows: what the server has, with what this client has pending over it.
 
-ghost use Rattle.std.specs.Prelude.{◌≡◌, ◌≤◌, ◌<◌, ◌++◌, ◌∷◌, [], IfOk, replicate, length, drop};
+ghost use Rattle.std.specs.Prelude.{◌≡◌, ◌≤◌, ◌<◌, ℕ, [], IfOk, replicate, length, drop};
 ghost use Rattle.std.specs.Vec.{vec_capacity};
-ghost use Rattle.write_back.specs.Segments.{shown};
+ghost use Rattle.write_back.specs.Segments.{shown, last_end};
 ghost use Rattle.write_back.specs.Files.{of_file};
-ghost use Rattle.file_ops.specs.Overlaid.{listed, byte_or, was_pending, byte_shown, size_to, size_shown, shown_over, bytes_from};
+ghost use Rattle.file_ops.specs.Overlaid.{listed, byte_or, was_pending, pending_then, AreEven, alike_or, byte_shown, size_to, size_shown, shown_over, bytes_from};
 
 use crate::base::Base;
 use crate::space::Space;
 use nfs_types::Handle;
 use std::alloc::Global;
+use std::marker::Model;
 use write_back::WriteBack;
 use xdr_codec::{Blob, Memory};
 
 /// What was pending of a range when a read began.
-#[derive(Debug, Drop)]
+#[derive(Drop)]
 pub struct WasPending {
+    /// How many bytes the range has.
+    count: u32,
+    /// The pending bytes; none where the last one of the file ended before the range.
+    bytes: Option<PendingBytes>,
+    /// Where the last pending byte of the file ended.
+    end: Option<u64>,
+}
+
+/// Pending bytes of a range, in two lists that are alike where a byte was pending.
+#[derive(Drop)]
+pub struct PendingBytes {
     /// The pending bytes over zeros.
     pub lows: Blob,
     /// The pending bytes over bytes of 255.
     pub highs: Blob,
-    /// Where the last pending byte of the file ended.
-    pub end: Option<u64>,
+}
+
+impl Model for WasPending {
+    ghost use Rattle.file_ops.specs.Overlaid.{PendingThen, pending_then, AreEven};
+
+    ghost Value = { PendingThen };
+
+    ghost view = { λ w. pending_then w.count w.bytes w.end };
+
+    ghost invariant = { λ w. AreEven w.bytes };
 }
 
 impl WasPending {
@@ -35,23 +55,9 @@ impl WasPending {
     ) -> Result<WasPending, Memory>
         ensures { IfOk result (λ w. w ≡ was_pending file.now offset count back.now) }
     {
-        Ok(WasPending {
-            lows: pending_over(alloc, back, file, offset, count, 0)?,
-            highs: pending_over(alloc, back, file, offset, count, 255)?,
-            end: back.end(file),
-        })
-    }
-
-    /// The byte that was pending at a place, or else the server's, or else zero.
-    fn byte_shown(&self, base: &[u8], at: usize) -> u8
-        ensures { result ≡ byte_shown base.now self.now at }
-    {
-        let low = byte_or(self.lows.bytes(), at, 0);
-        if low == byte_or(self.highs.bytes(), at, 255) {
-            low
-        } else {
-            byte_or(base, at, 0)
-        }
+        let end = back.end(file);
+        let bytes = pending_bytes(alloc, back, file, offset, count)?;
+        Ok(WasPending { count, bytes, end })
     }
 
     /// So many bytes with what was pending over what the server has, in room that was taken for them.
@@ -60,11 +66,19 @@ impl WasPending {
         requires fits { size ≤ vec_capacity room }
         ensures { result.items ≡ listed (byte_shown base.now self.now) size }
     {
-        let mut bytes = room;
-        for at in 0..size {
-            lay(&mut bytes, self.byte_shown(base, at));
-        }
+        let mut bytes = padded(room, base, size);
+        self.lay_over(bytes.as_mut_slice());
         bytes
+    }
+
+    /// Lays what was pending over bytes.
+    fn lay_over(&self, bytes: &mut [u8])
+        ensures size { length bytes.new ≡ length bytes.old }
+        ensures bytes { (at : ℕ) → at < length bytes.old → byte_or bytes.new at 0 ≡ byte_shown bytes.old self.now at }
+    {
+        if let Some(pending) = &self.bytes {
+            lay_alike(pending.lows.bytes(), pending.highs.bytes(), bytes);
+        }
     }
 
     /// What a read shows of the server's bytes from its offset on, with what was pending and is pending now over them. The
@@ -88,15 +102,60 @@ impl WasPending {
     }
 }
 
-/// One byte more, for which there is room.
-fn lay(bytes: &mut Vec<u8>, byte: u8)
-    requires { length bytes.old.items < vec_capacity bytes.old }
-    ensures items { bytes.new.items ≡ bytes.old.items ++ byte ∷ [] }
-    ensures room { vec_capacity bytes.old ≤ vec_capacity bytes.new }
+/// The pending bytes of a range. None only where the last one of the file ends before the range.
+fn pending_bytes(
+    alloc: Global,
+    back: &WriteBack,
+    file: &Handle,
+    offset: u64,
+    count: u32,
+) -> Result<Option<PendingBytes>, Memory>
+    ensures even { IfOk result AreEven }
+    ensures bytes { IfOk result (λ b. pending_then count b (last_end (of_file file.now back.now).segments) ≡ was_pending file.now offset count back.now) }
 {
-    let Ok(()) = bytes.push(byte) else {
+    back.is_sound();
+    if size_to(offset, back.end(file)) == 0 {
+        return Ok(None);
+    }
+    let lows = pending_over(alloc, back, file, offset, count, 0)?;
+    let highs = pending_over(alloc, back, file, offset, count, 255)?;
+    Ok(Some(PendingBytes { lows, highs }))
+}
+
+/// So many bytes of the server's, with zeros after the last of them, in room that was taken for them.
+fn padded(room: Vec<u8>, base: &[u8], size: usize) -> Vec<u8>
+    requires empty { room.items ≡ [] }
+    requires fits { size ≤ vec_capacity room }
+    ensures { result.items ≡ listed (λ at. byte_or base.now at 0) size }
+{
+    let mut bytes = room;
+    let (front, _) = base.split_at(base.len().min(size));
+    let Ok(()) = bytes.extend_from_slice(front) else {
         unreachable!();
     };
+    let Ok(()) = bytes.resize(size, 0) else {
+        unreachable!();
+    };
+    bytes
+}
+
+/// Lays the bytes that two lists have alike over others.
+fn lay_alike(lows: &[u8], highs: &[u8], bytes: &mut [u8])
+    requires { length lows.now ≡ length highs.now }
+    ensures size { length bytes.new ≡ length bytes.old }
+    ensures bytes { (at : ℕ) → at < length bytes.old → byte_or bytes.new at 0 ≡ alike_or (byte_or lows.now at 0) (byte_or highs.now at 255) (byte_or bytes.old at 0) }
+{
+    let count = bytes.len().min(lows.len()).min(highs.len());
+    for at in 0..count {
+        bytes[at] = alike_or(lows[at], highs[at], bytes[at]);
+    }
+}
+
+/// A byte where it is like another, or else a third one.
+fn alike_or(low: u8, high: u8, other: u8) -> u8
+    ensures { result ≡ alike_or low high other }
+{
+    if low == high { low } else { other }
 }
 
 /// What is pending of a range, over bytes that are all alike.
@@ -122,13 +181,6 @@ fn alike(alloc: Global, count: u32, byte: u8) -> Result<Vec<u8>, Memory>
     let mut bytes = Vec::new(alloc);
     bytes.resize(count as usize, byte)?;
     Ok(bytes)
-}
-
-/// The byte at a place, or another where there is none.
-fn byte_or(bytes: &[u8], at: usize, other: u8) -> u8
-    ensures { result ≡ byte_or bytes.now at other }
-{
-    bytes.get(at).copied().unwrap_or(other)
 }
 
 /// How many bytes a read shows.

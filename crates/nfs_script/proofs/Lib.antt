@@ -5,3 +5,4 @@ pub mod Hexed
 pub mod Shown
 pub mod ScriptRows
 pub mod LineRows
+pub mod Digits

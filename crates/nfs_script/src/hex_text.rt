@@ -1,7 +1,7 @@
 //! Writes bytes as hex digits.
 
-ghost use Rattle.std.specs.Prelude.{◌≡◌, ◌++◌, ◌≤◌, length, OnOk, OnErr};
-ghost use Rattle.hex.specs.Hex.{encode_lower};
+ghost use Rattle.std.specs.Prelude.{◌≡◌, ◌++◌, ◌*◌, ◌≤◌, ◌<◌, length, slice_index, OnOk, OnErr};
+ghost use Rattle.hex.specs.Hex.{encode_lower, lower_digits};
 ghost use Rattle.xdr_codec.specs.Spelling.{BeginsWith};
 ghost use Rattle.world_model.specs.Transcript.{spaced};
 
@@ -47,8 +47,32 @@ pub(crate) fn write_piece(out: &mut Writer, piece: &[u8]) -> Result<(), Memory>
 {
     let mut buffer = [0u8; 2 * PIECE];
     let digits = &mut buffer[..2 * piece.len()];
-    let Ok(()) = hex::encode_to_slice(piece, digits) else {
-        unreachable!();
-    };
+    encode(piece, digits);
     out.raw(digits)
+}
+
+/// Writes the lower-case hex digits of bytes into room for just these. The digits are computed and not looked up, so that a
+/// compiler makes vectors of the loop.
+fn encode(bytes: &[u8], digits: &mut [u8])
+    requires { length digits.old ≡ 2 * length bytes.now }
+    ensures { digits.new ≡ encode_lower bytes.now }
+{
+    for at in 0..bytes.len() {
+        let byte = bytes[at];
+        digits[2 * at] = digit(byte / 16);
+        digits[2 * at + 1] = digit(byte % 16);
+    }
+}
+
+/// The lower-case hex digit of a number.
+#[tactic(auto, using(crate::proofs::Digits::numeral, crate::proofs::Digits::letter))]
+fn digit(value: u8) -> u8
+    requires { value < 16 }
+    ensures { result ≡ slice_index lower_digits value }
+{
+    if value < 10 {
+        b'0' + value
+    } else {
+        b'a' - 10 + value
+    }
 }

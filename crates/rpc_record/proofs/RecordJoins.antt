@@ -130,6 +130,15 @@ pub fragment_some : (rec : List ℕ) → 0 < length (one_fragment rec)
 unfolding one_fragment
 fragment_some rec = omega arith
 
+-- its header, and the record behind it
+pub fragment_header : (rec : List ℕ) → 4 ≤ length (one_fragment rec)
+unfolding one_fragment
+fragment_header rec = omega arith
+
+pub fragment_rest : (rec : List ℕ) → drop 4 (one_fragment rec) ≡ rec
+unfolding one_fragment
+fragment_rest rec = refl
+
 pub last_part : (text rec : List ℕ) (at n : ℕ) → text ≡ one_fragment rec → length rec < 2 ^ 31 → n ≡ length (drop at text) → record_at (take at text ++ take n (drop at text)) ≡ Some (rec, [])
 last_part text rec at n e fits is =
     rw (take_all n (drop at text) (omega (arith, is)), take-append-drop at text, e) (fragment_record rec fits)

@@ -1,6 +1,6 @@
 //! A wire, with what the link placed behind each of its calls.
 
-ghost use Rattle.std.specs.Prelude.{◌≡◌, ◌<◌, ◌≤◌, ◌∷◌, ◌++◌, [], List, ℕ, length, IfOk, false, true, ◌==◌, if◌then◌else◌};
+ghost use Rattle.std.specs.Prelude.{◌≡◌, ◌<◌, ◌≤◌, ◌∷◌, ◌++◌, [], List, ℕ, length, drop, IfOk, false, true, ◌==◌, if◌then◌else◌};
 ghost use Rattle.std.specs.Bool.{OnTrue, OnFalse};
 ghost use Rattle.outside.specs.Causes.{HasCause};
 ghost use Rattle.outside.specs.Sink.{TakesSome};
@@ -11,6 +11,7 @@ ghost use Rattle.rpc_record.specs.Honest.{HonestOver, EndsRecord, IsOwn, IsFresh
 ghost use Rattle.rpc_record.specs.Stream.{Goes, Did, Marked, KeepsNone, PutsLast, places, if_wrote, if_missed, if_dialed, if_tells, IsBegun, now_in};
 
 use crate::kept::{Adds, Kept};
+use crate::sending::HEADER;
 use outside::{LinkFault, Wire, WireRead};
 use std::alloc::Global;
 use std::marker::Model;
@@ -71,11 +72,16 @@ fn after_write(n: usize, len: usize) -> Adds
     if n == len { Adds::Whole } else { Adds::Nothing }
 }
 
-/// Takes the bytes out, and leaves none.
-fn take_bytes(alloc: Global, from: &mut Blob) -> Blob
-    ensures { result ≡ from.old }
+/// Takes the record out of the text of its fragment, and leaves nothing. It takes no memory.
+fn take_record(alloc: Global, text: &mut Vec<u8>) -> Blob
+    requires { 4 ≤ length text.old.items }
+    ensures { result ≡ drop 4 text.old.items }
 {
-    mem::replace(from, Blob::of(Vec::new(alloc)))
+    let mut bytes = mem::replace(text, Vec::new(alloc));
+    let size = bytes.len() - HEADER;
+    bytes.rotate_left(HEADER);
+    bytes.truncate(size);
+    Blob::of(bytes)
 }
 
 impl<W: Wire + Drop> Line<W> {
@@ -147,19 +153,22 @@ impl<W: Wire + Drop> Line<W> {
         got
     }
 
-    /// Writes bytes, the last ones of a record. Where the wire takes them all, the record is placed; where it fails,
-    /// the record is one that was not written whole, and its bytes are taken out of part.
-    pub(crate) fn write(&mut self, bytes: &[u8], part: &mut Blob) -> Result<usize, LinkFault>
-        ensures now { Goes (now_in W.told self.old) (now_in W.told self.new) (Did (wrote_as bytes.now result) (if_wrote (length bytes.now) part.old result)) }
-        ensures honest { EndsRecord (now_in W.told self.old) bytes.now → HonestOver W.told W.honest self.old → HonestOver W.told W.honest self.new }
-        ensures takes { IfOk result (TakesSome bytes.now) }
-        ensures part { IfOk result (λ n. part.new ≡ part.old) }
+    /// Writes the text of a fragment from a place on, the last bytes of a record. Where the wire takes them all, the
+    /// record is placed; where it fails, the record is one that was not written whole, and it is taken out of the text.
+    pub(crate) fn write(&mut self, text: &mut Vec<u8>, at: usize) -> Result<usize, LinkFault>
+        requires place { at ≤ length text.old.items }
+        requires header { 4 ≤ length text.old.items }
+        ensures now { Goes (now_in W.told self.old) (now_in W.told self.new) (Did (wrote_as (drop at text.old.items) result) (if_wrote (length (drop at text.old.items)) (drop 4 text.old.items) result)) }
+        ensures honest { EndsRecord (now_in W.told self.old) (drop at text.old.items) → HonestOver W.told W.honest self.old → HonestOver W.told W.honest self.new }
+        ensures takes { IfOk result (TakesSome (drop at text.old.items)) }
+        ensures text { IfOk result (λ n. text.new ≡ text.old) }
         ensures cause { HasCause self.old.faults self.new.faults result }
     {
         let telling = self.wire.tells();
         if !room(&mut self.kept, telling) {
             return Err(LinkFault::Memory);
         }
+        let (_, bytes) = text.as_slice().split_at(at);
         match self.wire.write(bytes) {
             Ok(n) => {
                 let adds = after_write(n, bytes.len());
@@ -168,7 +177,7 @@ impl<W: Wire + Drop> Line<W> {
             }
             Err(LinkFault::Failed) => {
                 let adds = Adds::Part {
-                    bytes: take_bytes(self.alloc, part),
+                    bytes: take_record(self.alloc, text),
                 };
                 put(&mut self.kept, Kept { call: true, adds });
                 Err(LinkFault::Failed)

@@ -18,6 +18,9 @@ pub enum SendState {
     Starved,
 }
 
+/// How many bytes the header of a fragment has.
+pub(crate) const HEADER: usize = 4;
+
 /// The most bytes of a fragment: a header has 31 bits for them.
 const MOST_BYTES: usize = 0x7FFF_FFFF;
 

@@ -163,18 +163,15 @@ impl<W: Wire + Drop> StreamLink<W> {
         ensures honest { HonestOver W.told W.honest (line_of self.old) → HonestOver W.told W.honest (line_of self.new) }
         ensures sends { Sends (shown_by W.told self.old) (shown_by W.told self.new) rec.now result }
     {
-        let Ok(text) = framed(self.alloc, rec) else {
-            return Err(LinkFault::Memory);
-        };
-        let Ok(mut part) = Blob::copy(self.alloc, rec) else {
+        let Ok(mut text) = framed(self.alloc, rec) else {
             return Err(LinkFault::Memory);
         };
         let mut at = 0;
         while at < text.len() {
-            let (_, rest) = text.as_slice().split_at(at);
-            match self.line.write(rest, &mut part) {
+            let left = text.len() - at;
+            match self.line.write(&mut text, at) {
                 Ok(n) => {
-                    if n == rest.len() {
+                    if n == left {
                         return Ok(());
                     }
                     at += n;

@@ -6,3 +6,4 @@ pub mod Hexed
 pub mod Decoding
 pub mod Named
 pub mod FormRows
+pub mod Firsts

@@ -5,6 +5,9 @@ ghost use Rattle.std.specs.Option.{option_map};
 ghost use Rattle.std.specs.Str.{is_utf8};
 ghost use Rattle.script_text.specs.Lines.{is_feed, is_blank, is_skipped, lines, words, is_empty, without_return, one, two, three, four};
 
+use memchr::{memchr, memchr2};
+use simdutf8::basic::from_utf8;
+
 /// The first line of a text, and what follows it. A line ends in a line feed, the last one may lack it; a carriage
 /// return before the line feed isn't part of the line.
 pub fn first_line<'a>(text: &'a [u8]) -> (&'a [u8], &'a [u8])
@@ -21,7 +24,7 @@ pub fn first_line<'a>(text: &'a [u8]) -> (&'a [u8], &'a [u8])
 fn feed(text: &[u8]) -> Option<usize>
     ensures { result ≡ position is_feed text.now }
 {
-    text.iter().position(|b| *b == b'\n')
+    memchr(b'\n', text)
 }
 
 /// The line without a carriage return at its end.
@@ -64,7 +67,7 @@ fn first_word<'a>(line: &'a [u8]) -> (&'a [u8], &'a [u8])
 fn blank(line: &[u8]) -> Option<usize>
     ensures { result ≡ position is_blank line.now }
 {
-    line.iter().position(|b| *b == b' ' || *b == b'\t')
+    memchr2(b' ', b'\t', line)
 }
 
 /// The word of a line that has one.
@@ -109,7 +112,7 @@ pub fn four_words<'a>(line: &'a [u8]) -> Option<(&'a [u8], &'a [u8], &'a [u8], &
 pub fn is_utf8(line: &[u8]) -> bool
     ensures { result ≡ is_utf8 line.now }
 {
-    str::from_utf8(line).is_ok()
+    from_utf8(line).is_ok()
 }
 
 /// Whether a line is passed over: it is empty or begins with `#`.

@@ -43,6 +43,7 @@ pub mod SendsOn
 pub mod Showing
 pub mod Sizes
 pub mod Splitting
+pub mod Starting
 pub mod Stops
 pub mod Sums
 pub mod Taking

@@ -11,7 +11,7 @@ use Rattle.std.specs.BTreeMap.Range.{range_contains, entries_between}
 use Rattle.std.proofs.lemmas.Bool.{le-leb, lt-leb, lt-ltb, le-ltb}
 use Rattle.std.proofs.lemmas.Cmp.{ranked}
 use Rattle.write_back.specs.Segments.{Segment, Segments}
-use Rattle.write_back.specs.Walk.{first_between, last_before, without_between, edited_if, laid, taken_out}
+use Rattle.write_back.specs.Walk.{begun_from, first_between, last_before, without_between, edited_if, laid, taken_out}
 use Rattle.write_back.proofs.Changing.{found-range}
 use Rattle.write_back.proofs.Keys.{is-at, at-same}
 
@@ -145,3 +145,13 @@ laid-taken at s (e ∷ es) none = by (nat_cmp at e.0) refl (laid-taken at s es)
     by Less h more = rw (h, at-same at at refl) refl
     by Equal h more = let f : Some e.1 ≡ None = (rw h at none) in absurd cc
     by Greater h more = let f : lookup (is_at (nat_cmp at)) es ≡ None = (rw h at none) in rw (h, h) (ap (λ z. e ∷ z) (more f))
+
+-- a range of the map without an end
+pub range_is : (place : ℕ) (es : Segments) → entries_between nat_cmp (Included place) Unbounded es ≡ begun_from place es
+range_is place [] = refl
+range_is place (e ∷ es) = by (nat_le place e.0) refl (range_is place es)
+  where
+    by : (b : Bool) → nat_le place e.0 ≡ b → entries_between nat_cmp (Included place) Unbounded es ≡ begun_from place es
+        → entries_between nat_cmp (Included place) Unbounded (e ∷ es) ≡ begun_from place (e ∷ es)
+    by true h more = rw (le-same place e.0 (nat_cmp place e.0) refl, h) (ap (λ z. e ∷ z) more)
+    by false h more = rw (le-same place e.0 (nat_cmp place e.0) refl, h) more

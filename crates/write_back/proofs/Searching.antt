@@ -1,13 +1,12 @@
 -- The first segment that passes a test, and which segments are sent together.
-use Rattle.std.proofs.Common.{◌≡◌, ◌<◌, ◌≤◌, ◌^◌, ℕ, ◌+◌, ◌-◌, ◌&&◌, Bool, true, false, List, [], ◌∷◌, length, Some, None, refl, sym, ap, subst, ◌∙◌, arith}
+use Rattle.std.proofs.Common.{◌≡◌, ◌<◌, ◌≤◌, ℕ, ◌+◌, ◌-◌, ◌&&◌, Bool, true, false, List, [], ◌∷◌, length, Some, None, refl, sym, ap, subst, ◌∙◌, arith}
 use Rattle.std.specs.Prelude.{nat_le, nat_lt, nat_eq, if◌then◌else◌}
 use Rattle.std.proofs.lemmas.Bool.{le-leb, lt-leb, lt-ltb, le-ltb, ltb-true, ltb-false, leb-true, leb-false, eqb-true}
 use Rattle.write_back.specs.Segments.{Segment, Segments, AreApart, end_of, head_of}
 use Rattle.write_back.specs.Pieces.{Sent}
 use Rattle.write_back.specs.Choice.{may_go, how_of_segment, run_from, chosen_from}
-use Rattle.write_back.specs.Walk.{at_place, first_between, first_that, from_key}
-use Rattle.write_back.proofs.Keys.{in-range, before-range, at-same, at-above, at-below}
-use Rattle.write_back.proofs.Changing.{found-low}
+use Rattle.write_back.specs.Walk.{at_place, first_that, from_key}
+use Rattle.write_back.proofs.Keys.{at-same, at-above, at-below}
 
 -- which of two early places a search begins at is the same
 that-lower : (test : ℕ × Segment → Bool) (low other from : ℕ) (es : Segments) → AreApart from es → low ≤ from → other ≤ from → first_that test low es ≡ first_that test other es
@@ -17,49 +16,6 @@ that-lower test low other from (e ∷ es) apart l o =
     let a : nat_le low e.0 ≡ true = le-leb low e.0 (omega (arith, apart.0, l)) in
     let b : nat_le other e.0 ≡ true = le-leb other e.0 (omega (arith, apart.0, o)) in
     rw (a, b, more) refl
-
--- the first one of a range passes, or not
-pub that-found : (test : ℕ × Segment → Bool) (low high from : ℕ) (es : Segments) (x : ℕ × Segment) → AreApart from es → 2 ^ 63 - 1 ≤ high → first_between low high es ≡ Some x → test x ≡ true → first_that test low es ≡ Some x
-that-found test low high from [] x apart most found passes = absurd cc
-that-found test low high from (e ∷ es) x apart most found passes = by (nat_le low e.0) refl (λ h. that-found test low high (end_of e) es x apart.3 most h passes)
-  where
-    by : (b : Bool) → nat_le low e.0 ≡ b → (first_between low high es ≡ Some x → first_that test low es ≡ Some x) → first_that test low (e ∷ es) ≡ Some x
-    by true h more =
-        let inside : (nat_le low e.0 && nat_lt e.0 high) ≡ true = in-range low high e.0 (leb-true low e.0 h) (omega (arith, apart.1, apart.2, most)) in
-        let same : e ≡ x = (let f : Some e ≡ Some x = (rw inside at found) in cc) in
-        let goes : test e ≡ true = ap test same ∙ passes in
-        rw (h, goes) (ap Some same)
-    by false h more = let f : first_between low high es ≡ Some x = (rw (before-range low high e.0 (leb-false low e.0 h)) at found) in rw h (more f)
-
-pub that-step : (test : ℕ × Segment → Bool) (low high from : ℕ) (es : Segments) (x : ℕ × Segment) → AreApart from es → 2 ^ 63 - 1 ≤ high → first_between low high es ≡ Some x → test x ≡ false
-    → first_that test (x.0 + 1) es ≡ first_that test low es
-that-step test low high from [] x apart most found fails = refl
-that-step test low high from (e ∷ es) x apart most found fails = by (nat_le low e.0) refl (λ h. that-step test low high (end_of e) es x apart.3 most h fails)
-  where
-    by : (b : Bool) → nat_le low e.0 ≡ b → (first_between low high es ≡ Some x → first_that test (x.0 + 1) es ≡ first_that test low es) → first_that test (x.0 + 1) (e ∷ es) ≡ first_that test low (e ∷ es)
-    by true h more =
-        let inside : (nat_le low e.0 && nat_lt e.0 high) ≡ true = in-range low high e.0 (leb-true low e.0 h) (omega (arith, apart.1, apart.2, most)) in
-        let same : e ≡ x = (let f : Some e ≡ Some x = (rw inside at found) in cc) in
-        let stays : test e ≡ false = ap test same ∙ fails in
-        let out : nat_le (e.0 + 1) e.0 ≡ false = lt-leb (e.0 + 1) e.0 (omega arith) in
-        subst (λ (z : ℕ × Segment). first_that test (z.0 + 1) (e ∷ es) ≡ first_that test low (e ∷ es)) same
-        (rw (out, h, stays) (that-lower test (e.0 + 1) low (end_of e) es apart.3 (omega (arith, apart.1)) (omega (arith, leb-true low e.0 h))))
-    by false h more =
-        let f : first_between low high es ≡ Some x = (rw (before-range low high e.0 (leb-false low e.0 h)) at found) in
-        let after : end_of e ≤ x.0 = found-low low high (end_of e) es x apart.3 f in
-        let out : nat_le (x.0 + 1) e.0 ≡ false = lt-leb (x.0 + 1) e.0 (omega (arith, after)) in
-        rw (out, h) (more f)
-
-pub that-none : (test : ℕ × Segment → Bool) (low high from : ℕ) (es : Segments) → AreApart from es → 2 ^ 63 - 1 ≤ high → first_between low high es ≡ None → first_that test low es ≡ None
-that-none test low high from [] apart most none = refl
-that-none test low high from (e ∷ es) apart most none = by (nat_le low e.0) refl (λ h. that-none test low high (end_of e) es apart.3 most h)
-  where
-    by : (b : Bool) → nat_le low e.0 ≡ b → (first_between low high es ≡ None → first_that test low es ≡ None) → first_that test low (e ∷ es) ≡ None
-    by true h more =
-        let inside : (nat_le low e.0 && nat_lt e.0 high) ≡ true = in-range low high e.0 (leb-true low e.0 h) (omega (arith, apart.1, apart.2, most)) in
-        let f : Some e ≡ None = (rw inside at none) in
-        absurd cc
-    by false h more = let f : first_between low high es ≡ None = (rw (before-range low high e.0 (leb-false low e.0 h)) at none) in rw h (more f)
 
 -- a narrower test is failed by those that fail a wider one, so a search for it may begin at the first that passes that
 pub that-within : (wide narrow : ℕ × Segment → Bool) (low from : ℕ) (es : Segments) → AreApart from es → ((e : ℕ × Segment) → wide e ≡ false → narrow e ≡ false)

@@ -101,11 +101,16 @@ abbrev pub starting : ℕ → ℕ → Segments → Segments
 starting low high [] = []
 starting low high (e ∷ es) = if nat_le low e.0 && nat_lt e.0 high then e ∷ starting low high es else starting low high es
 
+-- the segments that begin at a place or after it
+abbrev pub begun_from : ℕ → Segments → Segments
+begun_from place [] = []
+begun_from place (e ∷ es) = if nat_le place e.0 then e ∷ begun_from place es else begun_from place es
+
 abbrev pub one_of : Option (ℕ × Segment) → Segments
 one_of None = []
 one_of (Some e) = e ∷ []
 
--- the segments that begin at a place or after it
+-- what is left of the walk from the first segment that begins at a place or after it
 abbrev pub from_key : ℕ → Segments → Segments
 from_key place [] = []
 from_key place (e ∷ es) = if nat_lt e.0 place then from_key place es else e ∷ es

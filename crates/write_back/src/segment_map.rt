@@ -5,13 +5,14 @@ ghost use Rattle.std.specs.Option.{option_map};
 ghost use Rattle.write_back.specs.States.{is_changed};
 ghost use Rattle.write_back.specs.Changes.{fate, changed, count_changed};
 ghost use Rattle.write_back.specs.Segments.{Segments, Segment, AreApart, head_of, with_state, own_bytes, own_in, own_of, last_end};
-ghost use Rattle.write_back.specs.Walk.{at_place, ended_at, first_between, last_before, laid, laid_tail, left_at, taken_out, turned, shortened, without_between};
+ghost use Rattle.write_back.specs.Walk.{at_place, begun_from, ended_at, first_between, last_before, laid, laid_tail, left_at, taken_out, turned, shortened, without_between};
 
 use crate::change::Change;
 use crate::segment::Segment;
 use crate::state::State;
 use std::alloc::Global;
 use std::collections::BTreeMap;
+use std::collections::btree_map::Range;
 use std::marker::Model;
 use xdr_codec::Memory;
 
@@ -82,6 +83,14 @@ impl SegmentMap {
     {
         let (at, segment) = self.entries.range(low..high).next()?;
         Some((*at, segment))
+    }
+
+    /// The segments that begin at a place or after it, in order. A step from one to the next takes the same time however
+    /// many there are.
+    pub fn from_place(&self, place: u64) -> Range<'_, u64, Segment>
+        ensures { result ≡ begun_from place self.now }
+    {
+        self.entries.range(place..)
     }
 
     /// The last segment that begins before a place.

@@ -24,12 +24,10 @@ pub fn first_ready(map: &SegmentMap, from: u64) -> Option<u64>
     requires { AreApart 0 map.now }
     ensures { result ≡ option_map (λ e. e.0) (first_that (λ e. is_ready e.1.state) from map.now) }
 {
-    let mut next = from;
-    while let Some((at, segment)) = map.first_between(next, u64::MAX) {
+    for (at, segment) in map.from_place(from) {
         if segment.state().is_ready() {
-            return Some(at);
+            return Some(*at);
         }
-        next = at + 1;
     }
     None
 }
@@ -40,12 +38,10 @@ pub fn first_waiting(map: &SegmentMap, from: u64, upto: u64) -> u64
     requires { AreApart 0 map.now }
     ensures { result ≡ place_of (first_that (λ e. waits_upto upto e.1) from map.now) }
 {
-    let mut next = from;
-    while let Some((at, segment)) = map.first_between(next, u64::MAX) {
+    for (at, segment) in map.from_place(from) {
         if waits(segment, upto) {
-            return at;
+            return *at;
         }
-        next = at + 1;
     }
     u64::MAX
 }
@@ -63,12 +59,10 @@ pub fn first_to_go(map: &SegmentMap, from: u64, upto: u64, sent: &[SentPiece]) -
     ensures told { result ≡ option_map (λ e. e.0) (first_that (may_go sent.now upto) from map.now) }
     ensures small { IfSome result (λ at. at < 2 ^ 63) }
 {
-    let mut next = from;
-    while let Some((at, segment)) = map.first_between(next, u64::MAX) {
-        if may_go(at, segment, upto, sent) {
-            return Some(at);
+    for (at, segment) in map.from_place(from) {
+        if may_go(*at, segment, upto, sent) {
+            return Some(*at);
         }
-        next = at + 1;
     }
     None
 }

@@ -1,5 +1,6 @@
 use Rattle.std.proofs.Common.{◌≡◌, ◌≤◌, ◌-◌, length}
 use Rattle.rpc_record.specs.Honest.{HonestOver}
+use Rattle.rpc_record.specs.Records.{one_fragment}
 use Rattle.rpc_record.specs.Stream.{now_in}
 use Rattle.rpc_record.specs.Shown.{shown_by, line_of}
 use Rattle.rpc_record.proofs.RecordGoesOut.{Writing}
@@ -8,8 +9,8 @@ use Rattle.rpc_record.proofs.stream_link.StreamLink.send_fine.Given as goal
 
 abbrev pub invariant-loop-at : goal.invariant-loop-at
 invariant-loop-at g l =
-    Writing (shown_by g.W.Wire.told l.fn.self) (now_in g.W.Wire.told l.self-inside.line) l.self-inside.inbox l.text.items l.at
-    × (l.part ≡ l.rec) × (l.self-inside.sending ≡ sendings.Fine)
+    Writing (shown_by g.W.Wire.told l.fn.self) (now_in g.W.Wire.told l.self-inside.line) l.self-inside.inbox (one_fragment l.rec) l.at
+    × (l.text.items ≡ one_fragment l.rec) × (l.self-inside.sending ≡ sendings.Fine)
     × (l.fn.self.wire ≤ l.self-inside.line.faults) × (l.self-inside.faults ≡ l.fn.self.own) × (l.self-inside.inbox.gather.phase ≡ l.fn.self.phase)
     × (HonestOver g.W.Wire.told g.W.Wire.honest (line_of l.fn.self) → HonestOver g.W.Wire.told g.W.Wire.honest l.self-inside.line)
 
