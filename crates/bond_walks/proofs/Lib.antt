@@ -6,8 +6,8 @@ mod Fronts
 mod LastReplies
 mod Listings
 mod Members
-mod NamesStand
-mod RepliesShow
+pub mod NamesStand
+pub mod RepliesShow
 mod SmallRun
 mod SmallRunLawful
 mod Times

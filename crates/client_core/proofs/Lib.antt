@@ -1,6 +1,6 @@
 mod Bounds
 mod Places
-mod Numbers
+pub mod Numbers
 mod Awaiting
 mod Stirring
 mod Leading

@@ -350,7 +350,7 @@ heard-count old rec new apart (replied xid call named waits t) found c = moves-c
     by None none is = absurd (none-busy old xid call waits none c.counted)
     by (Some at) is h = hears-count old t.first rec xid call at waits is apart h c
 
-heard-lost : (old : View) (rec : List ℕ) (new : View) → Heard old rec new → new.lost ≡ old.lost
+pub heard-lost : (old : View) (rec : List ℕ) (new : View) → Heard old rec new → new.lost ≡ old.lost
 heard-lost old rec new (dropped none is) = ap (λ (v : View). v.lost) is
 heard-lost old rec new (replied xid call named waits t) = moves-lost t.first new t.rest ∙ by (position (is_busy call.purpose.lane) old.lanes) t.own
   where

@@ -1,4 +1,4 @@
--- For which calls the operations wait that make a file stable.
+-- For which calls the operations wait that open a file or make one stable.
 use Rattle.std.proofs.Common.{◌≡◌, ◌≤◌, ◌+◌, ◌-◌, ℕ, Bool, true, false, List, [], Option, Some, None, Result, Ok, refl, sym, ap, subst, ◌∙◌, arith}
 use Rattle.nfs_types.specs.declared.verf.Verf.{Verf}
 use Rattle.world_model.specs.declared.answer.Answer.{Answer}
@@ -21,6 +21,8 @@ use Rattle.file_ops.specs.declared.sync_file.SyncFile.{SyncFile}
 use Rattle.file_ops.specs.declared.sync_file.Syncing.{Syncing}
 use Rattle.file_ops.specs.declared.sync_file.Syncing.TheVariants as syncing
 use Rattle.file_ops.specs.Judging.{commit_told}
+use Rattle.file_ops.specs.OpenFile as opens
+use Rattle.file_ops.specs.Opening.{opening_again, led_on}
 use Rattle.file_ops.specs.Saves as saves
 use Rattle.file_ops.specs.SlotFiles.{file_at, joined}
 use Rattle.file_ops.specs.Syncs as syncs
@@ -41,6 +43,7 @@ use Rattle.op_machines.specs.PathSteps as paths
 use Rattle.op_machines.specs.Steps.{Starts, Resumes, Takes}
 use Rattle.core_facts.specs.InFlight.{of_walk, of_opening, of_saving, of_syncing, of_file, in_flight}
 use Rattle.core_facts.proofs.AllCounts.{of_path, path-file, path-walk, placed-none}
+use Rattle.core_facts.proofs.OpenSteps.{OpenExpects, OpenSteps, open-resumes, open-takes}
 use Rattle.core_facts.proofs.NameCounts.{WalkCounts, walk-counts, walk-takes, took-counts}
 use Rattle.core_facts.proofs.PutCounts.{of_put}
 use Rattle.core_facts.proofs.Putting.{PutExpects, PutHas, PutSteps, put-resumes, put-takes}
@@ -93,14 +96,14 @@ module _ (f : List ℕ) (C : Type 0) where
       (λ result k n t. sync-done others (syncing.Saves s) (syncs.answer_of result) next new n k.ended)
       gives c is at
 
-  sync-queues : (b : Bool) (wsize lane : ℕ) (turn : Turn) (s : Saving) (old : Shelf) (next : Next) (new : Syncing) (after : Shelf) → SyncHas f C (syncing.Saves s)
+  pub sync-queues : (b : Bool) (wsize lane : ℕ) (turn : Turn) (s : Saving) (old : Shelf) (next : Next) (new : Syncing) (after : Shelf) → SyncHas f C (syncing.Saves s)
       → syncs.QueuesIf b wsize lane turn s old next new after → SyncSteps f C (of_saving s) (syncing.Saves s) next new
   sync-queues true wsize lane turn s old next new after has q =
       sync-follows (of_saving s) s q.gives q.saved next new has.0 (goes-steps C wsize turn.xid turn.room false s old.back q.gives q.saved after.back has.1 q.goes) q.follows.next_is
       q.follows.state_is
   sync-queues false wsize lane turn s old next new after has q = sync-waits (of_saving s) (syncing.Saves s) next new q.next_is q.state_is has
 
-  begun-has : (file : List ℕ) (upto : ℕ) → file ≡ f → SyncHas f C (syncing.Saves (saves.begun file upto))
+  pub begun-has : (file : List ℕ) (upto : ℕ) → file ≡ f → SyncHas f C (syncing.Saves (saves.begun file upto))
   begun-has file upto same = (same, λ again. absurd cc)
 
   pub sync-resumes : (at : Syncing) (wsize : ℕ) (m : SyncFile) (turn : Turn) (old : Shelf) (next : Next) (new : Syncing) (after : Shelf) → SyncHas f C at
@@ -145,7 +148,7 @@ FileExpects (files.Put m) call = Unit {0}
 
 -- an open or a put, by whether its directory is found
 abbrev pub OpenerExpects : Bool → Opener → Call → Type 0
-OpenerExpects true (openers.Open m) call = Unit {0}
+OpenerExpects true (openers.Open m) call = OpenExpects m call
 OpenerExpects true (openers.Put m) call = PutExpects m.state call
 OpenerExpects false opener call = Unit {0}
 
@@ -239,6 +242,9 @@ none-put (putting.Saves s) = λ again. tt
 pub some-put : (a b : PutFile) → files.Put a ≡ files.Put b → b ≡ a
 some-put a b e = cc
 
+pub some-open : (a b : OpenFile) → files.Open a ≡ files.Open b → b ≡ a
+some-open a b e = cc
+
 no-put : (m : OpenFile) (q : PutFile) → files.Put q ≡ files.Open m → ⊥
 no-put m q e = cc
 
@@ -258,8 +264,18 @@ put-expected P others m p q next old there s was = by next s.asked s.kept
     by nexts.Wait a k = record { asked = tt; kept = λ some c e. here c (k some c (was c e)) }
     by (nexts.Done answer) a k = record { asked = tt; kept = tt }
 
-open-expected : (others : ℕ) (m : PathMachine) (o : OpenFile) (next : Next) (old : Machine) → m.arrived ≡ true → Expected others old next (machines.Path (record m { opener = openers.Open o }))
-open-expected others m o next old there = plain-expected others old (machines.Path (record m { opener = openers.Open o })) next (λ c. subst (λ (b : Bool). OpenerExpects b (openers.Open o) c) (sym there) tt)
+-- and an open that has it
+open-expected : (others : ℕ) (m : PathMachine) (p o : OpenFile) (next : Next) (old : Machine) → m.arrived ≡ true → OpenSteps others p next o
+    → (1 ≤ others → (c : Call) → Expects old c → OpenExpects p c) → Expected others old next (machines.Path (record m { opener = openers.Open o }))
+open-expected others m p o next old there s was = by next s.asked s.kept
+  where
+    here : (c : Call) → OpenExpects o c → OpenerExpects m.arrived (openers.Open o) c
+    here c e = subst (λ (b : Bool). OpenerExpects b (openers.Open o) c) (sym there) e
+
+    by : (n : Next) → AskedOf OpenExpects n o → KeptOf OpenExpects others p n o → Expected others old n (machines.Path (record m { opener = openers.Open o }))
+    by (nexts.Send call) a k = record { asked = here call a; kept = λ some c e. here c (k some c (was some c e)) }
+    by nexts.Wait a k = record { asked = tt; kept = λ some c e. here c (k some c (was some c e)) }
+    by (nexts.Done answer) a k = record { asked = tt; kept = tt }
 
 -- with the opener that it has then
 opener-as : (others : ℕ) (m : PathMachine) (opener to : Opener) (next : Next) (new : PathMachine) (old : Machine) → new ≡ record m { opener = opener } → opener ≡ to
@@ -269,12 +285,16 @@ opener-as others m opener to next new old is at e =
     (subst (λ (o : Opener). Expected others old next (machines.Path (record m { opener = o }))) (sym at) e)
 
 then-expected : (wsize : ℕ) (m : PathMachine) (turn : Turn) (was : Shelf) (next : Next) (new : PathMachine) (after : Shelf) (old : Machine) → m.arrived ≡ true
-    → ((p : PutFile) → m.opener ≡ openers.Put p → (c : Call) → Expects old c → PutExpects p.state c) → paths.ThenResumes wsize m turn was next new after
+    → ((p : PutFile) → m.opener ≡ openers.Put p → (c : Call) → Expects old c → PutExpects p.state c)
+    → ((o : OpenFile) → m.opener ≡ openers.Open o → 1 ≤ of_opening o.opening → (c : Call) → Expects old c → OpenExpects o c) → paths.ThenResumes wsize m turn was next new after
     → Expected (of_file (file_of m.opener)) old next (machines.Path new)
-then-expected wsize m turn was next new after old there expects t = by m.opener t.opener refl refl t.step
+then-expected wsize m turn was next new after old there expects expects-open t = by m.opener t.opener refl refl t.step
   where
     by : (o k : Opener) → m.opener ≡ o → t.opener ≡ k → steps.Resumes wsize (file_of o) turn was next (file_of k) after → Expected (of_file (file_of o)) old next (machines.Path new)
-    by (openers.Open o) (openers.Open k) at to step = opener-as (of_opening o.opening) m t.opener (openers.Open k) next new old t.machine_is to (open-expected (of_opening o.opening) m k next old there)
+    by (openers.Open o) (openers.Open k) at to step = opener-as (of_opening o.opening) m t.opener (openers.Open k) next new old t.machine_is to
+        (open-expected (of_opening o.opening) m o k next old there
+        (subst (λ (n : OpenFile). OpenSteps (of_opening o.opening) o next n) (some-open k (opens.gone o turn) step.machine_is) (open-resumes (of_opening o.opening) o turn next step.next_is))
+        (expects-open o at))
     by (openers.Open o) (openers.Put q) at to step = absurd (no-put _ q step.machine_is)
     by (openers.Put p) (openers.Open k) at to step = absurd (no-open k _ step.machine_is)
     by (openers.Put p) (openers.Put q) at to step =
@@ -295,6 +315,15 @@ placed-opens dir (openers.Put m) p is c =
     state_of (openers.Open m) = putting.Idle
     state_of (openers.Put m) = m.state
 
+-- an open that has just found its directory waits for no call
+placed-unasked : (dir : List ℕ) (o : Opener) (p : OpenFile) → placed dir o ≡ openers.Open p → 1 ≤ of_opening p.opening → ⊥
+placed-unasked dir (openers.Put m) p is some = cc
+placed-unasked dir (openers.Open m) p is some = let same : 0 ≡ of_opening p.opening = ap calls_of is in omega (arith, same, some)
+  where
+    calls_of : Opener → ℕ
+    calls_of (openers.Open m) = of_opening m.opening
+    calls_of (openers.Put m) = 0
+
 follows-expected : (step : WalkNext) (wsize : ℕ) (m : PathMachine) (turn : Turn) (was : Shelf) (next : Next) (new : PathMachine) (after : Shelf) (others : ℕ) (old : Machine) → m.arrived ≡ false
     → WalkCounts step others (of_walk m.walk) → paths.Follows step wsize m turn was next new after → Expected others old next (machines.Path new)
 follows-expected (walks.Send call) wsize m turn was next new after others old on_way c f =
@@ -303,7 +332,8 @@ follows-expected walks.Wait wsize m turn was next new after others old on_way c 
     subst (λ (n : PathMachine). Expected others old next (machines.Path n)) (sym f.1) (plain-expected others old (machines.Path m) next (walking-expects m on_way))
 follows-expected (walks.At dir) wsize m turn was next new after others old on_way c f =
     subst (λ (n : ℕ). Expected n old next (machines.Path new)) (placed-none dir m.opener ∙ sym c.0)
-    (then-expected wsize (record m { opener = placed dir m.opener; arrived = true }) turn was next new after old refl (λ p is k e. placed-opens dir m.opener p is k) f)
+    (then-expected wsize (record m { opener = placed dir m.opener; arrived = true }) turn was next new after old refl (λ p is k e. placed-opens dir m.opener p is k)
+    (λ o is some k e. absurd (placed-unasked dir m.opener o is some)) f)
 follows-expected (walks.Refused fault) wsize m turn was next new after others old on_way c f =
     subst (λ (n : Next). Expected others old n (machines.Path new)) (sym f.0) (record { asked = tt; kept = tt })
 
@@ -311,11 +341,15 @@ follows-expected (walks.Refused fault) wsize m turn was next new after others ol
 pub arrived-expects : (m : PathMachine) → m.arrived ≡ true → (p : PutFile) → m.opener ≡ openers.Put p → (c : Call) → Expects (machines.Path m) c → PutExpects p.state c
 arrived-expects m there p is c e = subst (λ (o : Opener). OpenerExpects true o c) is (subst (λ (b : Bool). OpenerExpects b m.opener c) there e)
 
+-- and what an arrived open expects is the call of its step
+pub arrived-open : (m : PathMachine) → m.arrived ≡ true → (o : OpenFile) → m.opener ≡ openers.Open o → (c : Call) → Expects (machines.Path m) c → OpenExpects o c
+arrived-open m there o is c e = subst (λ (k : Opener). OpenerExpects true k c) is (subst (λ (b : Bool). OpenerExpects b m.opener c) there e)
+
 path-resumes : (b : Bool) (wsize : ℕ) (m : PathMachine) (turn : Turn) (was : Shelf) (next : Next) (new : PathMachine) (after : Shelf) → m.arrived ≡ b
     → paths.PathResumes b wsize m turn was next new after → Expected (of_path m) (machines.Path m) next (machines.Path new)
 path-resumes true wsize m turn was next new after is r =
     subst (λ (n : ℕ). Expected n (machines.Path m) next (machines.Path new)) (sym (path-file m is))
-    (then-expected wsize m turn was next new after (machines.Path m) is (arrived-expects m is) r)
+    (then-expected wsize m turn was next new after (machines.Path m) is (arrived-expects m is) (λ o at some. arrived-open m is o at) r)
 path-resumes false wsize m turn was next new after is r =
     subst (λ (n : ℕ). Expected n (machines.Path m) next (machines.Path new)) (sym (path-walk m is))
     (follows-expected (walking.go_next m.walk turn was) wsize (record m { walk = walking.go_after m.walk turn was }) turn (walking.go_shelf m.walk turn was) next new after (of_walk m.walk)
@@ -340,7 +374,11 @@ path-takes true wsize m sent turn came was next new after others is one t = by m
   where
     by : (o k : Opener) → m.opener ≡ o → t.opener ≡ k → of_file (file_of o) ≡ others + 1 → steps.Takes wsize (file_of o) sent turn came was next (file_of k) after
         → Expected others (machines.Path m) next (machines.Path new)
-    by (openers.Open o) (openers.Open k) at to count step = opener-as others m t.opener (openers.Open k) next new (machines.Path m) t.machine_is to (open-expected others m k next (machines.Path m) is)
+    by (openers.Open o) (openers.Open k) at to count step = opener-as others m t.opener (openers.Open k) next new (machines.Path m) t.machine_is to
+        (open-expected others m o k next (machines.Path m) is
+        (subst (λ (n : OpenFile). OpenSteps others o next n) (some-open k _ step.machine_is)
+        (open-takes (opening_again o.opening sent turn came was.repeats) o sent turn (led_on o.opening turn.now came after.attrs was.pages) step.steps.step next was.pages after.pages was.opens
+        after.opens others count step.steps.led step.steps.follows)) (λ some. arrived-open m is o at))
     by (openers.Open o) (openers.Put q) at to count step = absurd (no-put _ q step.machine_is)
     by (openers.Put p) (openers.Open k) at to count step = absurd (no-open k _ step.machine_is)
     by (openers.Put p) (openers.Put q) at to count step =

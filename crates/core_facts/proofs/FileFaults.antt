@@ -1,5 +1,5 @@
--- No step of a write, a sync, a close, a truncate or a put gives the fault of a lost link, unless what came of its call does.
-use Rattle.std.proofs.Common.{◌≡◌, ℕ, Bool, true, false, List, Option, Some, None, Result, Ok, Err, inl, inr, sym, subst}
+-- Which faults a step of a write, a sync, a close, a truncate or a put gives: its own, those of what came of its calls, and those that it keeps.
+use Rattle.std.proofs.Common.{◌≡◌, ℕ, Bool, true, false, List, Option, Some, None, Result, Ok, Err, inl, inr, sym, subst, refl}
 use Rattle.std.specs.Prelude.{if◌then◌else◌}
 use Rattle.nfs_types.specs.declared.mode.Mode.{Mode}
 use Rattle.nfs_types.specs.declared.mode.Mode.TheVariants as modes
@@ -53,373 +53,374 @@ use Rattle.file_ops.specs.declared.put_file.Putting.{Putting}
 use Rattle.file_ops.specs.declared.put_file.Putting.TheVariants as putting
 use Rattle.file_ops.specs.PutFile as puts
 use Rattle.file_ops.specs.Opens.{in_mode, of_open}
-use Rattle.core_facts.proofs.Faults.{NotLost, FineResult, FineOption, FineAnswer, FineNext, fine-as, call-or-wait}
+use Rattle.core_facts.proofs.Faults.{OwnFaults, OfReply, Came, FineResult, FineOption, FineAnswer, FineNext, fine-as, call-or-wait}
 use Rattle.core_facts.proofs.SaveFaults.{SaveFine, goes-fine, takes-fine}
 use Rattle.core_facts.proofs.ReadFaults.{FineOpening, go-opening, opening-next, opening-took, led-on}
 
--- ---- writes
-
-abbrev pub FineWriting : Writing → Type 0
-FineWriting writing.Idle = Unit {0}
-FineWriting (writing.Room file saving) = FineOption saving.refusal
-
-abbrev pub WriteFine : Next → Writing → Type 0
-WriteFine next state = FineNext next × FineWriting state
-
-leads-write : (to : Next) (state : Writing) (shelf : Shelf) (next : Next) (new : Writing) (after : Shelf) → writes.Leads to state shelf next new after → WriteFine to state → WriteFine next new
-leads-write to state shelf next new after l f = (fine-as to next l.gives_next f.0, subst FineWriting (sym l.keeps) f.1)
-
-room-write : (told : _) (file : List ℕ) (saved : Saving) → SaveFine (syncs.sync_next told) saved → WriteFine (writes.room_next told) (writes.room_state told file saved)
-room-write told file saved f = by-step
-    (λ g. SaveFine (syncs.sync_next g) saved → WriteFine (writes.room_next g) (writes.room_state g file saved))
-    (λ call k. (tt, k.1)) (λ k. (tt, k.1)) ended told f
-  where
-    ended : (result : Result (Unit {0}) Fault) → SaveFine (syncs.sync_next (ends_as result)) saved → WriteFine (writes.room_next (ends_as result)) (writes.room_state (ends_as result) file saved)
-    ended (Ok nothing) k = (tt, k.1)
-    ended (Err fault) k = (k.0, tt)
-
-saves-if : (b : Bool) (wsize lane : ℕ) (file : List ℕ) (saving : Saving) (turn : Turn) (shelf : Shelf) (next : Next) (new : Writing) (after : Shelf) → FineOption saving.refusal
-    → writes.SavesIf b wsize lane file saving turn shelf next new after → WriteFine next new
-saves-if true wsize lane file saving turn shelf next new after f s =
-    leads-write (writes.room_next s.told) (writes.room_state s.told file s.saved) _ next new after s.leads
-    (room-write s.told file s.saved (goes-fine wsize turn.xid turn.room false saving shelf.back s.told s.saved s.back f s.goes))
-saves-if false wsize lane file saving turn shelf next new after f s = leads-write nexts.Wait (writing.Room file saving) shelf next new after s (tt, f)
-
-refuses-write : (fault : Fault) (shelf : Shelf) (next : Next) (new : Writing) (after : Shelf) → NotLost fault → writes.Refuses fault shelf next new after → WriteFine next new
-refuses-write fault shelf next new after n l = leads-write (nexts.Done (answers.Refused fault)) writing.Idle shelf next new after l (n, tt)
-
-writes-if : (b : Bool) (wsize lane : ℕ) (file : List ℕ) (offset : ℕ) (bytes : List ℕ) (turn : Turn) (shelf : Shelf) (next : Next) (new : Writing) (after : Shelf)
-    → writes.WritesIf b wsize lane file offset bytes turn shelf next new after → WriteFine next new
-writes-if true wsize lane file offset bytes turn shelf next new after (inl s) =
-    saves-if (is_first lane (joined lane s.of shelf).order) wsize lane file (saves.begun s.of shelf.seq) turn (joined lane s.of shelf) next new after tt s.saves
-writes-if true wsize lane file offset bytes turn shelf next new after (inr s) = refuses-write faults.Memory shelf next new after tt s.1
-writes-if false wsize lane file offset bytes turn shelf next new after (inl s) = leads-write (nexts.Done (answers.Done values.Nothing)) writing.Idle _ next new after s.leads (tt, tt)
-writes-if false wsize lane file offset bytes turn shelf next new after (inr s) = refuses-write faults.Memory shelf next new after tt s
-
-writes-fine : (wsize lane : ℕ) (file : List ℕ) (offset : ℕ) (bytes : List ℕ) (turn : Turn) (shelf : Shelf) (next : Next) (new : Writing) (after : Shelf)
-    → writes.Writes wsize lane file offset bytes turn shelf next new after → WriteFine next new
-writes-fine wsize lane file offset bytes turn shelf next new after w = writes-if _ wsize lane file offset bytes turn shelf next new after w
-
--- why a file may not be written is no lost link
-in-mode : (mode : Mode) (file : List ℕ) → FineResult (in_mode mode file)
-in-mode modes.R file = tt
-in-mode modes.W file = tt
-in-mode modes.RW file = tt
-in-mode modes.C file = tt
-in-mode modes.X file = tt
-
-pub of-open : (opened : Option Opened) → FineResult (of_open opened)
-of-open None = tt
-of-open (Some opened) = in-mode opened.mode opened.file
-
-pub write-starts : (found : Result (List ℕ) Fault) (wsize : ℕ) (m : WriteFile) (turn : Turn) (shelf : Shelf) (next : Next) (new : WriteFile) (after : Shelf) → FineResult found
-    → writes.StartsAt found wsize m turn shelf next new after → WriteFine next new.state
-write-starts (Err fault) wsize m turn shelf next new after n s = refuses-write fault shelf next new.state after n s.refuses
-write-starts (Ok file) wsize m turn shelf next new after n (inl s) = writes-fine wsize m.lane file m.offset _ turn shelf next new.state after s.writes
-write-starts (Ok file) wsize m turn shelf next new after n (inr s) = refuses-write faults.Memory shelf next new.state after tt s.refuses
-
-pub write-resumes : (at : Writing) (wsize lane : ℕ) (turn : Turn) (shelf : Shelf) (next : Next) (new : Writing) (after : Shelf) → FineWriting at
-    → writes.ResumesIn at wsize lane turn shelf next new after → WriteFine next new
-write-resumes writing.Idle wsize lane turn shelf next new after f r = leads-write nexts.Wait writing.Idle shelf next new after r (tt, tt)
-write-resumes (writing.Room file saving) wsize lane turn shelf next new after f r = saves-if (is_first lane shelf.order) wsize lane file saving turn shelf next new after f r
-
-follows-write : (told : _) (wsize : ℕ) (m : WriteFile) (file : List ℕ) (saved : Saving) (turn : Turn) (shelf : Shelf) (next : Next) (new : Writing) (after : Shelf)
-    → SaveFine (syncs.sync_next told) saved → writes.Follows told wsize m file saved turn shelf next new after → WriteFine next new
-follows-write told wsize m file saved turn shelf next new after c f = by-step
-    (λ g. SaveFine (syncs.sync_next g) saved → writes.Follows g wsize m file saved turn shelf next new after → WriteFine next new)
-    (λ call k l. leads-write (nexts.Send call) (writing.Room file saved) shelf next new after l (tt, k.1))
-    (λ k l. leads-write nexts.Wait (writing.Room file saved) shelf next new after l (tt, k.1))
-    ended told c f
-  where
-    ended : (result : Result (Unit {0}) Fault) → SaveFine (syncs.sync_next (ends_as result)) saved → writes.Follows (ends_as result) wsize m file saved turn shelf next new after → WriteFine next new
-    ended (Ok nothing) k l = writes-fine wsize m.lane file m.offset (writes.made_bytes m.text) turn (record shelf { order = left m.lane shelf.order }) next new after l
-    ended (Err fault) k l = leads-write (nexts.Done (answers.Refused fault)) writing.Idle (record shelf { order = left m.lane shelf.order }) next new after l (k.0, tt)
-
-pub write-takes : (at : Writing) (wsize : ℕ) (m : WriteFile) (sent turn : Turn) (came : Result Reply Fault) (shelf : Shelf) (next : Next) (new : Writing) (after : Shelf)
-    → FineResult came → FineWriting at → writes.TakesIn at wsize m sent turn came shelf next new after → WriteFine next new
-write-takes writing.Idle wsize m sent turn came shelf next new after n f t = leads-write nexts.Wait writing.Idle shelf next new after t (tt, tt)
-write-takes (writing.Room file saving) wsize m sent turn came shelf next new after n f t =
-    follows-write t.told wsize m file t.saved turn _ next new after
-    (takes-fine wsize sent turn came shelf.repeats saving shelf.back t.told t.saved t.back t.repeats n f t.takes) t.follows
-
--- ---- syncs
-
-abbrev pub FineSyncing : Syncing → Type 0
-FineSyncing syncing.Idle = Unit {0}
-FineSyncing (syncing.Saves saving) = FineOption saving.refusal
-
-abbrev pub SyncFine : Next → Syncing → Type 0
-SyncFine next state = FineNext next × FineSyncing state
-
-sync-as : (to : Next) (at : Syncing) (next : Next) (state : Syncing) → next ≡ to → state ≡ at → SyncFine to at → SyncFine next state
-sync-as to at next state is same f = (fine-as to next is f.0, subst FineSyncing (sym same) f.1)
-
-sync-follows : (gives : _) (saved : Saving) (next : Next) (state : Syncing) → next ≡ syncs.sync_next gives → state ≡ syncs.sync_state gives saved
-    → SaveFine (syncs.sync_next gives) saved → SyncFine next state
-sync-follows gives saved next state is to c = by-step
-    (λ g. next ≡ syncs.sync_next g → state ≡ syncs.sync_state g saved → SaveFine (syncs.sync_next g) saved → SyncFine next state)
-    (λ call n t k. sync-as (nexts.Send call) (syncing.Saves saved) next state n t (tt, k.1))
-    (λ n t k. sync-as nexts.Wait (syncing.Saves saved) next state n t (tt, k.1))
-    (λ result n t k. sync-as (nexts.Done (syncs.answer_of result)) syncing.Idle next state n t (k.0, tt)) gives is to c
-
-sync-queues : (b : Bool) (wsize lane : ℕ) (turn : Turn) (saving : Saving) (old : Shelf) (next : Next) (state : Syncing) (new : Shelf) → FineOption saving.refusal
-    → syncs.QueuesIf b wsize lane turn saving old next state new → SyncFine next state
-sync-queues true wsize lane turn saving old next state new f q =
-    sync-follows q.gives q.saved next state q.follows.next_is q.follows.state_is (goes-fine wsize turn.xid turn.room false saving old.back q.gives q.saved new.back f q.goes)
-sync-queues false wsize lane turn saving old next state new f q = sync-as nexts.Wait (syncing.Saves saving) next state q.next_is q.state_is (tt, f)
-
-pub sync-starts : (found : Option (List ℕ)) (wsize : ℕ) (m : SyncFile) (turn : Turn) (old : Shelf) (next : Next) (state : Syncing) (new : Shelf) → FineSyncing m.state
-    → syncs.StartsAt found wsize m turn old next state new → SyncFine next state
-sync-starts None wsize m turn old next state new f s = sync-as (nexts.Done (answers.Refused faults.Slot)) m.state next state s.next_is s.state_is (tt, f)
-sync-starts (Some file) wsize m turn old next state new f s =
-    sync-queues (is_first m.lane (joined m.lane file old).order) wsize m.lane turn (saves.begun file old.seq) (joined m.lane file old) next state new tt s
-
-pub sync-resumes : (at : Syncing) (wsize : ℕ) (m : SyncFile) (turn : Turn) (old : Shelf) (next : Next) (state : Syncing) (new : Shelf) → FineSyncing at
-    → syncs.Resumes at wsize m turn old next state new → SyncFine next state
-sync-resumes syncing.Idle wsize m turn old next state new f r = sync-as nexts.Wait syncing.Idle next state r.next_is r.state_is (tt, tt)
-sync-resumes (syncing.Saves saving) wsize m turn old next state new f r = sync-queues (is_first m.lane old.order) wsize m.lane turn saving old next state new f r
-
-pub sync-takes : (at : Syncing) (wsize : ℕ) (m : SyncFile) (sent turn : Turn) (came : Result Reply Fault) (old : Shelf) (next : Next) (state : Syncing) (new : Shelf)
-    → FineResult came → FineSyncing at → syncs.Takes at wsize m sent turn came old next state new → SyncFine next state
-sync-takes syncing.Idle wsize m sent turn came old next state new n f t = sync-as nexts.Wait syncing.Idle next state t.next_is t.state_is (tt, tt)
-sync-takes (syncing.Saves saving) wsize m sent turn came old next state new n f t =
-    sync-follows t.gives t.saved next state t.follows.next_is t.follows.state_is
-    (takes-fine wsize sent turn came old.repeats saving old.back t.gives t.saved new.back new.repeats n f t.takes)
-
--- ---- closes
-
-abbrev pub FineClosing : Closing → Type 0
-FineClosing closing.Idle = Unit {0}
-FineClosing (closing.Queued saving) = FineOption saving.refusal
-FineClosing (closing.Saves saving) = FineOption saving.refusal
-FineClosing (closing.ToRemove removal) = FineOption removal.refusal
-FineClosing (closing.Removing removal) = FineOption removal.refusal
-
-abbrev pub CloseFine : Next → Closing → Type 0
-CloseFine next state = FineNext next × FineClosing state
-
-close-as : (to : Next) (at : Closing) (next : Next) (state : Closing) → next ≡ to → state ≡ at → CloseFine to at → CloseFine next state
-close-as to at next state is same f = (fine-as to next is f.0, subst FineClosing (sym same) f.1)
-
-closed-fine : (why : Option Fault) → FineOption why → FineAnswer (closed_answer why)
-closed-fine None n = tt
-closed-fine (Some fault) n = n
-
-close-asks : (room : Bool) (removal : Removal) (next : Next) (state : Closing) → FineOption removal.refusal → next ≡ closes.ask_next room removal → state ≡ closes.ask_state room removal
-    → CloseFine next state
-close-asks true removal next state f is to = close-as (nexts.Send (remove_of removal)) (closing.Removing removal) next state is to (tt, f)
-close-asks false removal next state f is to = close-as nexts.Wait (closing.ToRemove removal) next state is to (tt, f)
-
-close-ends : (lane : ℕ) (file : List ℕ) (why : Option Fault) (old : Shelf) (next : Next) (state : Closing) (new : Shelf) → FineOption why
-    → closes.Ends lane file why old next state new → CloseFine next state
-close-ends lane file why old next state new n e = close-as (nexts.Done (closed_answer why)) closing.Idle next state e.next_is e.state_is (closed-fine why n, tt)
-
-close-ends-at : (place : Option (List ℕ × List ℕ)) (lane : ℕ) (room : Bool) (file : List ℕ) (why : Option Fault) (old : Shelf) (next : Next) (state : Closing) (new : Shelf)
-    → FineOption why → closes.EndsAt place lane room file why old next state new → CloseFine next state
-close-ends-at None lane room file why old next state new n e = close-ends lane file why old next state new n e
-close-ends-at (Some place) lane room file why old next state new n e = close-asks room _ next state n e.next_is e.state_is
-
-close-frees : (lane slot : ℕ) (room : Bool) (file : List ℕ) (why : Option Fault) (old : Shelf) (next : Next) (state : Closing) (new : Shelf) → FineOption why
-    → closes.Frees lane slot room file why old next state new → CloseFine next state
-close-frees lane slot room file why old next state new n f = close-ends-at f.place lane room file why f.freed next state new n f.ends
-
-close-waits : (begun : Bool) (saving : Saving) → FineOption saving.refusal → FineClosing (closes.waits_as begun saving)
-close-waits true saving f = f
-close-waits false saving f = f
-
-why-fine : (result : Result (Unit {0}) Fault) → FineNext (syncs.sync_next (ends_as result)) → FineOption (refusal_of result)
-why-fine (Ok done) n = tt
-why-fine (Err fault) n = n
-
-close-follows : (gives : _) (lane slot : ℕ) (room begun : Bool) (saving : Saving) (old : Shelf) (next : Next) (state : Closing) (new : Shelf)
-    → SaveFine (syncs.sync_next gives) saving → closes.Follows gives lane slot room begun saving old next state new → CloseFine next state
-close-follows gives lane slot room begun saving old next state new c f = by-step
-    (λ g. SaveFine (syncs.sync_next g) saving → closes.Follows g lane slot room begun saving old next state new → CloseFine next state)
-    (λ call k l. close-as (nexts.Send call) (closing.Saves saving) next state l.0 l.1 (tt, k.1))
-    (λ k l. close-as nexts.Wait (closes.waits_as begun saving) next state l.0 l.1 (tt, close-waits begun saving k.1))
-    (λ result k l. close-frees lane slot room saving.file (refusal_of result) old next state new (why-fine result k.0) l) gives c f
-
-close-goes : (wsize lane slot : ℕ) (turn : Turn) (begun : Bool) (saving : Saving) (old : Shelf) (next : Next) (state : Closing) (new : Shelf) → FineOption saving.refusal
-    → closes.GoesOn wsize lane slot turn begun saving old next state new → CloseFine next state
-close-goes wsize lane slot turn begun saving old next state new f g =
-    close-follows g.gives lane slot turn.room begun g.saved g.gone next state new (goes-fine wsize turn.xid turn.room false saving old.back g.gives g.saved g.gone.back f g.goes) g.follows
-
-close-begins : (end : Option ℕ) (wsize lane slot : ℕ) (turn : Turn) (saving : Saving) (old : Shelf) (next : Next) (state : Closing) (new : Shelf) → FineOption saving.refusal
-    → closes.Begins end wsize lane slot turn saving old next state new → CloseFine next state
-close-begins None wsize lane slot turn saving old next state new f b = close-frees lane slot turn.room saving.file None old next state new tt b
-close-begins (Some end) wsize lane slot turn saving old next state new f b = close-goes wsize lane slot turn false saving old next state new f b
-
-close-queues : (b : Bool) (wsize lane slot : ℕ) (turn : Turn) (saving : Saving) (old : Shelf) (next : Next) (state : Closing) (new : Shelf) → FineOption saving.refusal
-    → closes.QueuesIf b wsize lane slot turn saving old next state new → CloseFine next state
-close-queues true wsize lane slot turn saving old next state new f q = close-begins (last_end (of_file saving.file old.back).segments) wsize lane slot turn saving old next state new f q
-close-queues false wsize lane slot turn saving old next state new f q = close-as nexts.Wait (closing.Queued saving) next state q.next_is q.state_is (tt, f)
-
-pub close-starts : (found : Option (List ℕ)) (wsize : ℕ) (m : CloseFile) (turn : Turn) (old : Shelf) (next : Next) (state : Closing) (new : Shelf) → FineClosing m.state
-    → closes.StartsAt found wsize m turn old next state new → CloseFine next state
-close-starts None wsize m turn old next state new f s = close-as (nexts.Done (answers.Refused faults.Slot)) m.state next state s.next_is s.state_is (tt, f)
-close-starts (Some file) wsize m turn old next state new f s =
-    close-queues (is_first m.lane (joined m.lane file old).order) wsize m.lane m.slot turn (saves.begun file old.seq) (joined m.lane file old) next state new tt s
-
-close-on : (b : Bool) (wsize lane slot : ℕ) (turn : Turn) (saving : Saving) (old : Shelf) (next : Next) (state : Closing) (new : Shelf) → FineOption saving.refusal
-    → closes.GoesOnIf b wsize lane slot turn saving old next state new → CloseFine next state
-close-on true wsize lane slot turn saving old next state new f g = close-goes wsize lane slot turn true saving old next state new f g
-close-on false wsize lane slot turn saving old next state new f g = close-as nexts.Wait (closing.Saves saving) next state g.next_is g.state_is (tt, f)
-
-pub close-resumes : (at : Closing) (wsize : ℕ) (m : CloseFile) (turn : Turn) (old : Shelf) (next : Next) (state : Closing) (new : Shelf) → FineClosing at
-    → closes.Resumes at wsize m turn old next state new → CloseFine next state
-close-resumes closing.Idle wsize m turn old next state new f r = close-as nexts.Wait closing.Idle next state r.next_is r.state_is (tt, tt)
-close-resumes (closing.Queued saving) wsize m turn old next state new f r = close-queues (is_first m.lane old.order) wsize m.lane m.slot turn saving old next state new f r
-close-resumes (closing.Saves saving) wsize m turn old next state new f r = close-on (is_first m.lane old.order) wsize m.lane m.slot turn saving old next state new f r
-close-resumes (closing.ToRemove removal) wsize m turn old next state new f r = close-asks turn.room removal next state f r.next_is r.state_is
-close-resumes (closing.Removing removal) wsize m turn old next state new f r = close-as nexts.Wait (closing.Removing removal) next state r.next_is r.state_is (tt, f)
-
-ends-if : (b : Bool) (lane : ℕ) (removal : Removal) (old : Shelf) (next : Next) (state : Closing) (new : Shelf) → FineOption removal.refusal
-    → closes.EndsIf b lane removal old next state new → CloseFine next state
-ends-if true lane removal old next state new f e = close-as (nexts.Send (remove_of removal)) (closing.Removing removal) next state e.next_is e.state_is (tt, f)
-ends-if false lane removal old next state new f e = close-ends lane removal.file removal.refusal old next state new f e
-
-pub close-takes : (at : Closing) (wsize : ℕ) (m : CloseFile) (sent turn : Turn) (came : Result Reply Fault) (old : Shelf) (next : Next) (state : Closing) (new : Shelf)
-    → FineResult came → FineClosing at → closes.Takes at wsize m sent turn came old next state new → CloseFine next state
-close-takes closing.Idle wsize m sent turn came old next state new n f t = close-as nexts.Wait closing.Idle next state t.next_is t.state_is (tt, tt)
-close-takes (closing.Queued saving) wsize m sent turn came old next state new n f t = close-as nexts.Wait (closing.Queued saving) next state t.next_is t.state_is (tt, f)
-close-takes (closing.Saves saving) wsize m sent turn came old next state new n f t =
-    close-follows t.gives m.lane m.slot turn.room true t.saved t.took next state new
-    (takes-fine wsize sent turn came old.repeats saving old.back t.gives t.saved t.took.back t.took.repeats n f t.takes) t.follows
-close-takes (closing.ToRemove removal) wsize m sent turn came old next state new n f t = close-as nexts.Wait (closing.ToRemove removal) next state t.next_is t.state_is (tt, f)
-close-takes (closing.Removing removal) wsize m sent turn came old next state new n f t = ends-if _ m.lane removal t.took next state new f t.ends
-
--- ---- truncates
-
-queued-fine : (b : Bool) (call : Call) → FineNext (if b then nexts.Send call else nexts.Wait)
-queued-fine b call = call-or-wait b call
-
-pub truncate-starts : (found : Result (List ℕ) Fault) (m : TruncateFile) (turn : Turn) (old : Shelf) (next : Next) → FineResult found → next ≡ truncates.begun_next found m turn old → FineNext next
-truncate-starts (Ok file) m turn old next n is = fine-as _ next is (queued-fine _ _)
-truncate-starts (Err fault) m turn old next n is = fine-as _ next is n
-
-pub truncate-resumes : (at : Truncating) (m : TruncateFile) (turn : Turn) (old : Shelf) (next : Next) → next ≡ truncates.resumed_next at m turn old → FineNext next
-truncate-resumes truncating.Idle m turn old next is = fine-as nexts.Wait next is tt
-truncate-resumes (truncating.Queued file upto) m turn old next is = fine-as _ next is (queued-fine _ _)
-truncate-resumes (truncating.Asked file upto) m turn old next is = fine-as nexts.Wait next is tt
-
-size-by-fine : (reply : FileKept) → FineResult (truncates.in_reply reply)
-size-by-fine (kept.SetAttr wcc) = tt
-size-by-fine (kept.SetAttrFail status wcc) = tt
-size-by-fine reply = tt
-
-size-fine : (came : Result Reply Fault) → FineResult came → FineResult (truncates.size_told came)
-size-fine (Ok (replies.File reply)) n = size-by-fine reply
-size-fine (Ok (replies.Dir reply)) n = tt
-size-fine (Ok (replies.Mount reply)) n = tt
-size-fine (Err fault) n = n
-
-told-size : (told : Result Wcc Fault) → FineResult told → FineNext (truncates.told_next told)
-told-size (Ok wcc) n = tt
-told-size (Err fault) n = n
-
-again-size : (b : Bool) (call : Call) (told : Result Wcc Fault) → FineResult told → FineNext (if b then nexts.Send call else truncates.told_next told)
-again-size true call told n = tt
-again-size false call told n = told-size told n
-
-pub truncate-takes : (at : Truncating) (m : TruncateFile) (came : Result Reply Fault) (sent turn : Turn) (repeats : List Repeat) (next : Next) → FineResult came
-    → next ≡ truncates.took_next at m came sent turn repeats → FineNext next
-truncate-takes truncating.Idle m came sent turn repeats next n is = fine-as nexts.Wait next is tt
-truncate-takes (truncating.Queued file upto) m came sent turn repeats next n is = fine-as nexts.Wait next is tt
-truncate-takes (truncating.Asked file upto) m came sent turn repeats next n is = fine-as _ next is (again-size _ (truncates.size_call file m.size) (truncates.size_told came) (size-fine came n))
-
--- ---- puts
-
-abbrev pub FinePutting : Putting → Type 0
-FinePutting putting.Idle = Unit {0}
-FinePutting putting.Opens = Unit {0}
-FinePutting (putting.Adds file) = Unit {0}
-FinePutting (putting.Saves saving) = FineOption saving.refusal
-
-abbrev pub FinePut : PutFile → Type 0
-FinePut m = FineWriting m.write.state × FinePutting m.state
-
-abbrev pub PutFine : Next → PutFile → Type 0
-PutFine next m = FineNext next × FinePut m
-
-abbrev PutStep : Next → Putting → Type 0
-PutStep next state = FineNext next × FinePutting state
-
-put-as : (to : Next) (at : Putting) (next : Next) (state : Putting) → next ≡ to → state ≡ at → PutStep to at → PutStep next state
-put-as to at next state is same f = (fine-as to next is f.0, subst FinePutting (sym same) f.1)
-
-put-ends : (lane : ℕ) (file : List ℕ) (why : Option Fault) (old : Shelf) (next : Next) (state : Putting) (new : Shelf) → FineOption why → puts.Ends lane file why old next state new → PutStep next state
-put-ends lane file why old next state new n e = put-as (nexts.Done (closed_answer why)) putting.Idle next state e.next_is e.state_is (closed-fine why n, tt)
-
-put-follows : (gives : _) (lane : ℕ) (saving : Saving) (old : Shelf) (next : Next) (state : Putting) (new : Shelf) → SaveFine (syncs.sync_next gives) saving
-    → puts.Follows gives lane saving old next state new → PutStep next state
-put-follows gives lane saving old next state new c f = by-step
-    (λ g. SaveFine (syncs.sync_next g) saving → puts.Follows g lane saving old next state new → PutStep next state)
-    (λ call k l. put-as (nexts.Send call) (putting.Saves saving) next state l.0 l.1 (tt, k.1))
-    (λ k l. put-as nexts.Wait (putting.Saves saving) next state l.0 l.1 (tt, k.1))
-    (λ result k l. put-ends lane saving.file (refusal_of result) old next state new (why-fine result k.0) l) gives c f
-
-put-queues : (b : Bool) (wsize lane : ℕ) (turn : Turn) (saving : Saving) (old : Shelf) (next : Next) (state : Putting) (new : Shelf) → FineOption saving.refusal
-    → puts.QueuesIf b wsize lane turn saving old next state new → PutStep next state
-put-queues true wsize lane turn saving old next state new f q =
-    put-follows q.gives lane q.saved q.gone next state new (goes-fine wsize turn.xid turn.room false saving old.back q.gives q.saved q.gone.back f q.goes) q.follows
-put-queues false wsize lane turn saving old next state new f q = put-as nexts.Wait (putting.Saves saving) next state q.next_is q.state_is (tt, f)
-
-after-write : (told : Next) (wsize lane : ℕ) (file : List ℕ) (turn : Turn) (old : Shelf) (next : Next) (state : Putting) (new : Shelf) → FineNext told
-    → puts.AfterWrite told wsize lane file turn old next state new → PutStep next state
-after-write (nexts.Send call) wsize lane file turn old next state new n a = put-as (nexts.Send call) (putting.Adds file) next state a.0 a.1 (tt, tt)
-after-write nexts.Wait wsize lane file turn old next state new n a = put-as nexts.Wait (putting.Adds file) next state a.0 a.1 (tt, tt)
-after-write (nexts.Done (answers.Done value)) wsize lane file turn old next state new n a =
-    put-queues (is_first lane (joined lane file old).order) wsize lane turn (saves.begun file old.seq) (joined lane file old) next state new tt a
-after-write (nexts.Done (answers.Refused fault)) wsize lane file turn old next state new n a = put-ends lane file (Some fault) old next state new n a
-
-put-is : (to : PutFile) (next : Next) (new : PutFile) → new ≡ to → PutFine next to → PutFine next new
-put-is to next new is f = (f.0, subst FinePut (sym is) f.1)
-
-writes-on : (wsize : ℕ) (m : PutFile) (file : List ℕ) (turn : Turn) (told : Next) (written : Writing) (mid : Shelf) (next : Next) (new : PutFile) (after : Shelf) → WriteFine told written
-    → puts.WritesOn wsize m file turn told written mid next new after → PutFine next new
-writes-on wsize m file turn told written mid next new after f w =
-    let step = after-write told wsize m.write.lane file turn mid next new.state after f.0 w.follows in
-    put-is (record m { write = record m.write { state = written }; state = new.state }) next new w.machine_is (step.0, (f.1, step.1))
-
-stays-put : (m : PutFile) (old : Shelf) (next : Next) (new : PutFile) (after : Shelf) → FinePut m → puts.Stays m old next new after → PutFine next new
-stays-put m old next new after f s = put-is m next new s.machine_is (fine-as nexts.Wait next s.next_is tt, f)
-
-pub put-starts : (m : PutFile) (turn : Turn) (next : Next) → next ≡ opens.goes_as (opening.go_next (puts.opening_at turn m) turn) → FineNext next
-put-starts m turn next is = fine-as _ next is (opening-next (opening.go_next (puts.opening_at turn m) turn) (go-opening (puts.opening_at turn m) turn))
-
-pub put-resumes : (at : Putting) (wsize : ℕ) (m : PutFile) (turn : Turn) (old : Shelf) (next : Next) (new : PutFile) (after : Shelf) → FineWriting m.write.state → FinePutting at → m.state ≡ at
-    → puts.Resumes at wsize m turn old next new after → PutFine next new
-put-resumes putting.Idle wsize m turn old next new after w f is r = stays-put m old next new after (w, subst FinePutting (sym is) tt) r
-put-resumes putting.Opens wsize m turn old next new after w f is r =
-    put-is (record m { opening = opening.go_after m.opening turn }) next new r.1
-    (fine-as _ next r.0 (opening-next (opening.go_next m.opening turn) (go-opening m.opening turn)), (w, subst FinePutting (sym is) tt))
-put-resumes (putting.Adds file) wsize m turn old next new after w f is r =
-    writes-on wsize m file turn r.told r.written r.mid next new after (write-resumes m.write.state wsize m.write.lane turn old r.told r.written r.mid w r.resumes) r.goes
-put-resumes (putting.Saves saving) wsize m turn old next new after w f is r =
-    let step = put-queues (is_first m.write.lane old.order) wsize m.write.lane turn saving old next new.state after f r.0 in
-    put-is (record m { state = new.state }) next new r.1 (step.0, (w, step.1))
-
-after-opening : (step : OpeningNext) (wsize : ℕ) (m : PutFile) (turn : Turn) (old : Shelf) (next : Next) (new : PutFile) (after : Shelf) → FineOpening step → FinePut m
-    → puts.AfterOpening step wsize m turn old next new after → PutFine next new
-after-opening (openings.Send call) wsize m turn old next new after n f a = put-is m next new a.1 (fine-as (nexts.Send call) next a.0 tt, f)
-after-opening openings.Wait wsize m turn old next new after n f a = stays-put m old next new after f a
-after-opening (openings.Ended (Ok file)) wsize m turn old next new after n f a =
-    writes-on wsize m file turn a.told a.written a.mid next new after
-    (writes-fine wsize m.write.lane file m.write.offset (writes.made_bytes m.write.text) turn (puts.put_at m.write.lane file old) a.told a.written a.mid a.writes) a.goes
-after-opening (openings.Ended (Err fault)) wsize m turn old next new after n f a =
-    put-is (record m { state = putting.Idle }) next new a.1 (fine-as (nexts.Done (answers.Refused fault)) next a.0 n, (f.0, tt))
-
-pub put-takes : (at : Putting) (wsize : ℕ) (m : PutFile) (sent turn : Turn) (came : Result Reply Fault) (old : Shelf) (next : Next) (new : PutFile) (after : Shelf) → FineResult came
-    → FineWriting m.write.state → FinePutting at → m.state ≡ at → puts.Takes at wsize m sent turn came old next new after → PutFine next new
-put-takes putting.Idle wsize m sent turn came old next new after n w f is t = stays-put m old next new after (w, subst FinePutting (sym is) tt) t
-put-takes putting.Opens wsize m sent turn came old next new after n w f is t =
-    let again = opening.opening_again m.opening sent turn came old.repeats in
-    after-opening t.step wsize (puts.led again m turn came t.took.attrs old.pages) turn t.took next new after
-    (opening-took again m.opening sent turn (opening.led_on m.opening turn.now came t.took.attrs old.pages) t.step old.pages t.took.pages (led-on m.opening turn.now came t.took.attrs old.pages n) t.leads)
-    (w, subst FinePutting (sym is) tt) t.follows
-put-takes (putting.Adds file) wsize m sent turn came old next new after n w f is t =
-    writes-on wsize m file turn t.told t.written t.mid next new after (write-takes m.write.state wsize m.write sent turn came old t.told t.written t.mid n w t.takes) t.goes
-put-takes (putting.Saves saving) wsize m sent turn came old next new after n w f is t =
-    let step = put-follows t.0.gives m.write.lane t.0.saved t.0.took next new.state after
-    (takes-fine wsize sent turn came old.repeats saving old.back t.0.gives t.0.saved t.0.took.back t.0.took.repeats n f t.0.takes) t.0.follows in
-    put-is (record m { state = new.state }) next new t.1 (step.0, (w, step.1))
+module _ (P : Fault → Type 0) (own : OwnFaults P) where
+  -- ---- writes
+
+  abbrev pub FineWriting : Writing → Type 0
+  FineWriting writing.Idle = Unit {0}
+  FineWriting (writing.Room file saving) = FineOption P saving.refusal
+
+  abbrev pub WriteFine : Next → Writing → Type 0
+  WriteFine next state = FineNext P next × FineWriting state
+
+  leads-write : (to : Next) (state : Writing) (shelf : Shelf) (next : Next) (new : Writing) (after : Shelf) → writes.Leads to state shelf next new after → WriteFine to state → WriteFine next new
+  leads-write to state shelf next new after l f = (fine-as P to next l.gives_next f.0, subst FineWriting (sym l.keeps) f.1)
+
+  room-write : (told : _) (file : List ℕ) (saved : Saving) → SaveFine P own (syncs.sync_next told) saved → WriteFine (writes.room_next told) (writes.room_state told file saved)
+  room-write told file saved f = by-step
+      (λ g. SaveFine P own (syncs.sync_next g) saved → WriteFine (writes.room_next g) (writes.room_state g file saved))
+      (λ call k. (tt, k.1)) (λ k. (tt, k.1)) ended told f
+    where
+      ended : (result : Result (Unit {0}) Fault) → SaveFine P own (syncs.sync_next (ends_as result)) saved → WriteFine (writes.room_next (ends_as result)) (writes.room_state (ends_as result) file saved)
+      ended (Ok nothing) k = (tt, k.1)
+      ended (Err fault) k = (k.0, tt)
+
+  saves-if : (b : Bool) (wsize lane : ℕ) (file : List ℕ) (saving : Saving) (turn : Turn) (shelf : Shelf) (next : Next) (new : Writing) (after : Shelf) → FineOption P saving.refusal
+      → writes.SavesIf b wsize lane file saving turn shelf next new after → WriteFine next new
+  saves-if true wsize lane file saving turn shelf next new after f s =
+      leads-write (writes.room_next s.told) (writes.room_state s.told file s.saved) _ next new after s.leads
+      (room-write s.told file s.saved (goes-fine P own wsize turn.xid turn.room false saving shelf.back s.told s.saved s.back f s.goes))
+  saves-if false wsize lane file saving turn shelf next new after f s = leads-write nexts.Wait (writing.Room file saving) shelf next new after s (tt, f)
+
+  refuses-write : (fault : Fault) (shelf : Shelf) (next : Next) (new : Writing) (after : Shelf) → P fault → writes.Refuses fault shelf next new after → WriteFine next new
+  refuses-write fault shelf next new after n l = leads-write (nexts.Done (answers.Refused fault)) writing.Idle shelf next new after l (n, tt)
+
+  writes-if : (b : Bool) (wsize lane : ℕ) (file : List ℕ) (offset : ℕ) (bytes : List ℕ) (turn : Turn) (shelf : Shelf) (next : Next) (new : Writing) (after : Shelf)
+      → writes.WritesIf b wsize lane file offset bytes turn shelf next new after → WriteFine next new
+  writes-if true wsize lane file offset bytes turn shelf next new after (inl s) =
+      saves-if (is_first lane (joined lane s.of shelf).order) wsize lane file (saves.begun s.of shelf.seq) turn (joined lane s.of shelf) next new after tt s.saves
+  writes-if true wsize lane file offset bytes turn shelf next new after (inr s) = refuses-write faults.Memory shelf next new after own.memory s.1
+  writes-if false wsize lane file offset bytes turn shelf next new after (inl s) = leads-write (nexts.Done (answers.Done values.Nothing)) writing.Idle _ next new after s.leads (tt, tt)
+  writes-if false wsize lane file offset bytes turn shelf next new after (inr s) = refuses-write faults.Memory shelf next new after own.memory s
+
+  writes-fine : (wsize lane : ℕ) (file : List ℕ) (offset : ℕ) (bytes : List ℕ) (turn : Turn) (shelf : Shelf) (next : Next) (new : Writing) (after : Shelf)
+      → writes.Writes wsize lane file offset bytes turn shelf next new after → WriteFine next new
+  writes-fine wsize lane file offset bytes turn shelf next new after w = writes-if _ wsize lane file offset bytes turn shelf next new after w
+
+  -- why a file may not be written
+  in-mode : (mode : Mode) (file : List ℕ) → (mode ≡ modes.R → P faults.Mode) → FineResult P (in_mode mode file)
+  in-mode modes.R file right = right refl
+  in-mode modes.W file right = tt
+  in-mode modes.RW file right = tt
+  in-mode modes.C file right = tt
+  in-mode modes.X file right = tt
+
+  pub of-open : (opened : Option Opened) → (opened ≡ None → P faults.Slot) → ((o : Opened) → opened ≡ Some o → o.mode ≡ modes.R → P faults.Mode) → FineResult P (of_open opened)
+  of-open None place right = place refl
+  of-open (Some opened) place right = in-mode opened.mode opened.file (right opened refl)
+
+  pub write-starts : (found : Result (List ℕ) Fault) (wsize : ℕ) (m : WriteFile) (turn : Turn) (shelf : Shelf) (next : Next) (new : WriteFile) (after : Shelf) → FineResult P found
+      → writes.StartsAt found wsize m turn shelf next new after → WriteFine next new.state
+  write-starts (Err fault) wsize m turn shelf next new after n s = refuses-write fault shelf next new.state after n s.refuses
+  write-starts (Ok file) wsize m turn shelf next new after n (inl s) = writes-fine wsize m.lane file m.offset _ turn shelf next new.state after s.writes
+  write-starts (Ok file) wsize m turn shelf next new after n (inr s) = refuses-write faults.Memory shelf next new.state after own.memory s.refuses
+
+  pub write-resumes : (at : Writing) (wsize lane : ℕ) (turn : Turn) (shelf : Shelf) (next : Next) (new : Writing) (after : Shelf) → FineWriting at
+      → writes.ResumesIn at wsize lane turn shelf next new after → WriteFine next new
+  write-resumes writing.Idle wsize lane turn shelf next new after f r = leads-write nexts.Wait writing.Idle shelf next new after r (tt, tt)
+  write-resumes (writing.Room file saving) wsize lane turn shelf next new after f r = saves-if (is_first lane shelf.order) wsize lane file saving turn shelf next new after f r
+
+  follows-write : (told : _) (wsize : ℕ) (m : WriteFile) (file : List ℕ) (saved : Saving) (turn : Turn) (shelf : Shelf) (next : Next) (new : Writing) (after : Shelf)
+      → SaveFine P own (syncs.sync_next told) saved → writes.Follows told wsize m file saved turn shelf next new after → WriteFine next new
+  follows-write told wsize m file saved turn shelf next new after c f = by-step
+      (λ g. SaveFine P own (syncs.sync_next g) saved → writes.Follows g wsize m file saved turn shelf next new after → WriteFine next new)
+      (λ call k l. leads-write (nexts.Send call) (writing.Room file saved) shelf next new after l (tt, k.1))
+      (λ k l. leads-write nexts.Wait (writing.Room file saved) shelf next new after l (tt, k.1))
+      ended told c f
+    where
+      ended : (result : Result (Unit {0}) Fault) → SaveFine P own (syncs.sync_next (ends_as result)) saved → writes.Follows (ends_as result) wsize m file saved turn shelf next new after → WriteFine next new
+      ended (Ok nothing) k l = writes-fine wsize m.lane file m.offset (writes.made_bytes m.text) turn (record shelf { order = left m.lane shelf.order }) next new after l
+      ended (Err fault) k l = leads-write (nexts.Done (answers.Refused fault)) writing.Idle (record shelf { order = left m.lane shelf.order }) next new after l (k.0, tt)
+
+  pub write-takes : (at : Writing) (wsize : ℕ) (m : WriteFile) (sent turn : Turn) (came : Result Reply Fault) (shelf : Shelf) (next : Next) (new : Writing) (after : Shelf)
+      → Came P came → FineWriting at → writes.TakesIn at wsize m sent turn came shelf next new after → WriteFine next new
+  write-takes writing.Idle wsize m sent turn came shelf next new after n f t = leads-write nexts.Wait writing.Idle shelf next new after t (tt, tt)
+  write-takes (writing.Room file saving) wsize m sent turn came shelf next new after n f t =
+      follows-write t.told wsize m file t.saved turn _ next new after
+      (takes-fine P own wsize sent turn came shelf.repeats saving shelf.back t.told t.saved t.back t.repeats n f t.takes) t.follows
+
+  -- ---- syncs
+
+  abbrev pub FineSyncing : Syncing → Type 0
+  FineSyncing syncing.Idle = Unit {0}
+  FineSyncing (syncing.Saves saving) = FineOption P saving.refusal
+
+  abbrev pub SyncFine : Next → Syncing → Type 0
+  SyncFine next state = FineNext P next × FineSyncing state
+
+  sync-as : (to : Next) (at : Syncing) (next : Next) (state : Syncing) → next ≡ to → state ≡ at → SyncFine to at → SyncFine next state
+  sync-as to at next state is same f = (fine-as P to next is f.0, subst FineSyncing (sym same) f.1)
+
+  sync-follows : (gives : _) (saved : Saving) (next : Next) (state : Syncing) → next ≡ syncs.sync_next gives → state ≡ syncs.sync_state gives saved
+      → SaveFine P own (syncs.sync_next gives) saved → SyncFine next state
+  sync-follows gives saved next state is to c = by-step
+      (λ g. next ≡ syncs.sync_next g → state ≡ syncs.sync_state g saved → SaveFine P own (syncs.sync_next g) saved → SyncFine next state)
+      (λ call n t k. sync-as (nexts.Send call) (syncing.Saves saved) next state n t (tt, k.1))
+      (λ n t k. sync-as nexts.Wait (syncing.Saves saved) next state n t (tt, k.1))
+      (λ result n t k. sync-as (nexts.Done (syncs.answer_of result)) syncing.Idle next state n t (k.0, tt)) gives is to c
+
+  sync-queues : (b : Bool) (wsize lane : ℕ) (turn : Turn) (saving : Saving) (old : Shelf) (next : Next) (state : Syncing) (new : Shelf) → FineOption P saving.refusal
+      → syncs.QueuesIf b wsize lane turn saving old next state new → SyncFine next state
+  sync-queues true wsize lane turn saving old next state new f q =
+      sync-follows q.gives q.saved next state q.follows.next_is q.follows.state_is (goes-fine P own wsize turn.xid turn.room false saving old.back q.gives q.saved new.back f q.goes)
+  sync-queues false wsize lane turn saving old next state new f q = sync-as nexts.Wait (syncing.Saves saving) next state q.next_is q.state_is (tt, f)
+
+  pub sync-starts : (found : Option (List ℕ)) (wsize : ℕ) (m : SyncFile) (turn : Turn) (old : Shelf) (next : Next) (state : Syncing) (new : Shelf) → (found ≡ None → P faults.Slot) → FineSyncing m.state
+      → syncs.StartsAt found wsize m turn old next state new → SyncFine next state
+  sync-starts None wsize m turn old next state new place f s = sync-as (nexts.Done (answers.Refused faults.Slot)) m.state next state s.next_is s.state_is (place refl, f)
+  sync-starts (Some file) wsize m turn old next state new place f s =
+      sync-queues (is_first m.lane (joined m.lane file old).order) wsize m.lane turn (saves.begun file old.seq) (joined m.lane file old) next state new tt s
+
+  pub sync-resumes : (at : Syncing) (wsize : ℕ) (m : SyncFile) (turn : Turn) (old : Shelf) (next : Next) (state : Syncing) (new : Shelf) → FineSyncing at
+      → syncs.Resumes at wsize m turn old next state new → SyncFine next state
+  sync-resumes syncing.Idle wsize m turn old next state new f r = sync-as nexts.Wait syncing.Idle next state r.next_is r.state_is (tt, tt)
+  sync-resumes (syncing.Saves saving) wsize m turn old next state new f r = sync-queues (is_first m.lane old.order) wsize m.lane turn saving old next state new f r
+
+  pub sync-takes : (at : Syncing) (wsize : ℕ) (m : SyncFile) (sent turn : Turn) (came : Result Reply Fault) (old : Shelf) (next : Next) (state : Syncing) (new : Shelf)
+      → Came P came → FineSyncing at → syncs.Takes at wsize m sent turn came old next state new → SyncFine next state
+  sync-takes syncing.Idle wsize m sent turn came old next state new n f t = sync-as nexts.Wait syncing.Idle next state t.next_is t.state_is (tt, tt)
+  sync-takes (syncing.Saves saving) wsize m sent turn came old next state new n f t =
+      sync-follows t.gives t.saved next state t.follows.next_is t.follows.state_is
+      (takes-fine P own wsize sent turn came old.repeats saving old.back t.gives t.saved new.back new.repeats n f t.takes)
+
+  -- ---- closes
+
+  abbrev pub FineClosing : Closing → Type 0
+  FineClosing closing.Idle = Unit {0}
+  FineClosing (closing.Queued saving) = FineOption P saving.refusal
+  FineClosing (closing.Saves saving) = FineOption P saving.refusal
+  FineClosing (closing.ToRemove removal) = FineOption P removal.refusal
+  FineClosing (closing.Removing removal) = FineOption P removal.refusal
+
+  abbrev pub CloseFine : Next → Closing → Type 0
+  CloseFine next state = FineNext P next × FineClosing state
+
+  close-as : (to : Next) (at : Closing) (next : Next) (state : Closing) → next ≡ to → state ≡ at → CloseFine to at → CloseFine next state
+  close-as to at next state is same f = (fine-as P to next is f.0, subst FineClosing (sym same) f.1)
+
+  closed-fine : (why : Option Fault) → FineOption P why → FineAnswer P (closed_answer why)
+  closed-fine None n = tt
+  closed-fine (Some fault) n = n
+
+  close-asks : (room : Bool) (removal : Removal) (next : Next) (state : Closing) → FineOption P removal.refusal → next ≡ closes.ask_next room removal → state ≡ closes.ask_state room removal
+      → CloseFine next state
+  close-asks true removal next state f is to = close-as (nexts.Send (remove_of removal)) (closing.Removing removal) next state is to (tt, f)
+  close-asks false removal next state f is to = close-as nexts.Wait (closing.ToRemove removal) next state is to (tt, f)
+
+  close-ends : (lane : ℕ) (file : List ℕ) (why : Option Fault) (old : Shelf) (next : Next) (state : Closing) (new : Shelf) → FineOption P why
+      → closes.Ends lane file why old next state new → CloseFine next state
+  close-ends lane file why old next state new n e = close-as (nexts.Done (closed_answer why)) closing.Idle next state e.next_is e.state_is (closed-fine why n, tt)
+
+  close-ends-at : (place : Option (List ℕ × List ℕ)) (lane : ℕ) (room : Bool) (file : List ℕ) (why : Option Fault) (old : Shelf) (next : Next) (state : Closing) (new : Shelf)
+      → FineOption P why → closes.EndsAt place lane room file why old next state new → CloseFine next state
+  close-ends-at None lane room file why old next state new n e = close-ends lane file why old next state new n e
+  close-ends-at (Some place) lane room file why old next state new n e = close-asks room _ next state n e.next_is e.state_is
+
+  close-frees : (lane slot : ℕ) (room : Bool) (file : List ℕ) (why : Option Fault) (old : Shelf) (next : Next) (state : Closing) (new : Shelf) → FineOption P why
+      → closes.Frees lane slot room file why old next state new → CloseFine next state
+  close-frees lane slot room file why old next state new n f = close-ends-at f.place lane room file why f.freed next state new n f.ends
+
+  close-waits : (begun : Bool) (saving : Saving) → FineOption P saving.refusal → FineClosing (closes.waits_as begun saving)
+  close-waits true saving f = f
+  close-waits false saving f = f
+
+  why-fine : (result : Result (Unit {0}) Fault) → FineNext P (syncs.sync_next (ends_as result)) → FineOption P (refusal_of result)
+  why-fine (Ok done) n = tt
+  why-fine (Err fault) n = n
+
+  close-follows : (gives : _) (lane slot : ℕ) (room begun : Bool) (saving : Saving) (old : Shelf) (next : Next) (state : Closing) (new : Shelf)
+      → SaveFine P own (syncs.sync_next gives) saving → closes.Follows gives lane slot room begun saving old next state new → CloseFine next state
+  close-follows gives lane slot room begun saving old next state new c f = by-step
+      (λ g. SaveFine P own (syncs.sync_next g) saving → closes.Follows g lane slot room begun saving old next state new → CloseFine next state)
+      (λ call k l. close-as (nexts.Send call) (closing.Saves saving) next state l.0 l.1 (tt, k.1))
+      (λ k l. close-as nexts.Wait (closes.waits_as begun saving) next state l.0 l.1 (tt, close-waits begun saving k.1))
+      (λ result k l. close-frees lane slot room saving.file (refusal_of result) old next state new (why-fine result k.0) l) gives c f
+
+  close-goes : (wsize lane slot : ℕ) (turn : Turn) (begun : Bool) (saving : Saving) (old : Shelf) (next : Next) (state : Closing) (new : Shelf) → FineOption P saving.refusal
+      → closes.GoesOn wsize lane slot turn begun saving old next state new → CloseFine next state
+  close-goes wsize lane slot turn begun saving old next state new f g =
+      close-follows g.gives lane slot turn.room begun g.saved g.gone next state new (goes-fine P own wsize turn.xid turn.room false saving old.back g.gives g.saved g.gone.back f g.goes) g.follows
+
+  close-begins : (end : Option ℕ) (wsize lane slot : ℕ) (turn : Turn) (saving : Saving) (old : Shelf) (next : Next) (state : Closing) (new : Shelf) → FineOption P saving.refusal
+      → closes.Begins end wsize lane slot turn saving old next state new → CloseFine next state
+  close-begins None wsize lane slot turn saving old next state new f b = close-frees lane slot turn.room saving.file None old next state new tt b
+  close-begins (Some end) wsize lane slot turn saving old next state new f b = close-goes wsize lane slot turn false saving old next state new f b
+
+  close-queues : (b : Bool) (wsize lane slot : ℕ) (turn : Turn) (saving : Saving) (old : Shelf) (next : Next) (state : Closing) (new : Shelf) → FineOption P saving.refusal
+      → closes.QueuesIf b wsize lane slot turn saving old next state new → CloseFine next state
+  close-queues true wsize lane slot turn saving old next state new f q = close-begins (last_end (of_file saving.file old.back).segments) wsize lane slot turn saving old next state new f q
+  close-queues false wsize lane slot turn saving old next state new f q = close-as nexts.Wait (closing.Queued saving) next state q.next_is q.state_is (tt, f)
+
+  pub close-starts : (found : Option (List ℕ)) (wsize : ℕ) (m : CloseFile) (turn : Turn) (old : Shelf) (next : Next) (state : Closing) (new : Shelf) → (found ≡ None → P faults.Slot) → FineClosing m.state
+      → closes.StartsAt found wsize m turn old next state new → CloseFine next state
+  close-starts None wsize m turn old next state new place f s = close-as (nexts.Done (answers.Refused faults.Slot)) m.state next state s.next_is s.state_is (place refl, f)
+  close-starts (Some file) wsize m turn old next state new place f s =
+      close-queues (is_first m.lane (joined m.lane file old).order) wsize m.lane m.slot turn (saves.begun file old.seq) (joined m.lane file old) next state new tt s
+
+  close-on : (b : Bool) (wsize lane slot : ℕ) (turn : Turn) (saving : Saving) (old : Shelf) (next : Next) (state : Closing) (new : Shelf) → FineOption P saving.refusal
+      → closes.GoesOnIf b wsize lane slot turn saving old next state new → CloseFine next state
+  close-on true wsize lane slot turn saving old next state new f g = close-goes wsize lane slot turn true saving old next state new f g
+  close-on false wsize lane slot turn saving old next state new f g = close-as nexts.Wait (closing.Saves saving) next state g.next_is g.state_is (tt, f)
+
+  pub close-resumes : (at : Closing) (wsize : ℕ) (m : CloseFile) (turn : Turn) (old : Shelf) (next : Next) (state : Closing) (new : Shelf) → FineClosing at
+      → closes.Resumes at wsize m turn old next state new → CloseFine next state
+  close-resumes closing.Idle wsize m turn old next state new f r = close-as nexts.Wait closing.Idle next state r.next_is r.state_is (tt, tt)
+  close-resumes (closing.Queued saving) wsize m turn old next state new f r = close-queues (is_first m.lane old.order) wsize m.lane m.slot turn saving old next state new f r
+  close-resumes (closing.Saves saving) wsize m turn old next state new f r = close-on (is_first m.lane old.order) wsize m.lane m.slot turn saving old next state new f r
+  close-resumes (closing.ToRemove removal) wsize m turn old next state new f r = close-asks turn.room removal next state f r.next_is r.state_is
+  close-resumes (closing.Removing removal) wsize m turn old next state new f r = close-as nexts.Wait (closing.Removing removal) next state r.next_is r.state_is (tt, f)
+
+  ends-if : (b : Bool) (lane : ℕ) (removal : Removal) (old : Shelf) (next : Next) (state : Closing) (new : Shelf) → FineOption P removal.refusal
+      → closes.EndsIf b lane removal old next state new → CloseFine next state
+  ends-if true lane removal old next state new f e = close-as (nexts.Send (remove_of removal)) (closing.Removing removal) next state e.next_is e.state_is (tt, f)
+  ends-if false lane removal old next state new f e = close-ends lane removal.file removal.refusal old next state new f e
+
+  pub close-takes : (at : Closing) (wsize : ℕ) (m : CloseFile) (sent turn : Turn) (came : Result Reply Fault) (old : Shelf) (next : Next) (state : Closing) (new : Shelf)
+      → Came P came → FineClosing at → closes.Takes at wsize m sent turn came old next state new → CloseFine next state
+  close-takes closing.Idle wsize m sent turn came old next state new n f t = close-as nexts.Wait closing.Idle next state t.next_is t.state_is (tt, tt)
+  close-takes (closing.Queued saving) wsize m sent turn came old next state new n f t = close-as nexts.Wait (closing.Queued saving) next state t.next_is t.state_is (tt, f)
+  close-takes (closing.Saves saving) wsize m sent turn came old next state new n f t =
+      close-follows t.gives m.lane m.slot turn.room true t.saved t.took next state new
+      (takes-fine P own wsize sent turn came old.repeats saving old.back t.gives t.saved t.took.back t.took.repeats n f t.takes) t.follows
+  close-takes (closing.ToRemove removal) wsize m sent turn came old next state new n f t = close-as nexts.Wait (closing.ToRemove removal) next state t.next_is t.state_is (tt, f)
+  close-takes (closing.Removing removal) wsize m sent turn came old next state new n f t = ends-if _ m.lane removal t.took next state new f t.ends
+
+  -- ---- truncates
+
+  queued-fine : (b : Bool) (call : Call) → FineNext P (if b then nexts.Send call else nexts.Wait)
+  queued-fine b call = call-or-wait P b call
+
+  pub truncate-starts : (found : Result (List ℕ) Fault) (m : TruncateFile) (turn : Turn) (old : Shelf) (next : Next) → FineResult P found → next ≡ truncates.begun_next found m turn old → FineNext P next
+  truncate-starts (Ok file) m turn old next n is = fine-as P _ next is (queued-fine _ _)
+  truncate-starts (Err fault) m turn old next n is = fine-as P _ next is n
+
+  pub truncate-resumes : (at : Truncating) (m : TruncateFile) (turn : Turn) (old : Shelf) (next : Next) → next ≡ truncates.resumed_next at m turn old → FineNext P next
+  truncate-resumes truncating.Idle m turn old next is = fine-as P nexts.Wait next is tt
+  truncate-resumes (truncating.Queued file upto) m turn old next is = fine-as P _ next is (queued-fine _ _)
+  truncate-resumes (truncating.Asked file upto) m turn old next is = fine-as P nexts.Wait next is tt
+
+  size-by-fine : (reply : FileKept) → OfReply P (replies.File reply) → FineResult P (truncates.in_reply reply)
+  size-by-fine (kept.SetAttr wcc) n = tt
+  size-by-fine (kept.SetAttrFail status wcc) n = n
+  size-by-fine reply n = own.bad 2
+
+  size-fine : (came : Result Reply Fault) → Came P came → FineResult P (truncates.size_told came)
+  size-fine (Ok (replies.File reply)) n = size-by-fine reply n
+  size-fine (Ok (replies.Dir reply)) n = own.bad 2
+  size-fine (Ok (replies.Mount reply)) n = own.bad 2
+  size-fine (Err fault) n = n
+
+  told-size : (told : Result Wcc Fault) → FineResult P told → FineNext P (truncates.told_next told)
+  told-size (Ok wcc) n = tt
+  told-size (Err fault) n = n
+
+  again-size : (b : Bool) (call : Call) (told : Result Wcc Fault) → FineResult P told → FineNext P (if b then nexts.Send call else truncates.told_next told)
+  again-size true call told n = tt
+  again-size false call told n = told-size told n
+
+  pub truncate-takes : (at : Truncating) (m : TruncateFile) (came : Result Reply Fault) (sent turn : Turn) (repeats : List Repeat) (next : Next) → Came P came
+      → next ≡ truncates.took_next at m came sent turn repeats → FineNext P next
+  truncate-takes truncating.Idle m came sent turn repeats next n is = fine-as P nexts.Wait next is tt
+  truncate-takes (truncating.Queued file upto) m came sent turn repeats next n is = fine-as P nexts.Wait next is tt
+  truncate-takes (truncating.Asked file upto) m came sent turn repeats next n is = fine-as P _ next is (again-size _ (truncates.size_call file m.size) (truncates.size_told came) (size-fine came n))
+
+  -- ---- puts
+
+  abbrev pub FinePutting : Putting → Type 0
+  FinePutting putting.Idle = Unit {0}
+  FinePutting putting.Opens = Unit {0}
+  FinePutting (putting.Adds file) = Unit {0}
+  FinePutting (putting.Saves saving) = FineOption P saving.refusal
+
+  abbrev pub FinePut : PutFile → Type 0
+  FinePut m = FineWriting m.write.state × FinePutting m.state
+
+  abbrev pub PutFine : Next → PutFile → Type 0
+  PutFine next m = FineNext P next × FinePut m
+
+  abbrev PutStep : Next → Putting → Type 0
+  PutStep next state = FineNext P next × FinePutting state
+
+  put-as : (to : Next) (at : Putting) (next : Next) (state : Putting) → next ≡ to → state ≡ at → PutStep to at → PutStep next state
+  put-as to at next state is same f = (fine-as P to next is f.0, subst FinePutting (sym same) f.1)
+
+  put-ends : (lane : ℕ) (file : List ℕ) (why : Option Fault) (old : Shelf) (next : Next) (state : Putting) (new : Shelf) → FineOption P why → puts.Ends lane file why old next state new → PutStep next state
+  put-ends lane file why old next state new n e = put-as (nexts.Done (closed_answer why)) putting.Idle next state e.next_is e.state_is (closed-fine why n, tt)
+
+  put-follows : (gives : _) (lane : ℕ) (saving : Saving) (old : Shelf) (next : Next) (state : Putting) (new : Shelf) → SaveFine P own (syncs.sync_next gives) saving
+      → puts.Follows gives lane saving old next state new → PutStep next state
+  put-follows gives lane saving old next state new c f = by-step
+      (λ g. SaveFine P own (syncs.sync_next g) saving → puts.Follows g lane saving old next state new → PutStep next state)
+      (λ call k l. put-as (nexts.Send call) (putting.Saves saving) next state l.0 l.1 (tt, k.1))
+      (λ k l. put-as nexts.Wait (putting.Saves saving) next state l.0 l.1 (tt, k.1))
+      (λ result k l. put-ends lane saving.file (refusal_of result) old next state new (why-fine result k.0) l) gives c f
+
+  put-queues : (b : Bool) (wsize lane : ℕ) (turn : Turn) (saving : Saving) (old : Shelf) (next : Next) (state : Putting) (new : Shelf) → FineOption P saving.refusal
+      → puts.QueuesIf b wsize lane turn saving old next state new → PutStep next state
+  put-queues true wsize lane turn saving old next state new f q =
+      put-follows q.gives lane q.saved q.gone next state new (goes-fine P own wsize turn.xid turn.room false saving old.back q.gives q.saved q.gone.back f q.goes) q.follows
+  put-queues false wsize lane turn saving old next state new f q = put-as nexts.Wait (putting.Saves saving) next state q.next_is q.state_is (tt, f)
+
+  after-write : (told : Next) (wsize lane : ℕ) (file : List ℕ) (turn : Turn) (old : Shelf) (next : Next) (state : Putting) (new : Shelf) → FineNext P told
+      → puts.AfterWrite told wsize lane file turn old next state new → PutStep next state
+  after-write (nexts.Send call) wsize lane file turn old next state new n a = put-as (nexts.Send call) (putting.Adds file) next state a.0 a.1 (tt, tt)
+  after-write nexts.Wait wsize lane file turn old next state new n a = put-as nexts.Wait (putting.Adds file) next state a.0 a.1 (tt, tt)
+  after-write (nexts.Done (answers.Done value)) wsize lane file turn old next state new n a =
+      put-queues (is_first lane (joined lane file old).order) wsize lane turn (saves.begun file old.seq) (joined lane file old) next state new tt a
+  after-write (nexts.Done (answers.Refused fault)) wsize lane file turn old next state new n a = put-ends lane file (Some fault) old next state new n a
+
+  put-is : (to : PutFile) (next : Next) (new : PutFile) → new ≡ to → PutFine next to → PutFine next new
+  put-is to next new is f = (f.0, subst FinePut (sym is) f.1)
+
+  writes-on : (wsize : ℕ) (m : PutFile) (file : List ℕ) (turn : Turn) (told : Next) (written : Writing) (mid : Shelf) (next : Next) (new : PutFile) (after : Shelf) → WriteFine told written
+      → puts.WritesOn wsize m file turn told written mid next new after → PutFine next new
+  writes-on wsize m file turn told written mid next new after f w =
+      let step = after-write told wsize m.write.lane file turn mid next new.state after f.0 w.follows in
+      put-is (record m { write = record m.write { state = written }; state = new.state }) next new w.machine_is (step.0, (f.1, step.1))
+
+  stays-put : (m : PutFile) (old : Shelf) (next : Next) (new : PutFile) (after : Shelf) → FinePut m → puts.Stays m old next new after → PutFine next new
+  stays-put m old next new after f s = put-is m next new s.machine_is (fine-as P nexts.Wait next s.next_is tt, f)
+
+  pub put-starts : (m : PutFile) (turn : Turn) (next : Next) → next ≡ opens.goes_as (opening.go_next (puts.opening_at turn m) turn) → FineNext P next
+  put-starts m turn next is = fine-as P _ next is (opening-next P own (opening.go_next (puts.opening_at turn m) turn) (go-opening P own (puts.opening_at turn m) turn))
+
+  pub put-resumes : (at : Putting) (wsize : ℕ) (m : PutFile) (turn : Turn) (old : Shelf) (next : Next) (new : PutFile) (after : Shelf) → FineWriting m.write.state → FinePutting at → m.state ≡ at
+      → puts.Resumes at wsize m turn old next new after → PutFine next new
+  put-resumes putting.Idle wsize m turn old next new after w f is r = stays-put m old next new after (w, subst FinePutting (sym is) tt) r
+  put-resumes putting.Opens wsize m turn old next new after w f is r =
+      put-is (record m { opening = opening.go_after m.opening turn }) next new r.1
+      (fine-as P _ next r.0 (opening-next P own (opening.go_next m.opening turn) (go-opening P own m.opening turn)), (w, subst FinePutting (sym is) tt))
+  put-resumes (putting.Adds file) wsize m turn old next new after w f is r =
+      writes-on wsize m file turn r.told r.written r.mid next new after (write-resumes m.write.state wsize m.write.lane turn old r.told r.written r.mid w r.resumes) r.goes
+  put-resumes (putting.Saves saving) wsize m turn old next new after w f is r =
+      let step = put-queues (is_first m.write.lane old.order) wsize m.write.lane turn saving old next new.state after f r.0 in
+      put-is (record m { state = new.state }) next new r.1 (step.0, (w, step.1))
+
+  after-opening : (step : OpeningNext) (wsize : ℕ) (m : PutFile) (turn : Turn) (old : Shelf) (next : Next) (new : PutFile) (after : Shelf) → FineOpening P own step → FinePut m
+      → puts.AfterOpening step wsize m turn old next new after → PutFine next new
+  after-opening (openings.Send call) wsize m turn old next new after n f a = put-is m next new a.1 (fine-as P (nexts.Send call) next a.0 tt, f)
+  after-opening openings.Wait wsize m turn old next new after n f a = stays-put m old next new after f a
+  after-opening (openings.Ended (Ok file)) wsize m turn old next new after n f a =
+      writes-on wsize m file turn a.told a.written a.mid next new after
+      (writes-fine wsize m.write.lane file m.write.offset (writes.made_bytes m.write.text) turn (puts.put_at m.write.lane file old) a.told a.written a.mid a.writes) a.goes
+  after-opening (openings.Ended (Err fault)) wsize m turn old next new after n f a =
+      put-is (record m { state = putting.Idle }) next new a.1 (fine-as P (nexts.Done (answers.Refused fault)) next a.0 n, (f.0, tt))
+
+  pub put-takes : (at : Putting) (wsize : ℕ) (m : PutFile) (sent turn : Turn) (came : Result Reply Fault) (old : Shelf) (next : Next) (new : PutFile) (after : Shelf) → Came P came
+      → FineWriting m.write.state → FinePutting at → m.state ≡ at → puts.Takes at wsize m sent turn came old next new after → PutFine next new
+  put-takes putting.Idle wsize m sent turn came old next new after n w f is t = stays-put m old next new after (w, subst FinePutting (sym is) tt) t
+  put-takes putting.Opens wsize m sent turn came old next new after n w f is t =
+      let again = opening.opening_again m.opening sent turn came old.repeats in
+      after-opening t.step wsize (puts.led again m turn came t.took.attrs old.pages) turn t.took next new after
+      (opening-took P own again m.opening sent turn (opening.led_on m.opening turn.now came t.took.attrs old.pages) t.step old.pages t.took.pages (led-on P own m.opening turn.now came t.took.attrs old.pages n) t.leads)
+      (w, subst FinePutting (sym is) tt) t.follows
+  put-takes (putting.Adds file) wsize m sent turn came old next new after n w f is t =
+      writes-on wsize m file turn t.told t.written t.mid next new after (write-takes m.write.state wsize m.write sent turn came old t.told t.written t.mid n w t.takes) t.goes
+  put-takes (putting.Saves saving) wsize m sent turn came old next new after n w f is t =
+      let step = put-follows t.0.gives m.write.lane t.0.saved t.0.took next new.state after
+      (takes-fine P own wsize sent turn came old.repeats saving old.back t.0.gives t.0.saved t.0.took.back t.0.took.repeats n f t.0.takes) t.0.follows in
+      put-is (record m { state = new.state }) next new t.1 (step.0, (w, step.1))

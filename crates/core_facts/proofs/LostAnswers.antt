@@ -1,9 +1,16 @@
 -- An operation is answered that the session is lost only where the history shows it.
-use Rattle.std.proofs.Common.{◌≤◌, ℕ, List, [], ◌∷◌, ◌++◌, length, sym, subst, arith, append_assoc}
+use Rattle.std.proofs.Common.{◌≤◌, ℕ, List, [], ◌∷◌, ◌++◌, length, Result, Ok, Err, sym, subst, arith, append_assoc}
 use Rattle.std.proofs.lemmas.List.{append-nil}
+use Rattle.nfs_dir_calls.specs.declared.keeping.DirKept.{DirKept}
+use Rattle.nfs_dir_calls.specs.declared.keeping.DirKept.TheVariants as found
+use Rattle.nfs_file_calls.specs.declared.owned.FileKept.{FileKept}
+use Rattle.nfs_file_calls.specs.declared.owned.FileKept.TheVariants as kept
 use Rattle.world_model.specs.declared.answer.Answer.{Answer}
 use Rattle.world_model.specs.declared.answer.Answer.TheVariants.{Done, Refused}
+use Rattle.world_model.specs.declared.answer.Fault.{Fault}
 use Rattle.world_model.specs.declared.answer.Fault.TheVariants as faults
+use Rattle.world_model.specs.declared.message.Reply.{Reply}
+use Rattle.world_model.specs.declared.message.Reply.TheVariants as replies
 use Rattle.world_model.specs.declared.entry.Entry.{Entry}
 use Rattle.world_model.specs.declared.op.Op.{Op}
 use Rattle.world_model.specs.Lost.{Loses, IsLost}
@@ -17,11 +24,60 @@ use Rattle.client_core.specs.declared.lane.State.{State}
 use Rattle.client_core.specs.declared.lane.State.TheVariants.{Busy, Over}
 use Rattle.core_facts.specs.Lanes.{LostAnswersShown}
 use Rattle.core_facts.proofs.AllCounts.{begins-unbegun}
-use Rattle.core_facts.proofs.AllFaults.{FineMachine, MachineStep, all-starts, all-resumes, all-takes, begins-fine}
-use Rattle.core_facts.proofs.Faults.{FineAnswer}
+use Rattle.core_facts.proofs.AllFaults as steps
+use Rattle.core_facts.proofs.Faults.{NotLost, IsOuter, OwnFaults, OfReply, Came, FineResult, FineAnswer}
 use Rattle.core_facts.proofs.Losing.{lost-grow, loses-grow}
 use Rattle.core_facts.proofs.Steps.{ThenOf}
 use Rattle.core_facts.proofs.Stories.{StoryLaws, reached-answered}
+
+-- an operation doesn't give this fault by itself, and no reply does
+own : OwnFaults NotLost
+own = record { kind = tt; many = tt; memory = tt; bad = λ rule. tt }
+
+dir-fine : (reply : DirKept) → OfReply NotLost (replies.Dir reply)
+dir-fine (found.LookupFail status dir) = tt
+dir-fine (found.ReadLinkFail status attr) = tt
+dir-fine (found.CreateFail status wcc) = tt
+dir-fine (found.MkDirFail status wcc) = tt
+dir-fine (found.SymLinkFail status wcc) = tt
+dir-fine (found.RemoveFail status wcc) = tt
+dir-fine (found.RmDirFail status wcc) = tt
+dir-fine (found.RenameFail status source target) = tt
+dir-fine (found.LinkFail status attr wcc) = tt
+dir-fine (found.ReadDirPlusFail status attr) = tt
+dir-fine reply = tt
+
+file-fine : (reply : FileKept) → OfReply NotLost (replies.File reply)
+file-fine (kept.GetAttrFail status) = tt
+file-fine (kept.SetAttrFail status wcc) = tt
+file-fine (kept.AccessFail status attr) = tt
+file-fine (kept.ReadFail status attr) = tt
+file-fine (kept.WriteFail status wcc) = tt
+file-fine (kept.CommitFail status wcc) = tt
+file-fine reply = tt
+
+-- what comes of a call isn't that the link is lost
+outer-not-lost : (fault : Fault) → IsOuter fault → NotLost fault
+outer-not-lost faults.Lost o = o
+outer-not-lost (faults.Nfs status) o = tt
+outer-not-lost (faults.Rpc n) o = tt
+outer-not-lost (faults.Bad rule) o = tt
+outer-not-lost faults.Spent o = tt
+outer-not-lost faults.Slot o = tt
+outer-not-lost faults.Mode o = tt
+outer-not-lost faults.Kind o = tt
+outer-not-lost faults.Many o = tt
+outer-not-lost faults.Memory o = tt
+
+outer-fine : (came : Result Reply Fault) → FineResult IsOuter came → FineResult NotLost came
+outer-fine (Ok reply) f = tt
+outer-fine (Err fault) f = outer-not-lost fault f
+
+came-fine : (came : Result Reply Fault) → FineResult NotLost came → Came NotLost came
+came-fine (Ok (replies.Dir reply)) f = dir-fine reply
+came-fine (Ok (replies.File reply)) f = file-fine reply
+came-fine (Ok (replies.Mount reply)) f = tt
+came-fine (Err fault) f = f
 
 -- an answer that the session is lost has a cause before it
 abbrev AnswerShown : List Entry → Answer → Type 0
@@ -38,14 +94,14 @@ AnswerShown h (Refused faults.Many) = Unit {0}
 AnswerShown h (Refused faults.Memory) = Unit {0}
 
 abbrev StateShown : List Entry → State → Type 0
-StateShown h (Busy machine) = FineMachine machine
+StateShown h (Busy machine) = steps.FineMachine NotLost own machine
 StateShown h (Over answer) = AnswerShown h answer
 
 abbrev Shown : List Entry → ℕ → Op → State → Type 0
 Shown h x op state = StateShown h state
 
 -- another answer needs none
-fine-shown : (h : List Entry) (answer : Answer) → FineAnswer answer → AnswerShown h answer
+fine-shown : (h : List Entry) (answer : Answer) → FineAnswer NotLost answer → AnswerShown h answer
 fine-shown h (Done value) f = tt
 fine-shown h (Refused faults.Lost) f = absurd f
 fine-shown h (Refused (faults.Nfs status)) f = tt
@@ -58,7 +114,7 @@ fine-shown h (Refused faults.Kind) f = tt
 fine-shown h (Refused faults.Many) f = tt
 fine-shown h (Refused faults.Memory) f = tt
 
-step-shown : (h : List Entry) (next : Next) (new : Machine) → MachineStep next new → ThenOf (λ m. StateShown h (Busy m)) (λ a. StateShown h (Over a)) next new
+step-shown : (h : List Entry) (next : Next) (new : Machine) → steps.MachineStep NotLost own next new → ThenOf (λ m. StateShown h (Busy m)) (λ a. StateShown h (Over a)) next new
 step-shown h (nexts.Send call) new s = s.1
 step-shown h nexts.Wait new s = s.1
 step-shown h (nexts.Done answer) new s = fine-shown h answer s.0
@@ -83,10 +139,10 @@ state-later h e (Over answer) s = answer-later h e answer s
 shown-laws : (m : Mounted) → StoryLaws (machine_of m) Shown
 shown-laws m = record {
   starts = λ h lane line op wsize turn old next new after s.
-      step-shown _ next new (all-starts (machine_of m lane op) wsize turn old next new after (begins-fine m lane op) s);
-  resumes = λ h x op machine wsize turn old next new after story r. step-shown h next new (all-resumes machine wsize turn old next new after story r);
+      step-shown _ next new (steps.all-starts NotLost own (machine_of m lane op) wsize turn old next new after (steps.any-begins NotLost own tt tt (machine_of m lane op) old) (steps.begins-fine NotLost own m lane op) s);
+  resumes = λ h x op machine wsize turn old next new after story r. step-shown h next new (steps.all-resumes NotLost own machine wsize turn old next new after story r);
   takes = λ h x op machine wsize sent turn came old next new after others story one told t.
-      step-shown h next new (all-takes machine wsize sent turn came old next new after told.fine story t);
+      step-shown h next new (steps.all-takes NotLost own machine wsize sent turn came old next new after (steps.any-ends NotLost own tt machine old) (came-fine came (outer-fine came told.fine)) story t);
   grows = λ h e x op state story. state-later h e state story;
   lost = λ h x op shown. shown;
 }

@@ -1,5 +1,5 @@
--- No step of an open or a read gives the fault of a lost link, unless what came of its call does.
-use Rattle.std.proofs.Common.{◌≡◌, ◌-◌, ◌||◌, ◌==◌, ℕ, not, Bool, true, false, List, Option, Some, None, Result, Ok, Err, inl, inr, sym, subst}
+-- Which faults a step of an open or a read gives: its own, and those of what came of its call.
+use Rattle.std.proofs.Common.{◌≡◌, ◌-◌, ◌||◌, ◌==◌, ℕ, not, Bool, true, false, List, Option, Some, None, Result, Ok, Err, inl, inr, sym, subst, refl}
 use Rattle.std.specs.Prelude.{if◌then◌else◌}
 use Rattle.std.specs.FinMap as finite
 use Rattle.nfs_types.specs.declared.attr.Attr.{Attr}
@@ -45,255 +45,258 @@ use Rattle.file_ops.specs.declared.opening.OpeningStep.{OpeningStep}
 use Rattle.file_ops.specs.declared.opening.OpeningStep.TheVariants as opening_steps
 use Rattle.file_ops.specs.Told.{found_by, made_by}
 use Rattle.file_ops.specs.ReadReply.{said_to, said_by, breaks_rule}
-use Rattle.core_facts.proofs.Faults.{NotLost, FineResult, FineNext, fine-as, fine-fault, again-fine}
+use Rattle.core_facts.proofs.Faults.{OwnFaults, OfReply, Came, FineResult, FineNext, fine-as, fine-fault, again-fine}
 
--- ---- what replies come to
+module _ (P : Fault → Type 0) (own : OwnFaults P) where
+  -- ---- what replies come to
 
-found-by-fine : (reply : DirKept) → FineResult (found_by (Ok (replies.Dir reply)))
-found-by-fine (dir_kept.Lookup found attr dir) = tt
-found-by-fine (dir_kept.LookupFail status dir) = tt
-found-by-fine reply = tt
+  found-by-fine : (reply : DirKept) → OfReply P (replies.Dir reply) → FineResult P (found_by (Ok (replies.Dir reply)))
+  found-by-fine (dir_kept.Lookup found attr dir) n = tt
+  found-by-fine (dir_kept.LookupFail status dir) n = n
+  found-by-fine reply n = own.bad 2
 
-pub found-fine : (came : Result Reply Fault) → FineResult came → FineResult (found_by came)
-found-fine (Ok (replies.Dir reply)) n = found-by-fine reply
-found-fine (Ok (replies.File reply)) n = tt
-found-fine (Ok (replies.Mount reply)) n = tt
-found-fine (Err fault) n = n
+  pub found-fine : (came : Result Reply Fault) → Came P came → FineResult P (found_by came)
+  found-fine (Ok (replies.Dir reply)) n = found-by-fine reply n
+  found-fine (Ok (replies.File reply)) n = own.bad 2
+  found-fine (Ok (replies.Mount reply)) n = own.bad 2
+  found-fine (Err fault) n = n
 
-made-by-fine : (reply : DirKept) → FineResult (made_by (Ok (replies.Dir reply)))
-made-by-fine (dir_kept.Create found attr wcc) = tt
-made-by-fine (dir_kept.CreateFail status wcc) = tt
-made-by-fine reply = tt
+  made-by-fine : (reply : DirKept) → OfReply P (replies.Dir reply) → FineResult P (made_by (Ok (replies.Dir reply)))
+  made-by-fine (dir_kept.Create found attr wcc) n = tt
+  made-by-fine (dir_kept.CreateFail status wcc) n = n
+  made-by-fine reply n = own.bad 2
 
-made-fine : (came : Result Reply Fault) → FineResult came → FineResult (made_by came)
-made-fine (Ok (replies.Dir reply)) n = made-by-fine reply
-made-fine (Ok (replies.File reply)) n = tt
-made-fine (Ok (replies.Mount reply)) n = tt
-made-fine (Err fault) n = n
+  made-fine : (came : Result Reply Fault) → Came P came → FineResult P (made_by came)
+  made-fine (Ok (replies.Dir reply)) n = made-by-fine reply n
+  made-fine (Ok (replies.File reply)) n = own.bad 2
+  made-fine (Ok (replies.Mount reply)) n = own.bad 2
+  made-fine (Err fault) n = n
 
-got-by-fine : (reply : FileKept) → FineResult (got_by (Ok (replies.File reply)))
-got-by-fine (kept.GetAttr attr) = tt
-got-by-fine (kept.GetAttrFail status) = tt
-got-by-fine reply = tt
+  got-by-fine : (reply : FileKept) → OfReply P (replies.File reply) → FineResult P (got_by (Ok (replies.File reply)))
+  got-by-fine (kept.GetAttr attr) n = tt
+  got-by-fine (kept.GetAttrFail status) n = n
+  got-by-fine reply n = own.bad 2
 
-got-fine : (came : Result Reply Fault) → FineResult came → FineResult (got_by came)
-got-fine (Ok (replies.File reply)) n = got-by-fine reply
-got-fine (Ok (replies.Dir reply)) n = tt
-got-fine (Ok (replies.Mount reply)) n = tt
-got-fine (Err fault) n = n
+  got-fine : (came : Result Reply Fault) → Came P came → FineResult P (got_by came)
+  got-fine (Ok (replies.File reply)) n = got-by-fine reply n
+  got-fine (Ok (replies.Dir reply)) n = own.bad 2
+  got-fine (Ok (replies.Mount reply)) n = own.bad 2
+  got-fine (Err fault) n = n
 
--- ---- openings
+  -- ---- openings
 
-abbrev pub FineOpening : OpeningNext → Type 0
-FineOpening (openings.Send call) = Unit {0}
-FineOpening openings.Wait = Unit {0}
-FineOpening (openings.Ended result) = FineResult result
+  abbrev pub FineOpening : OpeningNext → Type 0
+  FineOpening (openings.Send call) = Unit {0}
+  FineOpening openings.Wait = Unit {0}
+  FineOpening (openings.Ended result) = FineResult P result
 
-abbrev pub FineLed : Led → Type 0
-FineLed (leads.Goes step) = Unit {0}
-FineLed (leads.Opens file attr) = Unit {0}
-FineLed (leads.Knows file stamp) = Unit {0}
-FineLed (leads.Ends fault) = NotLost fault
+  abbrev pub FineLed : Led → Type 0
+  FineLed (leads.Goes step) = Unit {0}
+  FineLed (leads.Opens file attr) = Unit {0}
+  FineLed (leads.Knows file stamp) = Unit {0}
+  FineLed (leads.Ends fault) = P fault
 
-waits-opening : (b : Bool) (o : Opening) → FineOpening (if b then openings.Wait else openings.Send (opening.call_of o o.step))
-waits-opening true o = tt
-waits-opening false o = tt
+  waits-opening : (b : Bool) (o : Opening) → FineOpening (if b then openings.Wait else openings.Send (opening.call_of o o.step))
+  waits-opening true o = tt
+  waits-opening false o = tt
 
-pub go-opening : (o : Opening) (turn : Turn) → FineOpening (opening.go_next o turn)
-go-opening o turn = waits-opening (o.asked || not turn.room) o
+  pub go-opening : (o : Opening) (turn : Turn) → FineOpening (opening.go_next o turn)
+  go-opening o turn = waits-opening (o.asked || not turn.room) o
 
-pub opening-next : (step : OpeningNext) → FineOpening step → FineNext (opens.goes_as step)
-opening-next (openings.Send call) f = tt
-opening-next openings.Wait f = tt
-opening-next (openings.Ended (Ok file)) f = tt
-opening-next (openings.Ended (Err fault)) f = f
+  pub opening-next : (step : OpeningNext) → FineOpening step → FineNext P (opens.goes_as step)
+  opening-next (openings.Send call) f = tt
+  opening-next openings.Wait f = tt
+  opening-next (openings.Ended (Ok file)) f = tt
+  opening-next (openings.Ended (Err fault)) f = f
 
-led-made : (made : Result (Option (List ℕ)) Fault) → FineResult made → FineLed (opening.made made)
-led-made (Ok (Some found)) n = tt
-led-made (Ok None) n = tt
-led-made (Err fault) n = n
+  led-made : (made : Result (Option (List ℕ)) Fault) → FineResult P made → FineLed (opening.made made)
+  led-made (Ok (Some found)) n = tt
+  led-made (Ok None) n = tt
+  led-made (Err fault) n = n
 
-led-found : (found : Result (List ℕ) Fault) → FineResult found → FineLed (opening.found found)
-led-found (Ok file) n = tt
-led-found (Err fault) n = n
+  led-found : (found : Result (List ℕ) Fault) → FineResult P found → FineLed (opening.found found)
+  led-found (Ok file) n = tt
+  led-found (Err fault) n = n
 
-led-kind : (b : Bool) (file : List ℕ) (attr : Attr) → FineLed (if b then leads.Opens file attr else leads.Ends faults.Kind)
-led-kind true file attr = tt
-led-kind false file attr = tt
+  led-kind : (b : Bool) (file : List ℕ) (attr : Attr) → FineLed (if b then leads.Opens file attr else leads.Ends faults.Kind)
+  led-kind true file attr = tt
+  led-kind false file attr = own.kind
 
-led-got : (file : List ℕ) (got : Result Attr Fault) → FineResult got → FineLed (opening.got file got)
-led-got file (Ok attr) n = led-kind (attr.kind == 1) file attr
-led-got file (Err fault) n = n
+  led-got : (file : List ℕ) (got : Result Attr Fault) → FineResult P got → FineLed (opening.got file got)
+  led-got file (Ok attr) n = led-kind (attr.kind == 1) file attr
+  led-got file (Err fault) n = n
 
-led-look : (b : Bool) (found : Led) → FineLed found → FineLed (if b then leads.Goes opening_steps.Make else found)
-led-look true found f = tt
-led-look false found f = f
+  led-look : (b : Bool) (found : Led) → FineLed found → FineLed (if b then leads.Goes opening_steps.Make else found)
+  led-look true found f = tt
+  led-look false found f = f
 
-led-to : (mode : Mode) (step : OpeningStep) (came : Result Reply Fault) → FineResult came → FineLed (opening.led_to mode step came)
-led-to mode opening_steps.Look came n = led-look (opening.makes mode came) (opening.found (found_by came)) (led-found (found_by came) (found-fine came n))
-led-to mode opening_steps.Make came n = led-made (made_by came) (made-fine came n)
-led-to mode opening_steps.Find came n = led-found (found_by came) (found-fine came n)
-led-to mode (opening_steps.Ask file) came n = led-got file (got_by came) (got-fine came n)
+  led-to : (mode : Mode) (step : OpeningStep) (came : Result Reply Fault) → Came P came → FineLed (opening.led_to mode step came)
+  led-to mode opening_steps.Look came n = led-look (opening.makes mode came) (opening.found (found_by came)) (led-found (found_by came) (found-fine came n))
+  led-to mode opening_steps.Make came n = led-made (made_by came) (made-fine came n)
+  led-to mode opening_steps.Find came n = led-found (found_by came) (found-fine came n)
+  led-to mode (opening_steps.Ask file) came n = led-got file (got_by came) (got-fine came n)
 
-at-known : (b : Bool) (one other : Led) → FineLed one → FineLed other → FineLed (if b then one else other)
-at-known true one other f g = f
-at-known false one other f g = g
+  at-known : (b : Bool) (one other : Led) → FineLed one → FineLed other → FineLed (if b then one else other)
+  at-known true one other f g = f
+  at-known false one other f g = g
 
-known-at : (file : List ℕ) (attr : Option Attr) (known : _) → FineLed (opening.known_at file attr known)
-known-at file (Some attr) (Some stamp) = at-known _ (leads.Knows file stamp) (leads.Goes (opening_steps.Ask file)) tt tt
-known-at file None known = tt
-known-at file (Some attr) None = tt
+  known-at : (file : List ℕ) (attr : Option Attr) (known : _) → FineLed (opening.known_at file attr known)
+  known-at file (Some attr) (Some stamp) = at-known _ (leads.Knows file stamp) (leads.Goes (opening_steps.Ask file)) tt tt
+  known-at file None known = tt
+  known-at file (Some attr) None = tt
 
-known-step : (step : OpeningStep) (now : ℕ) (attrs : _) (pages : Pages) → FineLed (opening.known_step step now attrs pages)
-known-step (opening_steps.Ask file) now attrs pages = known-at file (looked file now attrs) (known_of file pages)
-known-step opening_steps.Look now attrs pages = tt
-known-step opening_steps.Make now attrs pages = tt
-known-step opening_steps.Find now attrs pages = tt
+  known-step : (step : OpeningStep) (now : ℕ) (attrs : _) (pages : Pages) → FineLed (opening.known_step step now attrs pages)
+  known-step (opening_steps.Ask file) now attrs pages = known-at file (looked file now attrs) (known_of file pages)
+  known-step opening_steps.Look now attrs pages = tt
+  known-step opening_steps.Make now attrs pages = tt
+  known-step opening_steps.Find now attrs pages = tt
 
-known-led : (led : Led) (now : ℕ) (attrs : _) (pages : Pages) → FineLed led → FineLed (opening.known_led led now attrs pages)
-known-led (leads.Goes step) now attrs pages f = known-step step now attrs pages
-known-led (leads.Opens file attr) now attrs pages f = tt
-known-led (leads.Knows file stamp) now attrs pages f = tt
-known-led (leads.Ends fault) now attrs pages f = f
+  known-led : (led : Led) (now : ℕ) (attrs : _) (pages : Pages) → FineLed led → FineLed (opening.known_led led now attrs pages)
+  known-led (leads.Goes step) now attrs pages f = known-step step now attrs pages
+  known-led (leads.Opens file attr) now attrs pages f = tt
+  known-led (leads.Knows file stamp) now attrs pages f = tt
+  known-led (leads.Ends fault) now attrs pages f = f
 
-pub led-on : (o : Opening) (now : ℕ) (came : Result Reply Fault) (attrs : _) (pages : Pages) → FineResult came → FineLed (opening.led_on o now came attrs pages)
-led-on o now came attrs pages n =
-    let led = opening.told_led o came in
-    let f = led-to o.mode o.step came n in
-    at-known o.nocto (opening.known_led led now attrs pages) led (known-led led now attrs pages f) f
+  pub led-on : (o : Opening) (now : ℕ) (came : Result Reply Fault) (attrs : _) (pages : Pages) → Came P came → FineLed (opening.led_on o now came attrs pages)
+  led-on o now came attrs pages n =
+      let led = opening.told_led o came in
+      let f = led-to o.mode o.step came n in
+      at-known o.nocto (opening.known_led led now attrs pages) led (known-led led now attrs pages f) f
 
-opened-fine : (file : List ℕ) (to : Pages) (result : Result (List ℕ) Fault) (old new : Pages) → opening.FileOpened file to result old new → FineResult result
-opened-fine file to (Ok opened_file) old new o = tt
-opened-fine file to (Err fault) old new o = fine-fault fault faults.Memory o.0 tt
+  opened-fine : (file : List ℕ) (to : Pages) (result : Result (List ℕ) Fault) (old new : Pages) → opening.FileOpened file to result old new → FineResult P result
+  opened-fine file to (Ok opened_file) old new o = tt
+  opened-fine file to (Err fault) old new o = fine-fault P fault faults.Memory o.0 own.memory
 
-fine-opening : (to step : OpeningNext) → step ≡ to → FineOpening to → FineOpening step
-fine-opening to step is f = subst FineOpening (sym is) f
+  fine-opening : (to step : OpeningNext) → step ≡ to → FineOpening to → FineOpening step
+  fine-opening to step is f = subst FineOpening (sym is) f
 
-pub opening-took : (again : Bool) (o : Opening) (sent turn : Turn) (led : Led) (step : OpeningNext) (old new : Pages) → FineLed led → opening.LedIf again o sent turn led step old new → FineOpening step
-opening-took true o sent turn led step old new f l = fine-opening (openings.Send (opening.call_of o o.step)) step l.0 tt
-opening-took false o sent turn (leads.Goes to) step old new f l = fine-opening (opening.go_next (opening.at_step o to) turn) step l.0 (go-opening (opening.at_step o to) turn)
-opening-took false o sent turn (leads.Opens file attr) (openings.Ended result) old new f l = opened-fine file _ result old new l
-opening-took false o sent turn (leads.Opens file attr) (openings.Send call) old new f l = tt
-opening-took false o sent turn (leads.Opens file attr) openings.Wait old new f l = tt
-opening-took false o sent turn (leads.Knows file stamp) (openings.Ended result) old new f l = opened-fine file _ result old new l
-opening-took false o sent turn (leads.Knows file stamp) (openings.Send call) old new f l = tt
-opening-took false o sent turn (leads.Knows file stamp) openings.Wait old new f l = tt
-opening-took false o sent turn (leads.Ends fault) step old new f l = fine-opening (openings.Ended (Err fault)) step l.0 f
+  pub opening-took : (again : Bool) (o : Opening) (sent turn : Turn) (led : Led) (step : OpeningNext) (old new : Pages) → FineLed led → opening.LedIf again o sent turn led step old new → FineOpening step
+  opening-took true o sent turn led step old new f l = fine-opening (openings.Send (opening.call_of o o.step)) step l.0 tt
+  opening-took false o sent turn (leads.Goes to) step old new f l = fine-opening (opening.go_next (opening.at_step o to) turn) step l.0 (go-opening (opening.at_step o to) turn)
+  opening-took false o sent turn (leads.Opens file attr) (openings.Ended result) old new f l = opened-fine file _ result old new l
+  opening-took false o sent turn (leads.Opens file attr) (openings.Send call) old new f l = tt
+  opening-took false o sent turn (leads.Opens file attr) openings.Wait old new f l = tt
+  opening-took false o sent turn (leads.Knows file stamp) (openings.Ended result) old new f l = opened-fine file _ result old new l
+  opening-took false o sent turn (leads.Knows file stamp) (openings.Send call) old new f l = tt
+  opening-took false o sent turn (leads.Knows file stamp) openings.Wait old new f l = tt
+  opening-took false o sent turn (leads.Ends fault) step old new f l = fine-opening (openings.Ended (Err fault)) step l.0 f
 
--- ---- opens
+  -- ---- opens
 
-pub open-starts : (b : Bool) (m : OpenFile) (turn : Turn) (next : Next) → next ≡ (if b then opens.refused faults.Slot else opens.goes_as (opening.go_next (opens.begun m turn).opening turn)) → FineNext next
-open-starts true m turn next is = fine-as (opens.refused faults.Slot) next is tt
-open-starts false m turn next is = fine-as _ next is (opening-next (opening.go_next (opens.begun m turn).opening turn) (go-opening (opens.begun m turn).opening turn))
+  pub open-starts : (b : Bool) (m : OpenFile) (turn : Turn) (next : Next) → (b ≡ true → P faults.Slot) → next ≡ (if b then opens.refused faults.Slot else opens.goes_as (opening.go_next (opens.begun m turn).opening turn)) → FineNext P next
+  open-starts true m turn next place is = fine-as P (opens.refused faults.Slot) next is (place refl)
+  open-starts false m turn next place is = fine-as P _ next is (opening-next (opening.go_next (opens.begun m turn).opening turn) (go-opening (opens.begun m turn).opening turn))
 
-puts-open : (other : Option Opened) (place : Place) (of : Opened) (next : Next) (old new : Opens) → opens.PutsOver other place of next old new → FineNext next
-puts-open (Some other) place of next old new p = fine-as (opens.refused faults.Slot) next p.0 tt
-puts-open None place of next old new (inl p) = fine-as opens.well next p.0 tt
-puts-open None place of next old new (inr p) = fine-as (opens.refused faults.Memory) next p.0 tt
+  puts-open : (there : Option Opened) (at : Place) (of : Opened) (next : Next) (old new : Opens) → ((other : Opened) → there ≡ Some other → P faults.Slot) → opens.PutsOver there at of next old new
+      → FineNext P next
+  puts-open (Some other) at of next old new place p = fine-as P (opens.refused faults.Slot) next p.0 (place other refl)
+  puts-open None at of next old new place (inl p) = fine-as P opens.well next p.0 tt
+  puts-open None at of next old new place (inr p) = fine-as P (opens.refused faults.Memory) next p.0 own.memory
 
-pub open-follows : (m : OpenFile) (step : OpeningNext) (next : Next) (old new : Opens) → FineOpening step → opens.Follows m step next old new → FineNext next
-open-follows m (openings.Send call) next old new f l = fine-as (nexts.Send call) next l.0 tt
-open-follows m openings.Wait next old new f l = fine-as nexts.Wait next l.0 tt
-open-follows m (openings.Ended (Ok file)) next old new f l = puts-open (finite.get old (opens.place_of m)) (opens.place_of m) (opens.opened_of m.opening file) next old new l
-open-follows m (openings.Ended (Err fault)) next old new f l = fine-as (opens.refused fault) next l.0 f
+  pub open-follows : (m : OpenFile) (step : OpeningNext) (next : Next) (old new : Opens) → ((other : Opened) → finite.get old (opens.place_of m) ≡ Some other → P faults.Slot) → FineOpening step → opens.Follows m step next old new → FineNext P next
+  open-follows m (openings.Send call) next old new place f l = fine-as P (nexts.Send call) next l.0 tt
+  open-follows m openings.Wait next old new place f l = fine-as P nexts.Wait next l.0 tt
+  open-follows m (openings.Ended (Ok file)) next old new place f l = puts-open (finite.get old (opens.place_of m)) (opens.place_of m) (opens.opened_of m.opening file) next old new place l
+  open-follows m (openings.Ended (Err fault)) next old new place f l = fine-as P (opens.refused fault) next l.0 f
 
--- ---- reads
+  -- ---- reads
 
-stays-read : (p : Phase) (r : Reading) (back : Pending) (next : Next) → reading.Stays p r back next → FineNext next
-stays-read phases.Attrs r back next s = fine-as nexts.Wait next s tt
-stays-read phases.AskedAttrs r back next s = fine-as nexts.Wait next s tt
-stays-read phases.Pages r back next s = fine-as nexts.Wait next s tt
-stays-read phases.Rest r back next s = fine-as nexts.Wait next s tt
-stays-read (phases.Asked count) r back next s = fine-as nexts.Wait next s tt
-stays-read phases.Ended r back next s = fine-as (reading.shown_next (reading.answer_of r back)) next s tt
+  stays-read : (p : Phase) (r : Reading) (back : Pending) (next : Next) → reading.Stays p r back next → FineNext P next
+  stays-read phases.Attrs r back next s = fine-as P nexts.Wait next s tt
+  stays-read phases.AskedAttrs r back next s = fine-as P nexts.Wait next s tt
+  stays-read phases.Pages r back next s = fine-as P nexts.Wait next s tt
+  stays-read phases.Rest r back next s = fine-as P nexts.Wait next s tt
+  stays-read (phases.Asked count) r back next s = fine-as P nexts.Wait next s tt
+  stays-read phases.Ended r back next s = fine-as P (reading.shown_next (reading.answer_of r back)) next s tt
 
-goes-if : (b : Bool) (back : Pending) (s : reading.State) (next : Next) → reading.GoesIf b back s next → FineNext next
-goes-if true back s next g = fine-as (nexts.Send (reading.asked_call s)) next g tt
-goes-if false back s next g = stays-read s.reading.phase s.reading back next g
+  goes-if : (b : Bool) (back : Pending) (s : reading.State) (next : Next) → reading.GoesIf b back s next → FineNext P next
+  goes-if true back s next g = fine-as P (nexts.Send (reading.asked_call s)) next g tt
+  goes-if false back s next g = stays-read s.reading.phase s.reading back next g
 
-goes-read : (room : Bool) (back : Pending) (s : reading.State) (next : Next) → reading.Goes room back s next → FineNext next
-goes-read room back s next g = goes-if (reading.asks room s) back s next g
+  goes-read : (room : Bool) (back : Pending) (s : reading.State) (next : Next) → reading.Goes room back s next → FineNext P next
+  goes-read room back s next g = goes-if (reading.asks room s) back s next g
 
-begun-in : (mode : Mode) (moment : ℕ) (m : ReadFile) (file : List ℕ) (back : Pending) → FineResult (reads.begun_in mode moment m file back)
-begun-in modes.W moment m file back = tt
-begun-in modes.R moment m file back = tt
-begun-in modes.RW moment m file back = tt
-begun-in modes.C moment m file back = tt
-begun-in modes.X moment m file back = tt
+  begun-in : (mode : Mode) (moment : ℕ) (m : ReadFile) (file : List ℕ) (back : Pending) → (mode ≡ modes.W → P faults.Mode) → FineResult P (reads.begun_in mode moment m file back)
+  begun-in modes.W moment m file back right = right refl
+  begun-in modes.R moment m file back right = tt
+  begun-in modes.RW moment m file back right = tt
+  begun-in modes.C moment m file back right = tt
+  begun-in modes.X moment m file back right = tt
 
-begun-at : (opened : Option Opened) (moment : ℕ) (m : ReadFile) (back : Pending) → FineResult (reads.begun_at opened moment m back)
-begun-at None moment m back = tt
-begun-at (Some o) moment m back = begun-in o.mode moment m o.file back
+  begun-at : (opened : Option Opened) (moment : ℕ) (m : ReadFile) (back : Pending) → (opened ≡ None → P faults.Slot) → ((o : Opened) → opened ≡ Some o → o.mode ≡ modes.W → P faults.Mode)
+      → FineResult P (reads.begun_at opened moment m back)
+  begun-at None moment m back place right = place refl
+  begun-at (Some o) moment m back place right = begun-in o.mode moment m o.file back (right o refl)
 
-begins-fine : (tried result : Result Reading Fault) → FineResult tried → reads.Begins tried result → FineResult result
-begins-fine (Err fault) result n b = subst FineResult (sym b) n
-begins-fine (Ok r) result n (inl b) = subst FineResult (sym b) tt
-begins-fine (Ok r) result n (inr b) = subst FineResult (sym b) tt
+  begins-fine : (tried result : Result Reading Fault) → FineResult P tried → reads.Begins tried result → FineResult P result
+  begins-fine (Err fault) result n b = subst (FineResult P) (sym b) n
+  begins-fine (Ok r) result n (inl b) = subst (FineResult P) (sym b) tt
+  begins-fine (Ok r) result n (inr b) = subst (FineResult P) (sym b) own.memory
 
-starts-with : (begun : Result Reading Fault) (room : Bool) (m : ReadFile) (pages : Pages) (back : Pending) (next : Next) (new : ReadFile) (later : Pages) → FineResult begun
-    → reads.StartsWith begun room m pages back next new later → FineNext next
-starts-with (Err fault) room m pages back next new later n s = fine-as (reading.refused fault) next s.step n
-starts-with (Ok r) room m pages back next new later n s = goes-read room back (reading.settled r pages) next s.step
+  starts-with : (begun : Result Reading Fault) (room : Bool) (m : ReadFile) (pages : Pages) (back : Pending) (next : Next) (new : ReadFile) (later : Pages) → FineResult P begun
+      → reads.StartsWith begun room m pages back next new later → FineNext P next
+  starts-with (Err fault) room m pages back next new later n s = fine-as P (reading.refused fault) next s.step n
+  starts-with (Ok r) room m pages back next new later n s = goes-read room back (reading.settled r pages) next s.step
 
-pub read-starts : (opened : Option Opened) (turn : Turn) (m : ReadFile) (pages : Pages) (back : Pending) (next : Next) (new : ReadFile) (later : Pages)
-    → reads.Starts opened turn m pages back next new later → FineNext next
-read-starts opened turn m pages back next new later s =
-    starts-with s.reading turn.room m pages back next new later
-    (begins-fine (reads.begun_at opened (turn.moment - 1) m back) s.reading (begun-at opened (turn.moment - 1) m back) s.begins) s.goes
+  pub read-starts : (opened : Option Opened) (turn : Turn) (m : ReadFile) (pages : Pages) (back : Pending) (next : Next) (new : ReadFile) (later : Pages)
+      → (opened ≡ None → P faults.Slot) → ((o : Opened) → opened ≡ Some o → o.mode ≡ modes.W → P faults.Mode) → reads.Starts opened turn m pages back next new later → FineNext P next
+  read-starts opened turn m pages back next new later place right s =
+      starts-with s.reading turn.room m pages back next new later
+      (begins-fine (reads.begun_at opened (turn.moment - 1) m back) s.reading (begun-at opened (turn.moment - 1) m back place right) s.begins) s.goes
 
-pub read-resumes : (of : Option Reading) (room : Bool) (m : ReadFile) (pages : Pages) (back : Pending) (next : Next) (new : ReadFile) (later : Pages)
-    → reads.ResumesIn of room m pages back next new later → FineNext next
-read-resumes None room m pages back next new later s = fine-as nexts.Wait next s.step tt
-read-resumes (Some r) room m pages back next new later s = goes-read room back (reading.settled r pages) next s.step
+  pub read-resumes : (of : Option Reading) (room : Bool) (m : ReadFile) (pages : Pages) (back : Pending) (next : Next) (new : ReadFile) (later : Pages)
+      → reads.ResumesIn of room m pages back next new later → FineNext P next
+  read-resumes None room m pages back next new later s = fine-as P nexts.Wait next s.step tt
+  read-resumes (Some r) room m pages back next new later s = goes-read room back (reading.settled r pages) next s.step
 
-opened-read : (result : Result (Unit {0}) memory.Memory) (turn : Turn) (r : Reading) (pages : Pages) (back : Pending) (next : Next) (new : reading.State)
-    → reading.AfterOpened result turn r pages back next new → FineNext next
-opened-read (Ok done) turn r pages back next new a = goes-read turn.room back (reading.settled (record r { phase = phases.Pages }) pages) next a.0
-opened-read (Err no_memory) turn r pages back next new a = fine-as (reading.refused faults.Memory) next a.0 tt
+  opened-read : (result : Result (Unit {0}) memory.Memory) (turn : Turn) (r : Reading) (pages : Pages) (back : Pending) (next : Next) (new : reading.State)
+      → reading.AfterOpened result turn r pages back next new → FineNext P next
+  opened-read (Ok done) turn r pages back next new a = goes-read turn.room back (reading.settled (record r { phase = phases.Pages }) pages) next a.0
+  opened-read (Err no_memory) turn r pages back next new a = fine-as P (reading.refused faults.Memory) next a.0 own.memory
 
-attrs-read : (told : Result Attr Fault) (again : Bool) (sent turn : Turn) (r : Reading) (pages : Pages) (back : Pending) (next : Next) (new : reading.State) → FineResult told
-    → reading.TakesAttrs again told sent turn r pages back next new → FineNext next
-attrs-read (Ok attr) again sent turn r pages back next new n t = opened-read t.result turn r t.later back next new t.goes
-attrs-read (Err fault) again sent turn r pages back next new n t = again-fine again (reading.attrs_call r.file) (answers.Refused fault) next t.0 n
+  attrs-read : (told : Result Attr Fault) (again : Bool) (sent turn : Turn) (r : Reading) (pages : Pages) (back : Pending) (next : Next) (new : reading.State) → FineResult P told
+      → reading.TakesAttrs again told sent turn r pages back next new → FineNext P next
+  attrs-read (Ok attr) again sent turn r pages back next new n t = opened-read t.result turn r t.later back next new t.goes
+  attrs-read (Err fault) again sent turn r pages back next new n t = again-fine P again (reading.attrs_call r.file) (answers.Refused fault) next t.0 n
 
-abbrev FineSaid : Said → Type 0
-FineSaid (part attr eof bytes) = Unit {0}
-FineSaid (refusal attr fault) = NotLost fault
+  abbrev FineSaid : Said → Type 0
+  FineSaid (part attr eof bytes) = Unit {0}
+  FineSaid (refusal attr fault) = P fault
 
-rule-fine : (b eof : Bool) (attr : Option Attr) (bytes : List ℕ) → FineSaid (if b then refusal attr (faults.Bad 5) else part attr eof bytes)
-rule-fine true eof attr bytes = tt
-rule-fine false eof attr bytes = tt
+  rule-fine : (b eof : Bool) (attr : Option Attr) (bytes : List ℕ) → FineSaid (if b then refusal attr (faults.Bad 5) else part attr eof bytes)
+  rule-fine true eof attr bytes = own.bad 5
+  rule-fine false eof attr bytes = tt
 
-said-by-fine : (count : ℕ) (reply : FileKept) → FineSaid (said_by count (replies.File reply))
-said-by-fine asked (kept.Read attr count eof bytes) = rule-fine (breaks_rule asked count eof bytes) eof attr bytes
-said-by-fine asked (kept.ReadFail status attr) = tt
-said-by-fine asked reply = tt
+  said-by-fine : (count : ℕ) (reply : FileKept) → OfReply P (replies.File reply) → FineSaid (said_by count (replies.File reply))
+  said-by-fine asked (kept.Read attr count eof bytes) n = rule-fine (breaks_rule asked count eof bytes) eof attr bytes
+  said-by-fine asked (kept.ReadFail status attr) n = n
+  said-by-fine asked reply n = own.bad 2
 
-said-fine : (count : ℕ) (came : Result Reply Fault) → FineResult came → FineSaid (said_to count came)
-said-fine count (Ok (replies.File reply)) n = said-by-fine count reply
-said-fine count (Ok (replies.Dir reply)) n = tt
-said-fine count (Ok (replies.Mount reply)) n = tt
-said-fine count (Err fault) n = n
+  said-fine : (count : ℕ) (came : Result Reply Fault) → Came P came → FineSaid (said_to count came)
+  said-fine count (Ok (replies.File reply)) n = said-by-fine count reply n
+  said-fine count (Ok (replies.Dir reply)) n = own.bad 2
+  said-fine count (Ok (replies.Mount reply)) n = own.bad 2
+  said-fine count (Err fault) n = n
 
-part-read : (said : Said) (again : Bool) (sent turn : Turn) (r : Reading) (pages : Pages) (back : Pending) (next : Next) → FineSaid said → reading.Tells again sent turn said r pages back next → FineNext next
-part-read (part attr eof bytes) again sent turn r pages back next n t = goes-read turn.room back _ next t
-part-read (refusal attr fault) again sent turn r pages back next n t = again-fine again (reading.part_call r) (answers.Refused fault) next t n
+  part-read : (said : Said) (again : Bool) (sent turn : Turn) (r : Reading) (pages : Pages) (back : Pending) (next : Next) → FineSaid said → reading.Tells again sent turn said r pages back next → FineNext P next
+  part-read (part attr eof bytes) again sent turn r pages back next n t = goes-read turn.room back _ next t
+  part-read (refusal attr fault) again sent turn r pages back next n t = again-fine P again (reading.part_call r) (answers.Refused fault) next t n
 
-heard-read : (p : Phase) (sent turn : Turn) (came : Result Reply Fault) (repeats : List Repeat) (r : Reading) (pages : Pages) (back : Pending) (next : Next) (new : reading.State) → FineResult came
-    → reading.TakesPart (reading.heard p came) sent turn repeats r pages back next new → FineNext next
-heard-read phases.Attrs sent turn came repeats r pages back next new n t = fine-as nexts.Wait next t.0 tt
-heard-read phases.AskedAttrs sent turn came repeats r pages back next new n t = fine-as nexts.Wait next t.0 tt
-heard-read phases.Pages sent turn came repeats r pages back next new n t = fine-as nexts.Wait next t.0 tt
-heard-read phases.Rest sent turn came repeats r pages back next new n t = fine-as nexts.Wait next t.0 tt
-heard-read (phases.Asked count) sent turn came repeats r pages back next new n t = part-read (said_to count came) _ sent turn r pages back next (said-fine count came n) t.0
-heard-read phases.Ended sent turn came repeats r pages back next new n t = fine-as nexts.Wait next t.0 tt
+  heard-read : (p : Phase) (sent turn : Turn) (came : Result Reply Fault) (repeats : List Repeat) (r : Reading) (pages : Pages) (back : Pending) (next : Next) (new : reading.State) → Came P came
+      → reading.TakesPart (reading.heard p came) sent turn repeats r pages back next new → FineNext P next
+  heard-read phases.Attrs sent turn came repeats r pages back next new n t = fine-as P nexts.Wait next t.0 tt
+  heard-read phases.AskedAttrs sent turn came repeats r pages back next new n t = fine-as P nexts.Wait next t.0 tt
+  heard-read phases.Pages sent turn came repeats r pages back next new n t = fine-as P nexts.Wait next t.0 tt
+  heard-read phases.Rest sent turn came repeats r pages back next new n t = fine-as P nexts.Wait next t.0 tt
+  heard-read (phases.Asked count) sent turn came repeats r pages back next new n t = part-read (said_to count came) _ sent turn r pages back next (said-fine count came n) t.0
+  heard-read phases.Ended sent turn came repeats r pages back next new n t = fine-as P nexts.Wait next t.0 tt
 
-reply-read : (b : Bool) (sent turn : Turn) (came : Result Reply Fault) (repeats : List Repeat) (r : Reading) (pages : Pages) (back : Pending) (next : Next) (new : reading.State) → FineResult came
-    → reading.TakesIf b sent turn came repeats r pages back next new → FineNext next
-reply-read true sent turn came repeats r pages back next new n t = attrs-read (got_by came) _ sent turn r pages back next new (got-fine came n) t
-reply-read false sent turn came repeats r pages back next new n t = heard-read r.phase sent turn came repeats r pages back next new n t
+  reply-read : (b : Bool) (sent turn : Turn) (came : Result Reply Fault) (repeats : List Repeat) (r : Reading) (pages : Pages) (back : Pending) (next : Next) (new : reading.State) → Came P came
+      → reading.TakesIf b sent turn came repeats r pages back next new → FineNext P next
+  reply-read true sent turn came repeats r pages back next new n t = attrs-read (got_by came) _ sent turn r pages back next new (got-fine came n) t
+  reply-read false sent turn came repeats r pages back next new n t = heard-read r.phase sent turn came repeats r pages back next new n t
 
-pub read-takes : (of : Option Reading) (sent turn : Turn) (came : Result Reply Fault) (repeats : List Repeat) (m : ReadFile) (pages : Pages) (back : Pending) (next : Next)
-    (new : ReadFile) (later : Pages) → FineResult came → reads.TakesIn of sent turn came repeats m pages back next new later → FineNext next
-read-takes None sent turn came repeats m pages back next new later n t = fine-as nexts.Wait next t.step tt
-read-takes (Some r) sent turn came repeats m pages back next new later n t = reply-read (reading.waits_attrs r.phase) sent turn came repeats r pages back next t.state n t.step
+  pub read-takes : (of : Option Reading) (sent turn : Turn) (came : Result Reply Fault) (repeats : List Repeat) (m : ReadFile) (pages : Pages) (back : Pending) (next : Next)
+      (new : ReadFile) (later : Pages) → Came P came → reads.TakesIn of sent turn came repeats m pages back next new later → FineNext P next
+  read-takes None sent turn came repeats m pages back next new later n t = fine-as P nexts.Wait next t.step tt
+  read-takes (Some r) sent turn came repeats m pages back next new later n t = reply-read (reading.waits_attrs r.phase) sent turn came repeats r pages back next t.state n t.step

@@ -36,13 +36,13 @@ use Rattle.rpc_retry.proofs.Failing.{length-failed}
 
 -- ---- a session that is lost stays so, and no other one is
 
-leads-lost : (v : View) (at number : ℕ) (machine : Machine) (next : Next) (new : View) → Leads v at number machine next new → new.lost ≡ v.lost
+pub leads-lost : (v : View) (at number : ℕ) (machine : Machine) (next : Next) (new : View) → Leads v at number machine next new → new.lost ≡ v.lost
 leads-lost v at number machine (Send call) new (inl m) = ap (λ (w : View). w.lost) m.is
 leads-lost v at number machine (Send call) new (inr r) = ap (λ (w : View). w.lost) r.is
 leads-lost v at number machine Wait new leads = ap (λ (w : View). w.lost) leads
 leads-lost v at number machine (Done answer) new leads = ap (λ (w : View). w.lost) leads
 
-moves-lost : (old new : View) → Moves old new → new.lost ≡ old.lost
+pub moves-lost : (old new : View) → Moves old new → new.lost ≡ old.lost
 moves-lost _ _ (moves_none old new is) = ap (λ (w : View). w.lost) is
 moves-lost _ _ (moves_more old mid new at m room st first) =
     leads-lost (with_state mid at st.number (Busy st.after) st.shelf) at st.number st.after st.next new st.leads ∙ moves-lost old mid m
@@ -172,7 +172,7 @@ fails-settled old new result f s = by (first_given_up old.calls.calls) f
     by (Some xid) f = subst IsSettled (sym f.1) (lost-settled (failed_view old))
 
 -- the operation that made the call, if it is under way
-own-lost : (old : View) (rec : List ℕ) (purpose : Purpose) (new : View) → HearsOwn old rec purpose new → new.lost ≡ old.lost
+pub own-lost : (old : View) (rec : List ℕ) (purpose : Purpose) (new : View) → HearsOwn old rec purpose new → new.lost ≡ old.lost
 own-lost old rec purpose new own = by (position (is_busy purpose.lane) old.lanes) own
   where
     by : (o : Option ℕ) → MatchOption o (new ≡ old) (λ at. TakesAt old at purpose.sent (said_of purpose.proc rec) new) → new.lost ≡ old.lost

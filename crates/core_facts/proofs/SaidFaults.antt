@@ -1,4 +1,4 @@
--- What is read from a record, and why a call isn't made, is never that the link is lost.
+-- What is read from a record, and why a call isn't made, is no fault that an operation gives by itself.
 use Rattle.std.proofs.Common.{ℕ, Bool, true, false, List, length, Result, Ok, Err}
 use Rattle.std.specs.Prelude.{if◌then◌else◌, nat_lt}
 use Rattle.xdr_codec.specs.declared.reader.XdrFault.{XdrFault}
@@ -19,53 +19,53 @@ use Rattle.call_replies.specs.Results.{dir_said, file_said, said_in}
 use Rattle.call_replies.specs.Says.{said_by, said_of}
 use Rattle.client_core.specs.Steps.{IsUnmade}
 use Rattle.client_core.specs.View.{View}
-use Rattle.core_facts.proofs.Faults.{NotLost, FineResult}
+use Rattle.core_facts.proofs.Faults.{IsOuter, FineResult}
 
-either-fine : {T : Type 0} → (b : Bool) (one other : Result T Fault) → FineResult one → FineResult other → FineResult (if b then one else other)
+either-fine : {T : Type 0} → (b : Bool) (one other : Result T Fault) → FineResult IsOuter one → FineResult IsOuter other → FineResult IsOuter (if b then one else other)
 either-fine true one other f g = f
 either-fine false one other f g = g
 
-by-fine : (reply : RpcReply) → FineResult (results_by reply)
+by-fine : (reply : RpcReply) → FineResult IsOuter (results_by reply)
 by-fine (Accepted xid results) = tt
 by-fine (Refused xid stat low high) = tt
 by-fine (Denied xid stat first second) = tt
 
-read-fine : (reply : Result RpcReply ReplyFault) → FineResult (results_read reply)
+read-fine : (reply : Result RpcReply ReplyFault) → FineResult IsOuter (results_read reply)
 read-fine (Ok reply) = by-fine reply
 read-fine (Err NotReply) = tt
 read-fine (Err (Xdr fault)) = tt
 
-results-fine : (rec : List ℕ) → FineResult (results_in rec)
+results-fine : (rec : List ℕ) → FineResult IsOuter (results_in rec)
 results-fine rec = either-fine (nat_lt most_bytes (length rec)) (Err (faults.Bad 7)) (results_read (reply_at rec)) tt (read-fine (reply_at rec))
 
-dir-fine : (said : Result DirKept XdrFault) → FineResult (dir_said said)
+dir-fine : (said : Result DirKept XdrFault) → FineResult IsOuter (dir_said said)
 dir-fine (Ok reply) = tt
 dir-fine (Err fault) = tt
 
-file-fine : (said : Result FileKept XdrFault) → FineResult (file_said said)
+file-fine : (said : Result FileKept XdrFault) → FineResult IsOuter (file_said said)
 file-fine (Ok reply) = tt
 file-fine (Err fault) = tt
 
-in-fine : (proc : ℕ) (results : List ℕ) → FineResult (said_in proc results)
+in-fine : (proc : ℕ) (results : List ℕ) → FineResult IsOuter (said_in proc results)
 in-fine proc results =
     either-fine (is_dir_proc proc) (dir_said (dir_reply_at proc results)) _ (dir-fine (dir_reply_at proc results))
     (either-fine (is_file_proc proc) (file_said (file_reply_at proc results)) (Err (faults.Bad 2)) (file-fine (file_reply_at proc results)) tt)
 
-said-by-fine : (proc : ℕ) (results : Result (List ℕ) Fault) → FineResult results → FineResult (said_by proc results)
+said-by-fine : (proc : ℕ) (results : Result (List ℕ) Fault) → FineResult IsOuter results → FineResult IsOuter (said_by proc results)
 said-by-fine proc (Ok results) f = in-fine proc results
 said-by-fine proc (Err fault) f = f
 
-pub said-fine : (proc : ℕ) (rec : List ℕ) → FineResult (said_of proc rec)
+pub said-fine : (proc : ℕ) (rec : List ℕ) → FineResult IsOuter (said_of proc rec)
 said-fine proc rec = said-by-fine proc (results_in rec) (results-fine rec)
 
-pub unmade-fine : (v : View) (fault : Fault) → IsUnmade v fault → NotLost fault
+pub unmade-fine : (v : View) (fault : Fault) → IsUnmade v fault → IsOuter fault
 unmade-fine v faults.Lost u = u
 unmade-fine v (faults.Nfs status) u = tt
 unmade-fine v (faults.Rpc n) u = tt
 unmade-fine v (faults.Bad rule) u = tt
 unmade-fine v faults.Spent u = tt
-unmade-fine v faults.Slot u = tt
-unmade-fine v faults.Mode u = tt
-unmade-fine v faults.Kind u = tt
-unmade-fine v faults.Many u = tt
+unmade-fine v faults.Slot u = u
+unmade-fine v faults.Mode u = u
+unmade-fine v faults.Kind u = u
+unmade-fine v faults.Many u = u
 unmade-fine v faults.Memory u = tt

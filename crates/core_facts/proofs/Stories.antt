@@ -21,8 +21,8 @@ use Rattle.world_model.specs.declared.op.Op.{Op}
 use Rattle.world_model.specs.Entries.{At}
 use Rattle.world_model.specs.Heard.{Asked, Heard as IsHeard}
 use Rattle.world_model.specs.Lost.{IsLost}
-use Rattle.world_model.specs.Messages.{SpellsCallBy, proc_of}
-use Rattle.world_model.specs.Operations.{Ended, UnderWay}
+use Rattle.world_model.specs.Messages.{SpellsCallBy, SpellsReply, proc_of}
+use Rattle.world_model.specs.Operations.{Ended, EndsWith, UnderWay}
 use Rattle.world_model.proofs.Places.{At-grow, At-below, At-back, At-one, At-cases, length_last}
 use Rattle.call_replies.specs.Says.{said_of, Says}
 use Rattle.client_shelf.specs.declared.next.Next.{Next}
@@ -50,10 +50,11 @@ use Rattle.core_facts.proofs.Cases.{Heard, dropped, replied, heard, sent_now, Fa
 use Rattle.core_facts.proofs.Counting.{IsKnown, calls-some, calls-without, known-only, known-none, one_for, stirs-count, starts-count, hears-count, reached-count, none-busy, none-idle}
 use Rattle.core_facts.proofs.Steps.{AskedOf, KeptOf, ThenOf}
 use Rattle.core_facts.proofs.Expecting.{Expects, Expected, expects-starts, expects-resumes, expects-takes}
-use Rattle.core_facts.proofs.Faults.{FineResult}
+use Rattle.core_facts.proofs.Faults.{IsOuter, FineResult}
 use Rattle.core_facts.proofs.SaidFaults.{said-fine, unmade-fine}
 use Rattle.core_facts.proofs.Losing.{reached-shown, lost-grow}
 use Rattle.core_facts.proofs.Hearing.{was-sent, says-of, heard-of}
+use Rattle.core_facts.proofs.LastReplies.{ends-of}
 use Rattle.core_facts.proofs.LaneMarks.{LanesKnown, quiet-facts, lanes-stay, lanes-begin, lanes-under-way, reached-lanes, idle-numbers, number_of}
 use Rattle.core_facts.proofs.Lists.{at-set, at-push, at-position, get-push, get-remove, skip, in-map, to-map}
 use Rattle.core_facts.proofs.Owning.{reached-since}
@@ -68,7 +69,8 @@ pub record IsTold (h : List Entry) (x : ℕ) (machine : Machine) (came : Result 
   pub call : Call
   pub expects : Expects machine call
   pub heard : (reply : Reply) → came ≡ Ok reply → Asked h x (length h) call reply
-  pub fine : FineResult came
+  pub ends : (reply : Reply) → came ≡ Ok reply → EndsWith h x (length h) call reply
+  pub fine : FineResult IsOuter came
 
 -- A fact of an operation, which began at a place, that its steps keep, and each entry.
 pub record StoryLaws (machine_of : ℕ → Op → Machine) (S : List Entry → ℕ → Op → State → Type 0) : Type 0 where
@@ -83,9 +85,48 @@ pub record StoryLaws (machine_of : ℕ → Op → Machine) (S : List Entry → �
   pub grows : (h : List Entry) (e : Entry) (x : ℕ) (op : Op) (state : State) → S h x op state → S (h ++ e ∷ []) x op state
   pub lost : (h : List Entry) (x : ℕ) (op : Op) → IsLost h (length h) → S h x op (Over (Refused faults.Lost))
 
+-- The same where P holds of the history and the shelf as the operation begins in its lane.
+pub record LawsOver (P : List Entry → ℕ → Shelf → Type 0) (machine_of : ℕ → Op → Machine) (S : List Entry → ℕ → Op → State → Type 0) : Type 0 where
+  pub starts : (h : List Entry) (lane line : ℕ) (op : Op) (wsize : ℕ) (turn : Turn) (old : Shelf) (next : Next) (new : Machine) (after : Shelf)
+      → P h lane old → Starts wsize (machine_of lane op) turn old next new after
+      → ThenOf (λ m. S (h ++ Began lane line op ∷ []) (length h) op (Busy m)) (λ a. S (h ++ Began lane line op ∷ []) (length h) op (Over a)) next new
+  pub resumes : (h : List Entry) (x : ℕ) (op : Op) (machine : Machine) (wsize : ℕ) (turn : Turn) (old : Shelf) (next : Next) (new : Machine) (after : Shelf)
+      → S h x op (Busy machine) → Resumes wsize machine turn old next new after → ThenOf (λ m. S h x op (Busy m)) (λ a. S h x op (Over a)) next new
+  pub takes : (h : List Entry) (x : ℕ) (op : Op) (machine : Machine) (wsize : ℕ) (sent turn : Turn) (came : Result Reply Fault) (old : Shelf) (next : Next) (new : Machine)
+      (after : Shelf) (others : ℕ) → S h x op (Busy machine) → in_flight machine ≡ others + 1 → IsTold h x machine came → Takes wsize machine sent turn came old next new after
+      → ThenOf (λ m. S h x op (Busy m)) (λ a. S h x op (Over a)) next new
+  pub grows : (h : List Entry) (e : Entry) (x : ℕ) (op : Op) (state : State) → S h x op state → S (h ++ e ∷ []) x op state
+  pub lost : (h : List Entry) (x : ℕ) (op : Op) → IsLost h (length h) → S h x op (Over (Refused faults.Lost))
+
+-- with nothing to know as it begins
+abbrev pub Always : List Entry → ℕ → Shelf → Type 0
+Always h lane shelf = Unit {0}
+
+pub over-laws : (machine_of : ℕ → Op → Machine) (S : List Entry → ℕ → Op → State → Type 0) → StoryLaws machine_of S → LawsOver Always machine_of S
+over-laws machine_of S laws = record {
+  starts = λ h lane line op wsize turn old next new after p s. laws.starts h lane line op wsize turn old next new after s;
+  resumes = laws.resumes;
+  takes = laws.takes;
+  grows = laws.grows;
+  lost = laws.lost;
+}
+
+-- P holds of each idle lane, as long as the session isn't lost.
+abbrev pub IsGiven : (ℕ → Op → Machine) → Setup → (List Entry → ℕ → Shelf → Type 0) → Type 0
+IsGiven machine_of setup P =
+    (h : List Entry) (v : View) → Reaches machine_of setup h v → v.lost ≡ false → (lane : ℕ) → IsOther lane (numbers_of v.lanes) → P h lane v.shelf
+
+-- The operation was answered at a place, and this was its story until then.
+pub record HadStory (S : List Entry → ℕ → Op → State → Type 0) (h : List Entry) (x : ℕ) (op : Op) (y : ℕ) (answer : Answer) : Type 0 where
+  pub before : List Entry
+  pub after : List Entry
+  pub is : h ≡ before ++ after
+  pub there : length before ≡ y
+  pub story : S before x op (Over answer)
+
 -- ---- operations under way
 
-ended-grow : (h : List Entry) (e : Entry) (lane x : ℕ) (op : Op) (y : ℕ) (answer : Answer) → Ended h lane x op y answer → Ended (h ++ e ∷ []) lane x op y answer
+pub ended-grow : (h : List Entry) (e : Entry) (lane x : ℕ) (op : Op) (y : ℕ) (answer : Answer) → Ended h lane x op y answer → Ended (h ++ e ∷ []) lane x op y answer
 ended-grow h e lane x op y answer d = record {
   line = d.line;
   began = At-grow h (e ∷ []) x (Began lane d.line op) d.began;
@@ -98,7 +139,7 @@ ended-grow h e lane x op y answer d = record {
     by j a after (inl there) = d.first j a there after
     by j a after (inr here) = let below = At-below h y (Answered lane d.line answer) d.answered in let is = here.0 in omega (arith, below, is)
 
-under-back : (h : List Entry) (e : Entry) (number x : ℕ) (op : Op) → ((line : ℕ) (o : Op) → e ≡ Began number line o → ⊥) → UnderWay (h ++ e ∷ []) number x (length (h ++ e ∷ [])) op
+pub under-back : (h : List Entry) (e : Entry) (number x : ℕ) (op : Op) → ((line : ℕ) (o : Op) → e ≡ Began number line o → ⊥) → UnderWay (h ++ e ∷ []) number x (length (h ++ e ∷ [])) op
     → UnderWay h number x (length h) op
 under-back h e number x op other u = by (At-cases h e x (Began number u.line op) u.began)
   where
@@ -120,7 +161,7 @@ under-back h e number x op other u = by (At-cases h e x (Began number u.line op)
 
 -- ---- lists
 
-set-other : (lanes : List Lane) (at k : ℕ) (lane : Lane) → k ≢ at → slice_get (slice_set lanes at lane) k ≡ slice_get lanes k
+pub set-other : (lanes : List Lane) (at k : ℕ) (lane : Lane) → k ≢ at → slice_get (slice_set lanes at lane) k ≡ slice_get lanes k
 set-other [] at k lane apart = refl
 set-other (l ∷ lanes) zero zero lane apart = absurd (apart refl)
 set-other (l ∷ lanes) zero (suc k) lane apart = refl
@@ -130,14 +171,14 @@ set-other (l ∷ lanes) (suc at) (suc k) lane apart = set-other lanes at k lane 
 some-lane : (a b : Lane) → Some a ≡ Some b → b ≡ a
 some-lane a b e = cc
 
-some-answer : (a b : Answer) → Some a ≡ Some b → a ≡ b
+pub some-answer : (a b : Answer) → Some a ≡ Some b → a ≡ b
 some-answer a b e = cc
 
-some-call : (a b : Waiting Purpose) → Some a ≡ Some b → a ≡ b
+pub some-call : (a b : Waiting Purpose) → Some a ≡ Some b → a ≡ b
 some-call a b e = cc
 
 -- a fact of the lane at a place, and of the others, is one of all
-by-place : (P : Lane → Type 0) (lanes : List Lane) (at : ℕ) (own : Lane) → slice_get lanes at ≡ Some own → P own
+pub by-place : (P : Lane → Type 0) (lanes : List Lane) (at : ℕ) (own : Lane) → slice_get lanes at ≡ Some own → P own
     → ((k : ℕ) (lane : Lane) → slice_get lanes k ≡ Some lane → k ≢ at → P lane) → (k : ℕ) (lane : Lane) → slice_get lanes k ≡ Some lane → P lane
 by-place P lanes at own there p others k lane here = by (nat_eq k at) refl
   where
@@ -151,7 +192,8 @@ Going (Send call) P = P
 Going Wait P = P
 Going (Done answer) P = Unit {0}
 
-module _ (machine_of : ℕ → Op → Machine) (unbegun : (lane : ℕ) (op : Op) → IsUnbegun (machine_of lane op)) (setup : Setup) (S : List Entry → ℕ → Op → State → Type 0) (laws : StoryLaws machine_of S) where
+module _ (machine_of : ℕ → Op → Machine) (unbegun : (lane : ℕ) (op : Op) → IsUnbegun (machine_of lane op)) (setup : Setup) (P : List Entry → ℕ → Shelf → Type 0) (given : IsGiven machine_of setup P)
+    (S : List Entry → ℕ → Op → State → Type 0) (laws : LawsOver P machine_of S) where
   -- The call that waits is one that the machine expects.
   pub record IsExpected (xid : ℕ) (w : Waiting Purpose) (machine : Machine) : Type 0 where
     pub made : IsMade setup.cred xid w
@@ -245,7 +287,7 @@ module _ (machine_of : ℕ → Op → Machine) (unbegun : (lane : ℕ) (op : Op)
 
       told : (x : ℕ) (op : Op) → UnderWay h number x (length h) op → ThenOf (λ m. S h x op (Busy m)) (λ a. S h x op (Over a)) f.next f.after
       told x op u = laws.takes h x op machine v.wsize (turn_at v) (unmade_turn v) (Err f.fault) v.shelf f.next f.after f.left others (o.told x op u) o.counts.0
-          (record { call = call; expects = o.asked; heard = λ reply is. absurd (cc); fine = unmade-fine v f.fault f.unmade }) f.takes
+          (record { call = call; expects = o.asked; heard = λ reply is. absurd (cc); ends = λ reply is. absurd (cc); fine = unmade-fine v f.fault f.unmade }) f.takes
 
       by : (next : Next) (state : State) → IsRefused f.after next state → KeptOf Expects others machine next f.after
           → ((x : ℕ) (op : Op) → UnderWay h number x (length h) op → ThenOf (λ m. S h x op (Busy m)) (λ a. S h x op (Over a)) next f.after)
@@ -330,7 +372,7 @@ module _ (machine_of : ℕ → Op → Machine) (unbegun : (lane : ℕ) (op : Op)
   began-op a b c d o p e = cc
 
   -- the operation that is under way in the lane is the one that begins
-  now-told : (h : List Entry) (v : View) (lane line : ℕ) (op : Op) (P : ℕ → Op → Type 0) → LanesKnown h v → IsOther lane (numbers_of v.lanes) → P (length h) op
+  pub now-told : (h : List Entry) (v : View) (lane line : ℕ) (op : Op) (P : ℕ → Op → Type 0) → LanesKnown h v → IsOther lane (numbers_of v.lanes) → P (length h) op
       → (x : ℕ) (o : Op) → UnderWay (h ++ Began lane line op ∷ []) lane x (length (h ++ Began lane line op ∷ [])) o → P x o
   now-told h v lane line op P lanes idle p x o u = by (At-cases h (Began lane line op) x (Began lane u.line o) u.began)
     where
@@ -403,7 +445,7 @@ module _ (machine_of : ℕ → Op → Machine) (unbegun : (lane : ℕ) (op : Op)
       own-told : (x : ℕ) (o : Op) → UnderWay later lane x (length later) o → ThenOf (λ m. S later x o (Busy m)) (λ a. S later x o (Over a)) b.own.next b.own.after
       own-told x o u = now-told h old lane line op (λ y q. ThenOf (λ m. S later y q (Busy m)) (λ a. S later y q (Over a)) b.own.next b.own.after)
           (reached-lanes machine_of setup h old r) t.idle.other
-          (laws.starts h lane line op old.wsize (turn_at (counted old (last_reading 0 h))) old.shelf b.own.next b.own.after b.own.shelf b.own.starts) x o u
+          (laws.starts h lane line op old.wsize (turn_at (counted old (last_reading 0 h))) old.shelf b.own.next b.own.after b.own.shelf (given h old r was lane t.idle.other) b.own.starts) x o u
 
       first : AllGood later b.first
       first = leads-good later (record (counted old (last_reading 0 h)) { lanes = old.lanes ++ record { number = lane; state = Busy b.own.after } ∷ []; shelf = b.own.shelf }) b.first
@@ -453,7 +495,7 @@ module _ (machine_of : ℕ → Op → Machine) (unbegun : (lane : ℕ) (op : Op)
   taken-good h old rec xid r g k lane there = taken-lane h old rec xid lane r (g k lane there)
 
   -- what is told of the call to the operation that is under way
-  told-of : (h : List Entry) (old : View) (rec : List ℕ) (new : View) (xid : ℕ) (call : Waiting Purpose) (t : HearsRecord old rec new) → Reaches machine_of setup h old → old.lost ≡ false
+  pub told-of : (h : List Entry) (old : View) (rec : List ℕ) (new : View) (xid : ℕ) (call : Waiting Purpose) (t : HearsRecord old rec new) → Reaches machine_of setup h old → old.lost ≡ false
       → xid_at rec ≡ Some xid → waiting_at xid old.calls.calls ≡ Some call → (machine : Machine) → IsExpected xid call machine
       → (x line : ℕ) (op : Op) → At h x (Began call.purpose.lane line op) → IsTold (h ++ Delivered rec ∷ []) x machine (said_of call.purpose.proc rec)
   told-of h old rec new xid call t r found named waits machine e x line op began = record {
@@ -467,9 +509,19 @@ module _ (machine_of : ℕ → Op → Machine) (unbegun : (lane : ℕ) (op : Op)
           let said = says-of old rec t.result new xid call t.hears named waits xid named e.made.asked (record { nfs = e.made.nfs; is = sym e.made.proc }) in
           (subst (Says xid e.made.asked rec) is said).is;
     };
+    ends = λ reply is. ends-by reply (
+        let said = says-of old rec t.result new xid call t.hears named waits xid named e.made.asked (record { nfs = e.made.nfs; is = sym e.made.proc }) in
+        (subst (Says xid e.made.asked rec) is said).is) ((reached-rows machine_of setup h old r).rows xid call waits).tried;
     fine = said-fine call.purpose.proc rec;
   }
     where
+      ends-by : (reply : Reply) → SpellsReply xid e.made.asked reply rec → Tried h xid call → EndsWith (h ++ Delivered rec ∷ []) x (length (h ++ Delivered rec ∷ [])) e.made.asked reply
+      ends-by reply spells (unsent nothing u) = absurd (let some = was-sent xid old.calls.calls call t.may.sent waits in omega (arith, some, nothing))
+      ends-by reply spells (runs from running o rest) = ends-of h rec xid from x e.made.asked call.bytes reply o e.made.spells.spells named
+          (reached-since machine_of unbegun setup h old r found xid call waits x line op began from call.bytes o.sent.sent o.sent.under) spells
+      ends-by reply spells (ended from idle o rest) = ends-of h rec xid from x e.made.asked call.bytes reply o e.made.spells.spells named
+          (reached-since machine_of unbegun setup h old r found xid call waits x line op began from call.bytes o.sent.sent o.sent.under) spells
+
       by : Tried h xid call → IsHeard (h ++ Delivered rec ∷ []) x (length h + 1) e.made.asked xid rec
       by (unsent nothing u) = absurd (let some = was-sent xid old.calls.calls call t.may.sent waits in omega (arith, some, nothing))
       by (runs from running o rest) = heard-of h rec xid from x e.made.asked call.bytes o e.made.spells.spells named
@@ -634,25 +686,17 @@ module _ (machine_of : ℕ → Op → Machine) (unbegun : (lane : ℕ) (op : Op)
   good-step h old (Reboot verf) new t r g = same-good h (Reboot verf) old new (λ lane line op e. cc) t g
   good-step h old (Clock ms) new t r g = same-good h (Clock ms) old new (λ lane line op e. cc) t g
 
-  pub reached-good : (h : List Entry) (v : View) → Reaches machine_of setup h v → AllGood h v
-  reached-good _ _ (begins h v may up fresh) = λ k lane there. absurd (let no_way : None ≡ Some lane = ap (λ (lanes : List Lane). slice_get lanes k) (sym fresh.lanes) ∙ there in cc)
-  reached-good _ _ (goes h before v b e r is t) = subst (λ (k : List Entry). AllGood k v) (sym is) (good-step before b e v t r (reached-good before b r))
-  reached-good _ _ (loses h v b r shown is) = lost-good h b v (record { to = length h; by = omega arith; loses = shown }) (ap (λ (w : View). w.lanes) is) (reached-good h b r)
+  pub good-over : (h : List Entry) (v : View) → Reaches machine_of setup h v → AllGood h v
+  good-over _ _ (begins h v may up fresh) = λ k lane there. absurd (let no_way : None ≡ Some lane = ap (λ (lanes : List Lane). slice_get lanes k) (sym fresh.lanes) ∙ there in cc)
+  good-over _ _ (goes h before v b e r is t) = subst (λ (k : List Entry). AllGood k v) (sym is) (good-step before b e v t r (good-over before b r))
+  good-over _ _ (loses h v b r shown is) = lost-good h b v (record { to = length h; by = omega arith; loses = shown }) (ap (λ (w : View). w.lanes) is) (good-over h b r)
 
   -- ---- answers
-
-  -- The operation was answered at a place, and this was its story until then.
-  pub record HadStory (h : List Entry) (x : ℕ) (op : Op) (y : ℕ) (answer : Answer) : Type 0 where
-    pub before : List Entry
-    pub after : List Entry
-    pub is : h ≡ before ++ after
-    pub there : length before ≡ y
-    pub story : S before x op (Over answer)
 
   same-answer : (a b c d : ℕ) (p q : Answer) → Answered a b p ≡ Answered c d q → (a ≡ c) × (q ≡ p)
   same-answer a b c d p q e = (cc, cc)
 
-  ended-back : (h : List Entry) (e : Entry) (lane x : ℕ) (op : Op) (y : ℕ) (answer : Answer) → y < length h → Ended (h ++ e ∷ []) lane x op y answer → Ended h lane x op y answer
+  pub ended-back : (h : List Entry) (e : Entry) (lane x : ℕ) (op : Op) (y : ℕ) (answer : Answer) → y < length h → Ended (h ++ e ∷ []) lane x op y answer → Ended h lane x op y answer
   ended-back h e lane x op y answer within d = record {
     line = d.line;
     began = let early = d.later in At-back h (e ∷ []) x (Began lane d.line op) d.began (omega (arith, early, within));
@@ -662,7 +706,7 @@ module _ (machine_of : ℕ → Op → Machine) (unbegun : (lane : ℕ) (op : Op)
   }
 
   -- the operation that is answered now was under way
-  answered-under : (h : List Entry) (lane line : ℕ) (given : Answer) (x : ℕ) (op : Op) (answer : Answer) → Ended (h ++ Answered lane line given ∷ []) lane x op (length h) answer
+  pub answered-under : (h : List Entry) (lane line : ℕ) (given : Answer) (x : ℕ) (op : Op) (answer : Answer) → Ended (h ++ Answered lane line given ∷ []) lane x op (length h) answer
       → UnderWay h lane x (length h) op
   answered-under h lane line given x op answer d = record {
     line = d.line;
@@ -683,7 +727,7 @@ module _ (machine_of : ℕ → Op → Machine) (unbegun : (lane : ℕ) (op : Op)
       began : At h x (Began lane d.line op)
       began = let early = d.later in At-back h (Answered lane line given ∷ []) x (Began lane d.line op) d.began early
 
-  had-later : (h : List Entry) (e : Entry) (x : ℕ) (op : Op) (y : ℕ) (answer : Answer) → HadStory h x op y answer → HadStory (h ++ e ∷ []) x op y answer
+  had-later : (h : List Entry) (e : Entry) (x : ℕ) (op : Op) (y : ℕ) (answer : Answer) → HadStory S h x op y answer → HadStory S (h ++ e ∷ []) x op y answer
   had-later h e x op y answer s = record {
     before = s.before;
     after = s.after ++ e ∷ [];
@@ -701,16 +745,16 @@ module _ (machine_of : ℕ → Op → Machine) (unbegun : (lane : ℕ) (op : Op)
       by (inr now) = other lane d.line answer now.1
 
   answers-story : (h : List Entry) (old : View) (e : Entry) (new : View) (lane x : ℕ) (op : Op) (y : ℕ) (answer : Answer) → StepsTo machine_of h old e new → Reaches machine_of setup h old
-      → y ≡ length h → Ended (h ++ e ∷ []) lane x op y answer → HadStory (h ++ e ∷ []) x op y answer
+      → y ≡ length h → Ended (h ++ e ∷ []) lane x op y answer → HadStory S (h ++ e ∷ []) x op y answer
   answers-story h old (Answered number line given) new lane x op y answer t r at d = by (At-cases h (Answered number line given) y (Answered lane d.line answer) d.answered)
     where
-      by : At h y (Answered lane d.line answer) ⊎ ((y ≡ length h) × (Answered number line given ≡ Answered lane d.line answer)) → HadStory (h ++ Answered number line given ∷ []) x op y answer
+      by : At h y (Answered lane d.line answer) ⊎ ((y ≡ length h) × (Answered number line given ≡ Answered lane d.line answer)) → HadStory S (h ++ Answered number line given ∷ []) x op y answer
       by (inl there) = absurd (let low = At-below h y (Answered lane d.line answer) there in omega (arith, low, at))
       by (inr now) =
           let same = same-answer number line lane d.line given answer now.1 in
           let a = answered_now old number given new t.answers in
           let gives : given ≡ a.is.answer = some-answer given a.is.answer a.is.gives in
-          let good = reached-good h old r a.at (record { number = number; state = Over a.is.answer }) a.is.there in
+          let good = good-over h old r a.at (record { number = number; state = Over a.is.answer }) a.is.there in
           let now-ended : Ended (h ++ Answered number line given ∷ []) lane x op (length h) answer =
           subst (λ (n : ℕ). Ended (h ++ Answered number line given ∷ []) lane x op n answer) at d in
           let mine : Ended (h ++ Answered number line given ∷ []) number x op (length h) answer =
@@ -733,16 +777,24 @@ module _ (machine_of : ℕ → Op → Machine) (unbegun : (lane : ℕ) (op : Op)
   answers-story h old (Reboot verf) new lane x op y answer t r at d = absurd (not-answered h (Reboot verf) lane x op y answer (λ n l a e. cc) at d)
   answers-story h old (Clock ms) new lane x op y answer t r at d = absurd (not-answered h (Clock ms) lane x op y answer (λ n l a e. cc) at d)
 
-  pub reached-answered : (h : List Entry) (v : View) → Reaches machine_of setup h v → (lane x : ℕ) (op : Op) (y : ℕ) (answer : Answer) → Ended h lane x op y answer → HadStory h x op y answer
-  reached-answered _ _ (begins h v may up fresh) lane x op y answer d = absurd (up.unbegun x lane d.line op d.began)
-  reached-answered _ _ (goes h before v b e r is t) lane x op y answer d =
-      subst (λ (k : List Entry). HadStory k x op y answer) (sym is) (by (reached-answered before b r lane x op y answer) (cases_lt y (length before)) (subst (λ (k : List Entry). Ended k lane x op y answer) is d))
+  pub answered-over : (h : List Entry) (v : View) → Reaches machine_of setup h v → (lane x : ℕ) (op : Op) (y : ℕ) (answer : Answer) → Ended h lane x op y answer → HadStory S h x op y answer
+  answered-over _ _ (begins h v may up fresh) lane x op y answer d = absurd (up.unbegun x lane d.line op d.began)
+  answered-over _ _ (goes h before v b e r is t) lane x op y answer d =
+      subst (λ (k : List Entry). HadStory S k x op y answer) (sym is) (by (answered-over before b r lane x op y answer) (cases_lt y (length before)) (subst (λ (k : List Entry). Ended k lane x op y answer) is d))
     where
-      by : (Ended before lane x op y answer → HadStory before x op y answer) → (y < length before) ⊎ (length before ≤ y) → Ended (before ++ e ∷ []) lane x op y answer
-          → HadStory (before ++ e ∷ []) x op y answer
+      by : (Ended before lane x op y answer → HadStory S before x op y answer) → (y < length before) ⊎ (length before ≤ y) → Ended (before ++ e ∷ []) lane x op y answer
+          → HadStory S (before ++ e ∷ []) x op y answer
       by early (inl within) q = had-later before e x op y answer (early (ended-back before e lane x op y answer within q))
       by early (inr past) q =
           let low = At-below (before ++ e ∷ []) y (Answered lane q.line answer) q.answered in
           let more = length_last before e in
           answers-story before b e v lane x op y answer t r (omega (arith, low, more, past)) q
-  reached-answered _ _ (loses h v b r shown is) lane x op y answer d = reached-answered h b r lane x op y answer d
+  answered-over _ _ (loses h v b r shown is) lane x op y answer d = answered-over h b r lane x op y answer d
+
+-- ---- the same, with nothing to know as an operation begins
+
+pub reached-answered : (machine_of : ℕ → Op → Machine) → ((lane : ℕ) (op : Op) → IsUnbegun (machine_of lane op)) → (setup : Setup) (S : List Entry → ℕ → Op → State → Type 0)
+    → StoryLaws machine_of S → (h : List Entry) (v : View) → Reaches machine_of setup h v → (lane x : ℕ) (op : Op) (y : ℕ) (answer : Answer) → Ended h lane x op y answer
+    → HadStory S h x op y answer
+reached-answered machine_of unbegun setup S laws h v r lane x op y answer d =
+    answered-over machine_of unbegun setup Always (λ g w t found number other. tt) S (over-laws machine_of S laws) h v r lane x op y answer d

@@ -132,7 +132,7 @@ sync-goes-on h x wsize turn m f old next new after has s =
     (then-runs h x f m next s.step.state t.then_)
 
 -- the COMMIT that the reply answers is that of its file
-commit-shown : (h : List Entry) (x : ℕ) (m : SyncFile) (f : List ℕ) (came : Result Reply Fault) → SyncHas f (Committed h x (length h) f) m.state
+pub commit-shown : (h : List Entry) (x : ℕ) (m : SyncFile) (f : List ℕ) (came : Result Reply Fault) → SyncHas f (Committed h x (length h) f) m.state
     → IsTold h x (machines.File (files.Sync m)) came → (s : Saving) → m.state ≡ syncing.Saves s → saves.is_sending s.phase ≡ false → (verf : Verf) → commit_told came ≡ Ok verf
     → Committed h x (length h) f
 commit-shown h x m f came has told s at idle verf is =
@@ -158,7 +158,7 @@ committed-later h e x f c =
     let more = length_last h e in
     record { wcc = c.wcc; verf = c.verf; asked = Asked-wide (h ++ e ∷ []) x (length h) x (length (h ++ e ∷ [])) (saves.commit_of f) (replies.File (kept.Commit c.wcc c.verf)) (omega arith) (omega (arith, more)) grown }
 
-has-later : (h : List Entry) (e : Entry) (x : ℕ) (f : List ℕ) (state : Syncing) → SyncHas f (Committed h x (length h) f) state
+pub has-later : (h : List Entry) (e : Entry) (x : ℕ) (f : List ℕ) (state : Syncing) → SyncHas f (Committed h x (length h) f) state
     → SyncHas f (Committed (h ++ e ∷ []) x (length (h ++ e ∷ [])) f) state
 has-later h e x f syncing.Idle has = tt
 has-later h e x f (syncing.Saves s) has = (has.0, λ again. committed-later h e x f (has.1 again))

@@ -6,3 +6,9 @@ pub mod Counted
 pub mod Resting
 pub mod Hearing
 pub mod Synced
+pub mod SlotAnswers
+pub mod Refusing
+pub mod Naming
+pub mod Progress
+pub mod Asked
+pub mod Opened

@@ -12,7 +12,8 @@ use Rattle.client_core.specs.declared.setup.Setup.{Setup}
 use Rattle.client_core.specs.View.{View}
 use Rattle.core_facts.specs.Reaches.{Reaches}
 
--- A COMMIT of a whole file, sent since the operation began, was answered 0. (That it is the file of a sync's slot, or of a put's path, isn't said.)
+-- A COMMIT of a whole file, sent since the operation began, was answered 0. (That it is the file of a sync's slot is said in SlotAnswers; that it is
+-- that of a put's path isn't.)
 pub record IsCommitted (h : List Entry) (x y : ℕ) : Type 0 where
   pub f : List ℕ
   pub committed : Committed h x y f

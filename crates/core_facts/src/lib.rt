@@ -6,8 +6,14 @@ ghost use Rattle.core_facts.specs.Tries.{WaitingKnown};
 ghost use Rattle.core_facts.specs.InFlight.{CountsCalls};
 ghost use Rattle.core_facts.specs.Counted.{CallsOwned};
 ghost use Rattle.core_facts.specs.Resting.{ComeToRest};
+ghost use Rattle.core_facts.specs.Progress.{LanesWait, NoneUnanswered};
 ghost use Rattle.core_facts.specs.Hearing.{RepliesHeard};
 ghost use Rattle.core_facts.specs.Synced.{SyncsCommitted, PutsCommitted};
+ghost use Rattle.core_facts.specs.SlotAnswers.{SyncsOk, SlotsHoldOpens, PlacesExact, PlacesCaused};
+ghost use Rattle.core_facts.specs.Naming.{OneCallsDone};
+ghost use Rattle.core_facts.specs.Asked.{CallsCaused};
+ghost use Rattle.core_facts.specs.Opened.{OpensShown, KindsShown};
+ghost use Rattle.core_facts.specs.Refusing.{RefusalsShown};
 ghost use Rattle.core_facts.specs.Lanes.{CallsSound, ReachedNumbered, LanesAlternate, LanesUnderWay, LossesShown, LostAnswersShown};
 
 /// The calls that wait have different xids, which rise and lie below the next one; at most 32 wait, and no more were made than may be.
@@ -62,6 +68,17 @@ pub fn lanes_come_to_rest()
     ensures { ComeToRest }
 {}
 
+/// As long as the session isn't lost, a lane without an answer has a call that waits, with three exceptions: so many calls wait that none may be
+/// made; another operation stands before its own in the order of a file; or its own stands first there, while bytes of the file are in flight.
+pub fn lanes_wait()
+    ensures { LanesWait }
+{}
+
+/// Where no call waits, each operation that began has its answer.
+pub fn operations_are_answered()
+    ensures { NoneUnanswered }
+{}
+
 /// A record under the xid of a call that waits answers that call, which was first sent since the operation began that is under way in its
 /// lane; and what the operation takes is what the record says of it.
 pub fn replies_are_heard()
@@ -76,4 +93,56 @@ pub fn syncs_are_committed()
 /// A put is answered ok only where a COMMIT of the whole file that it saves, sent since the put began, was answered 0.
 pub fn puts_are_committed()
     ensures { PutsCommitted }
+{}
+
+/// A sync is answered ok only where a COMMIT of the whole file that its slot holds, sent since the sync began, was answered 0: the file that
+/// the lane's last open of the slot found, with no close between.
+pub fn syncs_save_their_files()
+    ensures { SyncsOk }
+{}
+
+/// A close, read, write, fill or truncate is answered ok only where its slot holds an open as it begins: for reading, where it reads, and for
+/// writing, where it writes or truncates.
+pub fn slots_hold_opens()
+    ensures { SlotsHoldOpens }
+{}
+
+/// An open of a slot that holds an open, an operation on a slot that holds none, and one for which the open of its slot isn't, are refused
+/// so, unless the session is lost or memory runs out.
+pub fn missing_places_are_refused()
+    ensures { PlacesExact }
+{}
+
+/// An operation is answered with a status of NFS or a refusal by RPC only where a record that came within it refused so a call that was made
+/// within it.
+pub fn refusals_are_shown()
+    ensures { RefusalsShown }
+{}
+
+/// An operation of a script that walks along its paths and makes one call goes well only where it ends with the reply to that call, on the
+/// objects to which its paths lead, and this has status 0.
+pub fn one_calls_are_done()
+    ensures { OneCallsDone }
+{}
+
+/// An operation is refused for its slot only where that holds an open as it is to open one, or holds none, and for its right only where the
+/// open that its slot holds isn't for it.
+pub fn slot_refusals_are_caused()
+    ensures { PlacesCaused }
+{}
+
+/// Each record that was sent was sent before any operation began, or is a call, with the session's credential, of an operation that was under
+/// way; an operation of a script that makes one call after its LOOKUPs asks for it.
+pub fn calls_are_caused()
+    ensures { CallsCaused }
+{}
+
+/// In a session in which each open asks anew, an open goes well only where it ends with the reply to GETATTR of its file, of kind 1.
+pub fn opens_are_shown()
+    ensures { OpensShown }
+{}
+
+/// An open is refused for the kind of its file only where it ends with the reply to GETATTR of that, of another kind than 1.
+pub fn kinds_are_shown()
+    ensures { KindsShown }
 {}

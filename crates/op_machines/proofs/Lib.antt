@@ -3,13 +3,13 @@ mod Fit
 mod Leaves
 mod Unsent
 mod Numbers
-mod Walk
+pub mod Walk
 mod Roomless
 mod Spelling
 mod Unmade
 mod Refusals
 mod FileLaws
-mod NameLaws
+pub mod NameLaws
 mod PathLaws
 mod AllLaws
 mod Places
