@@ -12,7 +12,7 @@ use Rattle.nfs_script.specs.declared.script.ScriptLine.{ScriptLine}
 use Rattle.lane_session.specs.declared.halt.Halt.{Halt}
 use Rattle.lane_session.specs.declared.halt.Halt.TheVariants as halts
 use Rattle.lane_session.specs.declared.top.End.{End}
-use Rattle.lane_session.specs.Sessions.{SessionIs, EndsAs, whole, cut, TextOf, whole_text, front_text, NotesAll, IsDone, IsBroken, counts_text, TellsEnd, tells, tells_front}
+use Rattle.lane_session.specs.Sessions.{SessionIs, SessionCounts, EndsAs, whole, cut, TextOf, whole_text, front_text, NotesAll, IsDone, IsBroken, counts_text, TellsEnd, tells, tells_front}
 use Rattle.lane_session.specs.Statuses.{of_halt, IsCutOff, IsLeft, HasStatus, IsEnding, CausedBy}
 use Rattle.lane_session.specs.Streams.{Says, Passes}
 use Rattle.lane_session.proofs.Passing.{appends_then, relates_less}
@@ -41,7 +41,7 @@ none-left : (halt : Halt) (last : List ℕ) → IsLeft halt last → of_halt hal
 none-left halts.Output last is other = is
 none-left halts.Memory last few other = absurd (other refl)
 
-pub done-session : (count : Bool) (script : List ScriptLine) (end : End) (status : ℕ) (given text more : List ℕ) (h k : List Entry) → IsDone script end given text h k → TellsEnd end count status more
+done-session : (count : Bool) (script : List ScriptLine) (end : End) (status : ℕ) (given text more : List ℕ) (h k : List Entry) → IsDone script end given text h k → TellsEnd end count status more
     → SessionIs count script given h k status (text ++ more)
 done-session count script end status given text more h k d (tells is shown) = record {
   grown = d.grown;
@@ -65,7 +65,7 @@ done-session count script end status given text more h k d (tells_front off fron
   timed = d.timed;
 }
 
-pub broken-session : (count : Bool) (script : List ScriptLine) (tally : Tally) (halt : Halt) (status : ℕ) (given text : List ℕ) (h k : List Entry) → status ≡ of_halt halt → IsBroken script halt given text h k
+broken-session : (count : Bool) (script : List ScriptLine) (tally : Tally) (halt : Halt) (status : ℕ) (given text : List ℕ) (h k : List Entry) → status ≡ of_halt halt → IsBroken script halt given text h k
     → SessionIs count script given h k status text
 broken-session count script tally halt status given text h k is b =
     let off : IsCutOff status = subst IsCutOff (sym is) (cut-off halt) in
@@ -84,7 +84,7 @@ broken-session count script tally halt status given text h k is b =
 
 -- ---- with the counts of the history
 
-pub done-counted : (count : Bool) (script : List ScriptLine) (end : End) (status : ℕ) (given text more : List ℕ) (h k : List Entry) → IsDone script end given text h k → TellsEnd end count status more → end.tally ≡ tally_of k
+done-counted : (count : Bool) (script : List ScriptLine) (end : End) (status : ℕ) (given text more : List ℕ) (h k : List Entry) → IsDone script end given text h k → TellsEnd end count status more → end.tally ≡ tally_of k
     → TextOf count (tally_of k) k status (text ++ more)
 done-counted count script end status given text more h k d told is = subst (λ (t : Tally). TextOf count t k status (text ++ more)) is (by told)
   where
@@ -95,12 +95,27 @@ done-counted count script end status given text more h k d told is = subst (λ (
       is = ap (λ (t : List ℕ). transcript k ++ t) front.is ∙ sym (append_assoc (transcript k) more front.rest) ∙ ap (λ (t : List ℕ). (t ++ more) ++ front.rest) (sym d.shown);
     })
 
-pub broken-counted : (count : Bool) (script : List ScriptLine) (halt : Halt) (status : ℕ) (given text : List ℕ) (h k : List Entry) → status ≡ of_halt halt → IsBroken script halt given text h k
+broken-counted : (count : Bool) (script : List ScriptLine) (halt : Halt) (status : ℕ) (given text : List ℕ) (h k : List Entry) → status ≡ of_halt halt → IsBroken script halt given text h k
     → TextOf count (tally_of k) k status text
 broken-counted count script halt status given text h k is b = front_text (subst IsCutOff (sym is) (cut-off halt)) (record {
   rest = b.shown.rest ++ counts_text count (tally_of k);
   is = ap (λ (t : List ℕ). t ++ counts_text count (tally_of k)) b.shown.is ∙ append_assoc text b.shown.rest (counts_text count (tally_of k));
 })
+
+pub done-counts : (opened : Type 0) (before : Tally) (count : Bool) (script : List ScriptLine) (end : End) (status : ℕ) (given text more : List ℕ) (h k : List Entry)
+    → IsDone script end given text h k → (opened → before ≡ tally_of h → end.tally ≡ tally_of k) → TellsEnd end count status more
+    → SessionCounts opened before count script given h k status (text ++ more)
+done-counts opened before count script end status given text more h k d counts told = record {
+  is = done-session count script end status given text more h k d told;
+  counted = λ o is. done-counted count script end status given text more h k d told (counts o is);
+}
+
+pub broken-counts : (opened : Type 0) (before : Tally) (count : Bool) (script : List ScriptLine) (halt : Halt) (status : ℕ) (given text : List ℕ) (h k : List Entry)
+    → status ≡ of_halt halt → IsBroken script halt given text h k → SessionCounts opened before count script given h k status text
+broken-counts opened before count script halt status given text h k is b = record {
+  is = broken-session count script before halt status given text h k is b;
+  counted = λ o same. broken-counted count script halt status given text h k is b;
+}
 
 module _ (r0 r1 : Option (List ℕ)) (t0 t1 : Option History) (w0 w1 : Option (List ℕ)) (R : List ℕ → List ℕ → List Entry → List Entry → Type 0) (S : List Entry → List Entry → Type 0) where
   -- what is so of the histories, too

@@ -30,11 +30,15 @@ use Rattle.client_core.specs.Steps.{Begins, SendsIf, SendsBy, FailsBy, AnswersBy
 use Rattle.client_core.specs.View.{View}
 use Rattle.core_facts.proofs.Losing.{reached-shown}
 use Rattle.core_facts.proofs.LostAnswers.{lost-answers}
+use Rattle.core_facts.proofs.OneCalled.{one-calls-done}
 use Rattle.core_facts.proofs.PutStory.{puts-committed}
+use Rattle.core_facts.proofs.Refusals.{refusals-shown}
 use Rattle.core_facts.proofs.Rows.{reached-rows}
+use Rattle.core_facts.proofs.SlotTheorems.{syncs-ok, slots-hold-opens, places-exact}
 use Rattle.core_facts.proofs.Sound.{reached-sound}
 use Rattle.core_facts.proofs.Syncing.{syncs-committed}
 use Rattle.core_facts.specs.Reaches.{MaySetUp, MayHear, IsSetUp, IsOpenLine, StepsTo, Reaches, begins, goes, last_reading}
+use Rattle.core_facts.specs.SlotAnswers.{GoesWith}
 use Rattle.lane_session.specs.declared.counts.Counts.{Counts}
 use Rattle.lane_session.specs.declared.halt.Halt.{Halt}
 use Rattle.lane_session.specs.declared.lanes.Place.{Place}
@@ -315,6 +319,11 @@ core-shows m setup h c = record {
   numbered = (reached-rows (machine_of m) setup h c.core c.reaches).numbered;
   synced = syncs-committed m setup h c.core c.reaches;
   saved = puts-committed m setup h c.core c.reaches;
+  opens = λ terms nocto.
+      let g : GoesWith m terms setup h c.core = record { nocto = nocto; reaches = c.reaches } in
+      record { syncs = syncs-ok m terms setup h c.core g; held = slots-hold-opens m terms setup h c.core g; places = places-exact m terms setup h c.core g };
+  one_calls = one-calls-done m setup h c.core c.reaches;
+  refusals = refusals-shown m setup h c.core c.reaches;
   lost_answers = lost-answers m setup h c.core c.reaches;
   lost = reached-shown (machine_of m) setup h c.core c.reaches;
 }

@@ -3,7 +3,9 @@ use Rattle.std.specs.Prelude.{◌≡◌, ℕ, List, [], ◌∷◌, ◌++◌, len
 use Rattle.rpc_retry.specs.declared.waiting.Waiting.{Waiting}
 use Rattle.rpc_retry.specs.Waiting.{waiting_at}
 use Rattle.xdr_codec.specs.declared.blob.Memory.{Memory}
+use Rattle.world_model.specs.declared.answer.Answer.{Answer}
 use Rattle.world_model.specs.declared.answer.Answer.TheVariants.{Done, Refused}
+use Rattle.world_model.specs.declared.answer.Fault.{Fault}
 use Rattle.world_model.specs.declared.answer.Fault.TheVariants.{Lost}
 use Rattle.world_model.specs.declared.answer.Value.{Value}
 use Rattle.world_model.specs.declared.entry.Entry.{Entry}
@@ -11,21 +13,27 @@ use Rattle.world_model.specs.declared.entry.Entry.TheVariants.{Began, Answered, 
 use Rattle.world_model.specs.declared.op.Op.{Op}
 use Rattle.world_model.specs.declared.op.Op.TheVariants.{Sync, Put}
 use Rattle.world_model.specs.declared.tally.Tally.{Tally}
+use Rattle.world_model.specs.Caused.{IsTried}
 use Rattle.world_model.specs.Counts.{tally_of}
 use Rattle.world_model.specs.Lost.{Loses, IsLost}
+use Rattle.world_model.specs.OkRows.{OkRow, SyncOk}
 use Rattle.world_model.specs.Operations.{Ended}
 use Rattle.world_model.specs.Rows.{DropRun}
+use Rattle.world_model.specs.Terms.{Terms}
 use Rattle.world_model.specs.Waiting.{Waits}
 use Rattle.bond_calls.specs.Calls.{Numbered}
 use Rattle.session_words.specs.declared.settings.Settings.{Settings}
-use Rattle.op_machines.specs.Begun.{machine_of}
+use Rattle.op_machines.specs.Begun.{IsAsked, machine_of}
 use Rattle.op_machines.specs.declared.begun.Mounted.{Mounted}
 use Rattle.client_core.specs.declared.lane.Purpose.{Purpose}
 use Rattle.client_core.specs.declared.setup.Setup.{Setup}
 use Rattle.client_core.specs.View.{View}
+use Rattle.core_facts.specs.Naming.{IsOneCall, KnowsRoot}
 use Rattle.core_facts.specs.Reaches.{IsSetUp, Reaches}
-use Rattle.lane_session.specs.declared.halt.Halt.{Halt}
+use Rattle.core_facts.specs.Refusing.{IsRefusalShown}
+use Rattle.core_facts.specs.SlotAnswers.{FindsPlace, HoldOpens}
 use Rattle.core_facts.specs.Synced.{IsCommitted}
+use Rattle.lane_session.specs.declared.halt.Halt.{Halt}
 use Rattle.lane_session.specs.declared.running.Session.{Session}
 use Rattle.lane_session.specs.declared.top.End.{End}
 use Rattle.lane_session.specs.Running.{mounted_by}
@@ -95,14 +103,27 @@ abbrev pub IsOpened : Option Setup → List Entry → Type 0
 IsOpened (Some setup) h = IsSetUp setup h × ((xid : ℕ) → Waits h xid (length h) → ⊥)
 IsOpened None h = IsLost h (length h)
 
+-- What the answers of operations on slots show: a sync is answered ok only where a COMMIT of the file that its slot holds was answered 0; the
+-- others only where the slot holds an open that is for reading or for writing, as they are; and one that finds no such place is refused so.
+pub record OpensShown (terms : Terms) (h : List Entry) : Type 0 where
+  pub syncs : (lane x slot y : ℕ) (value : Value) → Ended h lane x (Sync slot) y (Done value) → SyncOk terms h x y (Sync slot)
+  pub held : (lane x slot y : ℕ) (value : Value) → HoldOpens terms h lane x slot y value
+  pub places : (lane x y : ℕ) (op : Op) (answer : Answer) → Ended h lane x op y answer → IsTried answer → FindsPlace terms h lane x op answer
+
 -- What the history of a core shows: all records under one xid are equal, and none is sent after its reply; a sync or a put is answered ok
--- only after a COMMIT that was sent since it began; and the session is lost, and an operation answered so, only for a cause.
+-- only after a COMMIT that was sent since it began, and the answers on slots go by what the slots hold; an operation that walks along its paths and
+-- makes one call is answered ok only as the reply to this call says; one is refused with a status of NFS or by RPC only where a record refused a
+-- call of its own so; and the session is lost, and an operation answered so, only for a cause.
 pub record Shows (m : Mounted) (setup : Setup) (h : List Entry) : Type 0 where
   pub has : HasCore m setup h
   pub numbered : Numbered h
   pub synced : (lane x slot y : ℕ) (value : Value) → Ended h lane x (Sync slot) y (Done value) → IsCommitted h x y
   pub saved : (lane x : ℕ) (path : List (List ℕ)) (offset : ℕ) (bytes : List ℕ) (y : ℕ) (value : Value) → Ended h lane x (Put path offset bytes) y (Done value)
       → IsCommitted h x y
+  pub opens : (terms : Terms) → m.nocto ≡ terms.modes.nocto → OpensShown terms h
+  pub one_calls : (terms : Terms) → KnowsRoot terms.origin h m.root → (lane x : ℕ) (op : Op) (y : ℕ) (value : Value) → IsOneCall op → IsAsked op
+      → Ended h lane x op y (Done value) → OkRow terms h lane x y op value
+  pub refusals : (lane x : ℕ) (op : Op) (y : ℕ) (fault : Fault) → Ended h lane x op y (Refused fault) → IsRefusalShown h x y fault
   pub lost_answers : (lane x : ℕ) (op : Op) (y : ℕ) → Ended h lane x op y (Refused Lost) → IsLost h y
   pub lost : has.core.lost ≡ true → IsLost h (length h)
 

@@ -3,7 +3,7 @@ use Rattle.std.specs.Prelude.{◌≡◌, ◌≢◌, ◌≤◌, ◌⊎◌, ℕ, B
 use Rattle.world_model.specs.declared.entry.Entry.{Entry}
 use Rattle.world_model.specs.declared.tally.Tally.{Tally}
 use Rattle.world_model.specs.Clocked.{clocks}
-use Rattle.world_model.specs.Counts.{tally_text}
+use Rattle.world_model.specs.Counts.{tally_of, tally_text}
 use Rattle.world_model.specs.Follows.{Follows, Finishes, marks_of}
 use Rattle.world_model.specs.Transcript.{transcript}
 use Rattle.nfs_script.specs.declared.script.ScriptLine.{ScriptLine}
@@ -55,6 +55,12 @@ pub record SessionIs (count : Bool) (script : List ScriptLine) (given : List ℕ
   pub says : TextOf count tally k status text
   pub clock : NotesAll status given h k
   pub timed : AllTimed k
+
+-- The session of a script; and where its set-up was so, and the calls before it were counted, the counts are those of the whole history.
+pub record SessionCounts (opened : Type 0) (before : Tally) (count : Bool) (script : List ScriptLine) (given : List ℕ) (h k : List Entry) (status : ℕ)
+    (text : List ℕ) : Type 0 where
+  pub is : SessionIs count script given h k status text
+  pub counted : opened → before ≡ tally_of h → TextOf count (tally_of k) k status text
 
 -- ---- before the counts
 

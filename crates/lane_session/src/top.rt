@@ -9,7 +9,7 @@ ghost use Rattle.world_model.specs.Told.{Relates};
 ghost use Rattle.core_facts.specs.Reaches.{MaySetUp};
 ghost use Rattle.lane_session.specs.Bonds.{IsOpened, EndsWith, AreCounted};
 ghost use Rattle.lane_session.specs.Losing.{status_of};
-ghost use Rattle.lane_session.specs.Sessions.{MayGo, IsUnmarked, SessionIs, EndsBy, TellsEnd, TextOf};
+ghost use Rattle.lane_session.specs.Sessions.{MayGo, IsUnmarked, SessionCounts, EndsBy, TellsEnd};
 ghost use Rattle.lane_session.specs.Statuses.{IsEnding, IsSessionStatus, CausedBy};
 ghost use Rattle.lane_session.specs.Streams.{Passes, Says};
 
@@ -53,12 +53,10 @@ pub fn session<L: Link, C: Clock, K: Sink>(
     ensures sink { result ≡ 5 → Rose (K.faults out.old) (K.faults out.new) }
     ensures core { Relates (L.told link.old) (L.told link.new)
         (λ h k. IsOpened (option_map (λ s. s.now) setup.entry) h → EndsWith settings.now (option_map (λ s. s.now) setup.entry) k) }
-    ensures counted { Passes (C.readings clock.old) (C.readings clock.new) (L.told link.old) (L.told link.new) (K.written out.old) (K.written out.new)
-        (λ given text h k. IsUnmarked h → IsOpened (option_map (λ s. s.now) setup.entry) h → tally ≡ tally_of h
-        → TextOf settings.now.count (tally_of k) k result text) }
     ensures honest { L.honest link.old → L.honest link.new }
     ensures shown { Passes (C.readings clock.old) (C.readings clock.new) (L.told link.old) (L.told link.new) (K.written out.old) (K.written out.new)
-        (λ given text h k. IsUnmarked h → SessionIs settings.now.count script.now given h k result text) }
+        (λ given text h k. IsUnmarked h
+        → SessionCounts (IsOpened (option_map (λ s. s.now) setup.entry) h) tally settings.now.count script.now given h k result text) }
 {
     match all_lines(alloc, settings, script, setup, tally, link, clock, out) {
         Ok(end) => finish(alloc, &end, settings.count, out),

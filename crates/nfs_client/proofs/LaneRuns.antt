@@ -19,7 +19,7 @@ use Rattle.session_setup.specs.Along.{Along}
 use Rattle.session_setup.specs.Outcomes.{FitsSession, SetsUp}
 use Rattle.session_setup.specs.Sendings.{IsUnmarked}
 use Rattle.lane_session.specs.Bonds.{IsOpened, EndsWith}
-use Rattle.lane_session.specs.Sessions.{SessionIs}
+use Rattle.lane_session.specs.Sessions.{SessionIs, SessionCounts}
 use Rattle.lane_session.specs.Sessions.{IsUnmarked as IsFresh}
 use Rattle.lane_session.specs.Statuses.{IsEnding as IsLaneEnding}
 use Rattle.lane_session.specs.Streams.{Passes}
@@ -93,8 +93,9 @@ may_set_up s first v setup one most f a b c d = record {
 
 -- ---- what a session says, once its set-up came to something
 
-abbrev LaneSays : (v w a b : Option (List ℕ)) (old new : Option History) (s : Settings) (lines : List ScriptLine) (status : ℕ) → Type 0
-LaneSays v w a b old new s lines status = Passes a b old new v w (λ given text h k. IsFresh h → SessionIs s.count lines given h k status text)
+abbrev LaneSays : (v w a b : Option (List ℕ)) (old new : Option History) (s : Settings) (lines : List ScriptLine) (setup : Option Setup) (before : Tally) (status : ℕ) → Type 0
+LaneSays v w a b old new s lines setup before status =
+    Passes a b old new v w (λ given text h k. IsFresh h → SessionCounts (IsOpened setup h) before s.count lines given h k status text)
 
 abbrev RunSays : (v w a b : Option (List ℕ)) (old new : Option History) (s : Settings) (lines : List ScriptLine) (status : ℕ) → Type 0
 RunSays v w a b old new s lines status = Says v w (λ text. Reads a b (λ given. Relates old new (λ before h. before ≡ [] → LanesBy s lines given h status text)))
@@ -123,15 +124,18 @@ abbrev CoreSays : (old new : Option History) (s : Settings) (setup : Option Setu
 CoreSays old new s setup = Relates old new (λ h k. IsOpened setup h → EndsWith s setup k)
 
 lost_told : (old new : Option History) (s : Settings) (lines : List ScriptLine) (tally : Tally) (given text : List ℕ) (status : ℕ)
-    → Relates old new (λ h k. IsFresh h → SessionIs s.count lines given h k status text) → CoreSays old new s None
+    → Relates old new (λ h k. IsFresh h → SessionCounts (IsOpened None h) tally s.count lines given h k status text) → CoreSays old new s None
     → Relates old new (λ before h. (first : ℕ) → SetsUp s first (Err (Lost tally)) before → SetUpAndRun s lines first given h status text)
 lost_told None new s lines tally given text status r core = tt
 lost_told (Some x) None s lines tally given text status r core = absurd r
-lost_told (Some x) (Some y) s lines tally given text status r core = λ first so. lost tally x.entries so (r (fresh x.entries so.unmarked)) (core (lost_opened s first tally x.entries so))
+lost_told (Some x) (Some y) s lines tally given text status r core = λ first so.
+    let session = r (fresh x.entries so.unmarked) in
+    let open_ = lost_opened s first tally x.entries so in
+    lost tally x.entries so session.is (core open_) (session.counted open_ so.ends.counts)
 
 -- the session was lost in its set-up
 pub lost_says : (v w a b : Option (List ℕ)) (old new : Option History) (s : Settings) (lines : List ScriptLine) (tally : Tally) (status : ℕ)
-    → LaneSays v w a b old new s lines status → CoreSays old new s None → EarlySays v w a b old new s lines (Lost tally) status
+    → LaneSays v w a b old new s lines None tally status → CoreSays old new s None → EarlySays v w a b old new s lines (Lost tally) status
 lost_says v w a b old new s lines tally status p core = record {
   text = p.text;
   added = appended v w p.text p.added;
@@ -186,18 +190,21 @@ early_says v w a b c old mid new s lines fault first status one up said = record
 }
 
 ready_told : (old mid new : Option History) (s : Settings) (lines : List ScriptLine) (v : SetUp) (first ms : ℕ) (given text : List ℕ) (status : ℕ) → IsFirst (ms ∷ []) s.xid first
-    → Along old mid (λ h k. h ≡ [] → SetsUp s first (Ok v) k) → Relates mid new (λ h k. IsFresh h → SessionIs s.count lines given h k status text)
+    → Along old mid (λ h k. h ≡ [] → SetsUp s first (Ok v) k)
+    → Relates mid new (λ h k. IsFresh h → SessionCounts (IsOpened (Some (setup_of s v)) h) v.tally s.count lines given h k status text)
     → CoreSays mid new s (Some (setup_of s v)) → Relates old new (λ before h. before ≡ [] → LanesBy s lines (ms ∷ given) h status text)
 ready_told None mid new s lines v first ms given text status is up r core = tt
 ready_told (Some x) None new s lines v first ms given text status is up r core = absurd up
 ready_told (Some x) (Some y) None s lines v first ms given text status is up r core = absurd r
 ready_told (Some x) (Some y) (Some z) s lines v first ms given text status is up r core = λ e.
     let so = up.1 e in
-    some_lines ms first given refl (first_in s.xid ms first given is) (ready v y.entries so (r (fresh y.entries so.unmarked)) (core (opened s first v y.entries so)))
+    let session = r (fresh y.entries so.unmarked) in
+    let open_ = opened s first v y.entries so in
+    some_lines ms first given refl (first_in s.xid ms first given is) (ready v y.entries so session.is (core open_) (session.counted open_ so.ends.tally))
 
 -- the session was set up, and its lines were run
 pub ready_says : (v w a b c : Option (List ℕ)) (old mid new : Option History) (s : Settings) (lines : List ScriptLine) (up : SetUp) (first status : ℕ)
-    → ReadsOnce a b (λ ms. IsFirst (ms ∷ []) s.xid first) → Along old mid (λ h k. h ≡ [] → SetsUp s first (Ok up) k) → LaneSays v w b c mid new s lines status
+    → ReadsOnce a b (λ ms. IsFirst (ms ∷ []) s.xid first) → Along old mid (λ h k. h ≡ [] → SetsUp s first (Ok up) k) → LaneSays v w b c mid new s lines (Some (setup_of s up)) up.tally status
     → CoreSays mid new s (Some (setup_of s up)) → RunSays v w a c old new s lines status
 ready_says v w a b c old mid new s lines up first status one along p core = record {
   text = p.text;
@@ -209,19 +216,19 @@ none_left : (lines : List ScriptLine) → length lines ≡ 0 → lines ≡ []
 none_left [] e = refl
 none_left (line ∷ lines) e = absurd (omega (arith, e))
 
-empty_told : (old new : Option History) (s : Settings) (lines : List ScriptLine) (given text : List ℕ) (status : ℕ) → lines ≡ []
-    → Relates old new (λ h k. IsFresh h → SessionIs s.count lines given h k status text) → Relates old new (λ before h. before ≡ [] → LanesBy s lines given h status text)
-empty_told None new s lines given text status none r = tt
-empty_told (Some x) None s lines given text status none r = absurd r
-empty_told (Some x) (Some y) s lines given text status none r = λ e.
-    let is : SessionIs s.count lines given x.entries y.entries status text = r (λ lane. ap (marks_of lane) e) in
+empty_told : (old new : Option History) (s : Settings) (lines : List ScriptLine) (before : Tally) (given text : List ℕ) (status : ℕ) → lines ≡ []
+    → Relates old new (λ h k. IsFresh h → SessionCounts (IsOpened None h) before s.count lines given h k status text) → Relates old new (λ before h. before ≡ [] → LanesBy s lines given h status text)
+empty_told None new s lines before given text status none r = tt
+empty_told (Some x) None s lines before given text status none r = absurd r
+empty_told (Some x) (Some y) s lines before given text status none r = λ e.
+    let is : SessionIs s.count lines given x.entries y.entries status text = (r (λ lane. ap (marks_of lane) e)).is in
     no_lines none (subst (λ (z : List ScriptLine). SessionIs s.count z given [] y.entries status text) none (subst (λ (z : List Entry). SessionIs s.count lines given z y.entries status text) e is))
 
 -- there are no lines
-pub empty_says : (v w a b : Option (List ℕ)) (old new : Option History) (s : Settings) (lines : List ScriptLine) (status : ℕ) → length lines ≡ 0 → LaneSays v w a b old new s lines status
-    → RunSays v w a b old new s lines status
-empty_says v w a b old new s lines status none p = record {
+pub empty_says : (v w a b : Option (List ℕ)) (old new : Option History) (s : Settings) (lines : List ScriptLine) (before : Tally) (status : ℕ) → length lines ≡ 0
+    → LaneSays v w a b old new s lines None before status → RunSays v w a b old new s lines status
+empty_says v w a b old new s lines before status none p = record {
   text = p.text;
   added = appended v w p.text p.added;
-  is = (p.given, read_all a b p.given p.read, empty_told old new s lines p.given p.text status (none_left lines none) p.told);
+  is = (p.given, read_all a b p.given p.read, empty_told old new s lines before p.given p.text status (none_left lines none) p.told);
 }

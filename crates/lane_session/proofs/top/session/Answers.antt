@@ -1,30 +1,22 @@
-use Rattle.lane_session.proofs.Closing.{passes-more, passes-both, done-session, broken-session, done-counted, broken-counted, halted, sink-caused}
+use Rattle.lane_session.proofs.Closing.{passes-more, passes-both, done-counts, broken-counts, halted, sink-caused}
 use Rattle.lane_session.proofs.Passing.{passes_less}
 use Rattle.lane_session.proofs.Writing.{rose_before}
 use Rattle.lane_session.proofs.top.session.Goals as goal
 
 pub returns-in-Ok-clause-shown : goal.returns-in-Ok-clause-shown
 returns-in-Ok-clause-shown g c =
-    passes-more _ _ _ _ _ _ _ _ _ _ (λ given text more h k d told u. done-session c.args.settings.now.count c.args.script.now c.in-Ok.end c.finish.result given text more h k (d u) told) c.in-Ok.ensures.goes c.finish.ensures.said
+    passes-more _ _ _ _ _ _ _ _ _ _ (λ given text more h k d told u. done-counts _ c.args.tally c.args.settings.now.count c.args.script.now c.in-Ok.end c.finish.result given text more h k (d.0 u) d.1 told)
+    (passes-both _ _ _ _ _ _ _ _ c.in-Ok.ensures.goes c.in-Ok.ensures.counted) c.finish.ensures.said
 
 pub returns-in-Ok-clause-sink : goal.returns-in-Ok-clause-sink
 returns-in-Ok-clause-sink g c = λ five. rose_before _ _ _ c.in-Ok.ensures.later (c.finish.ensures.sink five)
 
 pub returns-in-Err-clause-shown : goal.returns-in-Err-clause-shown
 returns-in-Err-clause-shown g c =
-    passes_less _ _ _ _ _ _ _ _ (λ given text h k b u. broken-session c.args.settings.now.count c.args.script.now c.args.tally c.in-Err.halt c.of_halt.result given text h k c.of_halt.ensures (b u)) c.in-Err.ensures.goes
+    passes_less _ _ _ _ _ _ _ _ (λ given text h k b u. broken-counts _ c.args.tally c.args.settings.now.count c.args.script.now c.in-Err.halt c.of_halt.result given text h k c.of_halt.ensures (b u)) c.in-Err.ensures.goes
 
 pub returns-in-Err-clause-ending : goal.returns-in-Err-clause-ending
 returns-in-Err-clause-ending g c = halted c.in-Err.halt c.of_halt.result c.of_halt.ensures
 
 pub returns-in-Err-clause-sink : goal.returns-in-Err-clause-sink
 returns-in-Err-clause-sink g c = sink-caused c.in-Err.halt c.of_halt.result _ c.of_halt.ensures c.in-Err.ensures.cause
-
-pub returns-in-Ok-clause-counted : goal.returns-in-Ok-clause-counted
-returns-in-Ok-clause-counted g c =
-    passes-more _ _ _ _ _ _ _ _ _ _ (λ given text more h k d told u o is. done-counted c.args.settings.now.count c.args.script.now c.in-Ok.end c.finish.result given text more h k (d.0 u) told (d.1 o is))
-    (passes-both _ _ _ _ _ _ _ _ c.in-Ok.ensures.goes c.in-Ok.ensures.counted) c.finish.ensures.said
-
-pub returns-in-Err-clause-counted : goal.returns-in-Err-clause-counted
-returns-in-Err-clause-counted g c =
-    passes_less _ _ _ _ _ _ _ _ (λ given text h k b u o is. broken-counted c.args.settings.now.count c.args.script.now c.in-Err.halt c.of_halt.result given text h k c.of_halt.ensures (b u)) c.in-Err.ensures.goes

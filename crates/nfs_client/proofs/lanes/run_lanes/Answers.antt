@@ -3,7 +3,7 @@ use Rattle.nfs_client.proofs.LaneRuns.{may_set_up, early_says, ready_says, empty
 use Rattle.nfs_client.proofs.lanes.run_lanes.Goals as goal
 
 pub returns-then-count-eq0-clause-shown : goal.returns-then-count-eq0-clause-shown
-returns-then-count-eq0-clause-shown g c = empty_says _ _ _ _ _ _ _ _ _ (omega (arith, c.count.ensures, c.if-count-eq0.true)) c.session.ensures.shown
+returns-then-count-eq0-clause-shown g c = empty_says _ _ _ _ _ _ _ _ _ _ (omega (arith, c.count.ensures, c.if-count-eq0.true)) c.session.ensures.shown
 
 pub returns-in-Ok-clause-shown : goal.returns-in-Ok-clause-shown
 returns-in-Ok-clause-shown g c = ready_says _ _ _ _ _ _ _ _ _ _ _ _ _ c.first_xid-first.ensures.read c.in-Ok.ensures.goes c.session-in-Ok.ensures.shown c.session-in-Ok.ensures.core
