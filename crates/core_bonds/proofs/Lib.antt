@@ -1,0 +1,17 @@
+pub mod Learnt
+pub mod NameCalls
+pub mod NameAttrs
+pub mod FileCalls
+pub mod FileAttrs
+pub mod Timed
+pub mod Keeping
+pub mod MachineCalls
+pub mod MachineAttrs
+pub mod AttrsShown
+pub mod StatsShown
+pub mod OneCall
+pub mod Executions
+pub mod NamesShown
+pub mod Walked
+pub mod StatsLed
+pub mod Aged
