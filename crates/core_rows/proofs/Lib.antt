@@ -1,0 +1,5 @@
+pub mod Valued
+pub mod SlotValues
+pub mod WholeRows
+pub mod ListStory
+pub mod OpenAsks

@@ -1,0 +1,3 @@
+pub mod SlotRows
+pub mod Listed
+pub mod OpenCalls
