@@ -5,6 +5,8 @@ use Rattle.outside.specs.declared.link.LinkFault.{LinkFault}
 use Rattle.outside.specs.declared.link.LinkFault.TheVariants as faults
 use Rattle.outside.specs.declared.wire.WireRead.{WireRead}
 use Rattle.outside.specs.declared.wire.WireRead.TheVariants as reads
+use Rattle.outside.specs.declared.datagrams.Arrived.{Arrived}
+use Rattle.outside.specs.declared.datagrams.Arrived.TheVariants as arrivals
 
 -- the count after one more failure; it stops at the end of its type
 abbrev pub next_count : ℕ → ℕ
@@ -27,3 +29,10 @@ CountsRead old new (reads.Got n) = new ≡ old
 CountsRead old new reads.Silent = new ≡ next_count old
 CountsRead old new reads.Failed = new ≡ next_count old
 CountsRead old new reads.Memory = ⊥
+
+-- of datagrams that are waited for
+abbrev pub CountsArrived : ℕ → ℕ → Arrived → Type 0
+CountsArrived old new (arrivals.From port) = new ≡ old
+CountsArrived old new arrivals.Silent = new ≡ next_count old
+CountsArrived old new arrivals.Failed = new ≡ next_count old
+CountsArrived old new arrivals.Memory = new ≡ old

@@ -43,7 +43,7 @@ pub fn write_again<W: Write>(writer: &mut W, bytes: &[u8]) -> io::Result<usize>
 }
 
 /// Whether the system interrupted the call.
-fn is_interrupted(error: &io::Error) -> bool
+pub(crate) fn is_interrupted(error: &io::Error) -> bool
     ensures { IsTrue result ↔ (error_kind error.now ≡ ErrorKind.Interrupted) }
 {
     error.kind() == ErrorKind::Interrupted

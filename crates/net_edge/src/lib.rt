@@ -1,10 +1,11 @@
-//! The true outside: TCP as a wire, a port at which others connect, standard input as a source of bytes, standard output
-//! as a sink, and the clock of the system. What they pass on is told nowhere: each keeps a count of its failures, and the
-//! clock its last reading. A read or a write that the system interrupts is made again, and a standard stream that is closed
-//! when the program starts stays so.
+//! The true outside: TCP as a wire, UDP as datagrams, a port at which others connect, standard input as a source of
+//! bytes, standard output as a sink, and the clock of the system. What they pass on is told nowhere: each keeps a count of
+//! its failures, and the clock its last reading. A read or a write that the system interrupts is made again, and a standard
+//! stream that is closed when the program starts stays so.
 #![tactic(auto)]
 
 mod again;
+mod datagram;
 mod input;
 mod listener;
 mod output;
@@ -13,6 +14,7 @@ mod system_clock;
 mod tcp;
 #[cfg(test)]
 mod tests;
+mod udp;
 
 pub use again::{read_again, write_again};
 pub use input::StandardInput;
@@ -21,3 +23,4 @@ pub use output::StandardOutput;
 pub use stand_ins::{StandIns, StandardStream};
 pub use system_clock::SystemClock;
 pub use tcp::TcpWire;
+pub use udp::UdpDatagrams;

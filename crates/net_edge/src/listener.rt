@@ -11,7 +11,7 @@ use std::marker::Model;
 use std::net::{Net, OpenListener, TcpListener};
 
 /// The address of this machine that no other reaches.
-const LOOPBACK: &str = "127.0.0.1";
+pub(crate) const LOOPBACK: &str = "127.0.0.1";
 
 /// A port of the loopback at which others connect. A contract sees how often no connection could be taken.
 #[derive(Drop)]

@@ -197,6 +197,6 @@ fn read_within<S: Read + OpenStream>(
 }
 
 /// Whether a read of that error got nothing in time.
-fn is_silence(kind: ErrorKind) -> bool {
+pub(crate) fn is_silence(kind: ErrorKind) -> bool {
     matches!(kind, ErrorKind::WouldBlock | ErrorKind::TimedOut)
 }

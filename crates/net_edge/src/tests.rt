@@ -1,12 +1,12 @@
 //! The true outside, on the loopback.
 
 use crate::{
-    LoopbackListener, StandIns, StandardInput, StandardOutput, SystemClock, TcpWire, read_again,
-    write_again,
+    LoopbackListener, StandIns, StandardInput, StandardOutput, SystemClock, TcpWire, UdpDatagrams,
+    read_again, write_again,
 };
-use outside::{Clock, LinkFault, Sink, Source, Wire, WireRead};
+use outside::{Arrived, Clock, Datagrams, LinkFault, Sink, Source, Wire, WireRead};
 use std::io::{self, ErrorKind, Read, Write};
-use std::net::TcpListener;
+use std::net::{TcpListener, UdpSocket};
 use std::test::Fail;
 use world_model::Mark;
 
@@ -79,6 +79,57 @@ fn takes_what_another_connects(rt: HostRuntime) -> Result<(), Fail> {
     assert_eq!(rt; server.connect(port), Err(LinkFault::Failed));
     assert_eq!(rt; server.write(b"reply"), Err(LinkFault::Failed));
     assert_eq!(rt; client.read(15_000, &mut buf), WireRead::Failed);
+    Ok(())
+}
+
+#[test]
+fn passes_datagrams_both_ways(rt: HostRuntime) -> Result<(), Fail> {
+    let server = UdpSocket::bind(&rt, "127.0.0.1:0")?;
+    let stranger = UdpSocket::bind(&rt, "127.0.0.1:0")?;
+    let port = server.local_addr()?.port();
+    let mut client = UdpDatagrams::new(&rt, "127.0.0.1");
+    assert_eq!(rt; client.send(b"ask"), Err(LinkFault::Failed));
+    assert_eq!(rt; client.aim(port), Ok(()));
+    assert_eq!(rt; client.send(b"ask"), Ok(()));
+    let mut buf = Vec::new(rt.alloc());
+    buf.resize(65_507, 7)?;
+    let (count, whence) = server.recv_from(buf.as_mut_slice())?;
+    assert_eq!(rt; count, 3);
+    assert_eq!(rt; stranger.send_to(b"false", whence)?, 5);
+    assert_eq!(rt; server.send_to(buf.as_slice(), whence)?, 65_507);
+    assert_eq!(rt; server.send_to(b"", whence)?, 0);
+    assert_eq!(rt; client.receive(15_000, &mut buf), Arrived::From(port));
+    assert_eq!(rt; buf.len(), 65_507);
+    assert_eq!(rt; client.receive(15_000, &mut buf), Arrived::From(port));
+    assert_eq!(rt; buf.len(), 0);
+    drop(server);
+    assert_eq!(rt; client.send(b"ask"), Ok(()));
+    assert_eq!(rt; client.receive(15_000, &mut buf), Arrived::Failed);
+    Ok(())
+}
+
+#[test]
+fn answers_whoever_sends_a_datagram(rt: HostRuntime) -> Result<(), Fail> {
+    let free = UdpSocket::bind(&rt, "127.0.0.1:0")?;
+    let port = free.local_addr()?.port();
+    assert!(rt; UdpDatagrams::bind(&rt, port).is_err());
+    drop(free);
+    let mut server = UdpDatagrams::bind(&rt, port).map_err(|_| Fail::new("no port"))?;
+    assert_eq!(rt; server.send(b"reply"), Err(LinkFault::Failed));
+    let stranger = UdpSocket::bind(&rt, "127.0.0.2:0")?;
+    assert_eq!(rt; stranger.send_to(b"false", ("127.0.0.1", port))?, 5);
+    let client = UdpSocket::bind(&rt, "127.0.0.1:0")?;
+    let whence = client.local_addr()?.port();
+    assert_eq!(rt; client.send_to(b"ask", ("127.0.0.1", port))?, 3);
+    let mut buf = Vec::new(rt.alloc());
+    assert_eq!(rt; server.receive(15_000, &mut buf), Arrived::From(whence));
+    assert_eq!(rt; buf.as_slice(), b"ask".as_slice());
+    assert_eq!(rt; server.aim(whence), Ok(()));
+    buf.resize(65_508, 7)?;
+    assert_eq!(rt; server.send(buf.as_slice()), Err(LinkFault::Failed));
+    assert_eq!(rt; server.send(b"reply"), Ok(()));
+    assert_eq!(rt; client.recv_from(buf.as_mut_slice())?.0, 5);
+    assert_eq!(rt; server.receive(15_000, &mut buf), Arrived::Silent);
     Ok(())
 }
 

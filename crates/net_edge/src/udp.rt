@@ -1,0 +1,207 @@
+//! UDP (RFC 768) as datagrams.
+
+ghost use Rattle.std.specs.Prelude.{◌≡◌, ◌≤◌, IfOk};
+ghost use Rattle.outside.specs.Datagrams.{HasCauseArrived};
+ghost use Rattle.net_edge.specs.Counts.{next_count, CountsArrived};
+
+use crate::datagram::PeerSocket;
+use crate::listener::LOOPBACK;
+use outside::{Arrived, Datagrams, Failed, LinkFault};
+use std::io;
+use std::marker::Model;
+use std::net::{Net, SocketAddr, ToSocketAddrs, UdpSocket};
+use world_model::Mark;
+use xdr_codec::Memory;
+
+/// Datagrams over UDP to one host, from one port of this machine for as long as the same port of the host is aimed at: a
+/// server knows a call that is sent again by the port that it comes from. Or those at a port of the loopback that others
+/// know. A contract sees the number of calls that failed or were silent.
+#[derive(Drop)]
+pub struct UdpDatagrams<'a, N: Net> {
+    net: &'a N,
+    /// The host that is aimed at; None where others know the port of this side, and the loopback is aimed at.
+    host: Option<&'a str>,
+    current: Option<PeerSocket>,
+    faults: u64,
+}
+
+impl<'a, N: Net> Model for UdpDatagrams<'a, N> {
+    ghost use Rattle.std.specs.Prelude.{ℕ};
+
+    ghost Value = { ℕ };
+
+    ghost view = { λ d. d.faults };
+}
+
+impl<'a, N: Net> UdpDatagrams<'a, N> {
+    /// Datagrams to the host of that name or address, not aimed at a port yet. A name is looked up at each aim.
+    pub fn new(net: &'a N, host: &'a str) -> UdpDatagrams<'a, N>
+        ensures { result ≡ 0 }
+    {
+        UdpDatagrams {
+            net,
+            host: Some(host),
+            current: None,
+            faults: 0,
+        }
+    }
+
+    /// Datagrams at that port of 127.0.0.1, not aimed at a port yet; at 0 the system chooses one. `Failed` where the system
+    /// refuses it, as where another program has the port.
+    pub fn bind(net: &'a N, port: u16) -> Result<UdpDatagrams<'a, N>, Failed>
+        ensures { IfOk result (λ datagrams. datagrams ≡ 0) }
+    {
+        match bound(net, port) {
+            Ok(socket) => Ok(UdpDatagrams {
+                net,
+                host: None,
+                current: Some(socket),
+                faults: 0,
+            }),
+            Err(_) => Err(Failed),
+        }
+    }
+
+    /// Counts a call that failed or was silent, and gives its answer.
+    fn missed<T>(&mut self, answer: T) -> T
+        ensures counts { self.new ≡ next_count self.old }
+        ensures later { self.old ≤ self.new }
+        ensures answer { result ≡ answer }
+    {
+        self.faults = self.faults.saturating_add(1);
+        answer
+    }
+
+    /// Counts what came of a wait, where it failed or was silent.
+    fn counted(&mut self, arrived: Arrived) -> Arrived
+        ensures same { result ≡ arrived }
+        ensures cause { HasCauseArrived self.old self.new arrived }
+        ensures counts { CountsArrived self.old self.new arrived }
+    {
+        match arrived {
+            Arrived::From(port) => Arrived::From(port),
+            Arrived::Silent => self.missed(Arrived::Silent),
+            Arrived::Failed => self.missed(Arrived::Failed),
+            Arrived::Memory => Arrived::Memory,
+        }
+    }
+}
+
+impl<N: Net> Datagrams for UdpDatagrams<'_, N> {
+    ghost use Rattle.std.specs.Prelude.{◌≡◌, ◌≤◌, None, IsOk};
+    ghost use Rattle.outside.specs.Causes.{HasCause};
+    ghost use Rattle.outside.specs.Datagrams.{DatagramsTell, DatagramsNote, AreTold, HasCauseArrived, aimed_as, datagram_as, arrived_as, remarked_as};
+    ghost use Rattle.net_edge.specs.Counts.{CountsFault, CountsArrived};
+
+    ghost told = { λ _. None };
+
+    ghost faults = { λ count. count };
+
+    // Nothing is known of what stands at the other end.
+    ghost honest = { λ _. ⊥ };
+
+    ghost lawful = { λ _ h. absurd h };
+
+    /// No contract can say what a socket gives or takes.
+    fn tells(&self) -> bool
+        ensures { AreTold None result }
+    {
+        false
+    }
+
+    /// Aims at the first of the host's addresses. A name that can't be looked up is a failure.
+    fn aim(&mut self, port: u16) -> Result<(), LinkFault>
+        ensures told { DatagramsTell None None (aimed_as port result) }
+        ensures cause { HasCause self.old self.new result }
+        ensures counts { CountsFault self.old self.new result }
+    {
+        let current = self.current.take();
+        self.current = match self.host {
+            Some(host) => aim_at(self.net, current, host, port),
+            None => with_port(current, port),
+        };
+        if self.current.is_some() {
+            Ok(())
+        } else {
+            self.missed(Err(LinkFault::Failed))
+        }
+    }
+
+    /// Sends one datagram. Before an aim it is a failure, and so is one that is too long, or the word of the host that no one
+    /// listens at the port.
+    fn send(&mut self, bytes: &[u8]) -> Result<(), LinkFault>
+        ensures told { DatagramsTell None None (datagram_as bytes.now result) }
+        ensures cause { HasCause self.old self.new result }
+        ensures counts { CountsFault self.old self.new result }
+    {
+        match self.current.as_ref() {
+            Some(current) if current.send(bytes) => Ok(()),
+            _ => self.missed(Err(LinkFault::Failed)),
+        }
+    }
+
+    /// Waits for a datagram from the host. Without a socket it is a failure.
+    fn receive(&mut self, wait_ms: u32, buf: &mut Vec<u8>) -> Arrived
+        requires { 15000 ≤ wait_ms }
+        ensures told { DatagramsTell None None (arrived_as buf.new.items result) }
+        ensures cause { HasCauseArrived self.old self.new result }
+        ensures counts { CountsArrived self.old self.new result }
+    {
+        let arrived = match self.current.as_ref() {
+            Some(current) => current.receive(wait_ms, buf),
+            None => Arrived::Failed,
+        };
+        self.counted(arrived)
+    }
+
+    /// Keeps nothing.
+    fn note(&mut self, mark: Mark) -> Result<(), Memory>
+        ensures told { DatagramsNote None None (remarked_as mark result) }
+        ensures cause { self.old ≤ self.new }
+        ensures same { self.new ≡ self.old }
+        ensures ok { IsOk result }
+    {
+        Ok(())
+    }
+}
+
+/// The socket, aimed at that port.
+fn with_port(current: Option<PeerSocket>, port: u16) -> Option<PeerSocket> {
+    let mut current = current?;
+    current.peer.set_port(port);
+    Some(current)
+}
+
+/// A socket for that port of the host: the one that is open, where it is aimed there already, or a new one.
+fn aim_at<N: Net>(
+    net: &N,
+    current: Option<PeerSocket>,
+    host: &str,
+    port: u16,
+) -> Option<PeerSocket> {
+    let peer = (host, port).to_socket_addrs(net).ok()?.next()?;
+    match current {
+        Some(same) if same.peer == peer => Some(same),
+        _ => open_to(net, peer).ok(),
+    }
+}
+
+/// A new socket for that peer.
+fn open_to<N: Net>(net: &N, peer: SocketAddr) -> io::Result<PeerSocket> {
+    let any = if peer.is_ipv4() {
+        "0.0.0.0:0"
+    } else {
+        "[::]:0"
+    };
+    let socket = UdpSocket::bind(net, any)?;
+    socket.connect(peer)?;
+    Ok(PeerSocket { socket, peer })
+}
+
+/// A socket at that port of 127.0.0.1, aimed at the port 0, which no one has.
+fn bound<N: Net>(net: &N, port: u16) -> io::Result<PeerSocket> {
+    let socket = UdpSocket::bind(net, (LOOPBACK, port))?;
+    let mut peer = socket.local_addr()?;
+    peer.set_port(0);
+    Ok(PeerSocket { socket, peer })
+}
