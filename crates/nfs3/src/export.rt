@@ -1,4 +1,4 @@
-//! An export that is served over TCP.
+//! An export that is served over TCP or UDP.
 
 ghost use Rattle.std.specs.Prelude.{◌≡◌};
 ghost use Rattle.script_text.specs.Numbers.{number_of};
@@ -7,27 +7,46 @@ use crate::ending::Ending;
 use crate::schedule_file::{refused, schedule_text};
 use crate::serving::Serving;
 use export_fs::Export;
-use net_edge::LoopbackListener;
+use net_edge::{LoopbackListener, UdpDatagrams};
 use script_text::number;
 use world_link::read_schedule;
 
+/// What the records of a call go over.
+#[derive(Clone, Copy)]
+enum Protocol {
+    Tcp,
+    Udp,
+}
+
 /// Serves an export at a port of 127.0.0.1, which the words name, until as many calls were answered as they say. A third
-/// word names the file of a schedule: its objects are there at the start, and its other lines have no effect.
+/// word names the file of a schedule: its objects are there at the start, and its other lines have no effect. It is served
+/// over UDP where a word `--udp` stands before these, and else over TCP.
 pub fn export(rt: &HostRuntime, words: &[String]) -> Ending {
     match words {
-        [port, calls] => serve(rt, port.as_str(), calls.as_str(), None),
-        [port, calls, path] => serve(rt, port.as_str(), calls.as_str(), Some(path.as_str())),
+        [word, rest @ ..] if word.as_str() == "--udp" => serve_words(rt, Protocol::Udp, rest),
+        _ => serve_words(rt, Protocol::Tcp, words),
+    }
+}
+
+fn serve_words(rt: &HostRuntime, over: Protocol, words: &[String]) -> Ending {
+    match words {
+        [port, calls] => serve(rt, over, port.as_str(), calls.as_str(), None),
+        [port, calls, path] => serve(rt, over, port.as_str(), calls.as_str(), Some(path.as_str())),
         _ => Ending::Usage,
     }
 }
 
-fn serve(rt: &HostRuntime, port: &str, calls: &str, path: Option<&str>) -> Ending {
+fn serve(rt: &HostRuntime, over: Protocol, port: &str, calls: &str, path: Option<&str>) -> Ending {
     let (Some(port), Some(calls)) = (port_number(port), call_count(calls)) else {
         return Ending::Usage;
     };
-    match export_of(rt, path) {
-        Ok(fs) => listen(rt, port, Serving::new(rt.alloc(), fs, calls)),
-        Err(ending) => ending,
+    let serving = match export_of(rt, path) {
+        Ok(fs) => Serving::new(rt.alloc(), fs, port, calls),
+        Err(ending) => return ending,
+    };
+    match over {
+        Protocol::Tcp => listen(rt, port, serving),
+        Protocol::Udp => listen_to_datagrams(rt, port, serving),
     }
 }
 
@@ -58,13 +77,24 @@ fn export_of(rt: &HostRuntime, path: Option<&str>) -> Result<Export, Ending> {
     }
 }
 
-/// Listens at the port, says so on standard output, and serves.
+/// Listens at the port, says so on standard output, and serves one connection after another.
 fn listen(rt: &HostRuntime, port: u16, mut serving: Serving) -> Ending {
     let Ok(mut listener) = LoopbackListener::bind(rt, port) else {
         return Ending::Lost;
     };
     match println!(rt; "listening {port}") {
         Ok(()) => serving.serve_all(&mut listener),
+        Err(_) => Ending::WriteFault,
+    }
+}
+
+/// Listens at the port, says so on standard output, and serves whoever sends datagrams there.
+fn listen_to_datagrams(rt: &HostRuntime, port: u16, mut serving: Serving) -> Ending {
+    let Ok(mut datagrams) = UdpDatagrams::bind(rt, port) else {
+        return Ending::Lost;
+    };
+    match println!(rt; "listening {port}") {
+        Ok(()) => serving.serve_datagrams(&mut datagrams),
         Err(_) => Ending::WriteFault,
     }
 }

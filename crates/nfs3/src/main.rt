@@ -1,8 +1,9 @@
-//! A user-space client of NFS version 3. `nfs3 run HOST WORDS` runs the script on standard input with the server at HOST,
-//! and `nfs3 replay SCHEDULE WORDS` over a simulated server, which the file SCHEDULE describes. `nfs3 export PORT CALLS`,
-//! with or without a SCHEDULE, serves a test export.
+//! A user-space client of NFS version 3. `nfs3 run HOST WORDS` runs the script on standard input with the server at HOST over
+//! TCP, `nfs3 run --udp HOST WORDS` over UDP, and `nfs3 replay SCHEDULE WORDS` over a simulated server, which the file SCHEDULE
+//! describes. `nfs3 export PORT CALLS`, with or without a SCHEDULE, serves a test export, over UDP with `--udp` before the port.
 #![tactic(auto)]
 
+mod datagrams;
 mod ending;
 mod export;
 mod replay;
@@ -47,6 +48,11 @@ fn command(rt: &HostRuntime, mut words: Vec<String>) -> Ending {
         [name, _, ..] if name.as_str() == "replay" => {
             let path = words.remove(1);
             replay::replay(rt, path.as_str(), words.as_slice())
+        }
+        [name, udp, _, ..] if name.as_str() == "run" && udp.as_str() == "--udp" => {
+            words.remove(1);
+            let host = words.remove(1);
+            run::run_over_udp(rt, host.as_str(), words.as_slice())
         }
         [name, _, ..] if name.as_str() == "run" => {
             let host = words.remove(1);

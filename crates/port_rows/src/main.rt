@@ -1,0 +1,65 @@
+//! Runs what the lines of standard input describe: sessions whose ports a port mapper tells, and sessions over datagrams. It
+//! prints each line and what comes of it:
+//!
+//! - `portmap WORDS` prints the port mapper that the words name and the other words, `ports MOUNT NFS WORDS` the words with these
+//!   ports, and `udp WORDS` those of a session over UDP
+//! - `words WORDS`, `script LINE` and `schedule LINE` describe a session: its words, lines of its script, and lines of the schedule
+//!   of a simulated server; `write N` makes that call of the sink fail
+//! - `told PORT HEX` is a datagram that comes from the port mapper, and `fail N` a call of the link to it that fails, counted from 1;
+//!   `arrival PORT HEX` is one that comes from the server
+//! - `found` runs the session by a port mapper over the simulated server, and prints its status, what it wrote and what was
+//!   asked of the port mapper; `dialed` runs it over datagrams, and prints what was asked of the server
+//! - `datagrams` runs a session over datagrams, and prints its status, what it wrote and what was asked of the server
+//!
+//! `[N*TEXT]` in a line stands for so many copies of a text, and digits in hex may be parted by spaces. What runs a session begins
+//! anew after it. Any other line is only printed.
+#![tactic(auto)]
+
+mod case;
+mod session;
+mod show;
+mod text;
+mod words;
+
+use crate::case::{Case, empty, takes};
+use crate::text::spread;
+use std::alloc::Global;
+use std::io;
+
+/// Does what a line asks for; whether it ends the description.
+fn row(rt: &impl Print, alloc: Global, case: &Case, word: &str, rest: &str) -> io::Result<bool> {
+    match word {
+        "portmap" => words::show_portmap(rt, alloc, rest)?,
+        "ports" => words::show_with_ports(rt, alloc, rest)?,
+        "udp" => words::show_udp(rt, alloc, rest)?,
+        "found" => session::run_over_world(rt, alloc, case)?,
+        "dialed" => session::run_by_portmap(rt, alloc, case)?,
+        "datagrams" => session::run_over_datagrams(rt, alloc, case)?,
+        _ => return Ok(false),
+    }
+    Ok(true)
+}
+
+fn main(rt: HostRuntime) -> io::Result<()> {
+    let alloc = rt.alloc();
+    let mut case = empty(alloc);
+    for line in rt.lines(alloc) {
+        let line = line?;
+        println!(rt; "{}", line.as_str())?;
+        let Ok(line) = spread(alloc, line.as_str()) else {
+            return println!(rt; "  out of memory");
+        };
+        let line = line.as_str();
+        let (word, rest) = line.split_once(' ').unwrap_or((line, ""));
+        match takes(alloc, &mut case, word, rest) {
+            Ok(true) => {}
+            Ok(false) => {
+                if row(&rt, alloc, &case, word, rest)? {
+                    case = empty(alloc);
+                }
+            }
+            Err(_) => println!(rt; "  out of memory")?,
+        }
+    }
+    Ok(())
+}
