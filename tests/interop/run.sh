@@ -1,9 +1,10 @@
 #!/usr/bin/env bash
 # Tries nfs3 with programs of others, on this machine alone: it lets every command of a script work on the server nfs-ganesha
 # and compares the files with what lies in the server's folder and with what libnfs reads; it lets nfs-ls and nfs-cat read what
-# `nfs3 export` serves; it lets tshark read what went over the wire; and then the server crashes and connections are cut. Run it
-# as root on Debian 12: it installs what is missing. The words are the parts that are tried, of wire, names, sizes and failures;
-# without words all are. The last line is 'N passed, M failed', and the status is 0 where nothing failed.
+# `nfs3 export` serves; it lets tshark read what went over the wire; it asks rpcbind for the server's ports, and works over UDP;
+# and then the server crashes and connections are cut. Run it as root on Debian 12: it installs what is missing. The words are the
+# parts that are tried, of wire, names, sizes, ports and failures; without words all are. The last line is 'N passed, M failed', and
+# the status is 0 where nothing failed.
 set -u
 
 here=$(dirname -- "$(readlink -f -- "${BASH_SOURCE[0]}")")
@@ -24,6 +25,7 @@ mkdir "$work/served"
 . "$here/scripts.sh"
 . "$here/sizes.sh"
 . "$here/names.sh"
+. "$here/ports.sh"
 . "$here/failures.sh"
 
 # What the capture is to show: packets of the servers' ports on the loopback.
@@ -185,7 +187,7 @@ try_wire() {
 }
 
 main() {
-    local part parts=(wire names sizes failures)
+    local part parts=(wire names sizes ports failures)
     [ $# -gt 0 ] && parts=("$@")
     trap end_all EXIT
     prepare

@@ -4,8 +4,11 @@
 expected=$work/expected
 bytes=$work/bytes
 
-# The port of NFS that the client is told, and the number of its user and group.
+# The words for the server's host, the port of NFS that the client is told, or that of the port mapper where it isn't, and the
+# number of its user and group.
+host=(127.0.0.1)
 client_port=$nfs_port
+portmap=
 user=0
 
 # Begins a script, and the answers and the status that are wanted.
@@ -29,8 +32,9 @@ line() {
 
 # Runs the script against the server, with these words besides. What it says is in the file `said`.
 run_program() {
-    "$nfs3" run 127.0.0.1 /srv --uid "$user" --gid "$user" --mount-port "$mount_port" --nfs-port "$client_port" "$@" \
-        <"$work/script" >"$work/said" 2>&1
+    local ports=(--mount-port "$mount_port" --nfs-port "$client_port")
+    [ -n "$portmap" ] && ports=(--portmap "$portmap")
+    "$nfs3" run "${host[@]}" /srv --uid "$user" --gid "$user" "${ports[@]}" "$@" <"$work/script" >"$work/said" 2>&1
 }
 
 # The script got the answers that are wanted, and ended with the status that goes with them: what was tried, and the status.

@@ -18,10 +18,13 @@ end_all() {
     rm -rf -- "$work"
 }
 
-# Serves so many calls, and waits at most 30 seconds until the server listens: CALLS, and a schedule's file or nothing.
+# Serves so many calls, and waits at most 30 seconds until the server listens: `--udp` or nothing, CALLS, and a schedule's
+# file or nothing.
 serve() {
     mkfifo "$work/listening"
-    "$nfs3" export "$port" "$@" >"$work/listening" 2>"$work/warned" &
+    local over=()
+    [ "$1" = --udp ] && over=(--udp) && shift
+    "$nfs3" export "${over[@]}" "$port" "$@" >"$work/listening" 2>"$work/warned" &
     server=$!
     read -r -t 30 listening <"$work/listening"
     rm -f -- "$work/listening"
@@ -60,6 +63,21 @@ try_a_read() {
     printf 'file /a 6869\n' >"$work/schedule"
     serve 5 "$work/schedule"
     session $'1 open 1 r /a\n1 read 1 0 10\n1 close 1' $'1 1 ok\n1 2 ok 6869\n1 3 ok' 0
+    ended 0
+}
+
+# The same by the port mapper, over a connection of its own: two calls of GETPORT come before these five. And over UDP, without
+# a port mapper.
+try_other_ways() {
+    printf 'file /a 6869\n' >"$work/schedule"
+    printf '1 open 1 r /a\n1 read 1 0 10\n1 close 1' >"$work/script"
+    serve 7 "$work/schedule"
+    "$nfs3" run 127.0.0.1 /srv --portmap "$port" <"$work/script" >"$work/said" 2>&1
+    comes_to 0 $'1 1 ok\n1 2 ok 6869\n1 3 ok' $? 'a read by the port mapper'
+    ended 0
+    serve --udp 5 "$work/schedule"
+    "$nfs3" run --udp 127.0.0.1 /srv --mount-port "$port" --nfs-port "$port" <"$work/script" >"$work/said" 2>&1
+    comes_to 0 $'1 1 ok\n1 2 ok 6869\n1 3 ok' $? 'a read over UDP'
     ended 0
 }
 
@@ -157,6 +175,59 @@ try_stopped_processes() {
     ended 0
 }
 
+# Sends a record, given by hex digits, and shows so many bytes of what comes back.
+ask() {
+    local digits=${1// /}
+    printf '%b' "$(sed 's/../\\x&/g' <<<"$digits")" >&7
+    timeout 10 head -c "$2" <&7 | od -An -v -tx4 --endian=big | tr -d '\n'
+}
+
+# GETPORT of a program, version 3, without its record mark: the xid, and the numbers of program and protocol.
+getport="00000000 00000002 000186a0 00000002 00000003 00000000 00000000 00000000 00000000"
+mount_over_tcp="00000001 $getport 000186a5 00000003 00000006 00000000"
+nfs_over_tcp="00000002 $getport 000186a3 00000003 00000006 00000000"
+nfs_over_udp="00000003 $getport 000186a3 00000003 00000011 00000000"
+
+# The server is its own port mapper. After its answer for NFS the connection is closed, and the five calls of a put are
+# answered over the next one.
+try_a_port_mapper() {
+    local reply shown
+    shown=$(printf '%08x' "$port")
+    printf 'file /a 6869\n' >"$work/schedule"
+    serve 7 "$work/schedule"
+    exec 7<>"/dev/tcp/127.0.0.1/$port"
+    reply=$(ask "80000038 $mount_over_tcp" 32)
+    [ "$reply" = " 8000001c 00000001 00000001 00000000 00000000 00000000 00000000 $shown" ]
+    count $? "the port of MOUNT is told: $reply"
+    reply=$(ask "80000038 $nfs_over_tcp" 32)
+    [ "$reply" = " 8000001c 00000002 00000001 00000000 00000000 00000000 00000000 $shown" ]
+    count $? "the port of NFS is told: $reply"
+    timeout 10 cat <&7 >/dev/null
+    count $? "the connection is closed after it: $?"
+    session '1 put /a 0 6a6b6c' '1 1 ok' 0
+    exec 7>&-
+    ended 0
+}
+
+# Each datagram is answered to whoever sent it: GETPORT, a record that is no call, which isn't, and the NULL call of NFS.
+try_datagrams() {
+    local reply shown
+    shown=$(printf '%08x' "$port")
+    serve --udp 2
+    exec 7<>"/dev/udp/127.0.0.1/$port"
+    reply=$(ask "$nfs_over_udp" 28)
+    [ "$reply" = " 00000003 00000001 00000000 00000000 00000000 00000000 $shown" ]
+    count $? "the port of NFS is told over UDP: $reply"
+    exec 7>&-
+    exec 7<>"/dev/udp/127.0.0.1/$port"
+    printf 'no call' >&7
+    reply=$(ask '00000001 00000000 00000002 000186a3 00000003 00000000 00000000 00000000 00000000 00000000' 24)
+    [ "$reply" = ' 00000001 00000001 00000000 00000000 00000000 00000000' ]
+    count $? "a call over UDP is answered: $reply"
+    exec 7>&-
+    ended 0
+}
+
 # What a command says on standard error, and its status.
 refused() {
     local answer
@@ -172,6 +243,8 @@ try_refusals() {
     refused $'nfs3: usage\n2' "$port" 4294967296
     refused $'nfs3: usage\n2' "+$port" 5
     refused $'nfs3: usage\n2' "$port"
+    refused $'nfs3: usage\n2' --udp "$port"
+    refused $'nfs3: usage\n2' "$port" --udp 5
     refused $'nfs3: schedule 0\n9' "$port" 5 "$work/missing"
     printf 'dir /d\nfile /none/a 61\n' >"$work/faulty"
     refused $'nfs3: schedule 2\n9' "$port" 5 "$work/faulty"
@@ -194,5 +267,8 @@ try_an_empty_export
 try_a_silent_connection
 try_closed_streams
 try_stopped_processes
+try_a_port_mapper
+try_other_ways
+try_datagrams
 try_refusals
 sum_up
