@@ -1,17 +1,17 @@
-mod CallsMade
-mod CallsWaiting
-mod CutsShow
-mod Fronts
-mod KnownStamps
-mod OwnBytesAnswered
-mod OwnBytesShow
-mod PendingOnTop
-mod ReadsShow
-mod ShownMayBePending
-mod SmallRun
-mod StampLasts
-mod WrittenSince
-mod WriteAndRead
-mod WriteAndReadHistory
-mod WriteAndReadSteps
-mod ZerosStay
+pub mod CallsMade
+pub mod CallsWaiting
+pub mod CutsShow
+pub mod Fronts
+pub mod KnownStamps
+pub mod OwnBytesAnswered
+pub mod OwnBytesShow
+pub mod PendingOnTop
+pub mod ReadsShow
+pub mod ShownMayBePending
+pub mod SmallRun
+pub mod StampLasts
+pub mod WrittenSince
+pub mod WriteAndRead
+pub mod WriteAndReadHistory
+pub mod WriteAndReadSteps
+pub mod ZerosStay

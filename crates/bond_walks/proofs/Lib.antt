@@ -1,13 +1,13 @@
-mod AnswersTrue
-mod Calling
-mod Cookies
-mod Facts
-mod Fronts
-mod LastReplies
-mod Listings
-mod Members
+pub mod AnswersTrue
+pub mod Calling
+pub mod Cookies
+pub mod Facts
+pub mod Fronts
+pub mod LastReplies
+pub mod Listings
+pub mod Members
 pub mod NamesStand
 pub mod RepliesShow
-mod SmallRun
-mod SmallRunLawful
-mod Times
+pub mod SmallRun
+pub mod SmallRunLawful
+pub mod Times

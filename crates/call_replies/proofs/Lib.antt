@@ -1,3 +1,3 @@
-mod Readings
-mod Sayings
-mod Rows
+pub mod Readings
+pub mod Sayings
+pub mod Rows

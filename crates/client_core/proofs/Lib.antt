@@ -1,10 +1,10 @@
-mod Bounds
-mod Places
+pub mod Bounds
+pub mod Places
 pub mod Numbers
-mod Awaiting
-mod Stirring
-mod Leading
-mod Refusing
-mod Settling
-mod Beginning
-mod Sounds
+pub mod Awaiting
+pub mod Stirring
+pub mod Leading
+pub mod Refusing
+pub mod Settling
+pub mod Beginning
+pub mod Sounds

@@ -1,20 +1,20 @@
-mod Still
-mod Fit
-mod Leaves
-mod Unsent
-mod Numbers
+pub mod Still
+pub mod Fit
+pub mod Leaves
+pub mod Unsent
+pub mod Numbers
 pub mod Walk
-mod Roomless
-mod Spelling
-mod Unmade
-mod Refusals
-mod FileLaws
+pub mod Roomless
+pub mod Spelling
+pub mod Unmade
+pub mod Refusals
+pub mod FileLaws
 pub mod NameLaws
-mod PathLaws
-mod AllLaws
-mod Places
-mod May
-mod Endings
-mod NameEnds
-mod PathEnds
-mod AllEnds
+pub mod PathLaws
+pub mod AllLaws
+pub mod Places
+pub mod May
+pub mod Endings
+pub mod NameEnds
+pub mod PathEnds
+pub mod AllEnds
