@@ -1,0 +1,3 @@
+pub mod AllSent
+pub mod CountOf
+pub mod Unspent

@@ -1,0 +1,15 @@
+pub mod Endings
+pub mod Following
+pub mod FoundNames
+pub mod Lasts
+pub mod ListPages
+pub mod ListsWhole
+pub mod OpenFound
+pub mod OpenPaths
+pub mod PagesRead
+pub mod PutFound
+pub mod PutNames
+pub mod PutPaths
+pub mod Recents
+pub mod Stood
+pub mod Visited
