@@ -1,0 +1,11 @@
+pub mod Below
+pub mod ComingIn
+pub mod Covered
+pub mod Cutting
+pub mod Flights
+pub mod Hearing
+pub mod Leading
+pub mod Renaming
+pub mod Replied
+pub mod Shown
+pub mod TakingOff
