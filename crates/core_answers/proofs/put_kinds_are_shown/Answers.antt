@@ -1,0 +1,5 @@
+use Rattle.core_answers.proofs.PutRows.{put-kinds-shown}
+use Rattle.core_answers.proofs.put_kinds_are_shown.Goals as goal
+
+pub returns : goal.returns
+returns c = put-kinds-shown

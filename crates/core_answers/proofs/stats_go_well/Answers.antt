@@ -1,0 +1,5 @@
+use Rattle.core_answers.proofs.StatStory.{stats-ok}
+use Rattle.core_answers.proofs.stats_go_well.Goals as goal
+
+pub returns : goal.returns
+returns c = stats-ok

@@ -1,0 +1,37 @@
+-- What the calls of a stat show.
+use Rattle.std.specs.Prelude.{◌≡◌, ◌⊎◌, ℕ, List}
+use Rattle.rpc_message.specs.declared.cred.Cred.{Cred}
+use Rattle.world_model.specs.declared.entry.Entry.{Entry}
+use Rattle.world_model.specs.declared.entry.Entry.TheVariants.{Sent}
+use Rattle.world_model.specs.declared.message.Call.{Call}
+use Rattle.world_model.specs.declared.op.Op.{Op}
+use Rattle.world_model.specs.declared.op.Op.TheVariants as ops
+use Rattle.world_model.specs.Asks.{Asks}
+use Rattle.world_model.specs.CallsAsked.{NoneBegan}
+use Rattle.world_model.specs.Entries.{At}
+use Rattle.world_model.specs.Messages.{SpellsCallBy}
+use Rattle.world_model.specs.Operations.{UnderWay}
+use Rattle.world_model.specs.Terms.{Terms}
+use Rattle.op_machines.specs.declared.begun.Mounted.{Mounted}
+use Rattle.op_machines.specs.Begun.{machine_of}
+use Rattle.client_core.specs.declared.setup.Setup.{Setup}
+use Rattle.client_core.specs.View.{View}
+use Rattle.core_facts.specs.Naming.{KnowsRoot}
+use Rattle.core_facts.specs.Reaches.{Reaches}
+
+-- The record at the place i is a call, with the session's credential, of an operation that is under way; a stat asks for it: it is the LOOKUP of a
+-- name of its path, or GETATTR of the object to which that leads.
+pub record IsMadeForStat (terms : Terms) (cred : Cred) (h : List Entry) (i : ℕ) (bytes : List ℕ) : Type 0 where
+  pub xid : ℕ
+  pub call : Call
+  pub made : SpellsCallBy cred xid call bytes
+  pub lane : ℕ
+  pub x : ℕ
+  pub op : Op
+  pub under_way : UnderWay h lane x i op
+  pub asks : (path : List (List ℕ)) → op ≡ ops.Stat path → Asks terms h x i (ops.Stat path) call
+
+-- Each record that was sent was sent before any operation began, or for one.
+abbrev pub StatsAsk : Type 0
+StatsAsk = (m : Mounted) (setup : Setup) (h : List Entry) (v : View) → Reaches (machine_of m) setup h v → (terms : Terms) → KnowsRoot terms.origin h m.root
+    → (i : ℕ) (bytes : List ℕ) → At h i (Sent bytes) → NoneBegan h i ⊎ IsMadeForStat terms setup.cred h i bytes
