@@ -1,0 +1,16 @@
+pub mod KnownPages
+pub mod NamePages
+pub mod PageCalls
+pub mod FilePages
+pub mod MachinePages
+pub mod Under
+pub mod PiecesSent
+pub mod PiecesCalled
+pub mod Keeping
+pub mod PageLaws
+pub mod PagesShown
+pub mod PagesTrue
+pub mod ReadBytes
+pub mod ReadStory
+pub mod ReadsShown
+pub mod ReadsHeld
