@@ -44,6 +44,10 @@ ResultsIn x rec (Err refusals.None) = ⊥
 ResultsIn x rec (Err (refusals.Rpc n)) = SpellsRefusal x n rec
 ResultsIn x rec (Err (refusals.Bad n)) = Breaks x rec n
 
+-- a port: 1 to 65,535
+abbrev pub IsPort : ℕ → Type 0
+IsPort port = (1 ≤ port) × (port ≤ 65535)
+
 -- a port that is registered: above 0 and below 65,536
 abbrev pub registered_port : ℕ → Result ℕ Refusal
 registered_port port = if (port == 0) || nat_lt 65535 port then Err refusals.None else Ok port

@@ -1,8 +1,9 @@
 //! The ports of MOUNT and NFS.
 
-ghost use Rattle.std.specs.Prelude.{◌≡◌, ◌<◌, ◌+◌, ◌^◌};
+ghost use Rattle.std.specs.Prelude.{◌≡◌, ◌<◌, ◌+◌, ◌^◌, IfOk};
 ghost use Rattle.port_finder.specs.Does.{Does};
 ghost use Rattle.port_finder.specs.Found.{Asks, Ported, fault_by, refused_by};
+ghost use Rattle.port_finder.specs.Replies.{IsPort};
 
 use crate::exchange::{dial, exchange};
 use crate::halt::Halt;
@@ -49,6 +50,7 @@ pub fn find_ports<L: Link>(
 ) -> Result<Ports, PortFault>
     requires { xid + 1 < 2 ^ 32 }
     ensures ported { Does (L.told link.old) (L.told link.new) (L.faults link.old) (L.faults link.new) (Ported port xid prot result) }
+    ensures range { IfOk result (λ ports. IsPort ports.mount × IsPort ports.nfs) }
     ensures honest { L.honest link.old → L.honest link.new }
 {
     match dial(port, link) {
@@ -75,6 +77,7 @@ fn ask<L: Link>(
     prot: u32,
 ) -> Result<u16, PortFault>
     ensures asks { Does (L.told link.old) (L.told link.new) (L.faults link.old) (L.faults link.new) (Asks port xid prog prot result) }
+    ensures range { IfOk result IsPort }
     ensures honest { L.honest link.old → L.honest link.new }
 {
     let wanted = Mapping {

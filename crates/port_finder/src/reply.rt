@@ -1,9 +1,9 @@
 //! What the record means that came under the xid of a call of GETPORT.
 
-ghost use Rattle.std.specs.Prelude.{◌≡◌, ℕ};
+ghost use Rattle.std.specs.Prelude.{◌≡◌, ℕ, IfOk};
 ghost use Rattle.std.specs.Result.{result_map_both};
 ghost use Rattle.world_model.specs.Messages.{HasXid};
-ghost use Rattle.port_finder.specs.Replies.{ResultsIn, denial_number, registered_port, Means};
+ghost use Rattle.port_finder.specs.Replies.{ResultsIn, denial_number, IsPort, registered_port, Means};
 
 use portmap_calls::read_port;
 use rpc_message::{Reply, ReplyFault, read_reply};
@@ -29,7 +29,8 @@ pub enum Refusal {
 
 /// The port that the record tells.
 pub fn told_port(rec: &[u8]) -> Result<u16, Refusal>
-    ensures { (x : ℕ) → HasXid rec.now x → Means x rec.now result }
+    ensures means { (x : ℕ) → HasXid rec.now x → Means x rec.now result }
+    ensures range { IfOk result IsPort }
 {
     let results = match results_of(rec) {
         Ok(results) => results,
@@ -43,7 +44,8 @@ pub fn told_port(rec: &[u8]) -> Result<u16, Refusal>
 
 /// A port that is registered.
 fn registered(port: u32) -> Result<u16, Refusal>
-    ensures { result ≡ registered_port port }
+    ensures is { result ≡ registered_port port }
+    ensures range { IfOk result IsPort }
 {
     if port == 0 || port > 65_535 {
         Err(Refusal::None)

@@ -56,7 +56,7 @@ mount_xid o cred first h i b x path r s = by_call r.is
         let q : program_of r.call ≡ program_of (info_call root) = ap program_of is in
         absurd (omega (arith, p, q))
 
-info_xid_is : (o : Origin) (cred : Cred) (first : ℕ) (h : List Entry) (i : ℕ) (b : List ℕ) (x : ℕ) (root : List ℕ) → IsSetUpRecord o cred first h i b → SpellsCall x (info_call root) b → x ≡ info_xid o first
+pub info_xid_is : (o : Origin) (cred : Cred) (first : ℕ) (h : List Entry) (i : ℕ) (b : List ℕ) (x : ℕ) (root : List ℕ) → IsSetUpRecord o cred first h i b → SpellsCall x (info_call root) b → x ≡ info_xid o first
 info_xid_is o cred first h i b x root r s = by_call r.is
   where
     by_call : IsSetUpCall o first h i r.xid r.call → x ≡ info_xid o first

@@ -11,3 +11,4 @@ pub mod Finishing
 pub mod Requests
 pub mod Sizing
 pub mod Unmarked
+pub mod Dials

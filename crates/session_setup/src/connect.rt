@@ -1,5 +1,6 @@
 //! Connecting to the server.
 
+ghost use Rattle.link_dials.specs.Dials.{DialsOnly};
 ghost use Rattle.session_setup.specs.Along.{Along};
 ghost use Rattle.session_setup.specs.Exchanges.{Connects};
 
@@ -12,6 +13,7 @@ const MAX_CONNECTS: u32 = 4;
 /// Connects to a port of the server.
 pub(crate) fn connect<L: Link>(port: u16, link: &mut L) -> Result<(), Stop>
     ensures goes { Along (L.told link.old) (L.told link.new) (Connects result) }
+    ensures dials { DialsOnly port (L.told link.old) (L.told link.new) }
     ensures honest { L.honest link.old → L.honest link.new }
 {
     for _ in 0..MAX_CONNECTS {

@@ -1,7 +1,8 @@
 //! A call is sent until it is answered.
 
-ghost use Rattle.std.specs.Prelude.{◌≤◌, List};
+ghost use Rattle.std.specs.Prelude.{◌≤◌, ℕ, List};
 ghost use Rattle.world_model.specs.declared.entry.Entry.{Entry};
+ghost use Rattle.link_dials.specs.Dials.{DialsOnly};
 ghost use Rattle.session_setup.specs.Along.{Along};
 ghost use Rattle.session_setup.specs.Exchanges.{KeepsCalls, Transmits, HearsOne, Awaits, Attempts, EndsAttempt, GoesOn, Tries, Exchanges};
 ghost use Rattle.session_setup.specs.Takings.{AnswersSo};
@@ -46,6 +47,7 @@ pub(crate) fn exchange<L: Link>(
     calls: &mut Calls<()>,
 ) -> Result<Blob, Stop>
     ensures goes { Along (L.told link.old) (L.told link.new) (Exchanges calls.old calls.new result) }
+    ensures dials { DialsOnly port (L.told link.old) (L.told link.new) }
     ensures keeps { KeepsCalls calls.old calls.new }
     ensures honest { L.honest link.old → L.honest link.new }
 {
@@ -70,6 +72,7 @@ fn attempt_once<L: Link>(
 ) -> Result<Option<Blob>, Stop>
     requires few { dropped.old ≤ 65536 }
     ensures goes { Along (L.told link.old) (L.told link.new) (Tries calls.old calls.new dropped.old dropped.new result) }
+    ensures dials { DialsOnly port (L.told link.old) (L.told link.new) }
     ensures few { dropped.new ≤ 65536 }
     ensures keeps { KeepsCalls calls.old calls.new }
     ensures honest { L.honest link.old → L.honest link.new }
@@ -93,6 +96,7 @@ fn attempt_once<L: Link>(
 fn attempt<L: Link>(alloc: Global, link: &mut L, calls: &mut Calls<()>, dropped: &mut u32) -> Heard
     requires few { dropped.old ≤ 65536 }
     ensures goes { Along (L.told link.old) (L.told link.new) (Attempts calls.old calls.new dropped.old dropped.new result) }
+    ensures dials { (port : ℕ) → DialsOnly port (L.told link.old) (L.told link.new) }
     ensures few { dropped.new ≤ 65536 }
     ensures keeps { KeepsCalls calls.old calls.new }
     ensures honest { L.honest link.old → L.honest link.new }
@@ -107,6 +111,7 @@ fn attempt<L: Link>(alloc: Global, link: &mut L, calls: &mut Calls<()>, dropped:
 /// Sends the record that is due.
 fn transmit<L: Link>(link: &mut L, calls: &mut Calls<()>) -> Result<(), LinkFault>
     ensures goes { Along (L.told link.old) (L.told link.new) (Transmits calls.old calls.new result) }
+    ensures dials { (port : ℕ) → DialsOnly port (L.told link.old) (L.told link.new) }
     ensures keeps { KeepsCalls calls.old calls.new }
     ensures honest { L.honest link.old → L.honest link.new }
 {
@@ -125,6 +130,7 @@ fn await_reply<L: Link>(
 ) -> Heard
     requires few { dropped.old ≤ 65536 }
     ensures goes { Along (L.told link.old) (L.told link.new) (Awaits calls.old calls.new dropped.old dropped.new result) }
+    ensures dials { (port : ℕ) → DialsOnly port (L.told link.old) (L.told link.new) }
     ensures few { dropped.new ≤ 65536 }
     ensures keeps { KeepsCalls calls.old calls.new }
     ensures honest { L.honest link.old → L.honest link.new }
@@ -141,6 +147,7 @@ fn await_reply<L: Link>(
 /// Waits for one record. None where it answers no call.
 fn hear<L: Link>(alloc: Global, link: &mut L, calls: &mut Calls<()>) -> Option<Heard>
     ensures goes { Along (L.told link.old) (L.told link.new) (HearsOne calls.old calls.new result) }
+    ensures dials { (port : ℕ) → DialsOnly port (L.told link.old) (L.told link.new) }
     ensures keeps { KeepsCalls calls.old calls.new }
     ensures honest { L.honest link.old → L.honest link.new }
 {
@@ -185,6 +192,7 @@ fn end_attempt(calls: &mut Calls<()>) -> Result<(), Stop>
 /// The link has failed: the attempt has too, and the call is due again over a new connection.
 fn recover<L: Link>(port: u16, link: &mut L, calls: &mut Calls<()>) -> Result<(), Stop>
     ensures goes { Along (L.told link.old) (L.told link.new) (GoesOn calls.old calls.new result) }
+    ensures dials { DialsOnly port (L.told link.old) (L.told link.new) }
     ensures keeps { KeepsCalls calls.old calls.new }
     ensures honest { L.honest link.old → L.honest link.new }
 {

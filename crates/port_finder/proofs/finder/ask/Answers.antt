@@ -14,4 +14,4 @@ returns-in-Err-clause-asks g c =
 pub returns-in-Ok-told_port-clause-asks : goal.returns-in-Ok-told_port-clause-asks
 returns-in-Ok-told_port-clause-asks g c =
     let r = rw (c.bytes.ensures, c.in-Ok.ensures) at c.in-Ok-exchange.ensures.does in
-    does_so _ _ _ _ _ _ (λ es p. asks_told c.args.port c.args.xid c.args.prog c.args.prot c.in-Ok-told_port.port c.in-Ok-exchange.reply es (rw c.bytes-2.ensures at c.in-Ok-told_port.ensures) p) r
+    does_so _ _ _ _ _ _ (λ es p. asks_told c.args.port c.args.xid c.args.prog c.args.prot c.in-Ok-told_port.port c.in-Ok-exchange.reply es (rw c.bytes-2.ensures at c.in-Ok-told_port.ensures.means) p) r

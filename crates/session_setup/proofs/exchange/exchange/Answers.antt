@@ -1,6 +1,7 @@
-use Rattle.std.proofs.Common.{arith}
-use Rattle.session_setup.proofs.Alongs.{along_then, along_less}
-use Rattle.session_setup.proofs.Turns.{due_then, exchanges_reply, exchanges_stop, exchanges_end, keeps_then}
+use Rattle.std.proofs.Common.{arith, refl}
+use Rattle.session_setup.proofs.Alongs.{along_none, along_then, along_less}
+use Rattle.session_setup.proofs.Turns.{due_none, due_then, exchanges_reply, exchanges_stop, exchanges_end, keeps_then}
+use Rattle.link_dials.proofs.Dialing.{dials_same, dials_then}
 use Rattle.session_setup.proofs.exchange.exchange.Goals as goal
 
 pub returns-in-Ok-Some-clause-goes : goal.returns-in-Ok-Some-clause-goes
@@ -18,6 +19,7 @@ loop-preserved g c =
     record {
       few = e.few;
       goes = along_then _ _ _ _ _ _ (λ h k l p q d t. due_then c.args.calls.now c.loop.calls c.attempt_once.new.calls c.loop.counter c.loop.dropped c.attempt_once.new.dropped h k l d t) c.loop.invariant.goes e.goes;
+      dials = dials_then _ _ _ _ c.loop.invariant.dials e.dials;
       keeps = keeps_then c.args.calls.now c.loop.calls c.attempt_once.new.calls c.loop.invariant.keeps e.keeps;
       honest = λ h. e.honest (c.loop.invariant.honest h);
     }
@@ -25,3 +27,18 @@ loop-preserved g c =
 pub returns-clause-goes : goal.returns-clause-goes
 returns-clause-goes g c =
     along_less _ _ _ _ (λ h k p d. exchanges_end c.args.calls.now c.loop.calls c.loop.counter c.loop.dropped h k (omega (arith, c.loop-test.false)) d) c.loop.invariant.goes
+
+pub loop-init : goal.loop-init
+loop-init g c = record {
+  few = omega arith;
+  goes = along_none _ _ (λ h. due_none c.args.calls.now h);
+  dials = dials_same _ _;
+  keeps = record { first_xid = refl; limit = refl; cred = refl; made = refl };
+  honest = λ h. h;
+}
+
+pub returns-in-Ok-Some-clause-dials : goal.returns-in-Ok-Some-clause-dials
+returns-in-Ok-Some-clause-dials g c = dials_then _ _ _ _ c.loop.invariant.dials c.attempt_once.ensures.dials
+
+pub returns-in-Err-clause-dials : goal.returns-in-Err-clause-dials
+returns-in-Err-clause-dials g c = dials_then _ _ _ _ c.loop.invariant.dials c.in-Err.ensures.dials

@@ -1,4 +1,5 @@
 use Rattle.std.proofs.Common.{◌≤◌}
+use Rattle.link_dials.specs.Dials.{DialsOnly}
 use Rattle.session_setup.specs.Along.{Along}
 use Rattle.session_setup.specs.Exchanges.{KeepsCalls}
 use Rattle.session_setup.proofs.Turns.{DueAfter}
@@ -8,6 +9,7 @@ abbrev pub invariant-loop : goal.invariant-loop
 invariant-loop g l = record {
   few : l.dropped ≤ 65536;
   goes : Along (g.L.Link.told l.fn.link) (g.L.Link.told l.link) (DueAfter l.fn.calls l.calls l.counter l.dropped);
+  dials : DialsOnly l.port (g.L.Link.told l.fn.link) (g.L.Link.told l.link);
   keeps : KeepsCalls l.fn.calls l.calls;
   honest : g.L.Link.honest l.fn.link → g.L.Link.honest l.link;
 }

@@ -1,5 +1,6 @@
 use Rattle.session_setup.proofs.Alongs.{along_less, along_then}
 use Rattle.session_setup.proofs.Phases.{mount_undialed, mount_unmade, mount_lost, mount_answered}
+use Rattle.link_dials.proofs.Dialing.{dials_then}
 use Rattle.session_setup.proofs.opening.mount.Goals as goal
 
 pub returns-in-Err-clause-goes : goal.returns-in-Err-clause-goes
@@ -18,3 +19,9 @@ pub returns-in-Err-exchange-clause-goes : goal.returns-in-Err-exchange-clause-go
 returns-in-Err-exchange-clause-goes g c =
     rw c.fault_after-in-Err-exchange.ensures (along_then _ _ _ _ _ _ (λ h k l p q con ex. mount_lost c.args.path.now c.args.calls.now c.ask_mount.new.calls c.exchange.new.calls c.in-Err-exchange.stop h k l c.in-Ok-ask_mount.ensures.makes
     c.exchange.ensures.keeps con ex) c.in-Ok.ensures.goes c.in-Err-exchange.ensures.goes)
+
+pub returns-in-Ok-exchange-clause-dials : goal.returns-in-Ok-exchange-clause-dials
+returns-in-Ok-exchange-clause-dials g c = dials_then _ _ _ _ c.in-Ok.ensures.dials c.in-Ok-exchange.ensures.dials
+
+pub returns-in-Err-exchange-clause-dials : goal.returns-in-Err-exchange-clause-dials
+returns-in-Err-exchange-clause-dials g c = dials_then _ _ _ _ c.in-Ok.ensures.dials c.in-Err-exchange.ensures.dials

@@ -1,5 +1,7 @@
 use Rattle.session_setup.proofs.Alongs.{along_less, along_then}
 use Rattle.session_setup.proofs.Finishing.{given_once, given_twice, fresh_none, fresh_made, sets_up_given, sets_up_mounted, sets_up_unmounted}
+use Rattle.link_dials.proofs.Ports.{turn_nfs}
+use Rattle.session_setup.proofs.Dials.{dials_mounted, dials_unmounted}
 use Rattle.session_setup.proofs.opening.set_up.Goals as goal
 
 pub returns-in-Ok-clause-goes : goal.returns-in-Ok-clause-goes
@@ -22,3 +24,20 @@ returns-clause-goes g c =
     let given = given_once c.args.settings.now c.args.first_xid c.new-calls.result c.finish-in-Root.new.calls e c.finish-in-Root.ensures.keeps in
     along_less _ _ _ _ (λ h k p f. sets_up_given c.args.settings.now c.args.first_xid c.in-Root.root c.finish-in-Root.result c.new-calls.result c.finish-in-Root.new.calls h k c.in-Root.is c.requires.options given
     (fresh_none c.args.settings.now c.args.first_xid c.new-calls.result e) (fresh_made c.args.settings.now c.args.first_xid c.new-calls.result e) f) c.finish-in-Root.ensures.goes
+
+pub returns-in-Ok-clause-dials : goal.returns-in-Ok-clause-dials
+returns-in-Ok-clause-dials g c =
+    let e = c.new-calls.ensures in
+    dials_mounted _ _ _ c.args.settings.now.mount_port c.args.settings.now.nfs_port c.in-Path.path _ c.new-calls.result c.mount.new.calls
+    (fresh_none c.args.settings.now c.args.first_xid c.new-calls.result e) (fresh_made c.args.settings.now c.args.first_xid c.new-calls.result e) c.mount.ensures.keeps
+    c.mount.ensures.goes c.in-Ok.ensures.dials c.finish.ensures.dials
+
+pub returns-in-Path-clause-dials : goal.returns-in-Path-clause-dials
+returns-in-Path-clause-dials g c =
+    let e = c.new-calls.ensures in
+    dials_unmounted _ _ c.args.settings.now.mount_port c.args.settings.now.nfs_port c.in-Path.path _ c.new-calls.result c.mount.new.calls
+    (fresh_none c.args.settings.now c.args.first_xid c.new-calls.result e) (fresh_made c.args.settings.now c.args.first_xid c.new-calls.result e) c.mount.ensures.keeps
+    c.mount.ensures.goes c.in-Err.ensures.dials
+
+pub returns-clause-dials : goal.returns-clause-dials
+returns-clause-dials g c = turn_nfs _ _ _ _ c.finish-in-Root.ensures.dials
