@@ -18,6 +18,7 @@ use Rattle.world_model.specs.declared.entry.Entry.TheVariants.{Began, Answered, 
 use Rattle.world_model.specs.declared.message.Call.{Call}
 use Rattle.world_model.specs.declared.op.Op.{Op}
 use Rattle.world_model.specs.Entries.{At, ours}
+use Rattle.world_model.specs.LanesTogether.{HasBegun}
 use Rattle.world_model.specs.Lost.{Loses}
 use Rattle.world_model.specs.Messages.{HasXid}
 use Rattle.world_model.specs.Rows.{DropRun, begins as no_drop, drops}
@@ -30,15 +31,17 @@ use Rattle.op_machines.specs.declared.machine.Machine.{Machine}
 use Rattle.client_core.specs.declared.lane.Lane.{Lane}
 use Rattle.client_core.specs.declared.lane.Purpose.{Purpose}
 use Rattle.client_core.specs.declared.setup.Setup.{Setup}
-use Rattle.client_core.specs.Steps.{Begins, Hears, HearsFor, taken, lost, counted, Makes}
+use Rattle.client_core.specs.Steps.{Begins, Hears, HearsFor, SendsBy, SendsIf, taken, lost, counted, Makes}
 use Rattle.client_core.specs.View.{View}
 use Rattle.core_facts.specs.Reaches.{StepsTo, Reaches, begins, goes, loses, last_reading, MayHear, HearsRecord}
+use Rattle.core_facts.proofs.AllCounts.{begins-unbegun}
 use Rattle.core_facts.proofs.Cases.{Heard, dropped, replied, heard, sent_now, FailedNow, goes_on, gives_up, failed_now, answered_now, taken_one}
 use Rattle.core_facts.proofs.Grown.{one-xid}
+use Rattle.core_facts.proofs.Owning.{reached-owned}
 use Rattle.core_facts.proofs.Rows.{under}
 use Rattle.core_facts.proofs.Sound.{Sound, reached-sound}
 use Rattle.core_facts.proofs.Walks.{Stays, begins-stay, hears-for-stay}
-use Rattle.lane_session.specs.Bonds.{IsAwaited, Bond, steps}
+use Rattle.lane_session.specs.Bonds.{IsAwaited, Bond, SentSince, steps}
 
 -- ---- a call that waits goes on waiting
 
@@ -192,23 +195,60 @@ run-more h rec n d run =
     let long = length_last h (Delivered rec) in
     drops (n + 1) (length (h ++ Delivered rec ∷ [])) n (length h) rec (omega arith) (DropRun-grow h (Delivered rec ∷ []) n (length h) (omega arith) run) d (omega (arith, long)) (λ j b there after before. omega (arith, after, before, long))
 
--- ---- the bond
+-- ---- what is sent is sent for an operation
+
+begun-grow : (h : List Entry) (e : Entry) (n : ℕ) → HasBegun h n → HasBegun (h ++ e ∷ []) n
+begun-grow h e n b = record { at = b.at; lane = b.lane; line = b.line; op = b.op; began = At-grow h (e ∷ []) b.at (Began b.lane b.line b.op) b.began; before = b.before }
+
+-- at its start
+pub since-none : (h : List Entry) → SentSince h h
+since-none h i bytes at = inl (At-below h i (Sent bytes) at)
 
 module _ (m : Mounted) (setup : Setup) where
-  pub bond-step : (h : List Entry) (old : View) (e : Entry) (new : View) (n : ℕ) → StepsTo (machine_of m) h old e new → ((bytes : List ℕ) → e ≡ Delivered bytes → ⊥) → Bond m setup h old n
-      → Bond m setup (h ++ e ∷ []) new n
+  -- a call that is sent is one of an operation under way
+  sends-begun : (h : List Entry) (old : View) (bytes : List ℕ) (new : View) → Reaches (machine_of m) setup h old → SendsBy old (Some bytes) new → HasBegun h (length h)
+  sends-begun h old bytes new r t = by old.lost refl t
+    where
+      by : (b : Bool) → old.lost ≡ b → SendsIf b old (Some bytes) new → HasBegun h (length h)
+      by true is s = absurd (let no_way : Some bytes ≡ None = s.0 in cc)
+      by false is s =
+          let n = sent_now old bytes new t in
+          let waits : SentAt n.xid old.calls.calls n.call =
+          at_sent old.calls.cred old.calls.first_xid (next_xid old.calls) n.xid old.calls.calls n.call (reached-sound (machine_of m) setup h old r).calls.each n.due in
+          let own = (reached-owned (machine_of m) (begins-unbegun m) setup h old r is).owned n.xid n.call waits.before in
+          record { at = own.x; lane = n.call.purpose.lane; line = own.under_way.line; op = own.op; began = own.under_way.began; before = own.under_way.before }
+
+  step-begun : (h : List Entry) (old : View) (e : Entry) (new : View) (bytes : List ℕ) → Reaches (machine_of m) setup h old → StepsTo (machine_of m) h old e new → e ≡ Sent bytes → HasBegun h (length h)
+  step-begun h old e new bytes r t is = sends-begun h old bytes new r (subst (λ (d : Entry). StepsTo (machine_of m) h old d new) is t)
+
+  since-step : (from h : List Entry) (old : View) (e : Entry) (new : View) → Reaches (machine_of m) setup h old → StepsTo (machine_of m) h old e new → SentSince from h → SentSince from (h ++ e ∷ [])
+  since-step from h old e new r t s i bytes at = by (At-cases h e i (Sent bytes) at)
+    where
+      by : At h i (Sent bytes) ⊎ ((i ≡ length h) × (e ≡ Sent bytes)) → (i < length from) ⊎ HasBegun (h ++ e ∷ []) i
+      by (inl there) = elim (s i bytes there) [
+        | inl early ↦ inl early
+        | inr begun ↦ inr (begun-grow h e i begun)
+      ]
+      by (inr now) = inr (subst (HasBegun (h ++ e ∷ [])) (sym now.0) (begun-grow h e (length h) (step-begun h old e new bytes r t now.1)))
+
+-- ---- the bond
+
+module _ (m : Mounted) (setup : Setup) (from : List Entry) where
+  pub bond-step : (h : List Entry) (old : View) (e : Entry) (new : View) (n : ℕ) → StepsTo (machine_of m) h old e new → ((bytes : List ℕ) → e ≡ Delivered bytes → ⊥) → Bond m setup from h old n
+      → Bond m setup from (h ++ e ∷ []) new n
   bond-step h old e new n t other b = record {
     reaches = goes (h ++ e ∷ []) h new old e b.reaches refl t;
+    since = since-step m setup from h old e new b.reaches t b.since;
     known = known-step (machine_of m) setup h old e new t (reached-sound (machine_of m) setup h old b.reaches) b.known;
     run = run-stays h e n other b.run;
   }
 
   -- the session is given up
-  pub bond-loses : (h : List Entry) (v : View) (n : ℕ) → Loses h (length h) → Bond m setup h v n → Bond m setup h (lost v) n
-  bond-loses h v n shown b = record { reaches = loses h (lost v) v b.reaches shown refl; known = b.known; run = b.run }
+  pub bond-loses : (h : List Entry) (v : View) (n : ℕ) → Loses h (length h) → Bond m setup from h v n → Bond m setup from h (lost v) n
+  bond-loses h v n shown b = record { reaches = loses h (lost v) v b.reaches shown refl; since = b.since; known = b.known; run = b.run }
 
   -- a record that no call waits for
-  drop-of : (h : List Entry) (old : View) (rec : List ℕ) (n : ℕ) → awaited (xid_at rec) old.calls.calls ≡ None → Bond m setup h old n → Drops (h ++ Delivered rec ∷ []) (length h) rec
+  drop-of : (h : List Entry) (old : View) (rec : List ℕ) (n : ℕ) → awaited (xid_at rec) old.calls.calls ≡ None → Bond m setup from h old n → Drops (h ++ Delivered rec ∷ []) (length h) rec
   drop-of h old rec n none b = record {
     got = At-last h (Delivered rec);
     idle = λ xid has w.
@@ -218,22 +258,24 @@ module _ (m : Mounted) (setup : Setup) where
         absurd (cc);
   }
 
-  pub bond-taken : (h : List Entry) (old : View) (rec : List ℕ) (result : Bool) (new : View) (n : ℕ) → MayHear old → Hears old rec result new → result ≡ true → Bond m setup h old n
-      → Bond m setup (h ++ Delivered rec ∷ []) new 0
+  pub bond-taken : (h : List Entry) (old : View) (rec : List ℕ) (result : Bool) (new : View) (n : ℕ) → MayHear old → Hears old rec result new → result ≡ true → Bond m setup from h old n
+      → Bond m setup from (h ++ Delivered rec ∷ []) new 0
   bond-taken h old rec result new n may hears took b =
       let t : StepsTo (machine_of m) h old (Delivered rec) new = record { may = may; result = result; hears = hears } in
       record {
         reaches = goes (h ++ Delivered rec ∷ []) h new old (Delivered rec) b.reaches refl t;
+        since = since-step m setup from h old (Delivered rec) new b.reaches t b.since;
         known = known-step (machine_of m) setup h old (Delivered rec) new t (reached-sound (machine_of m) setup h old b.reaches) b.known;
         run = no_drop 0 (length (h ++ Delivered rec ∷ [])) refl;
       }
 
-  pub bond-dropped : (h : List Entry) (old : View) (rec : List ℕ) (result : Bool) (new : View) (n : ℕ) → MayHear old → Hears old rec result new → result ≡ false → Bond m setup h old n
-      → Bond m setup (h ++ Delivered rec ∷ []) new (n + 1)
+  pub bond-dropped : (h : List Entry) (old : View) (rec : List ℕ) (result : Bool) (new : View) (n : ℕ) → MayHear old → Hears old rec result new → result ≡ false → Bond m setup from h old n
+      → Bond m setup from (h ++ Delivered rec ∷ []) new (n + 1)
   bond-dropped h old rec result new n may hears not b =
       let t : StepsTo (machine_of m) h old (Delivered rec) new = record { may = may; result = result; hears = hears } in
       record {
         reaches = goes (h ++ Delivered rec ∷ []) h new old (Delivered rec) b.reaches refl t;
+        since = since-step m setup from h old (Delivered rec) new b.reaches t b.since;
         known = known-step (machine_of m) setup h old (Delivered rec) new t (reached-sound (machine_of m) setup h old b.reaches) b.known;
         run = run-more h rec n (drop-of h old rec n (none-waits (awaited (xid_at rec) old.calls.calls) refl hears) b) b.run;
       }

@@ -51,6 +51,7 @@ done-session count script end status given text more h k d (tells is shown) = re
   says = whole_text (ap (λ (t : List ℕ). t ++ more) d.shown ∙ ap (λ (t : List ℕ). transcript k ++ t) shown);
   clock = record { last = []; is = sym d.clocked ∙ sym (append-nil (clocks k)); few = omega arith; whole = λ other. refl };
   timed = d.timed;
+  together = d.together;
 }
 done-session count script end status given text more h k d (tells_front off front) = record {
   grown = d.grown;
@@ -63,6 +64,7 @@ done-session count script end status given text more h k d (tells_front off fron
   });
   clock = record { last = []; is = sym d.clocked ∙ sym (append-nil (clocks k)); few = omega arith; whole = λ other. refl };
   timed = d.timed;
+  together = d.together;
 }
 
 broken-session : (count : Bool) (script : List ScriptLine) (tally : Tally) (halt : Halt) (status : ℕ) (given text : List ℕ) (h k : List Entry) → status ≡ of_halt halt → IsBroken script halt given text h k
@@ -80,6 +82,7 @@ broken-session count script tally halt status given text h k is b =
       });
       clock = record { last = b.last; is = b.clocked; few = few-left halt b.last b.left; whole = λ other. none-left halt b.last b.left (λ same. other (is ∙ same)) };
       timed = b.timed;
+      together = b.together;
     }
 
 -- ---- with the counts of the history

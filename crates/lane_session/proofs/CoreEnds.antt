@@ -27,10 +27,11 @@ use Rattle.lane_session.specs.Bonds.{HasCore, IsOpened, EndsWith}
 use Rattle.lane_session.specs.Going.{GoesOn, CutsOff}
 use Rattle.lane_session.specs.Losing.{LosesBy, LostLines, no_line, one_line, lost_line}
 use Rattle.lane_session.specs.Running.{IsFreshFor, mounted_by}
+use Rattle.lane_session.proofs.Bonding.{since-none}
 use Rattle.lane_session.proofs.Counted.{xids-append}
 use Rattle.lane_session.proofs.Ending.{fresh-goes}
 use Rattle.lane_session.proofs.Passing.{relates_same, relates_less}
-use Rattle.lane_session.proofs.Reaching.{core-shows, ends-with, breaks-with, counts-with}
+use Rattle.lane_session.proofs.Reaching.{ends-with, breaks-with, counts-with}
 use Rattle.lane_session.proofs.Tallying.{tally-by}
 
 -- ---- a session that is lost stays so
@@ -88,10 +89,10 @@ lost-by script (Err halt) given text h k l o = subst (λ (t : List Entry). IsLos
 -- ---- a session that began
 
 module _ (script : List ScriptLine) (settings : Settings) (setup : Setup) (s : Session) (h k : List Entry) (may : MaySetUp setup) (f : IsFreshFor settings setup s) where
-  done-with : (t : Session) (given text : List ℕ) → GoesOn script s t given text h k → IsOpened (Some setup) h → EndsWith settings (Some setup) k
+  done-with : (t : Session) (given text : List ℕ) → GoesOn script s t given text h k → IsOpened (Some setup) h → EndsWith settings (Some setup) h k
   done-with t given text g o = ends-with settings setup s t h k may f (g.core (fresh-goes script settings setup s f h o.0.unmarked)) o
 
-  broken-with : (halt : Halt) (given text : List ℕ) → CutsOff script s halt given text h k → IsOpened (Some setup) h → EndsWith settings (Some setup) k
+  broken-with : (halt : Halt) (given text : List ℕ) → CutsOff script s halt given text h k → IsOpened (Some setup) h → EndsWith settings (Some setup) h k
   broken-with halt given text g o = breaks-with settings setup s h k may f (g.core (fresh-goes script settings setup s f h o.0.unmarked)) o
 
 -- ---- a session for which there was no memory
@@ -143,13 +144,13 @@ first-fresh setup = record {
   counter = refl;
 }
 
-none-with : (settings : Settings) (setup : Setup) (h : List Entry) → MaySetUp setup → IsOpened (Some setup) h → EndsWith settings (Some setup) h
-none-with settings setup h may o = core-shows (mounted_by settings setup) setup h (record { core = first_view setup; reaches = begins h (first_view setup) may o.0 (first-fresh setup) })
+none-with : (settings : Settings) (setup : Setup) (h : List Entry) → MaySetUp setup → IsOpened (Some setup) h → EndsWith settings (Some setup) h h
+none-with settings setup h may o = record { core = first_view setup; reaches = begins h (first_view setup) may o.0 (first-fresh setup); since = since-none h }
 
 -- ---- where the link tells its history
 
-pub told-none : (t : Option History) (settings : Settings) (setup : Setup) → MaySetUp setup → Relates t t (λ h k. IsOpened (Some setup) h → EndsWith settings (Some setup) k)
-told-none t settings setup may = relates_same t (λ h k. IsOpened (Some setup) h → EndsWith settings (Some setup) k) (λ h o. none-with settings setup h may o)
+pub told-none : (t : Option History) (settings : Settings) (setup : Setup) → MaySetUp setup → Relates t t (λ h k. IsOpened (Some setup) h → EndsWith settings (Some setup) h k)
+told-none t settings setup may = relates_same t (λ h k. IsOpened (Some setup) h → EndsWith settings (Some setup) h k) (λ h o. none-with settings setup h may o)
 
 module _ (a b : Option History) (script : List ScriptLine) (given text : List ℕ) where
   pub told-lost : (result : Result (Unit {0}) Halt) → Relates a b (λ h k. LosesBy script result given text h k) → Relates a b (λ h k. IsLost h (length h) → IsLost k (length k))
@@ -163,9 +164,9 @@ module _ (a b : Option History) (script : List ScriptLine) (given text : List �
       (λ h k l o is. same ∙ is ∙ sym (lost-count script h k l.0 l.1 l.2)) p
 
   module _ (settings : Settings) (setup : Setup) (s : Session) (may : MaySetUp setup) (f : IsFreshFor settings setup s) where
-    pub told-done : (t : Session) → Relates a b (λ h k. GoesOn script s t given text h k) → Relates a b (λ h k. IsOpened (Some setup) h → EndsWith settings (Some setup) k)
+    pub told-done : (t : Session) → Relates a b (λ h k. GoesOn script s t given text h k) → Relates a b (λ h k. IsOpened (Some setup) h → EndsWith settings (Some setup) h k)
     told-done t p =
-        relates_less a b (λ h k. GoesOn script s t given text h k) (λ h k. IsOpened (Some setup) h → EndsWith settings (Some setup) k)
+        relates_less a b (λ h k. GoesOn script s t given text h k) (λ h k. IsOpened (Some setup) h → EndsWith settings (Some setup) h k)
         (λ h k g o. done-with script settings setup s h k may f t given text g o) p
 
     pub told-counted : (begun : Tally) (t : Session) → s.counts ≡ record { tally = begun; next = setup.first_xid } → Relates a b (λ h k. GoesOn script s t given text h k)
@@ -174,7 +175,7 @@ module _ (a b : Option History) (script : List ScriptLine) (given text : List �
         relates_less a b (λ h k. GoesOn script s t given text h k) (λ h k. IsOpened (Some setup) h → begun ≡ tally_of h → t.counts.tally ≡ tally_of k)
         (λ h k g o is. counts-with settings setup begun s t h k may f counts (g.core (fresh-goes script settings setup s f h o.0.unmarked)) o is) p
 
-    pub told-broken : (halt : Halt) → Relates a b (λ h k. CutsOff script s halt given text h k) → Relates a b (λ h k. IsOpened (Some setup) h → EndsWith settings (Some setup) k)
+    pub told-broken : (halt : Halt) → Relates a b (λ h k. CutsOff script s halt given text h k) → Relates a b (λ h k. IsOpened (Some setup) h → EndsWith settings (Some setup) h k)
     told-broken halt p =
-        relates_less a b (λ h k. CutsOff script s halt given text h k) (λ h k. IsOpened (Some setup) h → EndsWith settings (Some setup) k)
+        relates_less a b (λ h k. CutsOff script s halt given text h k) (λ h k. IsOpened (Some setup) h → EndsWith settings (Some setup) h k)
         (λ h k g o. broken-with script settings setup s h k may f halt given text g o) p

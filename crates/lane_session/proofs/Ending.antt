@@ -34,6 +34,7 @@ use Rattle.lane_session.proofs.LaneLaws.{resting-alternates}
 use Rattle.lane_session.proofs.LostLaws.{Gone, none-gone, untold}
 use Rattle.lane_session.proofs.Placing.{begun-other}
 use Rattle.lane_session.proofs.Pushes.{begun-append}
+use Rattle.lane_session.proofs.Together.{together-none}
 
 -- ---- all lines were begun and answered
 
@@ -101,6 +102,7 @@ module _ (script : List ScriptLine) (k : List Entry) (s : Session) (asked : All 
     grown = on.grown;
     clocked = on.clocked;
     timed = g.timed;
+    together = g.together;
   }
 
 pub session-breaks : (script : List ScriptLine) (old : Session) (halt : Halt) (given text : List ℕ) (h k : List Entry) → IsUnmarked h → Goes script h old → CutsOff script old halt given text h k → IsBroken script halt given text h k
@@ -114,6 +116,7 @@ session-breaks script old halt given text h k u g c =
       clocked = c.clocked;
       left = c.left;
       timed = w.timed;
+      together = w.together;
     }
 
 -- ---- a session that begins
@@ -153,6 +156,7 @@ module _ (script : List ScriptLine) (settings : Settings) (setup : Setup) (s : S
         placed = λ n p there. subst (IsPlaced script h (suc n)) (sym (first-place n p there)) (record { begins = g.begins (suc n); open_line = g.resting (suc n) });
         status = subst (HasStatus h) (sym f.status) g.status;
         timed = g.all_timed;
+        together = together-none (entries_of script) h g.begins;
       }
 
 -- nothing was begun, for want of memory
@@ -170,4 +174,5 @@ broken-none script h u =
       clocked = refl;
       left = omega arith;
       timed = g.all_timed;
+      together = together-none (entries_of script) h g.begins;
     }

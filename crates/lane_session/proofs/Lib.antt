@@ -8,6 +8,7 @@ pub mod Placing
 pub mod Beginnings
 pub mod Asking
 pub mod Seating
+pub mod Together
 pub mod Turning
 pub mod Marking
 pub mod Trying
@@ -28,3 +29,4 @@ pub mod Telling
 pub mod Starting
 pub mod Counted
 pub mod Tallying
+pub mod Ports

@@ -12,7 +12,9 @@ use Rattle.world_model.specs.declared.op.Op.{Op}
 use Rattle.world_model.specs.Clocked.{clocks}
 use Rattle.world_model.specs.Entries.{At}
 use Rattle.world_model.specs.Follows.{begun, marks_of, Alternates, IsFront, Follows, Finishes}
+use Rattle.world_model.specs.LanesTogether.{HasBegun}
 use Rattle.world_model.specs.Transcript.{transcript, line_text}
+use Rattle.world_model.proofs.Places.{At-below, At-cases}
 use Rattle.nfs_script.specs.declared.script.ScriptLine.{ScriptLine}
 use Rattle.core_facts.proofs.Marks.{not-began, not-answered, began-other, answered-other}
 use Rattle.lane_session.specs.declared.halt.Halt.{Halt}
@@ -27,6 +29,7 @@ use Rattle.lane_session.specs.Streams.{IsFrontOf}
 use Rattle.lane_session.proofs.LaneLaws.{running-alternates, resting-alternates, resting-grow, begins-now, answers-now}
 use Rattle.lane_session.proofs.Placing.{status-quiet, status-answer, timed-quiet, timed-begin}
 use Rattle.lane_session.proofs.Pushes.{clocks-append, transcript-append, begun-append}
+use Rattle.lane_session.proofs.Together.{begun-back}
 
 -- ---- no mark
 
@@ -104,12 +107,23 @@ status-last : (front : List ScriptLine) (l : ScriptLine) → status_of (front ++
 status-last [] l = refl
 status-last (x ∷ xs) l = refl
 
+-- no record came since a line began
+abbrev pub NoneCame : List Entry → Type 0
+NoneCame h = (n : ℕ) (bytes : List ℕ) → At h n (Delivered bytes) → HasBegun h n → ⊥
+
+none-came-on : (h : List Entry) (e : Entry) → ((bytes : List ℕ) → e ≡ Delivered bytes → ⊥) → NoneCame h → NoneCame (h ++ e ∷ [])
+none-came-on h e none c n bytes at b = elim (At-cases h e n (Delivered bytes) at) [
+  | inl old ↦ c n bytes old (begun-back h e n (let lt = At-below h n (Delivered bytes) old in omega (arith, lt)) b)
+  | inr now ↦ none bytes now.1
+]
+
 -- the first lines of a script were begun and answered
 pub record Gone (front : List ScriptLine) (h : List Entry) : Type 0 where
   pub resting : (lane : ℕ) → IsResting h lane
   pub begins : (lane : ℕ) → begun lane h ≡ begun lane (entries_of front)
   pub status : HasStatus h (status_of front)
   pub all_timed : AllTimed h
+  pub none_came : NoneCame h
 
 -- and a further one was begun
 record Going (front : List ScriptLine) (l : ScriptLine) (h : List Entry) : Type 0 where
@@ -118,6 +132,7 @@ record Going (front : List ScriptLine) (l : ScriptLine) (h : List Entry) : Type 
   pub begins : (lane : ℕ) → begun lane h ≡ begun lane (entries_of (front ++ l ∷ []))
   pub status : HasStatus h (status_of front)
   pub all_timed : AllTimed h
+  pub none_came : NoneCame h
 
 -- nothing was begun
 pub none-gone : (h : List Entry) → IsUnmarked h → Gone [] h
@@ -126,6 +141,7 @@ none-gone h u = record {
   begins = λ lane. unbegun lane h (u lane);
   status = well refl (λ fault i. never-answered i.lane h i.at i.line (Refused fault) i.is (u i.lane));
   all_timed = λ x lane line op at. absurd (never-began lane h x line op at (u lane));
+  none_came = λ n bytes at b. never-began b.lane h b.at b.line b.op b.began (u b.lane);
 }
 
 clocked-gone : (front : List ScriptLine) (h : List Entry) (ms : ℕ) → Gone front h → Gone front (h ++ Clock ms ∷ [])
@@ -134,6 +150,7 @@ clocked-gone front h ms g = record {
   begins = λ lane. begun-append lane h (Clock ms ∷ []) ∙ append-nil (begun lane h) ∙ g.begins lane;
   status = status-quiet h (Clock ms) (status_of front) (λ fault l m is. absurd cc) g.status;
   all_timed = timed-quiet h (Clock ms) (λ l m op is. absurd cc) g.all_timed;
+  none_came = none-came-on h (Clock ms) (λ bytes is. absurd cc) g.none_came;
 }
 
 entries-both : (a b : List ScriptLine) → entries_of (a ++ b) ≡ entries_of a ++ entries_of b
@@ -152,6 +169,7 @@ begins-gone front l h ms g =
           ∙ ap (begun lane) (sym (entries-both front (l ∷ [])));
       status = status-quiet mid e (status_of front) (λ fault n k is. absurd cc) m.status;
       all_timed = timed-begin h ms l.lane l.line l.op g.all_timed;
+      none_came = none-came-on mid e (λ bytes is. absurd cc) m.none_came;
     }
 
 answers-gone : (front : List ScriptLine) (l : ScriptLine) (h : List Entry) → Going front l h → Gone (front ++ l ∷ []) (h ++ Answered l.lane l.line (Refused faults.Lost) ∷ [])
@@ -165,6 +183,7 @@ answers-gone front l h g =
       begins = λ lane. begun-append lane h (e ∷ []) ∙ append-nil (begun lane h) ∙ g.begins lane;
       status = subst (HasStatus (h ++ e ∷ [])) (sym (status-last front l)) (status-answer h l.lane l.line (status_of front) (Refused faults.Lost) g.status);
       all_timed = timed-quiet h e (λ m n op is. absurd cc) g.all_timed;
+      none_came = none-came-on h e (λ bytes is. absurd cc) g.none_came;
     }
 
 three : (h : List Entry) (a b c : Entry) → ((h ++ a ∷ []) ++ b ∷ []) ++ c ∷ [] ≡ h ++ a ∷ b ∷ c ∷ []
@@ -187,6 +206,7 @@ record Cut (script : List ScriptLine) (k : List Entry) : Type 0 where
   pub alternates : (lane : ℕ) → Alternates (marks_of lane k)
   pub begins : (lane : ℕ) → IsFront (begun lane k) (begun lane (entries_of script))
   pub all_timed : AllTimed k
+  pub none_came : NoneCame k
 
 front-begun : (script : List ScriptLine) (n lane : ℕ) (h : List Entry) → begun lane h ≡ begun lane (entries_of (take n script)) → IsFront (begun lane h) (begun lane (entries_of script))
 front-begun script n lane h is = record {
@@ -202,6 +222,7 @@ gone-cut script n h g = record {
   alternates = λ lane. resting-alternates h lane (g.resting lane);
   begins = λ lane. front-begun script n lane h (g.begins lane);
   all_timed = g.all_timed;
+  none_came = g.none_came;
 }
 
 going-alternates : (front : List ScriptLine) (l : ScriptLine) (h : List Entry) (lane : ℕ) → Going front l h → Alternates (marks_of lane h)
@@ -220,6 +241,7 @@ going-cut script n l h there g = record {
   alternates = λ lane. going-alternates (take n script) l h lane g;
   begins = λ lane. front-begun script (suc n) lane h (g.begins lane ∙ ap (λ (t : List ScriptLine). begun lane (entries_of t)) (sym (take-more script n l there)));
   all_timed = g.all_timed;
+  none_came = g.none_came;
 }
 
 part-cut : (script : List ScriptLine) (n : ℕ) (l : ScriptLine) (h part : List Entry) → slice_get script n ≡ Some l → Gone (take n script) h → LostPart l part → Cut script (h ++ part)
@@ -250,6 +272,7 @@ lost-ends script end given text h k es status u is lines given_is text_is =
       grown = (es, is);
       clocked = ap clocks is ∙ clocks-append h es ∙ ap (λ (t : List ℕ). clocks h ++ t) (sym given_is);
       timed = g.all_timed;
+      together = λ n bytes at b k lane line op of. absurd (g.none_came n bytes at b);
     }
 
 pub lost-breaks : (script : List ScriptLine) (halt : Halt) (given text : List ℕ) (h k : List Entry) → IsUnmarked h → LosesBy script (Err halt) given text h k → IsBroken script halt given text h k
@@ -267,6 +290,7 @@ lost-breaks script halt given text h k u p = by p.0 p.1 p.2 p.3.0 p.3.1 p.3.2 p.
               ∙ ap (λ (t : List ℕ). t ++ told.last) (sym (ap clocks is ∙ clocks-append h (es ++ part)));
           left = told.left;
           timed = c.all_timed;
+          together = λ n bytes at b k lane line op of. absurd (c.none_came n bytes at b);
         }
 
 pub empty-status : (script : List ScriptLine) (n : ℕ) → n ≡ length script → nat_eq n 0 ≡ true → 0 ≡ status_of script

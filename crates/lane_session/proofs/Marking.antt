@@ -30,6 +30,7 @@ use Rattle.lane_session.proofs.Placing.{status-quiet, status-answer, timed-quiet
 use Rattle.lane_session.proofs.Pushes.{clocks-append, transcript-append, begun-append}
 use Rattle.lane_session.proofs.Reaching.{core-then-cut, core-cut, core-like, core-begins, core-unbegun, core-answers}
 use Rattle.lane_session.proofs.Seating.{line-of, set-set, length-set}
+use Rattle.lane_session.proofs.Together.{together-on}
 use Rattle.lane_session.proofs.Turning.{went-of}
 
 -- ---- the clock is read
@@ -40,6 +41,7 @@ clock-goes script h ms s g = record {
   placed = λ n p there. placed-grow script h (Clock ms) (suc n) p refl refl (g.placed n p there);
   status = status-quiet h (Clock ms) s.status (λ fault l m is. absurd cc) g.status;
   timed = timed-quiet h (Clock ms) (λ l m op is. absurd cc) g.timed;
+  together = together-on (entries_of script) h (Clock ms) (λ bytes is. absurd cc) g.together;
 }
 
 -- a lane out of bounds is another than one within
@@ -80,6 +82,7 @@ module _ (script : List ScriptLine) (h : List Entry) (lane line : ℕ) (a : Answ
     ];
     status = status-answer h lane line s.status a g.status;
     timed = timed-quiet h e (λ l m op is. absurd cc) g.timed;
+    together = together-on (entries_of script) h e (λ bytes is. absurd cc) g.together;
   }
 
 -- the line that is under way
@@ -184,6 +187,7 @@ module _ (script : List ScriptLine) (h : List Entry) (lane place : ℕ) (l : Scr
     ];
     status = status-quiet h began s.status (λ fault m n is. absurd cc) g.status;
     timed = timed;
+    together = together-on (entries_of script) h began (λ bytes is. absurd cc) g.together;
   }
 
 -- the time is noted, and a line begins
@@ -238,6 +242,7 @@ rest-goes script h lane s mid least seeks g = record {
   ];
   status = g.status;
   timed = g.timed;
+  together = g.together;
 }
   where
     q : Place

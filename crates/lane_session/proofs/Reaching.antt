@@ -28,25 +28,17 @@ use Rattle.client_core.specs.declared.setup.Setup.{Setup}
 use Rattle.client_core.specs.Numbers.{IsIdle}
 use Rattle.client_core.specs.Steps.{Begins, SendsIf, SendsBy, FailsBy, AnswersBy, WereSent, lost}
 use Rattle.client_core.specs.View.{View}
-use Rattle.core_facts.proofs.Losing.{reached-shown}
-use Rattle.core_facts.proofs.LostAnswers.{lost-answers}
-use Rattle.core_facts.proofs.OneCalled.{one-calls-done}
-use Rattle.core_facts.proofs.PutStory.{puts-committed}
-use Rattle.core_facts.proofs.Refusals.{refusals-shown}
 use Rattle.core_facts.proofs.Rows.{reached-rows}
-use Rattle.core_facts.proofs.SlotTheorems.{syncs-ok, slots-hold-opens, places-exact}
 use Rattle.core_facts.proofs.Sound.{reached-sound}
-use Rattle.core_facts.proofs.Syncing.{syncs-committed}
 use Rattle.core_facts.specs.Reaches.{MaySetUp, MayHear, IsSetUp, IsOpenLine, StepsTo, Reaches, begins, goes, last_reading}
-use Rattle.core_facts.specs.SlotAnswers.{GoesWith}
 use Rattle.lane_session.specs.declared.counts.Counts.{Counts}
 use Rattle.lane_session.specs.declared.halt.Halt.{Halt}
 use Rattle.lane_session.specs.declared.lanes.Place.{Place}
 use Rattle.lane_session.specs.declared.running.Session.{Session}
-use Rattle.lane_session.specs.Bonds.{Bond, Bonded, HasCore, Shows, CoreGoes, CoreWent, CoreBy, steps, Redials, RedialsBy, IsOpened, EndsWith}
+use Rattle.lane_session.specs.Bonds.{Start, SentSince, Bond, Bonded, HasCore, CoreGoes, CoreWent, CoreBy, steps, Redials, RedialsBy, IsOpened, EndsWith}
 use Rattle.lane_session.specs.LaneMarks.{IsRunning}
 use Rattle.lane_session.specs.Running.{IsFreshFor, NoneOver, Fails, Takes, TakesBy, Redialed, given_up, attempts_after, mounted_by}
-use Rattle.lane_session.proofs.Bonding.{bond-step, bond-loses, bond-taken, bond-dropped}
+use Rattle.lane_session.proofs.Bonding.{since-none, bond-step, bond-loses, bond-taken, bond-dropped}
 use Rattle.lane_session.specs.Tallies.{CountsBy, Tallied}
 use Rattle.lane_session.proofs.LaneNumbers.{may-hear}
 use Rattle.lane_session.proofs.Redialing.{still_by, still-ours, redials-call}
@@ -73,64 +65,64 @@ still-record e bytes q is = let here : Delivered bytes ∷ [] ≡ [] = subst (λ
 still-sent : (e : Entry) (bytes : List ℕ) → steps (e ∷ []) ≡ [] → e ≡ Sent bytes → ⊥
 still-sent e bytes q is = let here : Sent bytes ∷ [] ≡ [] = subst (λ (d : Entry). steps (d ∷ []) ≡ []) is q in cc
 
-module _ (m : Mounted) (setup : Setup) (counted : Bool) where
-  bond-still : (h more : List Entry) (v : View) (n : ℕ) → steps more ≡ [] → Bond m setup h v n → Bond m setup (h ++ more) v n
+module _ (m : Mounted) (setup : Setup) (start : Start) where
+  bond-still : (h more : List Entry) (v : View) (n : ℕ) → steps more ≡ [] → Bond m setup start.from h v n → Bond m setup start.from (h ++ more) v n
   bond-still h more v n q b =
-      still_by (λ (k : List Entry). Bond m setup k v n) (λ k e still c. bond-step m setup k v e v n (still-step (machine_of m) k v e still) (λ bytes is. still-record e bytes still is) c) h more q b
+      still_by (λ (k : List Entry). Bond m setup start.from k v n) (λ k e still c. bond-step m setup start.from k v e v n (still-step (machine_of m) k v e still) (λ bytes is. still-record e bytes still is) c) h more q b
 
   -- one entry that isn't sent
-  tallied-on : (h : List Entry) (old : View) (e : Entry) (new : View) (n : ℕ) (c : Counts) → StepsTo (machine_of m) h old e new → ((bytes : List ℕ) → e ≡ Sent bytes → ⊥) → Bond m setup h old n → Tallied h old c
+  tallied-on : (h : List Entry) (old : View) (e : Entry) (new : View) (n : ℕ) (c : Counts) → StepsTo (machine_of m) h old e new → ((bytes : List ℕ) → e ≡ Sent bytes → ⊥) → Bond m setup start.from h old n → Tallied h old c
       → Tallied (h ++ e ∷ []) new c
   tallied-on h old e new n c t other b was = tallied-step (machine_of m) setup h old e new c t other (reached-sound (machine_of m) setup h old b.reaches) was
 
-  tallied-still : (h more : List Entry) (v : View) (n : ℕ) (c : Counts) → steps more ≡ [] → Bond m setup h v n → Tallied h v c → Tallied (h ++ more) v c
+  tallied-still : (h more : List Entry) (v : View) (n : ℕ) (c : Counts) → steps more ≡ [] → Bond m setup start.from h v n → Tallied h v c → Tallied (h ++ more) v c
   tallied-still h more v n c q b t =
-      (still_by (λ (k : List Entry). Bond m setup k v n × Tallied k v c) (λ k e still p. (
-        bond-step m setup k v e v n (still-step (machine_of m) k v e still) (λ bytes is. still-record e bytes still is) p.0,
+      (still_by (λ (k : List Entry). Bond m setup start.from k v n × Tallied k v c) (λ k e still p. (
+        bond-step m setup start.from k v e v n (still-step (machine_of m) k v e still) (λ bytes is. still-record e bytes still is) p.0,
         tallied-on k v e v n c (still-step (machine_of m) k v e still) (λ bytes is. still-sent e bytes still is) p.0 p.1,
       )) h more q (b, t)).1
 
-  pub bonded-still : (h more : List Entry) (s : Session) → steps more ≡ [] → Bonded m setup counted h s → Bonded m setup counted (h ++ more) s
+  pub bonded-still : (h more : List Entry) (s : Session) → steps more ≡ [] → Bonded m setup start h s → Bonded m setup start (h ++ more) s
   bonded-still h more s q b = record {
     mounted = b.mounted;
     bond = bond-still h more s.core s.dropped q b.bond;
     tallied = λ is. tallied-still h more s.core s.dropped s.counts q b.bond (b.tallied is);
   }
 
-  pub bonded-quiet : (s : Session) → IsQuiet (λ (h : List Entry). Bonded m setup counted h s)
+  pub bonded-quiet : (s : Session) → IsQuiet (λ (h : List Entry). Bonded m setup start h s)
   bonded-quiet s h more q b = bonded-still h more s (still-ours more [] q refl) b
 
-  pub bonded-redials : (h k : List Entry) (s : Session) → Redials h k → Bonded m setup counted h s → Bonded m setup counted k s
-  bonded-redials h k s r b = subst (λ (t : List Entry). Bonded m setup counted t s) (sym r.is) (bonded-still h r.more s r.still b)
+  pub bonded-redials : (h k : List Entry) (s : Session) → Redials h k → Bonded m setup start h s → Bonded m setup start k s
+  bonded-redials h k s r b = subst (λ (t : List Entry). Bonded m setup start t s) (sym r.is) (bonded-still h r.more s r.still b)
 
-  pub core-of : (h : List Entry) (s : Session) → Bonded m setup counted h s → HasCore m setup h
-  core-of h s b = record { core = s.core; reaches = b.bond.reaches }
+  pub core-of : (h : List Entry) (s : Session) → Bonded m setup start h s → HasCore m setup start.from h
+  core-of h s b = record { core = s.core; reaches = b.bond.reaches; since = b.bond.since }
 
   -- the session's other fields don't count
-  bonded-like : (h : List Entry) (s t : Session) → t.mounted ≡ s.mounted → t.core ≡ s.core → t.dropped ≡ s.dropped → t.counts ≡ s.counts → Bonded m setup counted h s → Bonded m setup counted h t
+  bonded-like : (h : List Entry) (s t : Session) → t.mounted ≡ s.mounted → t.core ≡ s.core → t.dropped ≡ s.dropped → t.counts ≡ s.counts → Bonded m setup start h s → Bonded m setup start h t
   bonded-like h s t mounted core count tally b = record {
     mounted = mounted ∙ b.mounted;
-    bond = subst (λ (v : View). Bond m setup h v t.dropped) (sym core) (subst (λ (n : ℕ). Bond m setup h s.core n) (sym count) b.bond);
+    bond = subst (λ (v : View). Bond m setup start.from h v t.dropped) (sym core) (subst (λ (n : ℕ). Bond m setup start.from h s.core n) (sym count) b.bond);
     tallied = λ is. subst (λ (v : View). Tallied h v t.counts) (sym core) (subst (Tallied h s.core) (sym tally) (b.tallied is));
   }
 
-  pub bonded-given-up : (h : List Entry) (s : Session) → Loses h (length h) → Bonded m setup counted h s → Bonded m setup counted h (given_up s)
-  bonded-given-up h s shown b = record { mounted = b.mounted; bond = bond-loses m setup h s.core s.dropped shown b.bond; tallied = λ is. tallied-like h s.core (lost s.core) s.counts refl (b.tallied is) }
+  pub bonded-given-up : (h : List Entry) (s : Session) → Loses h (length h) → Bonded m setup start h s → Bonded m setup start h (given_up s)
+  bonded-given-up h s shown b = record { mounted = b.mounted; bond = bond-loses m setup start.from h s.core s.dropped shown b.bond; tallied = λ is. tallied-like h s.core (lost s.core) s.counts refl (b.tallied is) }
 
   -- ---- one call of the link
 
   -- the attempts that run have ended
-  pub bonded-fails : (h : List Entry) (old new : Session) → Fails old new → Bonded m setup counted h old → Bonded m setup counted (h ++ Failed ∷ []) new
+  pub bonded-fails : (h : List Entry) (old new : Session) → Fails old new → Bonded m setup start h old → Bonded m setup start (h ++ Failed ∷ []) new
   bonded-fails h old new f b =
-      subst (Bonded m setup counted (h ++ Failed ∷ [])) (sym f.is) (record {
+      subst (Bonded m setup start (h ++ Failed ∷ [])) (sym f.is) (record {
         mounted = b.mounted;
-        bond = bond-step m setup h old.core Failed new.core old.dropped (inl (f.result, f.core)) (λ bytes e. absurd cc) b.bond;
+        bond = bond-step m setup start.from h old.core Failed new.core old.dropped (inl (f.result, f.core)) (λ bytes e. absurd cc) b.bond;
         tallied = λ is. tallied-on h old.core Failed new.core old.dropped old.counts (inl (f.result, f.core)) (λ bytes e. absurd cc) b.bond (b.tallied is);
       })
 
   -- a record came
-  pub bonded-takes : (h : List Entry) (old new : Session) (rec : List ℕ) → WereSent old.core.calls.calls → NoneOver old.core → Takes old rec new → Bonded m setup counted h old
-      → Bonded m setup counted (h ++ Delivered rec ∷ []) new
+  pub bonded-takes : (h : List Entry) (old new : Session) (rec : List ℕ) → WereSent old.core.calls.calls → NoneOver old.core → Takes old rec new → Bonded m setup start h old
+      → Bonded m setup start (h ++ Delivered rec ∷ []) new
   bonded-takes h old new rec all_sent told t b = by t.result refl t.is
     where
       k : List Entry
@@ -139,75 +131,75 @@ module _ (m : Mounted) (setup : Setup) (counted : Bool) where
       may : MayHear old.core
       may = may-hear (machine_of m) setup h old.core b.bond.reaches all_sent told
 
-      dropped_so : t.result ≡ false → Bond m setup k t.core (old.dropped + 1)
-      dropped_so is = bond-dropped m setup h old.core rec t.result t.core old.dropped may t.hears is b.bond
+      dropped_so : t.result ≡ false → Bond m setup start.from k t.core (old.dropped + 1)
+      dropped_so is = bond-dropped m setup start.from h old.core rec t.result t.core old.dropped may t.hears is b.bond
 
-      tallied_so : counted ≡ true → Tallied k t.core old.counts
+      tallied_so : start.counted ≡ true → Tallied k t.core old.counts
       tallied_so so = tallied-on h old.core (Delivered rec) t.core old.dropped old.counts (record { may = may; result = t.result; hears = t.hears }) (λ bytes e. absurd cc) b.bond (b.tallied so)
 
-      by : (r : Bool) → t.result ≡ r → TakesBy old r t.core new → Bonded m setup counted k new
+      by : (r : Bool) → t.result ≡ r → TakesBy old r t.core new → Bonded m setup start k new
       by true took is =
-          subst (Bonded m setup counted k) (sym is) (record { mounted = b.mounted; bond = bond-taken m setup h old.core rec t.result t.core old.dropped may t.hears took b.bond; tallied = tallied_so })
-      by false not (inl p) = subst (Bonded m setup counted k) (sym p.1) (record { mounted = b.mounted; bond = dropped_so not; tallied = tallied_so })
+          subst (Bonded m setup start k) (sym is) (record { mounted = b.mounted; bond = bond-taken m setup start.from h old.core rec t.result t.core old.dropped may t.hears took b.bond; tallied = tallied_so })
+      by false not (inl p) = subst (Bonded m setup start k) (sym p.1) (record { mounted = b.mounted; bond = dropped_so not; tallied = tallied_so })
       by false not (inr p) =
           let run : DropRun k most_dropped (length k) = subst (λ (n : ℕ). DropRun k n (length k)) p.0 (dropped_so not).run in
-          subst (Bonded m setup counted k) (sym p.1)
+          subst (Bonded m setup start k) (sym p.1)
           (bonded-given-up k (record old { core = t.core; dropped = old.dropped + 1 }) (dropped_run run) (record { mounted = b.mounted; bond = dropped_so not; tallied = tallied_so }))
 
   -- a record was sent
   pub bonded-sends : (h : List Entry) (old new : Session) (rec : List ℕ) → SendsBy old.core (Some rec) new.core → CountsBy (call_at rec) old.counts new.counts → new.mounted ≡ old.mounted → new.dropped ≡ old.dropped
-      → Bonded m setup counted h old → Bonded m setup counted (h ++ Sent rec ∷ []) new
+      → Bonded m setup start h old → Bonded m setup start (h ++ Sent rec ∷ []) new
   bonded-sends h old new rec t counts mounted count b = record {
     mounted = mounted ∙ b.mounted;
-    bond = subst (λ (n : ℕ). Bond m setup (h ++ Sent rec ∷ []) new.core n) (sym count) (bond-step m setup h old.core (Sent rec) new.core old.dropped t (λ bytes e. absurd cc) b.bond);
+    bond = subst (λ (n : ℕ). Bond m setup start.from (h ++ Sent rec ∷ []) new.core n) (sym count) (bond-step m setup start.from h old.core (Sent rec) new.core old.dropped t (λ bytes e. absurd cc) b.bond);
     tallied = λ is. tallied-sends setup h old.core rec new.core old.counts new.counts (reached-rows (machine_of m) setup h old.core b.bond.reaches) t counts (b.tallied is);
   }
 
 -- ---- what the parts of an exchange do to the core
 
 pub core-same : (old : Session) (h : List Entry) → CoreGoes old old h h
-core-same old h m setup counted b = b
+core-same old h m setup start b = b
 
 pub core-cut : (old : Session) (h : List Entry) → CoreWent old h h
-core-cut old h m setup counted b = core-of m setup counted h old b
+core-cut old h m setup start b = core-of m setup start h old b
 
 pub core-redials : (old : Session) (h k : List Entry) → Redials h k → CoreGoes old old h k
-core-redials old h k r m setup counted b = bonded-redials m setup counted h k old r b
+core-redials old h k r m setup start b = bonded-redials m setup start h k old r b
 
 pub core-redials-cut : (old : Session) (h k : List Entry) → Redials h k → CoreWent old h k
-core-redials-cut old h k r m setup counted b = core-of m setup counted k old (bonded-redials m setup counted h k old r b)
+core-redials-cut old h k r m setup start b = core-of m setup start k old (bonded-redials m setup start h k old r b)
 
 -- four dials failed
 pub core-undialed : (old : Session) (h k : List Entry) → RedialsBy (Ok false) h k → CoreGoes old (given_up old) h k
-core-undialed old h k r m setup counted b = bonded-given-up m setup counted k old r.1 (bonded-redials m setup counted h k old r.0 b)
+core-undialed old h k r m setup start b = bonded-given-up m setup start k old r.1 (bonded-redials m setup start h k old r.0 b)
 
 -- the link had no memory
 pub core-unmade : (old : Session) (a b : History) → Adds a b [] → CoreWent old a.entries b.entries
 core-unmade old a b p = core-redials-cut old a.entries b.entries (redials-call a b [] refl p)
 
 pub core-fails : (old new : Session) (a b : History) → Fails old new → Adds a b (Failed ∷ []) → CoreGoes old new a.entries b.entries
-core-fails old new a b f p m setup counted c =
-    steps_on (λ (h : List Entry). Bonded m setup counted h old) (λ (h : List Entry). Bonded m setup counted h new) a b Failed (bonded-quiet m setup counted old) (bonded-quiet m setup counted new)
-    (λ h x. bonded-fails m setup counted h old new f x) p c
+core-fails old new a b f p m setup start c =
+    steps_on (λ (h : List Entry). Bonded m setup start h old) (λ (h : List Entry). Bonded m setup start h new) a b Failed (bonded-quiet m setup start old) (bonded-quiet m setup start new)
+    (λ h x. bonded-fails m setup start h old new f x) p c
 
 pub core-takes : (old new : Session) (rec : List ℕ) (a b : History) → WereSent old.core.calls.calls → NoneOver old.core → Takes old rec new → Adds a b (Delivered rec ∷ []) → CoreGoes old new a.entries b.entries
-core-takes old new rec a b all_sent told t p m setup counted c =
-    steps_on (λ (h : List Entry). Bonded m setup counted h old) (λ (h : List Entry). Bonded m setup counted h new) a b (Delivered rec) (bonded-quiet m setup counted old) (bonded-quiet m setup counted new)
-    (λ h x. bonded-takes m setup counted h old new rec all_sent told t x) p c
+core-takes old new rec a b all_sent told t p m setup start c =
+    steps_on (λ (h : List Entry). Bonded m setup start h old) (λ (h : List Entry). Bonded m setup start h new) a b (Delivered rec) (bonded-quiet m setup start old) (bonded-quiet m setup start new)
+    (λ h x. bonded-takes m setup start h old new rec all_sent told t x) p c
 
 pub core-sends : (old new : Session) (rec : List ℕ) (a b : History) → SendsBy old.core (Some rec) new.core → CountsBy (call_at rec) old.counts new.counts → new.mounted ≡ old.mounted → new.dropped ≡ old.dropped
     → Adds a b (Sent rec ∷ []) → CoreGoes old new a.entries b.entries
-core-sends old new rec a b t counts mounted count p m setup counted c =
-    steps_on (λ (h : List Entry). Bonded m setup counted h old) (λ (h : List Entry). Bonded m setup counted h new) a b (Sent rec) (bonded-quiet m setup counted old) (bonded-quiet m setup counted new)
-    (λ h x. bonded-sends m setup counted h old new rec t counts mounted count x) p c
+core-sends old new rec a b t counts mounted count p m setup start c =
+    steps_on (λ (h : List Entry). Bonded m setup start h old) (λ (h : List Entry). Bonded m setup start h new) a b (Sent rec) (bonded-quiet m setup start old) (bonded-quiet m setup start new)
+    (λ h x. bonded-sends m setup start h old new rec t counts mounted count x) p c
 
 -- the record went out, and the link failed
 pub core-sends-fails : (old mid new : Session) (rec : List ℕ) (a b : History) → SendsBy old.core (Some rec) mid.core → CountsBy (call_at rec) old.counts mid.counts → mid.mounted ≡ old.mounted → mid.dropped ≡ old.dropped
     → Fails mid new → Adds a b (Sent rec ∷ Failed ∷ []) → CoreGoes old new a.entries b.entries
-core-sends-fails old mid new rec a b t counts mounted count f p m setup counted c =
-    steps_on_twice (λ (h : List Entry). Bonded m setup counted h old) (λ (h : List Entry). Bonded m setup counted h mid) (λ (h : List Entry). Bonded m setup counted h new) a b (Sent rec) Failed
-    (bonded-quiet m setup counted old) (bonded-quiet m setup counted mid) (bonded-quiet m setup counted new)
-    (λ h x. bonded-sends m setup counted h old mid rec t counts mounted count x) (λ h x. bonded-fails m setup counted h mid new f x) p c
+core-sends-fails old mid new rec a b t counts mounted count f p m setup start c =
+    steps_on_twice (λ (h : List Entry). Bonded m setup start h old) (λ (h : List Entry). Bonded m setup start h mid) (λ (h : List Entry). Bonded m setup start h new) a b (Sent rec) Failed
+    (bonded-quiet m setup start old) (bonded-quiet m setup start mid) (bonded-quiet m setup start new)
+    (λ h x. bonded-sends m setup start h old mid rec t counts mounted count x) (λ h x. bonded-fails m setup start h mid new f x) p c
 
 -- none was due
 none-due : (o : Option (ℕ × Waiting Purpose)) → None ≡ option_map (λ (e : ℕ × Waiting Purpose). e.1.bytes) o → o ≡ None
@@ -230,15 +222,15 @@ sends-nothing old new t = by old.lost t
     by false t = t.is ∙ ap (λ (es : List (ℕ × Waiting Purpose)). record old { calls = record old.calls { calls = es } }) (sent-none old.calls.calls (none-due (first_due old.calls.calls) t.gives))
 
 pub core-sends-none : (old new : Session) (h : List Entry) → SendsBy old.core None new.core → new.mounted ≡ old.mounted → new.dropped ≡ old.dropped → new.counts ≡ old.counts → CoreGoes old new h h
-core-sends-none old new h t mounted count tally m setup counted b = bonded-like m setup counted h old new mounted (sends-nothing old.core new.core t) count tally b
+core-sends-none old new h t mounted count tally m setup start b = bonded-like m setup start h old new mounted (sends-nothing old.core new.core t) count tally b
 
 -- ---- one part after another
 
 pub core-then : (a b c : Session) (h k l : List Entry) → CoreGoes a b h k → CoreGoes b c k l → CoreGoes a c h l
-core-then a b c h k l p q m setup counted x = q m setup counted (p m setup counted x)
+core-then a b c h k l p q m setup start x = q m setup start (p m setup start x)
 
 pub core-then-cut : (a b : Session) (h k l : List Entry) → CoreGoes a b h k → CoreWent b k l → CoreWent a h l
-core-then-cut a b h k l p q m setup counted x = q m setup counted (p m setup counted x)
+core-then-cut a b h k l p q m setup start x = q m setup start (p m setup start x)
 
 pub core-then-by : {T E : Type 0} → (a b c : Session) (result : Result T E) (h k l : List Entry) → CoreGoes a b h k → CoreBy b c result k l → CoreBy a c result h l
 core-then-by a b c (Ok x) h k l p q = core-then a b c h k l p q
@@ -265,32 +257,32 @@ now-read (Delivered bytes ∷ h) first ms = now-read h first ms
 now-read (Failed ∷ h) first ms = now-read h first ms
 now-read (Clock now ∷ h) first ms = now-read h now ms
 
-bonded-clock : (m : Mounted) (setup : Setup) (counted : Bool) (h : List Entry) (s : Session) (ms : ℕ) → Bonded m setup counted h s → Bonded m setup counted (h ++ Clock ms ∷ []) s
-bonded-clock m setup counted h s ms b = record {
+bonded-clock : (m : Mounted) (setup : Setup) (start : Start) (h : List Entry) (s : Session) (ms : ℕ) → Bonded m setup start h s → Bonded m setup start (h ++ Clock ms ∷ []) s
+bonded-clock m setup start h s ms b = record {
   mounted = b.mounted;
-  bond = bond-step m setup h s.core (Clock ms) s.core s.dropped refl (λ bytes e. absurd cc) b.bond;
-  tallied = λ is. tallied-on m setup counted h s.core (Clock ms) s.core s.dropped s.counts refl (λ bytes e. absurd cc) b.bond (b.tallied is);
+  bond = bond-step m setup start.from h s.core (Clock ms) s.core s.dropped refl (λ bytes e. absurd cc) b.bond;
+  tallied = λ is. tallied-on m setup start h s.core (Clock ms) s.core s.dropped s.counts refl (λ bytes e. absurd cc) b.bond (b.tallied is);
 }
 
 pub core-begins : (s t : Session) (h : List Entry) (ms lane line : ℕ) (op : Op) → IsIdle lane s.core.lanes → s.core.begun < 2 ^ 32 → Fits (machine_of s.mounted lane op)
     → Begins s.core lane (machine_of s.mounted lane op) ms t.core → t.mounted ≡ s.mounted → t.dropped ≡ s.dropped → t.counts ≡ s.counts → CoreGoes s t h (h ++ Clock ms ∷ Began lane line op ∷ [])
-core-begins s t h ms lane line op idle few fits step mounted count tally m setup counted b =
+core-begins s t h ms lane line op idle few fits step mounted count tally m setup start b =
     let h1 : List Entry = h ++ Clock ms ∷ [] in
-    let c = bonded-clock m setup counted h s ms b in
+    let c = bonded-clock m setup start h s ms b in
     let step_now : Begins s.core lane (machine_of m lane op) (last_reading 0 h1) t.core =
     subst (λ (n : ℕ). Begins s.core lane (machine_of m lane op) n t.core) (sym (now-read h 0 ms)) (subst (λ (x : Mounted). Begins s.core lane (machine_of x lane op) ms t.core) b.mounted step) in
     let begun : StepsTo (machine_of m) h1 s.core (Began lane line op) t.core = record { idle = idle; few = few; fits = subst (λ (x : Mounted). Fits (machine_of x lane op)) b.mounted fits; step = step_now } in
-    subst (λ (k : List Entry). Bonded m setup counted k t) (append_assoc h (Clock ms ∷ []) (Began lane line op ∷ [])) (record {
+    subst (λ (k : List Entry). Bonded m setup start k t) (append_assoc h (Clock ms ∷ []) (Began lane line op ∷ [])) (record {
       mounted = mounted ∙ b.mounted;
-      bond = subst (λ (n : ℕ). Bond m setup (h1 ++ Began lane line op ∷ []) t.core n) (sym count) (bond-step m setup h1 s.core (Began lane line op) t.core s.dropped begun (λ bytes e. absurd cc) c.bond);
+      bond = subst (λ (n : ℕ). Bond m setup start.from (h1 ++ Began lane line op ∷ []) t.core n) (sym count) (bond-step m setup start.from h1 s.core (Began lane line op) t.core s.dropped begun (λ bytes e. absurd cc) c.bond);
       tallied = λ is. subst (Tallied (h1 ++ Began lane line op ∷ []) t.core) (sym tally)
-          (tallied-on m setup counted h1 s.core (Began lane line op) t.core s.dropped s.counts begun (λ bytes e. absurd cc) c.bond (c.tallied is));
+          (tallied-on m setup start h1 s.core (Began lane line op) t.core s.dropped s.counts begun (λ bytes e. absurd cc) c.bond (c.tallied is));
     })
 
 -- nothing was begun, for want of memory
 pub core-unbegun : (s : Session) (h k : List Entry) (given : List ℕ) → (k ≡ h) ⊎ ((ms : ℕ) × (given ≡ ms ∷ []) × (k ≡ h ++ Clock ms ∷ [])) → CoreWent s h k
-core-unbegun s h k given (inl is) m setup counted b = subst (HasCore m setup) (sym is) (core-of m setup counted h s b)
-core-unbegun s h k given (inr n) m setup counted b = subst (HasCore m setup) (sym n.2) (core-of m setup counted (h ++ Clock n.0 ∷ []) s (bonded-clock m setup counted h s n.0 b))
+core-unbegun s h k given (inl is) m setup start b = subst (HasCore m setup start.from) (sym is) (core-of m setup start h s b)
+core-unbegun s h k given (inr n) m setup start b = subst (HasCore m setup start.from) (sym n.2) (core-of m setup start (h ++ Clock n.0 ∷ []) s (bonded-clock m setup start h s n.0 b))
 
 -- ---- an answer is told
 
@@ -299,62 +291,52 @@ open-line h lane line r = record { op = r.op; before = r.before; is = r.marks }
 
 pub core-answers : (s t : Session) (h : List Entry) (lane line : ℕ) (answer : Answer) → IsRunning h lane line → AnswersBy s.core lane (Some answer) t.core → t.mounted ≡ s.mounted → t.dropped ≡ s.dropped → t.counts ≡ s.counts
     → CoreGoes s t h (h ++ Answered lane line answer ∷ [])
-core-answers s t h lane line answer running answers mounted count tally m setup counted b = record {
+core-answers s t h lane line answer running answers mounted count tally m setup start b = record {
   mounted = mounted ∙ b.mounted;
-  bond = subst (λ (n : ℕ). Bond m setup (h ++ Answered lane line answer ∷ []) t.core n) (sym count)
-      (bond-step m setup h s.core (Answered lane line answer) t.core s.dropped (record { line_is = open-line h lane line running; answers = answers }) (λ bytes e. absurd cc) b.bond);
+  bond = subst (λ (n : ℕ). Bond m setup start.from (h ++ Answered lane line answer ∷ []) t.core n) (sym count)
+      (bond-step m setup start.from h s.core (Answered lane line answer) t.core s.dropped (record { line_is = open-line h lane line running; answers = answers }) (λ bytes e. absurd cc) b.bond);
   tallied = λ is. subst (Tallied (h ++ Answered lane line answer ∷ []) t.core) (sym tally)
-      (tallied-on m setup counted h s.core (Answered lane line answer) t.core s.dropped s.counts (record { line_is = open-line h lane line running; answers = answers }) (λ bytes e. absurd cc) b.bond (b.tallied is));
+      (tallied-on m setup start h s.core (Answered lane line answer) t.core s.dropped s.counts (record { line_is = open-line h lane line running; answers = answers }) (λ bytes e. absurd cc) b.bond (b.tallied is));
 }
 
 -- the lane had no answer, or no line left: the core stays
 pub core-like : (s t : Session) (h : List Entry) → t.mounted ≡ s.mounted → t.core ≡ s.core → t.dropped ≡ s.dropped → t.counts ≡ s.counts → CoreGoes s t h h
-core-like s t h mounted core count tally m setup counted b = bonded-like m setup counted h s t mounted core count tally b
+core-like s t h mounted core count tally m setup start b = bonded-like m setup start h s t mounted core count tally b
 
 -- ---- from the set-up on
 
-pub core-shows : (m : Mounted) (setup : Setup) (h : List Entry) → HasCore m setup h → Shows m setup h
-core-shows m setup h c = record {
-  has = c;
-  numbered = (reached-rows (machine_of m) setup h c.core c.reaches).numbered;
-  synced = syncs-committed m setup h c.core c.reaches;
-  saved = puts-committed m setup h c.core c.reaches;
-  opens = λ terms nocto.
-      let g : GoesWith m terms setup h c.core = record { nocto = nocto; reaches = c.reaches } in
-      record { syncs = syncs-ok m terms setup h c.core g; held = slots-hold-opens m terms setup h c.core g; places = places-exact m terms setup h c.core g };
-  one_calls = one-calls-done m setup h c.core c.reaches;
-  refusals = refusals-shown m setup h c.core c.reaches;
-  lost_answers = lost-answers m setup h c.core c.reaches;
-  lost = reached-shown (machine_of m) setup h c.core c.reaches;
-}
-
-pub fresh-bonded : (settings : Settings) (setup : Setup) (counted : Bool) (s : Session) (h : List Entry) → MaySetUp setup → IsFreshFor settings setup s → (counted ≡ true → Tallied h s.core s.counts)
-    → IsOpened (Some setup) h → Bonded (mounted_by settings setup) setup counted h s
-fresh-bonded settings setup counted s h may f tallied o = record {
+pub fresh-bonded : (settings : Settings) (setup : Setup) (start : Start) (s : Session) (h : List Entry) → MaySetUp setup → IsFreshFor settings setup s → start.from ≡ h → (start.counted ≡ true → Tallied h s.core s.counts)
+    → IsOpened (Some setup) h → Bonded (mounted_by settings setup) setup start h s
+fresh-bonded settings setup start s h may f is tallied o = record {
   mounted = f.mounted;
   bond = record {
     reaches = begins h s.core may o.0 f.core;
+    since = subst (λ (k : List Entry). SentSince k h) (sym is) (since-none h);
     known = λ xid w. absurd (o.1 xid w);
     run = no_drop s.dropped (length h) f.dropped;
   };
   tallied = tallied;
 }
 
-pub ends-with : (settings : Settings) (setup : Setup) (s t : Session) (h k : List Entry) → MaySetUp setup → IsFreshFor settings setup s → CoreGoes s t h k → IsOpened (Some setup) h → EndsWith settings (Some setup) k
-ends-with settings setup s t h k may f g o =
-    core-shows (mounted_by settings setup) setup k
-    (core-of (mounted_by settings setup) setup false k t (g (mounted_by settings setup) setup false (fresh-bonded settings setup false s h may f (λ is. absurd cc) o)))
+abbrev uncounted : List Entry → Start
+uncounted h = record { from = h; counted = false }
 
-pub breaks-with : (settings : Settings) (setup : Setup) (s : Session) (h k : List Entry) → MaySetUp setup → IsFreshFor settings setup s → CoreWent s h k → IsOpened (Some setup) h → EndsWith settings (Some setup) k
-breaks-with settings setup s h k may f g o =
-    core-shows (mounted_by settings setup) setup k (g (mounted_by settings setup) setup false (fresh-bonded settings setup false s h may f (λ is. absurd cc) o))
+abbrev counted_from : List Entry → Start
+counted_from h = record { from = h; counted = true }
+
+pub ends-with : (settings : Settings) (setup : Setup) (s t : Session) (h k : List Entry) → MaySetUp setup → IsFreshFor settings setup s → CoreGoes s t h k → IsOpened (Some setup) h → EndsWith settings (Some setup) h k
+ends-with settings setup s t h k may f g o =
+    core-of (mounted_by settings setup) setup (uncounted h) k t (g (mounted_by settings setup) setup (uncounted h) (fresh-bonded settings setup (uncounted h) s h may f refl (λ is. absurd cc) o))
+
+pub breaks-with : (settings : Settings) (setup : Setup) (s : Session) (h k : List Entry) → MaySetUp setup → IsFreshFor settings setup s → CoreWent s h k → IsOpened (Some setup) h → EndsWith settings (Some setup) h k
+breaks-with settings setup s h k may f g o = g (mounted_by settings setup) setup (uncounted h) (fresh-bonded settings setup (uncounted h) s h may f refl (λ is. absurd cc) o)
 
 -- the counts of a session at the end of its lines
 pub counts-with : (settings : Settings) (setup : Setup) (begun : Tally) (s t : Session) (h k : List Entry) → MaySetUp setup → IsFreshFor settings setup s → s.counts ≡ record { tally = begun; next = setup.first_xid }
     → CoreGoes s t h k → IsOpened (Some setup) h → begun ≡ tally_of h → t.counts.tally ≡ tally_of k
 counts-with settings setup begun s t h k may f counts g o is =
     let t0 = fresh-tallied setup h s.core s.counts o.0 f.core (ap (λ (c : Counts). c.tally) counts ∙ is) (ap (λ (c : Counts). c.next) counts) in
-    ((g (mounted_by settings setup) setup true (fresh-bonded settings setup true s h may f (λ so. t0) o)).tallied refl).tally
+    ((g (mounted_by settings setup) setup (counted_from h) (fresh-bonded settings setup (counted_from h) s h may f refl (λ so. t0) o)).tallied refl).tally
 
 -- ---- histories
 

@@ -1,5 +1,5 @@
 -- How a session goes on along its history.
-use Rattle.std.proofs.Common.{◌≡◌, ◌≢◌, ◌≤◌, ◌<◌, ◌+◌, ◌-◌, ◌⊎◌, inl, inr, ℕ, zero, suc, List, [], ◌∷◌, ◌++◌, length, take, drop, slice_get, slice_set, nat_lt, Bool, true, false, Option, Some, None, Result, Ok, Err, refl, sym, ap, subst, ◌∙◌, arith, append-nil, append_assoc}
+use Rattle.std.proofs.Common.{◌≡◌, ◌≢◌, ◌≤◌, ◌<◌, ◌+◌, ◌-◌, ◌⊎◌, inl, inr, ℕ, zero, suc, List, [], ◌∷◌, ◌++◌, length, take, drop, slice_get, slice_set, All, nat_lt, Bool, true, false, Option, Some, None, Result, Ok, Err, refl, sym, ap, subst, ◌∙◌, arith, append-nil, append_assoc}
 use Rattle.std.proofs.lemmas.Bool.{cases_lt}
 use Rattle.std.proofs.lemmas.List.{take-append-drop}
 use Rattle.xdr_codec.specs.declared.blob.Memory.{Memory}
@@ -11,6 +11,7 @@ use Rattle.world_model.specs.declared.op.Op.{Op}
 use Rattle.world_model.specs.Clocked.{clocks}
 use Rattle.world_model.specs.Follows.{begun, marks_of, Alternates, IsFront}
 use Rattle.world_model.specs.Transcript.{transcript, line_text}
+use Rattle.nfs_script.specs.Asked.{IsAskedLine}
 use Rattle.nfs_script.specs.declared.script.ScriptLine.{ScriptLine}
 use Rattle.client_core.specs.View.{View}
 use Rattle.core_facts.proofs.Marks.{began-other, answered-other}
@@ -20,6 +21,7 @@ use Rattle.lane_session.specs.declared.lanes.Place.{Place}
 use Rattle.lane_session.specs.declared.running.Session.{Session}
 use Rattle.lane_session.specs.Bonds.{CoreGoes, CoreWent}
 use Rattle.lane_session.specs.Going.{Grows, Goes, Went, GoesOn, CutsOff, GoesBy, TellsAnswer, AllTimed}
+use Rattle.lane_session.specs.Holding.{AreQuiet}
 use Rattle.lane_session.specs.LaneMarks.{IsRunning, IsResting}
 use Rattle.lane_session.specs.Places.{entries_of, IsOpen, IsPlaced, PlaceAt, FoundAt, Seeks, Ends}
 use Rattle.lane_session.specs.Running.{marks, Quietly, LineIs}
@@ -30,16 +32,24 @@ use Rattle.lane_session.proofs.Placing.{silent, no-mark, marks-none, status-quie
 use Rattle.lane_session.proofs.Pushes.{clocks-append, transcript-append, begun-append, marks-append, quiet_by}
 use Rattle.lane_session.proofs.Reaching.{core-then, core-then-cut}
 use Rattle.lane_session.proofs.Seating.{line-of}
+use Rattle.lane_session.proofs.Together.{together-quiet}
 
 -- ---- nothing is noted
 
-goes-one : (script : List ScriptLine) (h : List Entry) (e : Entry) (s : Session) → marks (e ∷ []) ≡ [] → Goes script h s → Goes script (h ++ e ∷ []) s
-goes-one script h e s q g = record {
+-- each lane has told its answer, and has no line left where none is under way
+pub record IsWaiting (script : List ScriptLine) (s : Session) : Type 0 where
+  pub asked : All IsAskedLine script
+  pub sixteen : length s.lanes ≡ 16
+  pub quiet : AreQuiet script s
+
+goes-one : (script : List ScriptLine) (h : List Entry) (e : Entry) (s : Session) → IsWaiting script s → marks (e ∷ []) ≡ [] → Goes script h s → Goes script (h ++ e ∷ []) s
+goes-one script h e s w q g = record {
   others = λ lane out. let o = g.others lane out in let m = silent e q lane in
       (begun-append lane h (e ∷ []) ∙ ap (λ (t : List Entry). begun lane h ++ t) m.1 ∙ append-nil (begun lane h) ∙ o.0, resting-grow h e lane m.0 o.1);
   placed = λ n p there. let m = silent e q (suc n) in placed-grow script h e (suc n) p m.0 m.1 (g.placed n p there);
   status = status-quiet h e s.status (λ fault l m is. (no-mark e q).0 l m (Refused fault) is) g.status;
   timed = timed-quiet h e (no-mark e q).1 g.timed;
+  together = together-quiet script h s w.asked w.sixteen w.quiet g.placed e g.together;
 }
 
 -- only lanes and status count
@@ -49,10 +59,11 @@ goes-like script h s t lanes status g = record {
   placed = λ n p there. g.placed n p (subst (λ (ps : List Place). slice_get ps n ≡ Some p) lanes there);
   status = subst (HasStatus h) (sym status) g.status;
   timed = g.timed;
+  together = g.together;
 }
 
-pub goes-quietly : (script : List ScriptLine) (h k : List Entry) (s : Session) → Quietly h k → Goes script h s → Goes script k s
-goes-quietly script h k s q g = subst (λ (t : List Entry). Goes script t s) (sym q.is) (quiet_by (λ (t : List Entry). Goes script t s) (λ t e. goes-one script t e s) h q.more q.unmarked g)
+goes-quietly : (script : List ScriptLine) (h k : List Entry) (s : Session) → IsWaiting script s → Quietly h k → Goes script h s → Goes script k s
+goes-quietly script h k s w q g = subst (λ (t : List Entry). Goes script t s) (sym q.is) (quiet_by (λ (t : List Entry). Goes script t s) (λ t e. goes-one script t e s w) h q.more q.unmarked g)
 
 pub quiet-clocks : (h k : List Entry) → Quietly h k → clocks k ≡ clocks h ++ []
 quiet-clocks h k q = ap clocks q.is ∙ clocks-append h q.more ∙ ap (λ (t : List ℕ). clocks h ++ t) (marks-none q.more q.unmarked).0
@@ -111,6 +122,7 @@ went-of script h s long g = record {
     | inr out ↦ record { rest = begun lane (entries_of script); is = sym (ap (λ (t : List Entry). t ++ begun lane (entries_of script)) (g.others lane out).0) }
   ];
   timed = g.timed;
+  together = g.together;
 }
 
 -- ---- one part after another
@@ -125,23 +137,23 @@ goes-none script s t h lanes status core = record {
 }
 
 -- the exchange with the server
-pub goes-turned : (script : List ScriptLine) (s t : Session) (h k : List Entry) → t.lanes ≡ s.lanes → t.status ≡ s.status → Quietly h k → CoreGoes s t h k → GoesOn script s t [] [] h k
-goes-turned script s t h k lanes status q core = record {
+pub goes-turned : (script : List ScriptLine) (s t : Session) (h k : List Entry) → IsWaiting script s → t.lanes ≡ s.lanes → t.status ≡ s.status → Quietly h k → CoreGoes s t h k → GoesOn script s t [] [] h k
+goes-turned script s t h k w lanes status q core = record {
   grown = (q.more, q.is);
   clocked = quiet-clocks h k q;
   shown = quiet-transcript h k q;
-  goes = λ g. goes-like script k s t lanes status (goes-quietly script h k s q g);
+  goes = λ g. goes-like script k s t lanes status (goes-quietly script h k s w q g);
   core = λ g. core;
 }
 
-pub cut-turned : (script : List ScriptLine) (s : Session) (halt : Halt) (h k : List Entry) → length s.lanes ≡ 16 → Quietly h k → CoreWent s h k → CutsOff script s halt [] [] h k
-cut-turned script s halt h k long q core = record {
+pub cut-turned : (script : List ScriptLine) (s : Session) (halt : Halt) (h k : List Entry) → IsWaiting script s → Quietly h k → CoreWent s h k → CutsOff script s halt [] [] h k
+cut-turned script s halt h k w q core = record {
   last = [];
   grown = (q.more, q.is);
   clocked = append-nil (clocks h) ∙ sym (append-nil (clocks h)) ∙ sym (quiet-clocks h k q) ∙ sym (append-nil (clocks k));
   left = none halt;
   shown = record { rest = []; is = quiet-transcript h k q ∙ append-nil (transcript h) ∙ sym (append-nil (transcript h)) ∙ sym (append-nil (transcript h ++ [])) };
-  went = λ g. went-of script k s long (goes-quietly script h k s q g);
+  went = λ g. went-of script k s w.sixteen (goes-quietly script h k s w q g);
   core = λ g. core;
 }
   where

@@ -8,6 +8,7 @@ use Rattle.world_model.specs.declared.op.Op.{Op}
 use Rattle.world_model.specs.Clocked.{clocks, IsTimed}
 use Rattle.world_model.specs.Entries.{At}
 use Rattle.world_model.specs.Follows.{begun, marks_of, Alternates, IsFront}
+use Rattle.world_model.specs.LanesTogether.{LanesTogether}
 use Rattle.world_model.specs.Transcript.{transcript, line_text}
 use Rattle.nfs_script.specs.declared.script.ScriptLine.{ScriptLine}
 use Rattle.lane_session.specs.declared.lanes.Place.{Place}
@@ -23,18 +24,21 @@ use Rattle.lane_session.specs.Streams.{IsFrontOf}
 abbrev pub AllTimed : List Entry → Type 0
 AllTimed h = (x lane line : ℕ) (op : Op) → At h x (Began lane line op) → IsTimed h x
 
--- Each lane is at its place in the script, and the status is that of the answers.
+-- Each lane is at its place in the script, and the status is that of the answers. Whenever a record came after the first line began, each lane that had a
+-- line left had one under way.
 pub record Goes (script : List ScriptLine) (h : List Entry) (s : Session) : Type 0 where
   pub others : (lane : ℕ) → (lane ≡ 0) ⊎ (16 < lane) → (begun lane h ≡ []) × IsResting h lane
   pub placed : (n : ℕ) (p : Place) → slice_get s.lanes n ≡ Some p → IsPlaced script h (suc n) p
   pub status : HasStatus h s.status
   pub timed : AllTimed h
+  pub together : LanesTogether (entries_of script) h
 
 -- What is left of that where a session is cut off.
 pub record Went (script : List ScriptLine) (h : List Entry) : Type 0 where
   pub alternates : (lane : ℕ) → Alternates (marks_of lane h)
   pub begins : (lane : ℕ) → IsFront (begun lane h) (begun lane (entries_of script))
   pub timed : AllTimed h
+  pub together : LanesTogether (entries_of script) h
 
 -- the history goes on
 abbrev pub Grows : List Entry → List Entry → Type 0

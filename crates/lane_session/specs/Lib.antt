@@ -1,6 +1,7 @@
 pub mod Streams
 pub mod LaneMarks
 pub mod Places
+pub mod Ports
 pub mod Statuses
 pub mod Holding
 pub mod Running

@@ -5,6 +5,7 @@ use Rattle.world_model.specs.declared.tally.Tally.{Tally}
 use Rattle.world_model.specs.Clocked.{clocks}
 use Rattle.world_model.specs.Counts.{tally_of, tally_text}
 use Rattle.world_model.specs.Follows.{Follows, Finishes, marks_of}
+use Rattle.world_model.specs.LanesTogether.{LanesTogether}
 use Rattle.world_model.specs.Transcript.{transcript}
 use Rattle.nfs_script.specs.declared.script.ScriptLine.{ScriptLine}
 use Rattle.client_core.specs.declared.setup.Setup.{Setup}
@@ -55,6 +56,7 @@ pub record SessionIs (count : Bool) (script : List ScriptLine) (given : List ℕ
   pub says : TextOf count tally k status text
   pub clock : NotesAll status given h k
   pub timed : AllTimed k
+  pub together : LanesTogether (entries_of script) k
 
 -- The session of a script; and where its set-up was so, and the calls before it were counted, the counts are those of the whole history.
 pub record SessionCounts (opened : Type 0) (before : Tally) (count : Bool) (script : List ScriptLine) (given : List ℕ) (h k : List Entry) (status : ℕ)
@@ -73,6 +75,7 @@ pub record IsDone (script : List ScriptLine) (end : End) (given text : List ℕ)
   pub shown : text ≡ transcript k
   pub clocked : clocks k ≡ clocks h ++ given
   pub timed : AllTimed k
+  pub together : LanesTogether (entries_of script) k
 
 -- the session was cut off
 pub record IsBroken (script : List ScriptLine) (halt : Halt) (given text : List ℕ) (h k : List Entry) : Type 0 where
@@ -83,6 +86,7 @@ pub record IsBroken (script : List ScriptLine) (halt : Halt) (given text : List 
   pub clocked : clocks h ++ given ≡ clocks k ++ last
   pub left : IsLeft halt last
   pub timed : AllTimed k
+  pub together : LanesTogether (entries_of script) k
 
 abbrev pub EndsBy : List ScriptLine → Result End Halt → List ℕ → List ℕ → List Entry → List Entry → Type 0
 EndsBy script (Ok end) given text h k = IsDone script end given text h k

@@ -3,6 +3,7 @@
 ghost use Rattle.std.specs.Prelude.{◌≡◌, ◌≤◌, ◌<◌, ◌^◌, [], List, All, None, Some, false, IfOk, OnOk, length};
 ghost use Rattle.outside.specs.Causes.{Rose};
 ghost use Rattle.world_model.specs.Told.{Relates};
+ghost use Rattle.link_dials.specs.Dials.{DialsOnly};
 ghost use Rattle.nfs_script.specs.Asked.{IsAsked, IsAskedLine};
 ghost use Rattle.nfs_script.specs.declared.script.ScriptLine.{ScriptLine};
 ghost use Rattle.op_machines.specs.Begun.{machine_of};
@@ -14,6 +15,7 @@ ghost use Rattle.lane_session.specs.Bonds.{CoreBy, RedialsBy};
 ghost use Rattle.lane_session.specs.Going.{GoesBy};
 ghost use Rattle.lane_session.specs.Holding.{IsHeld, IsLive, AreQuiet, tries_left};
 ghost use Rattle.lane_session.specs.Places.{AreIdle};
+ghost use Rattle.lane_session.specs.Ports.{KeepsPort};
 ghost use Rattle.lane_session.specs.Running.{IsFreshFor, StepsSo, StepsLane, LineIs, Starts, NotesStart, Quietly, Exchanges, Redialed, NoneOver, SendsAll, SendsOne, Fails, Takes, given_up};
 ghost use Rattle.lane_session.specs.Statuses.{CausedBy};
 ghost use Rattle.lane_session.specs.Streams.{Passes, Reads, Says};
@@ -81,6 +83,7 @@ impl Session {
     ) -> Result<Session, Memory>
         requires may { MaySetUp setup.now }
         ensures fresh { IfOk result (IsFreshFor settings.now setup.now) }
+        ensures port { IfOk result (λ s. s.port ≡ settings.now.nfs_port) }
         ensures counts { IfOk result (λ s. s.counts ≡ record { tally = tally; next = setup.now.first_xid }) }
     {
         Ok(Session {
@@ -120,6 +123,7 @@ impl Session {
         ensures held { OnOk result (IsHeld script.now self.new) }
         ensures goes { Passes (C.readings clock.old) (C.readings clock.new) (L.told link.old) (L.told link.new) (K.written out.old) (K.written out.new)
             (GoesBy script.now self.old self.new result) }
+        ensures dials { KeepsPort self.old.port self.new.port (L.told link.old) (L.told link.new) }
         ensures honest { L.honest link.old → L.honest link.new }
         ensures later { K.faults out.old ≤ K.faults out.new }
         ensures cause { CausedBy result (Rose (K.faults out.old) (K.faults out.new)) }
@@ -154,6 +158,7 @@ impl Session {
         ensures less { OnOk result (tries_left self.new < tries_left self.old) }
         ensures goes { Passes (C.readings clock.old) (C.readings clock.new) (L.told link.old) (L.told link.new) (K.written out.old) (K.written out.new)
             (GoesBy script.now self.old self.new result) }
+        ensures dials { KeepsPort self.old.port self.new.port (L.told link.old) (L.told link.new) }
         ensures honest { L.honest link.old → L.honest link.new }
         ensures later { K.faults out.old ≤ K.faults out.new }
         ensures cause { CausedBy result (Rose (K.faults out.old) (K.faults out.new)) }
@@ -180,6 +185,7 @@ impl Session {
         ensures less { OnOk result (tries_left self.new ≤ tries_left self.old) }
         ensures goes { Passes (C.readings clock.old) (C.readings clock.new) (L.told link.old) (L.told link.new) (K.written out.old) (K.written out.new)
             (GoesBy script.now self.old self.new result) }
+        ensures dials { KeepsPort self.old.port self.new.port (L.told link.old) (L.told link.new) }
         ensures honest { L.honest link.old → L.honest link.new }
         ensures later { K.faults out.old ≤ K.faults out.new }
         ensures cause { CausedBy result (Rose (K.faults out.old) (K.faults out.new)) }
@@ -211,6 +217,7 @@ impl Session {
         ensures steps { IfOk result (λ went. StepsSo script.now self.old went self.new) }
         ensures goes { Passes (C.readings clock.old) (C.readings clock.new) (L.told link.old) (L.told link.new) (K.written out.old) (K.written out.new)
             (GoesBy script.now self.old self.new result) }
+        ensures dials { KeepsPort self.old.port self.new.port (L.told link.old) (L.told link.new) }
         ensures honest { L.honest link.old → L.honest link.new }
         ensures later { K.faults out.old ≤ K.faults out.new }
         ensures cause { CausedBy result (Rose (K.faults out.old) (K.faults out.new)) }
@@ -246,6 +253,7 @@ impl Session {
         ensures steps { IfOk result (λ went. StepsLane script.now lane self.old went self.new) }
         ensures goes { Passes (C.readings clock.old) (C.readings clock.new) (L.told link.old) (L.told link.new) (K.written out.old) (K.written out.new)
             (GoesBy script.now self.old self.new result) }
+        ensures dials { KeepsPort self.old.port self.new.port (L.told link.old) (L.told link.new) }
         ensures honest { L.honest link.old → L.honest link.new }
         ensures later { K.faults out.old ≤ K.faults out.new }
         ensures cause { CausedBy result (Rose (K.faults out.old) (K.faults out.new)) }
@@ -271,6 +279,7 @@ impl Session {
         ensures steps { IfOk result (λ went. (script : List ScriptLine) → IsHeld script self.old → StepsLane script lane self.old went self.new) }
         ensures goes { Says (K.written out.old) (K.written out.new) (λ text.
             Relates (L.told link.old) (L.told link.new) (λ h k. (script : List ScriptLine) → IsHeld script self.old → GoesBy script self.old self.new result [] text h k)) }
+        ensures dials { KeepsPort self.old.port self.new.port (L.told link.old) (L.told link.new) }
         ensures honest { L.honest link.old → L.honest link.new }
         ensures later { K.faults out.old ≤ K.faults out.new }
         ensures cause { CausedBy result (Rose (K.faults out.old) (K.faults out.new)) }
@@ -308,6 +317,7 @@ impl Session {
         ensures steps { IfOk result (λ went. StepsLane script.now lane self.old went self.new) }
         ensures goes { Reads (C.readings clock.old) (C.readings clock.new) (λ given.
             Relates (L.told link.old) (L.told link.new) (GoesBy script.now self.old self.new result given [])) }
+        ensures dials { KeepsPort self.old.port self.new.port (L.told link.old) (L.told link.new) }
         ensures honest { L.honest link.old → L.honest link.new }
         ensures only { CausedBy result ⊥ }
     {
@@ -339,6 +349,7 @@ impl Session {
         ensures goes { Reads (C.readings clock.old) (C.readings clock.new) (λ given.
             Starts lane op.now self.old self.new result given × Relates (L.told link.old) (L.told link.new) (NotesStart lane line op.now result given)) }
         ensures fits { OnOk result (Fits (machine_of self.old.mounted lane op.now)) }
+        ensures dials { KeepsPort self.old.port self.new.port (L.told link.old) (L.told link.new) }
         ensures honest { L.honest link.old → L.honest link.new }
     {
         let Ok(machine) = self.machine(lane, op) else {
@@ -373,6 +384,7 @@ impl Session {
         ensures exchanges { OnOk result (Exchanges self.old self.new) }
         ensures goes { Relates (L.told link.old) (L.told link.new) Quietly }
         ensures core { Relates (L.told link.old) (L.told link.new) (CoreBy self.old self.new result) }
+        ensures dials { KeepsPort self.old.port self.new.port (L.told link.old) (L.told link.new) }
         ensures honest { L.honest link.old → L.honest link.new }
         ensures only { CausedBy result ⊥ }
     {
@@ -398,6 +410,7 @@ impl Session {
         ensures sends { IfOk result (λ went. SendsAll self.old went self.new) }
         ensures goes { Relates (L.told link.old) (L.told link.new) Quietly }
         ensures core { Relates (L.told link.old) (L.told link.new) (CoreBy self.old self.new result) }
+        ensures dials { KeepsPort self.old.port self.new.port (L.told link.old) (L.told link.new) }
         ensures honest { L.honest link.old → L.honest link.new }
         ensures only { CausedBy result ⊥ }
     {
@@ -420,6 +433,7 @@ impl Session {
         ensures sends { IfOk result (λ sending. SendsOne self.old sending self.new) }
         ensures goes { Relates (L.told link.old) (L.told link.new) Quietly }
         ensures core { Relates (L.told link.old) (L.told link.new) (CoreBy self.old self.new result) }
+        ensures dials { KeepsPort self.old.port self.new.port (L.told link.old) (L.told link.new) }
         ensures honest { L.honest link.old → L.honest link.new }
     {
         let Some(rec) = self.core.next_send() else {
@@ -445,6 +459,7 @@ impl Session {
         ensures exchanges { OnOk result (Exchanges self.old self.new) }
         ensures goes { Relates (L.told link.old) (L.told link.new) Quietly }
         ensures core { Relates (L.told link.old) (L.told link.new) (CoreBy self.old self.new result) }
+        ensures dials { KeepsPort self.old.port self.new.port (L.told link.old) (L.told link.new) }
         ensures honest { L.honest link.old → L.honest link.new }
         ensures only { CausedBy result ⊥ }
     {
@@ -500,6 +515,7 @@ impl Session {
         ensures redials { OnOk result (Redialed self.old self.new) }
         ensures goes { Relates (L.told link.old) (L.told link.new) Quietly }
         ensures core { Relates (L.told link.old) (L.told link.new) (CoreBy self.old self.new result) }
+        ensures dials { KeepsPort self.old.port self.new.port (L.told link.old) (L.told link.new) }
         ensures honest { L.honest link.old → L.honest link.new }
         ensures only { CausedBy result ⊥ }
     {
@@ -528,6 +544,7 @@ impl Session {
 /// Dials again, a few times if need be: whether that worked.
 fn redial<L: Link>(port: u16, link: &mut L) -> Result<bool, Memory>
     ensures goes { Relates (L.told link.old) (L.told link.new) (RedialsBy result) }
+    ensures dials { DialsOnly port (L.told link.old) (L.told link.new) }
     ensures honest { L.honest link.old → L.honest link.new }
 {
     for _ in 0..DIALS {

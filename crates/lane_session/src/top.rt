@@ -1,11 +1,12 @@
 //! The session as a whole.
 
-ghost use Rattle.std.specs.Prelude.{◌≡◌, ◌≤◌, All, None, Some, length, IfOk, option_map};
+ghost use Rattle.std.specs.Prelude.{◌≡◌, ◌≤◌, ℕ, All, None, Some, length, IfOk, option_map};
 ghost use Rattle.outside.specs.Causes.{Rose};
 ghost use Rattle.nfs_script.specs.Asked.{IsAskedLine};
 ghost use Rattle.world_model.specs.Counts.{tally_of};
 ghost use Rattle.world_model.specs.Lost.{IsLost};
 ghost use Rattle.world_model.specs.Told.{Relates};
+ghost use Rattle.link_dials.specs.Dials.{DialsOnly};
 ghost use Rattle.core_facts.specs.Reaches.{MaySetUp};
 ghost use Rattle.lane_session.specs.Bonds.{IsOpened, EndsWith, AreCounted};
 ghost use Rattle.lane_session.specs.Losing.{status_of};
@@ -52,7 +53,8 @@ pub fn session<L: Link, C: Clock, K: Sink>(
     ensures ending { IsEnding result }
     ensures sink { result ≡ 5 → Rose (K.faults out.old) (K.faults out.new) }
     ensures core { Relates (L.told link.old) (L.told link.new)
-        (λ h k. IsOpened (option_map (λ s. s.now) setup.entry) h → EndsWith settings.now (option_map (λ s. s.now) setup.entry) k) }
+        (λ h k. IsOpened (option_map (λ s. s.now) setup.entry) h → EndsWith settings.now (option_map (λ s. s.now) setup.entry) h k) }
+    ensures dials { DialsOnly settings.now.nfs_port (L.told link.old) (L.told link.new) }
     ensures honest { L.honest link.old → L.honest link.new }
     ensures shown { Passes (C.readings clock.old) (C.readings clock.new) (L.told link.old) (L.told link.new) (K.written out.old) (K.written out.new)
         (λ given text h k. IsUnmarked h
@@ -82,9 +84,10 @@ fn all_lines<L: Link, C: Clock, K: Sink>(
     ensures goes { Passes (C.readings clock.old) (C.readings clock.new) (L.told link.old) (L.told link.new) (K.written out.old) (K.written out.new)
         (λ given text h k. IsUnmarked h → EndsBy script.now result given text h k) }
     ensures core { Relates (L.told link.old) (L.told link.new)
-        (λ h k. IsOpened (option_map (λ s. s.now) setup.entry) h → EndsWith settings.now (option_map (λ s. s.now) setup.entry) k) }
+        (λ h k. IsOpened (option_map (λ s. s.now) setup.entry) h → EndsWith settings.now (option_map (λ s. s.now) setup.entry) h k) }
     ensures counted { Relates (L.told link.old) (L.told link.new)
         (λ h k. IsOpened (option_map (λ s. s.now) setup.entry) h → tally ≡ tally_of h → AreCounted result k) }
+    ensures dials { DialsOnly settings.now.nfs_port (L.told link.old) (L.told link.new) }
     ensures honest { L.honest link.old → L.honest link.new }
     ensures later { K.faults out.old ≤ K.faults out.new }
     ensures cause { CausedBy result (Rose (K.faults out.old) (K.faults out.new)) }
@@ -113,8 +116,9 @@ fn run_lines<L: Link, C: Clock, K: Sink>(
     ensures goes { Passes (C.readings clock.old) (C.readings clock.new) (L.told link.old) (L.told link.new) (K.written out.old) (K.written out.new)
         (λ given text h k. IsUnmarked h → EndsBy script.now result given text h k) }
     ensures core { Relates (L.told link.old) (L.told link.new)
-        (λ h k. IsOpened (Some setup.now) h → EndsWith settings.now (Some setup.now) k) }
+        (λ h k. IsOpened (Some setup.now) h → EndsWith settings.now (Some setup.now) h k) }
     ensures counted { Relates (L.told link.old) (L.told link.new) (λ h k. IsOpened (Some setup.now) h → tally ≡ tally_of h → AreCounted result k) }
+    ensures dials { DialsOnly settings.now.nfs_port (L.told link.old) (L.told link.new) }
     ensures honest { L.honest link.old → L.honest link.new }
     ensures later { K.faults out.old ≤ K.faults out.new }
     ensures cause { CausedBy result (Rose (K.faults out.old) (K.faults out.new)) }
@@ -146,6 +150,7 @@ fn lose_all<L: Link, C: Clock, K: Sink>(
         (λ given text h k. IsUnmarked h → EndsBy script.now result given text h k) }
     ensures core { Relates (L.told link.old) (L.told link.new) (λ h k. IsLost h (length h) → IsLost k (length k)) }
     ensures counted { Relates (L.told link.old) (L.told link.new) (λ h k. IsOpened None h → tally ≡ tally_of h → AreCounted result k) }
+    ensures dials { (port : ℕ) → DialsOnly port (L.told link.old) (L.told link.new) }
     ensures honest { L.honest link.old → L.honest link.new }
     ensures later { K.faults out.old ≤ K.faults out.new }
     ensures cause { CausedBy result (Rose (K.faults out.old) (K.faults out.new)) }

@@ -1,4 +1,4 @@
--- A session in lanes is what its set-up and its lines came to.
+-- A session is what its set-up and its lines came to.
 use Rattle.std.proofs.Common.{inl, inr, ◌≡◌, ◌≤◌, ◌<◌, ◌+◌, ◌-◌, ◌^◌, ◌⊎◌, ◌∙◌, ℕ, suc, List, [], ◌∷◌, length, Option, Some, None, Ok, Err, refl, ap, subst, arith}
 use Rattle.world_model.specs.declared.answer.Fault.{Fault}
 use Rattle.world_model.specs.declared.entry.Entry.{Entry}
@@ -24,13 +24,13 @@ use Rattle.lane_session.specs.Sessions.{IsUnmarked as IsFresh}
 use Rattle.lane_session.specs.Statuses.{IsEnding as IsLaneEnding}
 use Rattle.lane_session.specs.Streams.{Passes}
 use Rattle.lane_session.specs.Streams.{Appends as LaneAppends, ReadsAll as LaneReadsAll}
-use Rattle.nfs_client.specs.declared.session.Ended.TheVariants as ends
-use Rattle.nfs_client.specs.LaneRuns.{TellsMount, all_told, setup_of, front_told, SetUpAndRun, ready, lost, refused, unready}
-use Rattle.nfs_client.specs.Reports.{Reports, whole, cut, IsEnding}
-use Rattle.nfs_client.specs.Run.{IsFirst, LanesBy, no_lines, some_lines, Says}
-use Rattle.nfs_client.specs.Session.{ReadsAll, ReadsOnce, Reads}
+use Rattle.nfs_client.specs.LaneRuns.{TellsMount, SetUpAndRun, ready, lost, refused, unready, IsEnding}
+use Rattle.nfs_client.specs.Readings.{ReadsAll, ReadsOnce, Reads}
+use Rattle.nfs_client.specs.Run.{IsFirst, SessionBy, no_lines, some_lines, Says}
+use Rattle.nfs_client.specs.Shown.{setup_of}
 use Rattle.nfs_client.specs.Streams.{Appends}
-use Rattle.nfs_client.proofs.Alongs.{reads_none, reads_one, reads_more}
+use Rattle.nfs_client.proofs.Readings.{reads_none, reads_more}
+use Rattle.nfs_client.proofs.Showing.{run-shows}
 use Rattle.nfs_client.proofs.StreamLaws.{appends_none}
 
 -- ---- the same facts in the words of the two crates
@@ -98,7 +98,7 @@ LaneSays v w a b old new s lines setup before status =
     Passes a b old new v w (λ given text h k. IsFresh h → SessionCounts (IsOpened setup h) before s.count lines given h k status text)
 
 abbrev RunSays : (v w a b : Option (List ℕ)) (old new : Option History) (s : Settings) (lines : List ScriptLine) (status : ℕ) → Type 0
-RunSays v w a b old new s lines status = Says v w (λ text. Reads a b (λ given. Relates old new (λ before h. before ≡ [] → LanesBy s lines given h status text)))
+RunSays v w a b old new s lines status = Says v w (λ text. Reads a b (λ given. Relates old new (λ before h. before ≡ [] → SessionBy s lines given h status text)))
 
 abbrev EarlySays : (v w a b : Option (List ℕ)) (old new : Option History) (s : Settings) (lines : List ScriptLine) (fault : SetUpFault) (status : ℕ) → Type 0
 EarlySays v w a b old new s lines fault status =
@@ -121,7 +121,7 @@ lost_opened s first tally h so = record { to = length h; by = omega arith; loses
 
 -- what a session says of the core, where it was opened so
 abbrev CoreSays : (old new : Option History) (s : Settings) (setup : Option Setup) → Type 0
-CoreSays old new s setup = Relates old new (λ h k. IsOpened setup h → EndsWith s setup k)
+CoreSays old new s setup = Relates old new (λ h k. IsOpened setup h → EndsWith s setup h k)
 
 lost_told : (old new : Option History) (s : Settings) (lines : List ScriptLine) (tally : Tally) (given text : List ℕ) (status : ℕ)
     → Relates old new (λ h k. IsFresh h → SessionCounts (IsOpened None h) tally s.count lines given h k status text) → CoreSays old new s None
@@ -142,10 +142,6 @@ lost_says v w a b old new s lines tally status p core = record {
   is = (p.given, read_all a b p.given p.read, lost_told old new s lines tally p.given p.text status p.told core);
 }
 
-tells : (fault : Fault) (s : Settings) (status : ℕ) (text : List ℕ) → Reports (ends.MountRefused fault) s.count status text → TellsMount fault status text
-tells fault s status text (whole is all) = all_told is all
-tells fault s status text (cut is front) = front_told is front
-
 refused_told : (old : Option History) (s : Settings) (lines : List ScriptLine) (fault : Fault) (status : ℕ) (text : List ℕ) → TellsMount fault status text
     → Relates old old (λ before h. (first : ℕ) → SetsUp s first (Err (Refused fault)) before → SetUpAndRun s lines first [] h status text)
 refused_told None s lines fault status text t = tt
@@ -153,11 +149,11 @@ refused_told (Some x) s lines fault status text t = λ first so. refused fault r
 
 -- the mount was refused
 pub refused_says : (v w a : Option (List ℕ)) (old : Option History) (s : Settings) (lines : List ScriptLine) (fault : Fault) (status : ℕ)
-    → Says v w (Reports (ends.MountRefused fault) s.count status) → EarlySays v w a a old old s lines (Refused fault) status
+    → Says v w (TellsMount fault status) → EarlySays v w a a old old s lines (Refused fault) status
 refused_says v w a old s lines fault status said = record {
   text = said.text;
   added = said.added;
-  is = ([], reads_none a, refused_told old s lines fault status said.text (tells fault s status said.text said.is));
+  is = ([], reads_none a, refused_told old s lines fault status said.text said.is);
 }
 
 unready_told : (old : Option History) (s : Settings) (lines : List ScriptLine) (status : ℕ) → status ≡ 7
@@ -174,7 +170,7 @@ unready_says v a old s lines status seven = record { text = []; added = appends_
 early_told : (old mid new : Option History) (s : Settings) (lines : List ScriptLine) (fault : SetUpFault) (first ms : ℕ) (given text : List ℕ) (status : ℕ) → IsFirst (ms ∷ []) s.xid first
     → Along old mid (λ h k. h ≡ [] → SetsUp s first (Err fault) k)
     → Relates mid new (λ before h. (first : ℕ) → SetsUp s first (Err fault) before → SetUpAndRun s lines first given h status text)
-    → Relates old new (λ before h. before ≡ [] → LanesBy s lines (ms ∷ given) h status text)
+    → Relates old new (λ before h. before ≡ [] → SessionBy s lines (ms ∷ given) h status text)
 early_told None mid new s lines fault first ms given text status is up r = tt
 early_told (Some x) None new s lines fault first ms given text status is up r = absurd up
 early_told (Some x) (Some y) None s lines fault first ms given text status is up r = absurd r
@@ -189,27 +185,28 @@ early_says v w a b c old mid new s lines fault first status one up said = record
   is = (one.0 ∷ said.is.0, reads_more a b c one.0 said.is.0 one.1 said.is.1, early_told old mid new s lines fault first one.0 said.is.0 said.text status one.2 up said.is.2);
 }
 
-ready_told : (old mid new : Option History) (s : Settings) (lines : List ScriptLine) (v : SetUp) (first ms : ℕ) (given text : List ℕ) (status : ℕ) → IsFirst (ms ∷ []) s.xid first
+ready_told : (old mid new : Option History) (s : Settings) (lines : List ScriptLine) (v : SetUp) (first ms : ℕ) (given text : List ℕ) (status : ℕ) → FitsSession s first v → IsFirst (ms ∷ []) s.xid first
     → Along old mid (λ h k. h ≡ [] → SetsUp s first (Ok v) k)
     → Relates mid new (λ h k. IsFresh h → SessionCounts (IsOpened (Some (setup_of s v)) h) v.tally s.count lines given h k status text)
-    → CoreSays mid new s (Some (setup_of s v)) → Relates old new (λ before h. before ≡ [] → LanesBy s lines (ms ∷ given) h status text)
-ready_told None mid new s lines v first ms given text status is up r core = tt
-ready_told (Some x) None new s lines v first ms given text status is up r core = absurd up
-ready_told (Some x) (Some y) None s lines v first ms given text status is up r core = absurd r
-ready_told (Some x) (Some y) (Some z) s lines v first ms given text status is up r core = λ e.
+    → CoreSays mid new s (Some (setup_of s v)) → Relates old new (λ before h. before ≡ [] → SessionBy s lines (ms ∷ given) h status text)
+ready_told None mid new s lines v first ms given text status fits is up r core = tt
+ready_told (Some x) None new s lines v first ms given text status fits is up r core = absurd up
+ready_told (Some x) (Some y) None s lines v first ms given text status fits is up r core = absurd r
+ready_told (Some x) (Some y) (Some z) s lines v first ms given text status fits is up r core = λ e.
     let so = up.1 e in
     let session = r (fresh y.entries so.unmarked) in
     let open_ = opened s first v y.entries so in
-    some_lines ms first given refl (first_in s.xid ms first given is) (ready v y.entries so session.is (core open_) (session.counted open_ so.ends.tally))
+    some_lines ms first given refl (first_in s.xid ms first given is)
+    (ready v y.entries so session.is (run-shows s first v y.entries z.entries so fits session.is.grown session.is.timed (core open_)) (session.counted open_ so.ends.tally))
 
 -- the session was set up, and its lines were run
 pub ready_says : (v w a b c : Option (List ℕ)) (old mid new : Option History) (s : Settings) (lines : List ScriptLine) (up : SetUp) (first status : ℕ)
-    → ReadsOnce a b (λ ms. IsFirst (ms ∷ []) s.xid first) → Along old mid (λ h k. h ≡ [] → SetsUp s first (Ok up) k) → LaneSays v w b c mid new s lines (Some (setup_of s up)) up.tally status
+    → FitsSession s first up → ReadsOnce a b (λ ms. IsFirst (ms ∷ []) s.xid first) → Along old mid (λ h k. h ≡ [] → SetsUp s first (Ok up) k) → LaneSays v w b c mid new s lines (Some (setup_of s up)) up.tally status
     → CoreSays mid new s (Some (setup_of s up)) → RunSays v w a c old new s lines status
-ready_says v w a b c old mid new s lines up first status one along p core = record {
+ready_says v w a b c old mid new s lines up first status fits one along p core = record {
   text = p.text;
   added = appended v w p.text p.added;
-  is = (one.0 ∷ p.given, reads_more a b c one.0 p.given one.1 (read_all b c p.given p.read), ready_told old mid new s lines up first one.0 p.given p.text status one.2 along p.told core);
+  is = (one.0 ∷ p.given, reads_more a b c one.0 p.given one.1 (read_all b c p.given p.read), ready_told old mid new s lines up first one.0 p.given p.text status fits one.2 along p.told core);
 }
 
 none_left : (lines : List ScriptLine) → length lines ≡ 0 → lines ≡ []
@@ -217,7 +214,7 @@ none_left [] e = refl
 none_left (line ∷ lines) e = absurd (omega (arith, e))
 
 empty_told : (old new : Option History) (s : Settings) (lines : List ScriptLine) (before : Tally) (given text : List ℕ) (status : ℕ) → lines ≡ []
-    → Relates old new (λ h k. IsFresh h → SessionCounts (IsOpened None h) before s.count lines given h k status text) → Relates old new (λ before h. before ≡ [] → LanesBy s lines given h status text)
+    → Relates old new (λ h k. IsFresh h → SessionCounts (IsOpened None h) before s.count lines given h k status text) → Relates old new (λ before h. before ≡ [] → SessionBy s lines given h status text)
 empty_told None new s lines before given text status none r = tt
 empty_told (Some x) None s lines before given text status none r = absurd r
 empty_told (Some x) (Some y) s lines before given text status none r = λ e.

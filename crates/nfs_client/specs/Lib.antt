@@ -1,12 +1,5 @@
-pub mod Calls
-pub mod Records
-pub mod Session
-pub mod Exchange
-pub mod Results
-pub mod SetUp
-pub mod Putting
+pub mod Readings
 pub mod Streams
+pub mod Shown
 pub mod LaneRuns
 pub mod Run
-pub mod Working
-pub mod Reports

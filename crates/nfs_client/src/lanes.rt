@@ -1,19 +1,17 @@
-//! A session of any script: what comes before its first line, and its lanes.
+//! A session: what comes before the first line of its script, and its lanes.
 
-ghost use Rattle.std.specs.Prelude.{◌≡◌, ◌≤◌, ◌<◌, ◌^◌, ℕ, [], All, Err, length};
+ghost use Rattle.std.specs.Prelude.{◌≡◌, ◌≤◌, ◌<◌, ◌^◌, ℕ, [], ◌∷◌, All, Err, length};
 ghost use Rattle.world_model.specs.Told.{Relates};
 ghost use Rattle.outside.specs.Causes.{Rose};
+ghost use Rattle.link_dials.specs.Dials.{DialsOnly, DialsInTurn};
 ghost use Rattle.nfs_script.specs.Asked.{IsAskedLine};
 ghost use Rattle.session_setup.specs.Outcomes.{IsOptions, SetsUp};
-ghost use Rattle.nfs_client.specs.Session.{Reads};
-ghost use Rattle.nfs_client.specs.LaneRuns.{SetUpAndRun};
-ghost use Rattle.nfs_client.specs.Run.{IsXidOption, LanesBy, Says};
-ghost use Rattle.nfs_client.specs.Reports.{IsEnding};
+ghost use Rattle.nfs_client.specs.Readings.{Reads, ReadsOnce};
+ghost use Rattle.nfs_client.specs.LaneRuns.{IsEnding, SetUpAndRun};
+ghost use Rattle.nfs_client.specs.Run.{IsFirst, IsXidOption, SessionBy, Says};
 
-use crate::report::report;
-use crate::session::Ended;
+use crate::mount::refuse_mount;
 use crate::status;
-use crate::top::first_xid;
 use client_core::Setup;
 use lane_session::session;
 use nfs_script::Script;
@@ -49,10 +47,11 @@ pub fn run_lanes<L: Link, C: Clock, K: Sink>(
     requires few { length script.now ≤ 16384 }
     ensures ending { IsEnding result }
     ensures sink { result ≡ 5 → Rose (K.faults out.old) (K.faults out.new) }
+    ensures dials { DialsInTurn settings.now.mount_port settings.now.nfs_port (L.told link.old) (L.told link.new) }
     ensures honest { L.honest link.old → L.honest link.new }
     ensures shown { Says (K.written out.old) (K.written out.new) (λ text.
         Reads (C.readings clock.old) (C.readings clock.new) (λ given.
-        Relates (L.told link.old) (L.told link.new) (λ before h. before ≡ [] → LanesBy settings.now script.now given h result text))) }
+        Relates (L.told link.old) (L.told link.new) (λ before h. before ≡ [] → SessionBy settings.now script.now given h result text))) }
 {
     if script.count() == 0 {
         return session(alloc, settings, script, None, NO_CALLS, link, clock, out);
@@ -98,6 +97,7 @@ fn end_early<L: Link, C: Clock, K: Sink>(
     requires few { length script.now ≤ 16384 }
     ensures ending { IsEnding result }
     ensures sink { result ≡ 5 → Rose (K.faults out.old) (K.faults out.new) }
+    ensures dials { DialsOnly settings.now.nfs_port (L.told link.old) (L.told link.new) }
     ensures honest { L.honest link.old → L.honest link.new }
     ensures shown { Says (K.written out.old) (K.written out.new) (λ text.
         Reads (C.readings clock.old) (C.readings clock.new) (λ given.
@@ -108,9 +108,20 @@ fn end_early<L: Link, C: Clock, K: Sink>(
         SetUpFault::Lost(tally) => {
             session(alloc, settings, script, None, tally, link, clock, out)
         }
-        SetUpFault::Refused(fault) => {
-            report(alloc, &Ended::MountRefused(fault), settings.count, out)
-        }
+        SetUpFault::Refused(fault) => refuse_mount(alloc, fault, out),
         SetUpFault::Memory => status::NO_MEMORY,
+    }
+}
+
+/// The xid of the first call: the one that is wanted, or one by the time.
+fn first_xid<C: Clock>(wanted: Option<u32>, clock: &mut C) -> u32
+    requires { IsXidOption wanted }
+    ensures range { (1 ≤ result) × (result ≤ 2 ^ 31) }
+    ensures read { ReadsOnce (C.readings clock.old) (C.readings clock.new) (λ ms. IsFirst (ms ∷ []) wanted result) }
+{
+    let now = clock.now();
+    match wanted {
+        Some(xid) => xid,
+        None => (now % (1 << 31)) as u32 + 1,
     }
 }

@@ -2,19 +2,11 @@
 //! and ends in a status.
 #![tactic(auto)]
 
-mod calls;
-mod exchange;
-mod halt;
-mod heard;
 mod input;
 mod lanes;
+mod mount;
 mod output;
-mod put;
-mod record;
-mod report;
-mod session;
-mod set_up;
 mod status;
 mod top;
 
-pub use top::run;
+pub use top::{run, run_with};

@@ -1,7 +1,5 @@
-//! The statuses with which a run ends, other than 0.
+//! The statuses with which a run ends where no line of its script begins.
 
-/// An operation was refused.
-pub const NOT_OK: u8 = 1;
 /// The words of the command line are refused.
 pub const WORDS_REFUSED: u8 = 2;
 /// The script is refused.
@@ -10,8 +8,6 @@ pub const SCRIPT_REFUSED: u8 = 3;
 pub const READ_FAULT: u8 = 4;
 /// The sink failed.
 pub const WRITE_FAULT: u8 = 5;
-/// The link is lost.
-pub const LINK_LOST: u8 = 6;
 /// Out of memory outside an operation.
 pub const NO_MEMORY: u8 = 7;
 /// The mount is refused.

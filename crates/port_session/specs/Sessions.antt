@@ -1,12 +1,13 @@
 -- What a session promises whose ports a port mapper tells (RFC 1833, section 3).
-use Rattle.std.specs.Prelude.{◌≡◌, ◌≤◌, ◌⊎◌, ℕ, List, [], take, map, string_bytes, Option, Some, None, IfSome, Result, Ok, Err}
+use Rattle.std.specs.Prelude.{◌≡◌, ◌≢◌, ◌≤◌, ◌⊎◌, ℕ, List, [], take, Option, None, IfSome, Result, Ok, Err}
 use Rattle.world_model.specs.History.{History}
 use Rattle.world_model.specs.Told.{Relates}
 use Rattle.outside.specs.Causes.{Rose}
+use Rattle.link_dials.specs.Dials.{DialsInTurn}
 use Rattle.session_words.specs.declared.settings.Settings.{Settings}
 use Rattle.session_words.specs.Words.{IsCommand}
 use Rattle.nfs_client.specs.Streams.{script_limit}
-use Rattle.nfs_client.specs.Session.{Reads}
+use Rattle.nfs_client.specs.Readings.{Reads}
 use Rattle.nfs_client.specs.Run.{IsScript, Refuses, RefusalIs, RunIs, Says}
 use Rattle.port_finder.specs.declared.finder.Ports.{Ports}
 use Rattle.port_finder.specs.declared.finder.PortFault.{PortFault}
@@ -58,13 +59,21 @@ pub record RunsBy (words : List (List ℕ)) (left : Option (List ℕ)) (a b : Ou
   pub refused : status ≡ 3 → Says a.written b.written (RefusalIs left)
   pub source : status ≡ 4 → Rose a.source_faults b.source_faults
   pub sink : status ≡ 5 → Rose a.sink_faults b.sink_faults
+  pub dials : (s : Settings) → IsCommand words s → DialsInTurn s.mount_port s.nfs_port a.told b.told
   pub shown : Says a.written b.written (λ text. Reads a.readings b.readings (λ given. Relates a.told b.told (λ before h. before ≡ []
-      → RunIs (Rose a.faults b.faults) given words left h status text)))
+      → RunIs given words left h status text)))
 
--- the other words with the ports that were told; or memory ran out before the run
-pub data RunsAt (others : List (List ℕ)) (ports : Ports) (left : Option (List ℕ)) (a b : Outside) (status : ℕ) : Type 0 where
-  runs : RunsBy (with_ports others ports.mount ports.nfs) left a b status → RunsAt others ports left a b status
-  unrun : status ≡ 7 → b ≡ a → RunsAt others ports left a b status
+-- The other words with the ports that were told are a command line, a run with them keeps all its promises, and the ports are dialed in turn.
+pub record RunsAt (others : List (List ℕ)) (ports : Ports) (left : Option (List ℕ)) (a b : Outside) (status : ℕ) : Type 0 where
+  pub settings : Settings
+  pub is : IsCommand (with_ports others ports.mount ports.nfs) settings
+  pub runs : RunsBy (with_ports others ports.mount ports.nfs) left a b status
+  pub taken : status ≢ 2
+  pub dials : DialsInTurn ports.mount ports.nfs a.told b.told
+
+-- settings with the ports that were told
+abbrev pub at_ports : Settings → Ports → Settings
+at_ports s ports = record s { mount_port = ports.mount; nfs_port = ports.nfs }
 
 -- ---- the words
 

@@ -2,19 +2,20 @@
 
 ghost use Rattle.std.specs.Prelude.{◌≡◌, ◌≤◌, ◌⊎◌, None, IfOk, Err, map, string_bytes};
 ghost use Rattle.outside.specs.Causes.{Rose};
+ghost use Rattle.session_words.specs.Words.{IsCommand};
 ghost use Rattle.port_words.specs.Portmaps.{Names};
 ghost use Rattle.nfs_client.specs.Run.{Says};
 ghost use Rattle.port_session.specs.Refusals.{IsStatus, Ends, Tells};
-ghost use Rattle.port_session.specs.Sessions.{finder_at, outside_at, RunsAt, IsNamed, IsTaken, ByPortmap, SessionIs};
+ghost use Rattle.port_session.specs.Sessions.{finder_at, outside_at, usual_words, at_ports, IsNamed, IsTaken, ByPortmap, SessionIs};
 
 use crate::output::write_all;
 use crate::reason::{Reason, refusal_line};
 use crate::status;
-use nfs_client::run;
+use nfs_client::{run, run_with};
 use outside::{Clock, Link, LinkFault, Sink, Source};
 use port_finder::{PortFault, Ports, find_ports};
 use port_words::{Portmap, PortmapFault, take_portmap, with_ports};
-use session_words::{WordsFault, read_words};
+use session_words::{Settings, WordsFault, read_words};
 use std::alloc::Global;
 
 /// The xid of the first call to the port mapper.
@@ -27,10 +28,10 @@ const USUAL_MOUNT_PORT: u16 = 20_048;
 const USUAL_NFS_PORT: u16 = 2_049;
 
 /// Runs the client with the ports that a port mapper tells. The word `--portmap` and the one after it name its port; it is asked
-/// over the finder, and the other words, with the ports after the first, are those of `nfs_client::run`. Without that word it is
-/// `run` with the words as they are.
+/// over the finder, and the client runs as `nfs_client::run` does by the other words, but with the ports that were told. Without that
+/// word it is `run` with the words as they are.
 ///
-/// The words are tested before anything is dialed. The status is that of `run`, but 10 where the port mapper told no port, and
+/// The words are read before anything is dialed, and once. The status is that of `run`, but 10 where the port mapper told no port, and
 /// then a line says why; 6 also where the link to the port mapper is lost.
 pub fn run_found<S: Source, F: Link, L: Link, C: Clock, K: Sink>(
     alloc: Global,
@@ -80,59 +81,39 @@ fn run_by<S: Source, F: Link, L: Link, C: Clock, K: Sink>(
         (outside_at (L.told link.new) (L.faults link.new) (C.readings clock.new) (K.written out.new) (K.faults out.new) (S.faults script.new))
         result }
 {
-    match test_words(alloc, portmap.others.as_slice()) {
-        Ok(()) => {}
+    let settings = match read_others(alloc, portmap.others.as_slice()) {
+        Ok(settings) => settings,
         Err(WordsFault::Refused) => return status::WORDS_REFUSED,
         Err(WordsFault::Memory) => return status::NO_MEMORY,
-    }
+    };
     match find_ports(alloc, finder, portmap.port, FIRST_XID, TCP) {
-        Ok(ports) => run_at(
-            alloc,
-            portmap.others.as_slice(),
-            &ports,
-            script,
-            link,
-            clock,
-            out,
-        ),
+        Ok(ports) => {
+            let settings = at_ports(settings, &ports);
+            run_with(alloc, &settings, script, link, clock, out)
+        }
         Err(fault) => end_unfound(alloc, fault, out),
     }
 }
 
-/// Tests whether the other words are a command line, once the ports stand among them: the numbers of the ports don't decide it.
-fn test_words(alloc: Global, others: &[String]) -> Result<(), WordsFault>
-    ensures taken { IfOk result (λ _. IsTaken (map string_bytes others.now)) }
+/// The settings that the other words give, once the usual ports stand among them.
+fn read_others(alloc: Global, others: &[String]) -> Result<Settings, WordsFault>
+    ensures found { IfOk result (IsCommand (usual_words (map string_bytes others.now))) }
     ensures refused { result ≡ Err WordsFault.Refused → IsTaken (map string_bytes others.now) → ⊥ }
 {
     let Ok(words) = with_ports(alloc, others, USUAL_MOUNT_PORT, USUAL_NFS_PORT) else {
         return Err(WordsFault::Memory);
     };
-    match read_words(alloc, words.as_slice()) {
-        Ok(_) => Ok(()),
-        Err(fault) => Err(fault),
-    }
+    read_words(alloc, words.as_slice())
 }
 
-/// Runs the client with the ports that were told.
-fn run_at<S: Source, L: Link, C: Clock, K: Sink>(
-    alloc: Global,
-    others: &[String],
-    ports: &Ports,
-    script: &mut S,
-    link: &mut L,
-    clock: &mut C,
-    out: &mut K,
-) -> u8
-    ensures statuses { result ≤ 8 }
-    ensures honest { L.honest link.old → L.honest link.new }
-    ensures runs { RunsAt (map string_bytes others.now) ports.now (S.left script.old)
-        (outside_at (L.told link.old) (L.faults link.old) (C.readings clock.old) (K.written out.old) (K.faults out.old) (S.faults script.old))
-        (outside_at (L.told link.new) (L.faults link.new) (C.readings clock.new) (K.written out.new) (K.faults out.new) (S.faults script.new))
-        result }
+/// The settings with the ports that were told.
+fn at_ports(settings: Settings, ports: &Ports) -> Settings
+    ensures { result ≡ at_ports settings ports.now }
 {
-    match with_ports(alloc, others, ports.mount, ports.nfs) {
-        Ok(words) => run(alloc, words.as_slice(), script, link, clock, out),
-        Err(_) => status::NO_MEMORY,
+    Settings {
+        mount_port: ports.mount,
+        nfs_port: ports.nfs,
+        ..settings
     }
 }
 

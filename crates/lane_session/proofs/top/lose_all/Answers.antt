@@ -3,6 +3,7 @@ use Rattle.lane_session.specs.declared.top.End.{End}
 use Rattle.lane_session.proofs.CoreEnds.{told-lost, told-lost-counted}
 use Rattle.lane_session.proofs.LostLaws.{lost-ends, lost-breaks, status-ends}
 use Rattle.lane_session.proofs.Passing.{passes_less}
+use Rattle.lane_session.proofs.Ports.{dials_loses}
 use Rattle.lane_session.proofs.top.lose_all.Goals as goal
 
 pub returns-in-Ok-clause-goes : goal.returns-in-Ok-clause-goes
@@ -26,3 +27,9 @@ returns-in-Ok-clause-counted g c =
     let p = c.in-Ok.ensures.goes in
     let end : End = record { status = c.lost_status.result; tally = c.args.tally } in
     told-lost-counted _ _ c.args.script.now p.given p.text end c.args.tally refl p.told
+
+pub returns-in-Ok-clause-dials : goal.returns-in-Ok-clause-dials
+returns-in-Ok-clause-dials g c = λ port. let p = c.in-Ok.ensures.goes in dials_loses port _ _ c.args.script.now (Ok tt) p.given p.text p.told
+
+pub returns-in-Err-clause-dials : goal.returns-in-Err-clause-dials
+returns-in-Err-clause-dials g c = λ port. let p = c.in-Err.ensures.goes in dials_loses port _ _ c.args.script.now (Err c.in-Err.halt) p.given p.text p.told

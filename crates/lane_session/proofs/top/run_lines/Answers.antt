@@ -2,6 +2,8 @@ use Rattle.std.proofs.Common.{refl}
 use Rattle.lane_session.proofs.CoreEnds.{told-none, told-done, told-broken, told-counted}
 use Rattle.lane_session.proofs.Ending.{session-ends, session-breaks, fresh-held, fresh-goes, broken-none}
 use Rattle.lane_session.proofs.Passing.{passes_same, passes_less}
+use Rattle.link_dials.proofs.Dialing.{dials_same}
+use Rattle.lane_session.proofs.Ports.{only_as}
 use Rattle.lane_session.proofs.top.run_lines.Goals as goal
 
 pub returns-in_default-clause-goes : goal.returns-in_default-clause-goes
@@ -41,3 +43,12 @@ pub returns-in-Ok-work-clause-counted : goal.returns-in-Ok-work-clause-counted
 returns-in-Ok-work-clause-counted g c =
     let p = c.in-Ok-work.ensures.goes in
     told-counted _ _ c.args.script.now p.given p.text c.args.settings.now c.args.setup.now c.in-Ok.session c.requires.may c.in-Ok.ensures.fresh c.args.tally c.work.new.self c.in-Ok.ensures.counts p.told
+
+pub returns-in_default-clause-dials : goal.returns-in_default-clause-dials
+returns-in_default-clause-dials g c = dials_same _ _
+
+pub returns-in-Ok-work-clause-dials : goal.returns-in-Ok-work-clause-dials
+returns-in-Ok-work-clause-dials g c = only_as _ _ _ _ c.in-Ok.ensures.port c.in-Ok-work.ensures.dials.only
+
+pub returns-clause-dials : goal.returns-clause-dials
+returns-clause-dials g c = only_as _ _ _ _ c.in-Ok.ensures.port c.in-Err.ensures.dials.only

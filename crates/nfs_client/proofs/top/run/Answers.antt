@@ -1,62 +1,36 @@
-use Rattle.std.proofs.Common.{inr, refl}
-use Rattle.nfs_client.specs.Run.{no_words, no_source, cut_before}
-use Rattle.nfs_client.proofs.Runs.{unscripted, scripted, faulty, spells, asks_for, read_for, run_says, lanes_say, refuse_says, none_says, refused_text}
-use Rattle.nfs_client.proofs.ScriptLines.{few_lines}
+use Rattle.std.proofs.Common.{inl, inr, refl, subst}
+use Rattle.session_words.specs.declared.settings.Settings.{Settings}
+use Rattle.link_dials.specs.Dials.{DialsInTurn}
+use Rattle.link_dials.proofs.Dialing.{dials_same}
+use Rattle.link_dials.proofs.Ports.{turn_nfs}
+use Rattle.nfs_client.specs.Run.{no_words, cut_before}
+use Rattle.nfs_client.proofs.Runs.{words_say, unread_says}
 use Rattle.nfs_client.proofs.top.run.Goals as goal
 
-pub returns-in-Err-Failed-clause-no_words : goal.returns-in-Err-Failed-clause-no_words
-returns-in-Err-Failed-clause-no_words g c = λ none. absurd (none c.in-Ok.settings c.in-Ok.ensures.found)
+pub returns-in-Ok-clause-words : goal.returns-in-Ok-clause-words
+returns-in-Ok-clause-words g c = λ two. absurd (c.run_with.ensures.taken two)
 
-pub returns-in-Some-clause-no_words : goal.returns-in-Some-clause-no_words
-returns-in-Some-clause-no_words g c = λ none. absurd (none c.in-Ok.settings c.in-Ok.ensures.found)
+pub returns-in-Ok-clause-no_words : goal.returns-in-Ok-clause-no_words
+returns-in-Ok-clause-no_words g c = λ none. absurd (none c.in-Ok.settings c.in-Ok.ensures.found)
 
-pub returns-in-Some-clause-unspelled : goal.returns-in-Some-clause-unspelled
-returns-in-Some-clause-unspelled g c =
-    scripted _ _ _ _ (spells _ _ c.in-Ok-parse.ensures.read) c.as_slice.ensures.value c.in-Ok-read_script.ensures.text
+pub returns-in-Ok-clause-unread : goal.returns-in-Ok-clause-unread
+returns-in-Ok-clause-unread g c = λ read. elim read [ inl two ↦ absurd (c.run_with.ensures.taken two) | inr four ↦ c.run_with.ensures.unread four ]
 
-pub returns-in-Some-clause-shown : goal.returns-in-Some-clause-shown
-returns-in-Some-clause-shown g c =
-    run_says _ _ _ _ _ _ _ _ _ _ _ _ c.in-Ok.ensures.found (asks_for _ _ _ _ _ c.in-Ok-parse.ensures.read c.in-Some.ensures.0 c.in-Some.ensures.1 c.as_slice.ensures.value c.in-Ok-read_script.ensures.text) c.session.ensures.shown
+pub returns-in-Ok-clause-dials : goal.returns-in-Ok-clause-dials
+returns-in-Ok-clause-dials g c = λ s is.
+    subst (λ (t : Settings). DialsInTurn t.mount_port t.nfs_port (g.L.Link.told c.args.link.now) (g.L.Link.told c.run_with.new.link)) (c.in-Ok.ensures.only s is) c.run_with.ensures.dials
 
-pub returns-in-Ok-parse-clause-no_words : goal.returns-in-Ok-parse-clause-no_words
-returns-in-Ok-parse-clause-no_words g c = λ none. absurd (none c.in-Ok.settings c.in-Ok.ensures.found)
+pub returns-in-Err-Refused-clause-dials : goal.returns-in-Err-Refused-clause-dials
+returns-in-Err-Refused-clause-dials g c = λ s is. turn_nfs _ _ _ _ (dials_same _ _)
 
-pub returns-in-Ok-parse-clause-unspelled : goal.returns-in-Ok-parse-clause-unspelled
-returns-in-Ok-parse-clause-unspelled g c = scripted _ _ _ _ (spells _ _ c.in-Ok-parse.ensures.read) c.as_slice.ensures.value c.in-Ok-read_script.ensures.text
+pub returns-in-Err-Memory-clause-dials : goal.returns-in-Err-Memory-clause-dials
+returns-in-Err-Memory-clause-dials g c = λ s is. turn_nfs _ _ _ _ (dials_same _ _)
 
-pub returns-in-Ok-parse-clause-shown : goal.returns-in-Ok-parse-clause-shown
-returns-in-Ok-parse-clause-shown g c =
-    lanes_say _ _ _ _ _ _ _ _ _ _ _ _ c.in-Ok.ensures.found (read_for _ _ _ _ c.in-Ok-parse.ensures.read c.as_slice.ensures.value c.in-Ok-read_script.ensures.text) c.in-None.ensures c.run_lanes.ensures.shown
-
-pub run_lanes-requires-clause-few : goal.run_lanes-requires-clause-few
-run_lanes-requires-clause-few g c = few_lines _ _ c.in-Ok-parse.ensures.read
-
-pub returns-in-Err-Script-clause-no_words : goal.returns-in-Err-Script-clause-no_words
-returns-in-Err-Script-clause-no_words g c = λ none. absurd (none c.in-Ok.settings c.in-Ok.ensures.found)
-
-pub returns-in-Err-Script-clause-script : goal.returns-in-Err-Script-clause-script
-returns-in-Err-Script-clause-script g c =
-    let e = rw c.in-Err-Script.field-0-is at c.in-Err-Script.ensures.read in
-    unscripted _ _ _ _ (faulty _ _ e) c.as_slice.ensures.value c.in-Ok-read_script.ensures.text
-
-pub returns-in-Err-Script-clause-shown : goal.returns-in-Err-Script-clause-shown
-returns-in-Err-Script-clause-shown g c =
-    let e = rw c.in-Err-Script.field-0-is at c.in-Err-Script.ensures.read in
-    refuse_says _ _ _ _ _ _ _ _ _ (read_for _ _ _ _ e c.as_slice.ensures.value c.in-Ok-read_script.ensures.text) c.refuse.ensures.said
-
-pub returns-in-Err-Script-clause-refused : goal.returns-in-Err-Script-clause-refused
-returns-in-Err-Script-clause-refused g c =
-    let e = rw c.in-Err-Script.field-0-is at c.in-Err-Script.ensures.read in
-    refused_text _ _ _ _ _ (read_for _ _ _ _ e c.as_slice.ensures.value c.in-Ok-read_script.ensures.text) c.refuse.ensures.said
+pub returns-in-Ok-clause-shown : goal.returns-in-Ok-clause-shown
+returns-in-Ok-clause-shown g c = words_say _ _ _ _ _ _ _ _ _ _ c.in-Ok.ensures.found c.run_with.ensures.shown
 
 pub returns-in-Err-Refused-clause-shown : goal.returns-in-Err-Refused-clause-shown
-returns-in-Err-Refused-clause-shown g c = none_says _ _ _ _ _ _ _ (no_words refl refl)
+returns-in-Err-Refused-clause-shown g c = unread_says _ _ _ _ _ _ (no_words refl refl)
 
 pub returns-in-Err-Memory-clause-shown : goal.returns-in-Err-Memory-clause-shown
-returns-in-Err-Memory-clause-shown g c = none_says _ _ _ _ _ _ _ (cut_before (inr refl) refl)
-
-pub returns-in-Err-Failed-clause-shown : goal.returns-in-Err-Failed-clause-shown
-returns-in-Err-Failed-clause-shown g c = none_says _ _ _ _ _ _ _ (no_source refl refl)
-
-pub returns-in-Err-Memory-read_script-clause-shown : goal.returns-in-Err-Memory-read_script-clause-shown
-returns-in-Err-Memory-read_script-clause-shown g c = none_says _ _ _ _ _ _ _ (cut_before (inr refl) refl)
+returns-in-Err-Memory-clause-shown g c = unread_says _ _ _ _ _ _ (cut_before (inr refl) refl)

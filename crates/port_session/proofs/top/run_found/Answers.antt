@@ -13,6 +13,7 @@ returns-in-Ok-None-clause-session g c = unnamed (rw c.in-Ok-None.field-0-is at c
   refused = c.run.ensures.refused;
   source = c.run.ensures.source;
   sink = c.run.ensures.sink;
+  dials = c.run.ensures.dials;
   shown = c.run.ensures.shown;
 })
 

@@ -3,6 +3,7 @@ use Rattle.lane_session.proofs.Seating.{few-begun, rested}
 use Rattle.lane_session.proofs.Starting.{found-within, place-small, idle-there, starting-held, starting-less, starting-goes, starting-cut, resting-goes}
 use Rattle.lane_session.proofs.Stepping.{rests-idle}
 use Rattle.nfs_script.specs.declared.script.ScriptLine.{ScriptLine}
+use Rattle.lane_session.proofs.Ports.{keeps_none}
 use Rattle.lane_session.proofs.running.Session.begin.Goals as goal
 
 pub start-requires-clause-asked : goal.start-requires-clause-asked
@@ -51,3 +52,12 @@ returns-in-Err-clause-goes g c =
     let l : ScriptLine = record { lane = c.op-line.result.0; line = c.op-line.result.1; op = c.op-line.result.2.now } in
     starting-cut c.args.script.now c.args.lane c.in-Some.place l c.args.self.now c.seek.new.self c.requires.least c.requires.most c.requires.held c.requires.line c.in-Some.ensures c.op-line.ensures
     c.start.new.self c.in-Err.field-0 _ _ _ _ c.in-Err.ensures.goes
+
+pub returns-in_default-clause-dials : goal.returns-in_default-clause-dials
+returns-in_default-clause-dials g c = keeps_none _ _
+
+pub returns-in-Ok-clause-dials : goal.returns-in-Ok-clause-dials
+returns-in-Ok-clause-dials g c = c.in-Ok.ensures.dials
+
+pub returns-in-Err-clause-dials : goal.returns-in-Err-clause-dials
+returns-in-Err-clause-dials g c = c.in-Err.ensures.dials

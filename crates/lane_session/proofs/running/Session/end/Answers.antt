@@ -1,4 +1,6 @@
 use Rattle.lane_session.proofs.Telling.{unanswered-goes, telling-held, telling-less, telling-goes, telling-cut}
+use Rattle.lane_session.proofs.Ports.{keeps_none, dials_tells}
+use Rattle.std.proofs.Common.{refl}
 use Rattle.lane_session.proofs.running.Session.end.Goals as goal
 
 pub returns-in-Ok-clause-held : goal.returns-in-Ok-clause-held
@@ -20,3 +22,12 @@ returns-in-Err-clause-goes g c = telling-cut _ _ _ _ c.args.lane c.args.line c.i
 
 pub returns-in_default-clause-goes : goal.returns-in_default-clause-goes
 returns-in_default-clause-goes g c = unanswered-goes c.args.lane c.args.self.now c.answer.new.self c.in_default.ensures _ _
+
+pub returns-in_default-clause-dials : goal.returns-in_default-clause-dials
+returns-in_default-clause-dials g c = keeps_none _ _
+
+pub returns-in-Ok-clause-dials : goal.returns-in-Ok-clause-dials
+returns-in-Ok-clause-dials g c = record { same = refl; only = dials_tells c.args.self.now.port _ _ _ _ _ c.tell_answer.result _ c.tell_answer.ensures.goes.is }
+
+pub returns-in-Err-clause-dials : goal.returns-in-Err-clause-dials
+returns-in-Err-clause-dials g c = record { same = refl; only = dials_tells c.args.self.now.port _ _ _ _ _ c.tell_answer.result _ c.tell_answer.ensures.goes.is }

@@ -4,6 +4,7 @@ use Rattle.lane_session.proofs.Passing.{relates_same, relates_then}
 use Rattle.lane_session.proofs.Quiets.{quiet_then}
 use Rattle.lane_session.proofs.Reaching.{core-cut, core-then-by}
 use Rattle.lane_session.proofs.Trying.{redialed-on}
+use Rattle.lane_session.proofs.Ports.{keeps_none, keeps_then}
 use Rattle.lane_session.proofs.running.Session.exchange.Goals as goal
 
 pub returns-then-went-clause-goes : goal.returns-then-went-clause-goes
@@ -27,3 +28,12 @@ returns-then-went-clause-core g c =
 pub returns-else-went-clause-core : goal.returns-else-went-clause-core
 returns-else-went-clause-core g c =
     relates_then _ _ _ _ _ _ (λ h k l p q. core-then-by c.args.self.now c.send_all.new.self c.reconnect.new.self c.reconnect.result h k l p q) c.in-Ok.ensures.core c.reconnect.ensures.core
+
+pub returns-then-self-eq0-clause-dials : goal.returns-then-self-eq0-clause-dials
+returns-then-self-eq0-clause-dials g c = keeps_none _ _
+
+pub returns-then-went-clause-dials : goal.returns-then-went-clause-dials
+returns-then-went-clause-dials g c = keeps_then _ _ _ _ _ _ c.in-Ok.ensures.dials c.hear.ensures.dials
+
+pub returns-else-went-clause-dials : goal.returns-else-went-clause-dials
+returns-else-went-clause-dials g c = keeps_then _ _ _ _ _ _ c.in-Ok.ensures.dials c.reconnect.ensures.dials

@@ -6,6 +6,8 @@ use Rattle.lane_session.proofs.Passing.{relates_call, relates_then}
 use Rattle.lane_session.proofs.Quiets.{quiet_tells, quiet_then}
 use Rattle.lane_session.proofs.Reaching.{core-takes, core-fails, core-unmade, core-then-by}
 use Rattle.lane_session.proofs.Trying.{fails-on, takes-on, redialed-on}
+use Rattle.link_dials.proofs.Dialing.{dials_received}
+use Rattle.lane_session.proofs.Ports.{fails_port, takes_port, keeps_then}
 use Rattle.lane_session.proofs.running.Session.hear.Goals as goal
 
 pub returns-in-Whole-clause-exchanges : goal.returns-in-Whole-clause-exchanges
@@ -48,3 +50,17 @@ returns-in-Failed-clause-core g c =
 
 pub returns-clause-core : goal.returns-clause-core
 returns-clause-core g c = relates_call _ _ [] _ (λ a b p. core-unmade c.args.self.now a b p) c.in-Memory.ensures.told
+
+pub returns-in-Whole-clause-dials : goal.returns-in-Whole-clause-dials
+returns-in-Whole-clause-dials g c = record { same = takes_port c.args.self.now c.take.new.self _ c.take.ensures; only = dials_received c.args.self.now.port _ _ _ c.receive.result c.receive.ensures.told }
+
+pub returns-in-Silent-clause-dials : goal.returns-in-Silent-clause-dials
+returns-in-Silent-clause-dials g c = record { same = fails_port c.args.self.now c.fail.new.self c.fail.ensures; only = dials_received c.args.self.now.port _ _ _ c.receive.result c.receive.ensures.told }
+
+pub returns-in-Failed-clause-dials : goal.returns-in-Failed-clause-dials
+returns-in-Failed-clause-dials g c =
+    keeps_then _ _ _ _ _ _
+    (record { same = fails_port c.args.self.now c.fail-in-Failed.new.self c.fail-in-Failed.ensures; only = dials_received c.args.self.now.port _ _ _ c.receive.result c.receive.ensures.told }) c.reconnect.ensures.dials
+
+pub returns-clause-dials : goal.returns-clause-dials
+returns-clause-dials g c = record { same = refl; only = dials_received c.args.self.now.port _ _ _ c.receive.result c.receive.ensures.told }

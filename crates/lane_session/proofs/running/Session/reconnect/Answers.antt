@@ -1,8 +1,10 @@
-use Rattle.std.proofs.Common.{refl}
+use Rattle.std.proofs.Common.{refl, ap}
 use Rattle.lane_session.specs.Bonds.{CoreGoes}
+use Rattle.lane_session.specs.declared.running.Session.{Session}
 use Rattle.lane_session.proofs.Passing.{relates_less, relates_same}
 use Rattle.lane_session.proofs.Reaching.{core-same, core-redials, core-redials-cut, core-undialed}
 use Rattle.lane_session.proofs.Redialing.{by-quietly}
+use Rattle.lane_session.proofs.Ports.{keeps_none}
 use Rattle.lane_session.proofs.running.Session.reconnect.Goals as goal
 
 pub returns-then-self-eq0-clause-core : goal.returns-then-self-eq0-clause-core
@@ -29,3 +31,15 @@ returns-in-Err-clause-goes g c = relates_less _ _ _ _ (λ h k r. by-quietly c.re
 
 pub returns-in-Err-clause-core : goal.returns-in-Err-clause-core
 returns-in-Err-clause-core g c = relates_less _ _ _ _ (λ h k r. core-redials-cut c.args.self.now h k r) c.in-Err.ensures.goes
+
+pub returns-then-self-eq0-clause-dials : goal.returns-then-self-eq0-clause-dials
+returns-then-self-eq0-clause-dials g c = keeps_none _ _
+
+pub returns-in-Ok-true-clause-dials : goal.returns-in-Ok-true-clause-dials
+returns-in-Ok-true-clause-dials g c = record { same = refl; only = c.redial.ensures.dials }
+
+pub returns-in-Ok-false-clause-dials : goal.returns-in-Ok-false-clause-dials
+returns-in-Ok-false-clause-dials g c = record { same = ap (λ (s : Session). s.port) c.lose.ensures; only = c.redial.ensures.dials }
+
+pub returns-in-Err-clause-dials : goal.returns-in-Err-clause-dials
+returns-in-Err-clause-dials g c = record { same = refl; only = c.redial.ensures.dials }

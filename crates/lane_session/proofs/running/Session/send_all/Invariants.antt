@@ -2,6 +2,7 @@ use Rattle.std.proofs.Common.{◌≤◌}
 use Rattle.world_model.specs.Told.{Relates}
 use Rattle.lane_session.specs.Bonds.{CoreGoes}
 use Rattle.lane_session.specs.Running.{Quietly, Sends, dues}
+use Rattle.lane_session.specs.Ports.{KeepsPort}
 use Rattle.lane_session.proofs.running.Session.send_all.Given as goal
 
 abbrev pub invariant-sending : goal.invariant-sending
@@ -9,6 +10,7 @@ invariant-sending g l = record {
   sends : Sends l.fn.self l.self;
   goes : Relates (g.L.Link.told l.fn.link) (g.L.Link.told l.link) Quietly;
   core : Relates (g.L.Link.told l.fn.link) (g.L.Link.told l.link) (CoreGoes l.fn.self l.self);
+  dials : KeepsPort l.fn.self.port l.self.port (g.L.Link.told l.fn.link) (g.L.Link.told l.link);
   honest : g.L.Link.honest l.fn.link → g.L.Link.honest l.link;
 }
 

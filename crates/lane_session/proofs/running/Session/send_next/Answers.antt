@@ -7,6 +7,8 @@ use Rattle.lane_session.proofs.Quiets.{quiet_tells}
 use Rattle.lane_session.proofs.Reaching.{core-sends-none, core-sends, core-sends-fails, core-unmade}
 use Rattle.lane_session.proofs.Sounds.{all-sent, fewer-due}
 use Rattle.lane_session.proofs.Sendings.{sends-core, sends-fails}
+use Rattle.link_dials.proofs.Dialing.{dials_sent}
+use Rattle.lane_session.proofs.Ports.{keeps_none, fails_port}
 use Rattle.lane_session.proofs.running.Session.send_next.Goals as goal
 
 pub returns-in_default-clause-sends : goal.returns-in_default-clause-sends
@@ -65,3 +67,17 @@ pub returns-in-Err-Memory-clause-core : goal.returns-in-Err-Memory-clause-core
 returns-in-Err-Memory-clause-core g c =
     let r = rw c.in-Err-Memory.field-0-is at c.in-Err-Memory.ensures in
     relates_call _ _ [] _ (λ a b p. core-unmade c.args.self.now a b p) r.told
+
+pub returns-in_default-clause-dials : goal.returns-in_default-clause-dials
+returns-in_default-clause-dials g c = keeps_none _ _
+
+pub returns-in-Ok-clause-dials : goal.returns-in-Ok-clause-dials
+returns-in-Ok-clause-dials g c = record { same = refl; only = dials_sent c.args.self.now.port _ _ _ c.send.result c.send.ensures.told }
+
+pub returns-in-Err-Failed-clause-dials : goal.returns-in-Err-Failed-clause-dials
+returns-in-Err-Failed-clause-dials g c =
+    let mid : Session = record c.args.self.now { core = c.next_send.follows.lender-at-none; counts = c.count.new.self } in
+    record { same = fails_port mid c.fail.new.self c.fail.ensures; only = dials_sent c.args.self.now.port _ _ _ c.send.result c.send.ensures.told }
+
+pub returns-in-Err-Memory-clause-dials : goal.returns-in-Err-Memory-clause-dials
+returns-in-Err-Memory-clause-dials g c = record { same = refl; only = dials_sent c.args.self.now.port _ _ _ c.send.result c.send.ensures.told }

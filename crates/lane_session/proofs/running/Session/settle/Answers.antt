@@ -4,6 +4,7 @@ use Rattle.lane_session.proofs.Passing.{passes_then, passes_same}
 use Rattle.lane_session.proofs.Reaching.{core-same}
 use Rattle.lane_session.proofs.Stepping.{lessens-tries, rests-tries, went-on, went-not}
 use Rattle.lane_session.proofs.Turning.{goes-none, goes-then-on, goes-then-off}
+use Rattle.lane_session.proofs.Ports.{keeps_none, keeps_then}
 use Rattle.lane_session.proofs.running.Session.settle.Goals as goal
 
 pub settling-init : goal.settling-init
@@ -11,6 +12,7 @@ settling-init g c = record {
   held = c.requires.held;
   less = omega arith;
   goes = passes_same _ _ _ _ (λ h. goes-none c.args.script.now c.args.self.now c.args.self.now h refl refl (core-same c.args.self.now h));
+  dials = keeps_none _ _;
   honest = λ x. x;
   later = omega arith;
 }
@@ -27,6 +29,7 @@ settling-preserved g c =
       held = r.held;
       less = let t = lessens-tries c.args.script.now c.settling.self c.step_one.new.self l in let before = i.less in omega (arith, t, before);
       goes = passes_then _ _ _ _ _ _ _ _ _ _ _ _ (λ u v x y h k m p q. goes-then-on c.args.script.now c.args.self.now c.settling.self c.step_one.new.self u v x y h k m p q) i.goes r.goes;
+      dials = keeps_then _ _ _ _ _ _ i.dials r.dials;
       honest = λ x. r.honest (i.honest x);
       later = let a = i.later in let b = r.later in omega (arith, a, b);
     }
@@ -51,3 +54,9 @@ returns-in-Err-clause-goes g c =
 
 pub returns-in-Err-clause-cause : goal.returns-in-Err-clause-cause
 returns-in-Err-clause-cause g c = caused-later Bool (Unit {0}) c.in-Err.halt _ _ _ c.settling.invariant.later c.in-Err.ensures.cause
+
+pub returns-then-not-went-clause-dials : goal.returns-then-not-went-clause-dials
+returns-then-not-went-clause-dials g c = keeps_then _ _ _ _ _ _ c.settling.invariant.dials c.in-Ok.ensures.dials
+
+pub returns-in-Err-clause-dials : goal.returns-in-Err-clause-dials
+returns-in-Err-clause-dials g c = keeps_then _ _ _ _ _ _ c.settling.invariant.dials c.in-Err.ensures.dials

@@ -3,6 +3,7 @@ use Rattle.lane_session.specs.Going.{GoesOn}
 use Rattle.lane_session.specs.Holding.{IsHeld, tries_left}
 use Rattle.lane_session.specs.Places.{lines_left}
 use Rattle.lane_session.specs.Streams.{Passes}
+use Rattle.lane_session.specs.Ports.{KeepsPort}
 use Rattle.lane_session.proofs.running.Session.settle.Given as goal
 
 abbrev pub invariant-settling : goal.invariant-settling
@@ -10,6 +11,7 @@ invariant-settling g l = record {
   held : IsHeld l.script l.self;
   less : tries_left l.self ≤ tries_left l.fn.self;
   goes : Passes (g.C.Clock.readings l.fn.clock) (g.C.Clock.readings l.clock) (g.L.Link.told l.fn.link) (g.L.Link.told l.link) (g.K.Sink.written l.fn.out) (g.K.Sink.written l.out) (GoesOn l.script l.fn.self l.self);
+  dials : KeepsPort l.fn.self.port l.self.port (g.L.Link.told l.fn.link) (g.L.Link.told l.link);
   honest : g.L.Link.honest l.fn.link → g.L.Link.honest l.link;
   later : g.K.Sink.faults l.fn.out ≤ g.K.Sink.faults l.out;
 }

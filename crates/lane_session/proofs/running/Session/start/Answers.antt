@@ -1,6 +1,7 @@
-use Rattle.std.proofs.Common.{subst}
+use Rattle.std.proofs.Common.{refl, subst}
 use Rattle.op_machines.specs.Fits.{Fits}
 use Rattle.lane_session.proofs.Starting.{start-none, start-now, start-cut}
+use Rattle.lane_session.proofs.Ports.{keeps_none, dials_notes}
 use Rattle.lane_session.proofs.running.Session.start.Goals as goal
 
 pub returns-in_default-clause-goes : goal.returns-in_default-clause-goes
@@ -16,3 +17,15 @@ returns-in-Err-clause-goes g c = start-cut _ _ _ _ c.args.lane c.args.line c.arg
 
 pub returns-in-Ok-note_beginning-clause-fits : goal.returns-in-Ok-note_beginning-clause-fits
 returns-in-Ok-note_beginning-clause-fits g c = subst Fits c.in-Ok.ensures.is c.in-Ok.ensures.fits
+
+pub returns-in_default-clause-dials : goal.returns-in_default-clause-dials
+returns-in_default-clause-dials g c = keeps_none _ _
+
+pub returns-in_default-copy-clause-dials : goal.returns-in_default-copy-clause-dials
+returns-in_default-copy-clause-dials g c = keeps_none _ _
+
+pub returns-in-Ok-note_beginning-clause-dials : goal.returns-in-Ok-note_beginning-clause-dials
+returns-in-Ok-note_beginning-clause-dials g c = record { same = refl; only = dials_notes c.args.self.now.port _ _ _ _ _ _ _ c.note_beginning.ensures.goes.is }
+
+pub returns-in-Err-clause-dials : goal.returns-in-Err-clause-dials
+returns-in-Err-clause-dials g c = record { same = refl; only = dials_notes c.args.self.now.port _ _ _ _ _ _ _ c.note_beginning.ensures.goes.is }

@@ -4,6 +4,7 @@ use Rattle.lane_session.proofs.Passing.{passes_then, passes_same}
 use Rattle.lane_session.proofs.Reaching.{core-same}
 use Rattle.lane_session.proofs.Stepping.{lane-went-on, lane-went-not, quiet-more, rests-then}
 use Rattle.lane_session.proofs.Turning.{goes-none, goes-then-on, goes-then-off}
+use Rattle.lane_session.proofs.Ports.{keeps_none, keeps_then}
 use Rattle.lane_session.proofs.running.Session.step_one.Goals as goal
 
 pub loop-index-init : goal.loop-index-init
@@ -14,6 +15,7 @@ loop-index-init g c = record {
   lines = omega arith;
   quiet = λ n lt. absurd (omega (arith, lt));
   goes = passes_same _ _ _ _ (λ h. goes-none c.args.script.now c.args.self.now c.args.self.now h refl refl (core-same c.args.self.now h));
+  dials = keeps_none _ _;
   honest = λ x. x;
   later = omega arith;
 }
@@ -30,6 +32,7 @@ loop-index-preserved g c =
       lines = let a = s.lines in let b = i.lines in omega (arith, a, b);
       quiet = quiet-more c.args.script.now c.loop-index.index c.loop-index.self c.step.new.self s i.quiet;
       goes = passes_then _ _ _ _ _ _ _ _ _ _ _ _ (λ u v x y h k m p q. goes-then-on c.args.script.now c.args.self.now c.loop-index.self c.step.new.self u v x y h k m p q) i.goes r.goes;
+      dials = keeps_then _ _ _ _ _ _ i.dials r.dials;
       honest = λ x. r.honest (i.honest x);
       later = let a = i.later in let b = r.later in omega (arith, a, b);
     }
@@ -56,3 +59,9 @@ returns-clause-steps g c =
     let i = c.loop-index.invariant in
     let whole : c.loop-index.index ≡ 16 = omega (arith, c.loop-index-test.false, c.loop-index.auto.index-end) in
     record { core = i.core; tries = i.tries; lines = i.lines; quiet = λ n lt. i.quiet n (omega (arith, lt, whole)) }
+
+pub returns-then-went-clause-dials : goal.returns-then-went-clause-dials
+returns-then-went-clause-dials g c = keeps_then _ _ _ _ _ _ c.loop-index.invariant.dials c.in-Ok.ensures.dials
+
+pub returns-in-Err-clause-dials : goal.returns-in-Err-clause-dials
+returns-in-Err-clause-dials g c = keeps_then _ _ _ _ _ _ c.loop-index.invariant.dials c.in-Err.ensures.dials

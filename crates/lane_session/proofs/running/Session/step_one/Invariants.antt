@@ -3,6 +3,7 @@ use Rattle.lane_session.specs.Going.{GoesOn}
 use Rattle.lane_session.specs.Holding.{IsHeld, IsQuiet, SameTries}
 use Rattle.lane_session.specs.Places.{lines_left}
 use Rattle.lane_session.specs.Streams.{Passes}
+use Rattle.lane_session.specs.Ports.{KeepsPort}
 use Rattle.lane_session.proofs.running.Session.step_one.Given as goal
 
 abbrev pub invariant-loop-index : goal.invariant-loop-index
@@ -13,6 +14,7 @@ invariant-loop-index g l = record {
   lines : lines_left (length l.script) l.self.lanes ≤ lines_left (length l.script) l.fn.self.lanes;
   quiet : (n : ℕ) → n < l.index → IsQuiet l.script l.self n;
   goes : Passes (g.C.Clock.readings l.fn.clock) (g.C.Clock.readings l.clock) (g.L.Link.told l.fn.link) (g.L.Link.told l.link) (g.K.Sink.written l.fn.out) (g.K.Sink.written l.out) (GoesOn l.script l.fn.self l.self);
+  dials : KeepsPort l.fn.self.port l.self.port (g.L.Link.told l.fn.link) (g.L.Link.told l.link);
   honest : g.L.Link.honest l.fn.link → g.L.Link.honest l.link;
   later : g.K.Sink.faults l.fn.out ≤ g.K.Sink.faults l.out;
 }

@@ -4,7 +4,8 @@ use Rattle.lane_session.proofs.Outcomes.{ok-map, only-memory}
 use Rattle.lane_session.proofs.Passing.{passes_then, passes_link}
 use Rattle.lane_session.proofs.Reaching.{relates-both}
 use Rattle.lane_session.proofs.Trying.{exchanged-held, none-over}
-use Rattle.lane_session.proofs.Turning.{goes-turned, cut-turned, goes-after}
+use Rattle.lane_session.proofs.Turning.{IsWaiting, goes-turned, cut-turned, goes-after}
+use Rattle.lane_session.proofs.Ports.{keeps_then}
 use Rattle.lane_session.proofs.running.Session.turn.Goals as goal
 
 pub exchange-requires : goal.exchange-requires
@@ -19,14 +20,20 @@ returns-in-Ok-clause-less g c = ok-map c.settle.result _ _ (λ le. let l = c.in-
 pub returns-in-Ok-clause-goes : goal.returns-in-Ok-clause-goes
 returns-in-Ok-clause-goes g c =
     let x = c.in-Ok.ensures.exchanges in
+    let w : IsWaiting c.args.script.now c.args.self.now = record { asked = c.requires.asked; sixteen = c.requires.held.seated.sixteen; quiet = c.requires.quiet } in
     passes_then _ _ _ _ _ _ _ _ _ _ _ _ (λ u v y z h k m p q. goes-after c.args.script.now c.args.self.now c.exchange.new.self c.settle.new.self c.settle.result u v y z h k m p q)
-    (passes_link _ _ _ _ _ _ (λ h k q. goes-turned c.args.script.now c.args.self.now c.exchange.new.self h k x.lines.lanes x.lines.status q.0 q.1)
+    (passes_link _ _ _ _ _ _ (λ h k q. goes-turned c.args.script.now c.args.self.now c.exchange.new.self h k w x.lines.lanes x.lines.status q.0 q.1)
     (relates-both _ _ _ _ c.in-Ok.ensures.goes c.in-Ok.ensures.core))
     c.settle.ensures.goes
 
 pub returns-in-Err-clause-goes : goal.returns-in-Err-clause-goes
-returns-in-Err-clause-goes g c = passes_link _ _ _ _ _ _ (λ h k q. cut-turned c.args.script.now c.args.self.now c.in-Err.halt h k c.requires.held.seated.sixteen q.0 q.1)
+returns-in-Err-clause-goes g c =
+    let w : IsWaiting c.args.script.now c.args.self.now = record { asked = c.requires.asked; sixteen = c.requires.held.seated.sixteen; quiet = c.requires.quiet } in
+    passes_link _ _ _ _ _ _ (λ h k q. cut-turned c.args.script.now c.args.self.now c.in-Err.halt h k w q.0 q.1)
     (relates-both _ _ _ _ c.in-Err.ensures.goes c.in-Err.ensures.core)
 
 pub returns-in-Err-clause-cause : goal.returns-in-Err-clause-cause
 returns-in-Err-clause-cause g c = only-memory {T = Unit {0}} (Err c.in-Err.halt) (Rose (g.K.Sink.faults c.args.out.now) (g.K.Sink.faults c.args.out.now)) c.in-Err.ensures.only
+
+pub returns-in-Ok-clause-dials : goal.returns-in-Ok-clause-dials
+returns-in-Ok-clause-dials g c = keeps_then _ _ _ _ _ _ c.in-Ok.ensures.dials c.settle.ensures.dials

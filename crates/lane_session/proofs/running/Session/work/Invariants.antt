@@ -2,6 +2,7 @@ use Rattle.std.proofs.Common.{◌≤◌, length}
 use Rattle.lane_session.specs.Going.{GoesOn}
 use Rattle.lane_session.specs.Holding.{IsHeld, AreQuiet, tries_left}
 use Rattle.lane_session.specs.Streams.{Passes}
+use Rattle.lane_session.specs.Ports.{KeepsPort}
 use Rattle.lane_session.proofs.running.Session.work.Given as goal
 
 abbrev pub invariant-working : goal.invariant-working
@@ -9,6 +10,7 @@ invariant-working g l = record {
   held : IsHeld l.script l.self;
   quiet : AreQuiet l.script l.self;
   goes : Passes (g.C.Clock.readings l.fn.clock) (g.C.Clock.readings l.clock) (g.L.Link.told l.fn.link) (g.L.Link.told l.link) (g.K.Sink.written l.fn.out) (g.K.Sink.written l.out) (GoesOn l.script l.fn.self l.self);
+  dials : KeepsPort l.fn.self.port l.self.port (g.L.Link.told l.fn.link) (g.L.Link.told l.link);
   honest : g.L.Link.honest l.fn.link → g.L.Link.honest l.link;
   later : g.K.Sink.faults l.fn.out ≤ g.K.Sink.faults l.out;
 }
