@@ -59,9 +59,11 @@ script_of_list() {
     echo "1 list $1"
 }
 
-through_nfs3() {
-    "$nfs3" run 127.0.0.1 /srv --uid 0 --gid 0 --mount-port "$mount_port" --nfs-port "$nfs_port" <"$work/script" >/dev/null
-}
+# With memory kept as bin/nfs3 keeps it.
+through_nfs3() (
+    . "$here/../../bin/heap.sh"
+    exec "$nfs3" run 127.0.0.1 /srv --uid 0 --gid 0 --mount-port "$mount_port" --nfs-port "$nfs_port" <"$work/script" >/dev/null
+)
 
 through_libnfs() {
     "$work/libnfs_work" "$(server_url '')" "$@"

@@ -50,10 +50,10 @@ session() {
     count $? "the script '$1' comes to: $status $(cat "$work/said")"
 }
 
-# The five calls of a put are MNT, FSINFO, LOOKUP, WRITE and COMMIT.
+# The six calls of a put are MNT, FSINFO, LOOKUP, GETATTR, WRITE and COMMIT.
 try_a_put() {
     printf 'file /a 6869\n' >"$work/schedule"
-    serve 5 "$work/schedule"
+    serve 6 "$work/schedule"
     session '1 put /a 0 6a6b6c' '1 1 ok' 0
     ended 0
 }
@@ -91,7 +91,7 @@ try_an_empty_export() {
 # A connection on which nothing comes is closed after 15 seconds, and the next one is served.
 try_a_silent_connection() {
     printf 'file /a 6869\n' >"$work/schedule"
-    serve 5 "$work/schedule"
+    serve 6 "$work/schedule"
     exec 7<>"/dev/tcp/127.0.0.1/$port"
     (
         sleep 16
@@ -112,17 +112,17 @@ comes_to() {
     count $? "$4 comes to: $said"
 }
 
-# A standard stream that is closed at the start is a fault once it is needed, and no connection takes its place. The four
-# calls of a put without a mount are FSINFO, LOOKUP, WRITE and COMMIT.
+# A standard stream that is closed at the start is a fault once it is needed, and no connection takes its place. The five
+# calls of a put without a mount are FSINFO, LOOKUP, GETATTR, WRITE and COMMIT.
 try_closed_streams() {
     local put=("$nfs3" run 127.0.0.1 --root 0000000000000001 --nfs-port "$port")
     printf 'file /a 6869\n' >"$work/schedule"
     printf '1 put /a 0 6a6b6c' >"$work/script"
-    serve 4 "$work/schedule"
+    serve 5 "$work/schedule"
     "${put[@]}" <"$work/script" 2>"$work/said" >&-
     comes_to 5 'nfs3: write fault' $? 'a put without standard output'
     ended 0
-    serve 4 "$work/schedule"
+    serve 5 "$work/schedule"
     "${put[@]}" <"$work/script" >"$work/said" 2>&-
     comes_to 0 '1 1 ok' $? 'a put without standard error'
     ended 0
@@ -152,7 +152,7 @@ try_stopped_processes() {
     local client reply
     printf 'file /a 6869\n' >"$work/schedule"
     printf '1 put /a 0 6a6b6c' >"$work/script"
-    serve 5 "$work/schedule"
+    serve 6 "$work/schedule"
     kill -STOP "$server"
     "$nfs3" run 127.0.0.1 /srv --mount-port "$port" --nfs-port "$port" <"$work/script" >"$work/said" 2>&1 &
     client=$!
@@ -188,13 +188,13 @@ mount_over_tcp="00000001 $getport 000186a5 00000003 00000006 00000000"
 nfs_over_tcp="00000002 $getport 000186a3 00000003 00000006 00000000"
 nfs_over_udp="00000003 $getport 000186a3 00000003 00000011 00000000"
 
-# The server is its own port mapper. After its answer for NFS the connection is closed, and the five calls of a put are
+# The server is its own port mapper. After its answer for NFS the connection is closed, and the six calls of a put are
 # answered over the next one.
 try_a_port_mapper() {
     local reply shown
     shown=$(printf '%08x' "$port")
     printf 'file /a 6869\n' >"$work/schedule"
-    serve 7 "$work/schedule"
+    serve 8 "$work/schedule"
     exec 7<>"/dev/tcp/127.0.0.1/$port"
     reply=$(ask "80000038 $mount_over_tcp" 32)
     [ "$reply" = " 8000001c 00000001 00000001 00000000 00000000 00000000 00000000 $shown" ]
