@@ -4,9 +4,10 @@ use Rattle.std.proofs.lemmas.List.{length_push}
 use Rattle.std.proofs.lemmas.List.Elements.{All-set}
 use Rattle.rpc_retry.specs.Held.{Held, next_xid}
 use Rattle.rpc_retry.specs.Waiting.{made_call}
-use Rattle.rpc_message.specs.Call.{SpellsCallHead}
-use Rattle.rpc_retry.specs.Put.{check_of, call_head, call_bytes, AnswersPut}
-use Rattle.rpc_retry.specs.declared.answers.PutRefusal.{PutRefusal}
+use Rattle.rpc_message.specs.Call.{SpellsCallHead, call_head_bytes}
+use Rattle.xdr_codec.specs.Spells.{Wrote}
+use Rattle.rpc_retry.specs.Sound.{IsRecord}
+use Rattle.rpc_retry.specs.Put.{check_of, call_head, call_bytes}
 use Rattle.rpc_retry.specs.Held.{KeepsSettings}
 use Rattle.rpc_message.specs.declared.cred.Cred.{Cred}
 use Rattle.world_model.specs.Messages.{SpellsArguments}
@@ -33,7 +34,7 @@ use Rattle.client_core.specs.Lanes.{LaneFits, StateFits}
 use Rattle.client_core.specs.View.{View, has_room, turn_at, unmade_turn, IsBound, IsSound}
 use Rattle.client_core.specs.Between.{Awaits, AwaitsCall, AwaitsRefusal}
 use Rattle.client_core.specs.StepLaws.{StepLaws}
-use Rattle.client_core.specs.Steps.{IsBusyAt, with_state, put_view, PutsCall, Makes, IsUnmade, IsRefused, Refuses, Asks, EndsAs, Leads}
+use Rattle.client_core.specs.Steps.{IsBusyAt, with_state, put_view, PutsCall, IsRecordOf, SpellsCall, Makes, IsUnmade, IsRefused, Refuses, Asks, EndsAs, Leads}
 use Rattle.client_core.proofs.Numbers.{set-lanes}
 use Rattle.client_core.proofs.Places.{all-at, set-twice, same-number, same-machine}
 
@@ -168,16 +169,32 @@ held-made old new made calls s m c =
     ∙ ap (λ (x : ℕ). held old.first_xid old.limit old.cred x new.calls) m
     ∙ ap (λ (x : List (ℕ × Waiting Purpose)). held old.first_xid old.limit old.cred made x) c
 
--- a call that may be made gets the next xid
-pub xid-next : (h : Held Purpose) (xid : ℕ) → check_of h ≡ Ok tt → AnswersPut h (check_of h) (Ok xid) → xid ≡ next_xid h
-xid-next h xid may answers = subst (λ (r : Result (Unit {0}) PutRefusal). AnswersPut h r (Ok xid)) may answers
+-- a call that may be made, made by its record
+pub puts-record : (v : View) (purpose : Purpose) (bytes : List ℕ) (calls : Held Purpose) → KeepsSettings v.calls calls → calls.made ≡ v.calls.made + 1
+    → calls.calls ≡ v.calls.calls ++ (next_xid v.calls, made_call bytes purpose) ∷ [] → (args : List ℕ) → IsRecordOf v purpose.proc args bytes → PutsCall v purpose args (record v { calls = calls; moments = v.moments + 1 })
+puts-record v purpose bytes calls s m c args r = record {
+  spelled = r.spelled;
+  is = ap (λ (h : Held Purpose). record v { calls = h; moments = v.moments + 1 }) (held-made v.calls calls _ _ s m (c ∙ ap (λ (b : List ℕ). v.calls.calls ++ (next_xid v.calls, made_call b purpose) ∷ []) r.is));
+}
 
-pub puts-call : (v : View) (purpose : Purpose) (args : List ℕ) (calls : Held Purpose) (xid : ℕ) → xid ≡ next_xid v.calls
-    → SpellsCallHead (call_head xid NFS_PROGRAM purpose.proc) args (call_bytes v.calls.cred xid NFS_PROGRAM purpose.proc args) → KeepsSettings v.calls calls → calls.made ≡ v.calls.made + 1
-    → calls.calls ≡ v.calls.calls ++ (next_xid v.calls, made_call (call_bytes v.calls.cred (next_xid v.calls) NFS_PROGRAM purpose.proc args) purpose) ∷ [] → PutsCall v purpose args (record v { calls = calls; moments = v.moments + 1 })
-puts-call v purpose args calls xid xid_is spelled s m c = record {
-  spelled = subst (λ (x : ℕ). SpellsCallHead (call_head x NFS_PROGRAM purpose.proc) args (call_bytes v.calls.cred x NFS_PROGRAM purpose.proc args)) xid_is spelled;
-  is = ap (λ (h : Held Purpose). record v { calls = h; moments = v.moments + 1 }) (held-made v.calls calls _ _ s m c);
+-- what was written behind the head of a call
+pub spells-call : (v : View) (proc : ℕ) (call : Call) (head bytes : List ℕ) → head ≡ call_head_bytes (call_head (next_xid v.calls) NFS_PROGRAM proc) v.calls.cred
+    → ((args : List ℕ) → SpellsCallHead (call_head (next_xid v.calls) NFS_PROGRAM proc) args (call_bytes v.calls.cred (next_xid v.calls) NFS_PROGRAM proc args))
+    → Wrote (SpellsArguments call) head bytes → SpellsCall v proc call bytes
+spells-call v proc call head bytes head_is spelled w = record {
+  args = w.text;
+  spells = w.spells;
+  of = record { is = w.is ∙ ap (λ (h : List ℕ). h ++ w.text) head_is; spelled = spelled w.text };
+}
+
+-- it is a record as the calls take it
+pub is-record : (v : View) (proc : ℕ) (call : Call) (bytes : List ℕ) → SpellsCall v proc call bytes → IsRecord v.calls.cred (next_xid v.calls) bytes
+is-record v proc call bytes s = record {
+  prog = NFS_PROGRAM;
+  proc = proc;
+  args = s.args;
+  is = s.of.is;
+  spells = subst (λ (b : List ℕ). SpellsCallHead (call_head (next_xid v.calls) NFS_PROGRAM proc) s.args b) (sym s.of.is) s.of.spelled;
 }
 
 abbrev purpose_of : ℕ → ℕ → Turn → Purpose

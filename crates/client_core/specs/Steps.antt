@@ -56,6 +56,17 @@ put_view v purpose args = record v {
   moments = v.moments + 1;
 }
 
+-- these bytes are the record of a call of NFS under the next xid, of this procedure and with these arguments
+pub record IsRecordOf (v : View) (proc : ℕ) (args bytes : List ℕ) : Type 0 where
+  pub is : bytes ≡ call_bytes v.calls.cred (next_xid v.calls) NFS_PROGRAM proc args
+  pub spelled : SpellsCallHead (call_head (next_xid v.calls) NFS_PROGRAM proc) args (call_bytes v.calls.cred (next_xid v.calls) NFS_PROGRAM proc args)
+
+-- the same with the arguments of a call
+pub record SpellsCall (v : View) (proc : ℕ) (call : Call) (bytes : List ℕ) : Type 0 where
+  pub args : List ℕ
+  pub spells : SpellsArguments call args
+  pub of : IsRecordOf v proc args bytes
+
 -- its record is that of a call of this procedure
 pub record PutsCall (old : View) (purpose : Purpose) (args : List ℕ) (new : View) : Type 0 where
   pub spelled : SpellsCallHead (call_head (next_xid old.calls) NFS_PROGRAM purpose.proc) args

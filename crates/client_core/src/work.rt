@@ -1,9 +1,10 @@
 //! What the core works on, step by step.
 
-ghost use Rattle.std.specs.Prelude.{◌≡◌, ◌≤◌, ◌<◌, ◌+◌, ◌-◌, ◌++◌, ◌∷◌, [], ◌^◌, true, Ok, length, IfOk, IfErr, IfSome, OnOk, OnErr, option_map, ℕ};
+ghost use Rattle.std.specs.Prelude.{◌≡◌, ◌≤◌, ◌<◌, ◌+◌, ◌-◌, ◌++◌, ◌∷◌, [], ◌^◌, true, Ok, length, IfOk, IfErr, IfSome, OnOk, OnErr, option_map, ℕ, List};
 ghost use Rattle.std.specs.Borrow.{sem};
 ghost use Rattle.rpc_retry.specs.Held.{next_xid};
 ghost use Rattle.rpc_retry.specs.Put.{check_of};
+ghost use Rattle.rpc_retry.specs.Sound.{IsRecord};
 ghost use Rattle.client_shelf.specs.Coming.{reply_of};
 ghost use Rattle.client_shelf.specs.Spelling.{IsSpellable};
 ghost use Rattle.file_ops.specs.Ready.{IsReady};
@@ -19,7 +20,7 @@ ghost use Rattle.client_core.specs.Lanes.{is_busy_at, IsAt, waits};
 ghost use Rattle.client_core.specs.Numbers.{AreLanes, IsIdle};
 ghost use Rattle.client_core.specs.View.{IsBound, IsSound, turn_at, unmade_turn, has_room};
 ghost use Rattle.client_core.specs.Between.{AwaitsRefusal, AwaitsCall, Awaits};
-ghost use Rattle.client_core.specs.Steps.{IsBusyAt, StartsLane, StirsIf, StirsOne, Leads, Asks, Makes, PutsCall, IsUnmade, Refuses, IsSpent, EndsAs, TakesAt, TakesCall, counted, Moves, Still, Begins, Hears, HearsOwn, IsSaid, SendsBy, FailsBy, AnswersBy, lost};
+ghost use Rattle.client_core.specs.Steps.{IsBusyAt, StartsLane, StirsIf, StirsOne, Leads, Asks, Makes, PutsCall, IsRecordOf, SpellsCall, IsUnmade, Refuses, IsSpent, EndsAs, TakesAt, TakesCall, counted, Moves, Still, Begins, Hears, HearsOwn, IsSaid, SendsBy, FailsBy, AnswersBy, lost};
 ghost use Rattle.xdr_codec.specs.Spells.{Wrote};
 
 use crate::lane::{Lane, Purpose, State, busy_at, lose_all, over_at};
@@ -440,7 +441,7 @@ impl Work {
     {
         self.may_make()?;
         let proc = procedure_of(call);
-        let Ok(args) = arguments_of(self.alloc, call) else {
+        let Ok(bytes) = self.spell(proc, call) else {
             return Err(Fault::Memory);
         };
         let purpose = Purpose {
@@ -448,19 +449,30 @@ impl Work {
             proc,
             sent: turn,
         };
-        self.put(purpose, args.bytes())
+        self.put(purpose, bytes)
     }
 
-    /// A call with these arguments waits for a purpose.
-    fn put(&mut self, purpose: Purpose, args: &[u8]) -> Result<(), Fault>
+    /// The record of a call of this procedure under the next xid. Its arguments are written behind its head, and not copied.
+    fn spell(&self, proc: u32, call: &Call) -> Result<Blob, Memory>
+        requires { IsSpellable call.now }
+        ensures { IfOk result (SpellsCall self.now proc call.now) }
+    {
+        let mut writer = self.calls.begin(NFS_PROGRAM, proc)?;
+        write_arguments(&mut writer, call)?;
+        Ok(writer.finish())
+    }
+
+    /// The call of a record waits for a purpose.
+    fn put(&mut self, purpose: Purpose, bytes: Blob) -> Result<(), Fault>
         requires bound { IsBound self.old }
         requires may { check_of self.old.calls ≡ Ok tt }
-        ensures ok { OnOk result (PutsCall self.old purpose args.now self.new) }
+        requires spelled { IsRecord self.old.calls.cred (next_xid self.old.calls) bytes }
+        ensures ok { OnOk result ((args : List ℕ) → IsRecordOf self.old purpose.proc args bytes → PutsCall self.old purpose args self.new) }
         ensures fault { IfErr result (λ fault. fault ≡ faults.Memory) }
         ensures err { OnErr result (self.new ≡ self.old) }
     {
         self.calls.is_sound();
-        let Ok(_xid) = self.calls.put(NFS_PROGRAM, purpose.proc, args, purpose) else {
+        let Ok(_xid) = self.calls.put_record(bytes, purpose) else {
             return Err(Fault::Memory);
         };
         self.moments += 1;
@@ -519,16 +531,6 @@ fn procedure_of(call: &Call) -> u32
         Call::Dir(call) => dir_proc(call),
         Call::Mount(call) => mount_proc(call),
     }
-}
-
-/// The arguments of a call.
-fn arguments_of(alloc: Global, call: &Call) -> Result<Blob, Memory>
-    requires { IsSpellable call.now }
-    ensures { IfOk result (SpellsArguments call.now) }
-{
-    let mut writer = Writer::new(alloc);
-    write_arguments(&mut writer, call)?;
-    Ok(writer.finish())
 }
 
 /// Appends the arguments of a call.

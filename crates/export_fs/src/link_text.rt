@@ -4,7 +4,7 @@ ghost use Rattle.std.specs.Prelude.{◌≡◌, ◌≤◌, length, IfOk};
 
 use std::alloc::Global;
 use std::marker::Model;
-use xdr_codec::{Blob, Memory};
+use xdr_codec::Memory;
 
 /// The most bytes of the text of a symbolic link.
 pub(crate) const MOST_TEXT: usize = 1024;
@@ -12,7 +12,7 @@ pub(crate) const MOST_TEXT: usize = 1024;
 /// The text of a symbolic link, at most 1,024 bytes: what a READLINK can answer (RFC 1813, section 3.3.5).
 #[derive(Drop)]
 pub(crate) struct LinkText {
-    text: Blob,
+    text: Vec<u8>,
 }
 
 impl Model for LinkText {
@@ -20,9 +20,9 @@ impl Model for LinkText {
 
     ghost Value = { List ℕ };
 
-    ghost view = { λ t. t.text };
+    ghost view = { λ t. t.text.items };
 
-    ghost invariant = { λ t. length t.text ≤ 1024 };
+    ghost invariant = { λ t. length t.text.items ≤ 1024 };
 }
 
 impl LinkText {
@@ -31,7 +31,8 @@ impl LinkText {
         requires { length bytes.now ≤ 1024 }
         ensures { IfOk result (λ t. t ≡ bytes.now) }
     {
-        let text = Blob::copy(alloc, bytes)?;
+        let mut text = Vec::new(alloc);
+        text.extend_from_slice(bytes)?;
         Ok(LinkText { text })
     }
 
@@ -40,6 +41,6 @@ impl LinkText {
         ensures same { result.now ≡ self.now }
         ensures fits { length self.now ≤ 1024 }
     {
-        self.text.bytes()
+        self.text.as_slice()
     }
 }

@@ -8,4 +8,5 @@ pub mod Stories
 pub mod Steps
 pub mod GivenUp
 pub mod Apart
+pub mod Putting
 pub mod Rows

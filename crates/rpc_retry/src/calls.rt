@@ -2,9 +2,9 @@
 
 ghost use Rattle.std.specs.Prelude.{◌≡◌, ◌+◌, ◌-◌, ◌≤◌, ◌^◌, length, [], ◌∷◌, ◌++◌, OnOk, OnErr, IfOk, option_map, List, ℕ};
 ghost use Rattle.std.specs.Borrow.{sem};
-ghost use Rattle.rpc_message.specs.Call.{xid_at, SpellsCallHead};
+ghost use Rattle.rpc_message.specs.Call.{xid_at, call_head_bytes, SpellsCallHead};
 ghost use Rattle.rpc_retry.specs.Held.{Held, next_xid, KeepsSettings};
-ghost use Rattle.rpc_retry.specs.Sound.{IsSound};
+ghost use Rattle.rpc_retry.specs.Sound.{IsRecord, IsSound};
 ghost use Rattle.rpc_retry.specs.Waiting.{made_call, first_due, sent, first_given_up};
 ghost use Rattle.rpc_retry.specs.Put.{check_of, AnswersPut, call_head, call_bytes};
 ghost use Rattle.rpc_retry.specs.Take.{Takes, after_taking, IfDropped};
@@ -135,8 +135,39 @@ impl<P: Drop> Calls<P> {
         ensures err { OnErr result (self.new ≡ self.old) }
     {
         self.check()?;
-        let xid = self.next_xid();
         let bytes = self.spell(prog, proc, args)?;
+        self.put_record(bytes, purpose)
+    }
+
+    /// The record of the next call, up to its arguments: they are appended to it, and `put_record` takes it.
+    pub fn begin(&self, prog: u32, proc: u32) -> Result<Writer, Memory>
+        ensures head { IfOk result (λ w. w ≡ call_head_bytes (call_head (next_xid self.now) prog proc) self.now.cred) }
+        ensures spelled { OnOk result ((args : List ℕ) → SpellsCallHead (call_head (next_xid self.now) prog proc) args (call_bytes self.now.cred (next_xid self.now) prog proc args)) }
+    {
+        let head = CallHead {
+            xid: self.next_xid(),
+            prog,
+            vers: PROGRAM_VERSION,
+            proc,
+        };
+        let mut record = Writer::new(self.alloc);
+        write_call(&mut record, &head, &self.cred)?;
+        Ok(record)
+    }
+
+    /// As `put`, of a call whose record is spelled already: it is taken as it is, and not copied.
+    pub fn put_record(&mut self, bytes: Blob, purpose: P) -> Result<u32, PutFault>
+        requires spelled { IsRecord self.old.cred (next_xid self.old) bytes }
+        ensures answer { AnswersPut self.old (check_of self.old) result }
+        ensures settings { KeepsSettings self.old self.new }
+        ensures made { OnOk result (self.new.made ≡ self.old.made + 1) }
+        ensures calls { OnOk result (self.new.calls ≡ self.old.calls ++ (next_xid self.old, made_call bytes purpose) ∷ []) }
+        ensures records { KeepsRecords self.old self.new.calls }
+        ensures step { IfOk result (λ xid. DoesMake self.old xid bytes self.new) }
+        ensures err { OnErr result (self.new ≡ self.old) }
+    {
+        self.check()?;
+        let xid = self.next_xid();
         self.calls.insert(xid, Waiting::new(bytes, purpose))?;
         self.made += 1;
         Ok(xid)
@@ -210,14 +241,7 @@ impl<P: Drop> Calls<P> {
         ensures bytes { IfOk result (λ bytes. bytes ≡ call_bytes self.now.cred (next_xid self.now) prog proc args.now) }
         ensures spelled { IfOk result (λ bytes. SpellsCallHead (call_head (next_xid self.now) prog proc) args.now bytes) }
     {
-        let head = CallHead {
-            xid: self.next_xid(),
-            prog,
-            vers: PROGRAM_VERSION,
-            proc,
-        };
-        let mut record = Writer::new(self.alloc);
-        write_call(&mut record, &head, &self.cred)?;
+        let mut record = self.begin(prog, proc)?;
         record.raw(args)?;
         Ok(record.finish())
     }

@@ -18,7 +18,7 @@ pub fn payload(alloc: Global, hex: &[u8]) -> Result<Option<Blob>, Memory>
         return Ok(None);
     }
     match hex::decode(alloc, hex) {
-        Ok(bytes) => Ok(Some(Blob::of(bytes))),
+        Ok(bytes) => Ok(Some(Blob::shared(alloc, bytes)?)),
         Err(FromHexError::OutOfMemory) => Err(Memory),
         Err(_) => Ok(None),
     }

@@ -9,6 +9,7 @@ mod event;
 mod fate;
 mod happening;
 mod held;
+mod kept;
 mod manner;
 mod plan;
 mod procedures;

@@ -18,6 +18,7 @@ ghost use Rattle.world_link.specs.View.{served};
 use crate::broken::Broken;
 use crate::directive::{PartialWrite, RequestId};
 use crate::held::Held;
+use crate::kept::Kept;
 use crate::manner::{Manner, PLAIN};
 use crate::refused::refused_by;
 use export_fs::{Export, handles_fit};
@@ -40,7 +41,7 @@ pub(crate) struct Server {
     /// Beside some of the entries, how their WRITEs broke off.
     pub(crate) partials: Vec<Broken>,
     /// The records that were sent, by their names.
-    pub(crate) sent: BTreeMap<RequestId, Blob>,
+    pub(crate) sent: BTreeMap<RequestId, Kept>,
     /// The replies that are ready, the first one first.
     pub(crate) ready: VecDeque<Blob>,
     /// The replies that wait for turns, in order of transmission.

@@ -12,6 +12,7 @@ ghost use Rattle.world_link.specs.View.{seen, served};
 
 use crate::directive::RequestId;
 use crate::fate::Fate;
+use crate::kept::Kept;
 use crate::plan::Plan;
 use crate::server::Server;
 use crate::tally::{NONE_YET, RequestCounts};
@@ -279,8 +280,8 @@ impl Server {
         ensures room { self.new.entries ≡ self.old.entries }
         ensures err { OnErr result (served self.new ≡ served self.old) }
     {
-        let bytes = Blob::copy(self.alloc, rec)?;
-        self.sent.insert(name, bytes)?;
+        let kept = Kept::copy(self.alloc, rec)?;
+        self.sent.insert(name, kept)?;
         Ok(())
     }
 }

@@ -40,6 +40,7 @@ pub mod Searching
 pub mod Sending
 pub mod SendingOne
 pub mod SendsOn
+pub mod Shared
 pub mod Showing
 pub mod Sizes
 pub mod Splitting

@@ -1,6 +1,6 @@
 -- A piece that is put in flight, among the pending bytes of all files.
 use Rattle.std.proofs.Common.{◌≡◌, ◌<◌, ◌≤◌, ℕ, ◌+◌, ◌-◌, Bool, true, false, List, [], ◌∷◌, ◌++◌, length, suc, Option, Some, None, Result, Ok, refl, sym, ap, ◌∙◌, subst, ◌⊎◌, inl, inr, arith, nat_cmp}
-use Rattle.std.specs.Prelude.{slice_get, slice_index, if◌then◌else◌}
+use Rattle.std.specs.Prelude.{IsSomeAnd, slice_get, slice_index, if◌then◌else◌}
 use Rattle.std.specs.Cmp.Lexicographic.{slice_cmp}
 use Rattle.std.specs.Map.{lookup, set_value}
 use Rattle.std.specs.BTreeMap.{BTreeMap, WritesThrough}
@@ -11,10 +11,10 @@ use Rattle.write_back.specs.declared.piece.Piece.{Piece}
 use Rattle.write_back.specs.declared.state.State.TheVariants.{Waiting}
 use Rattle.write_back.specs.declared.state.Ready.TheVariants.{Unsent}
 use Rattle.write_back.specs.Segments.{Segments, covers}
-use Rattle.write_back.specs.Pieces.{Sent, FilePending, last_of, rest_at, fly_at, pending_of, piece_under}
+use Rattle.write_back.specs.Pieces.{Sent, FilePending, last_of, bytes_sent, rest_at, fly_at, pending_of, piece_under}
 use Rattle.write_back.specs.Choice.{chosen, some_go, piece_of, with_sent, IsPut}
 use Rattle.write_back.specs.Places.{PutsInFlight, PutsBytes}
-use Rattle.write_back.specs.Files.{Pending, of_file, OnFile, with_bytes, PutsPiece, ShowsPiece, ShowsSent, IsFree, IsCounted}
+use Rattle.write_back.specs.Files.{Pending, of_file, OnFile, with_bytes, PutsPiece, ShowsBytes, ShowsPiece, ShowsSent, IsFree, IsCounted}
 use Rattle.write_back.specs.Sound.{IsSound}
 use Rattle.write_back.proofs.Keys.{past-range, before-range}
 use Rattle.write_back.proofs.Sending.{IsNext, next-is, puts-sent, sound-sent, room-sent}
@@ -43,6 +43,14 @@ shows-some xid upto [] old new file shown some puts shows = absurd cc
 shows-some xid upto (e ∷ run) old new file shown some puts shows =
     let last : last_of (of_file file new).pieces ≡ Some (piece_of xid e (e ∷ run)) = ap (λ (z : FilePending). last_of z.pieces) puts.0.here ∙ last-append (of_file file old).pieces (piece_of xid e (e ∷ run)) in
     subst (λ o. ShowsSent o shown) last shows
+
+-- what is shown has the bytes of the piece that was sent last
+pub shown-last : (xid upto : ℕ) (run : Segments) (old new : Pending) (file : List ℕ) (shown : Option Piece) (piece : Piece) → PutsPiece xid upto run old new file → ShowsPiece xid run shown → shown ≡ Some piece → bytes_sent (last_of (of_file file new).pieces) ≡ piece.bytes.now
+shown-last xid upto [] old new file shown piece puts shows is = let k : None ≡ Some piece = sym shows ∙ is in absurd cc
+shown-last xid upto (e ∷ run) old new file shown piece puts shows is =
+    let last : last_of (of_file file new).pieces ≡ Some (piece_of xid e (e ∷ run)) = ap (λ (z : FilePending). last_of z.pieces) puts.0.here ∙ last-append (of_file file old).pieces (piece_of xid e (e ∷ run)) in
+    let here : ShowsBytes (piece_of xid e (e ∷ run)) piece = subst (λ s. IsSomeAnd s (ShowsBytes (piece_of xid e (e ∷ run)))) is shows in
+    ap bytes_sent last ∙ sym here.bytes
 
 -- it is sound, with as many bytes
 abbrev pub HasAsMany : FilePending → FilePending → Type 0

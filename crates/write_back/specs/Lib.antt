@@ -14,3 +14,4 @@ pub mod Ages
 pub mod Waits
 pub mod Cursor
 pub mod Numbers
+pub mod Runs

@@ -67,6 +67,11 @@ overlaps pieces low high = list_any (λ piece. nat_lt piece.offset high && nat_l
 abbrev pub last_of : List Sent → Option Sent
 last_of pieces = slice_get pieces (length pieces - 1)
 
+-- the bytes of a piece, none of none
+abbrev pub bytes_sent : Option Sent → List ℕ
+bytes_sent None = []
+bytes_sent (Some piece) = piece.bytes
+
 -- the piece in flight under an xid
 abbrev pub piece_under : ℕ → List Sent → Option Sent
 piece_under xid [] = None

@@ -17,6 +17,7 @@ mod change;
 mod file_bytes;
 mod in_flight;
 mod piece;
+mod run;
 mod segment;
 mod segment_map;
 mod sent;

@@ -1,17 +1,18 @@
 //! Bytes of a file that stand next to each other and came by one write.
 
-ghost use Rattle.std.specs.Prelude.{◌≡◌, ◌^◌, ◌<◌, ◌≤◌, length, IfOk};
+ghost use Rattle.std.specs.Prelude.{◌≡◌, ◌^◌, ◌<◌, ◌≤◌, length, take, IfOk};
 ghost use Rattle.write_back.specs.Segments.{head_of, tail_of, with_state, own_size};
 
+use crate::run::Run;
 use crate::state::State;
 use std::alloc::Global;
 use std::marker::Model;
 use xdr_codec::Memory;
 
 /// Bytes of a file that stand next to each other and came by one write.
-#[derive(Debug, Drop)]
+#[derive(Drop)]
 pub struct Segment {
-    bytes: Vec<u8>,
+    bytes: Run,
     number: u64,
     state: State,
 }
@@ -21,7 +22,7 @@ impl Model for Segment {
 
     ghost Value = { Segment };
 
-    ghost view = { λ s. record { bytes = s.bytes.items; number = s.number; state = s.state } };
+    ghost view = { λ s. record { bytes = s.bytes; number = s.number; state = s.state } };
 }
 
 impl Segment {
@@ -29,10 +30,8 @@ impl Segment {
     pub fn copy(alloc: Global, bytes: &[u8], number: u64, state: State) -> Result<Segment, Memory>
         ensures { IfOk result (λ s. s ≡ record { bytes = bytes.now; number = number; state = state }) }
     {
-        let mut own = Vec::new(alloc);
-        own.extend_from_slice(bytes)?;
         Ok(Segment {
-            bytes: own,
+            bytes: Run::copy(alloc, bytes)?,
             number,
             state,
         })
@@ -42,7 +41,7 @@ impl Segment {
     pub fn bytes(&self) -> &[u8]
         ensures { result.now ≡ self.now.bytes }
     {
-        self.bytes.as_slice()
+        self.bytes.bytes()
     }
 
     /// How many bytes it has.
@@ -83,15 +82,26 @@ impl Segment {
     pub fn shorten(&mut self, len: usize)
         ensures { self.new ≡ head_of len self.old }
     {
-        self.bytes.truncate(len);
+        self.bytes.shorten(len);
     }
 
-    /// A copy of its bytes from a place on.
+    /// Its first bytes, which aren't copied.
+    pub fn head(&self, len: usize) -> Result<Run, Memory>
+        ensures { IfOk result (λ r. r ≡ take len self.now.bytes) }
+    {
+        self.bytes.head(len)
+    }
+
+    /// Its bytes from a place on.
     pub fn tail(&self, alloc: Global, from: usize) -> Result<Segment, Memory>
         requires { from ≤ length self.now.bytes }
         ensures { IfOk result (λ s. s ≡ tail_of from self.now) }
     {
-        Segment::copy(alloc, &self.bytes[from..], self.number, self.state)
+        Ok(Segment {
+            bytes: self.bytes.tail(alloc, from)?,
+            number: self.number,
+            state: self.state,
+        })
     }
 
     /// Something else became of it.

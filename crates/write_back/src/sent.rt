@@ -1,14 +1,16 @@
 //! A piece in flight: what was sent under an xid.
 
-ghost use Rattle.std.specs.Prelude.{◌≡◌, ◌+◌, ◌^◌, ◌<◌, ◌++◌, [], ◌∷◌, length, IfOk, OnOk, OnErr};
+ghost use Rattle.std.specs.Prelude.{◌≡◌, ◌+◌, ◌^◌, ◌<◌, ◌≤◌, ◌++◌, [], ◌∷◌, length, IfOk, OnOk, OnErr};
+ghost use Rattle.std.specs.Vec.{vec_capacity};
 ghost use Rattle.write_back.specs.Pieces.{end_of_sent, overlaps};
 ghost use Rattle.write_back.specs.Segments.{head_of};
 
+use crate::run::{Run, Runs};
 use crate::segment::Segment;
 use crate::state::{Ready, State};
 use std::alloc::Global;
 use std::marker::Model;
-use xdr_codec::Memory;
+use xdr_codec::{Blob, Memory};
 
 /// A part of a piece: bytes of one segment.
 #[derive(Clone, Copy, Debug)]
@@ -21,14 +23,14 @@ pub struct Part {
     pub before: Ready,
 }
 
-/// The bytes that were sent under an xid, and the parts that they came from, in order. It has its bytes of its own, so
-/// that they stay as they were sent when newer bytes are written over them. It begins below 2^63.
+/// The bytes that were sent under an xid, and the parts that they came from, in order. They stay as they were sent when
+/// newer bytes are written over them. It begins below 2^63.
 #[derive(Drop)]
 pub struct SentPiece {
     xid: u32,
     offset: u64,
     how: u32,
-    bytes: Vec<u8>,
+    bytes: Runs,
     parts: Vec<Part>,
 }
 
@@ -38,7 +40,7 @@ impl Model for SentPiece {
 
     ghost Value = { Sent };
 
-    ghost view = { λ p. record { xid = p.xid; offset = p.offset; how = p.how; bytes = p.bytes.items; parts = p.parts.items } };
+    ghost view = { λ p. record { xid = p.xid; offset = p.offset; how = p.how; bytes = p.bytes; parts = p.parts.items } };
 
     ghost invariant = { λ p. p.offset < 2 ^ 63 };
 }
@@ -53,7 +55,7 @@ impl SentPiece {
             xid,
             offset,
             how,
-            bytes: Vec::new(alloc),
+            bytes: Runs::new(alloc),
             parts: Vec::new(alloc),
         }
     }
@@ -83,7 +85,16 @@ impl SentPiece {
     pub fn bytes(&self) -> &[u8]
         ensures { result.now ≡ self.now.bytes }
     {
-        self.bytes.as_slice()
+        self.bytes.bytes()
+    }
+
+    /// The bytes as a blob, in room that was taken for them where they have to be copied.
+    pub fn blob(&self, alloc: Global, room: Vec<u8>) -> Blob
+        requires empty { room.items ≡ [] }
+        requires fits { length self.now.bytes ≤ vec_capacity room }
+        ensures { result ≡ self.now.bytes }
+    {
+        self.bytes.blob(alloc, room)
     }
 
     /// The parts that they came from, in order.
@@ -116,12 +127,13 @@ impl SentPiece {
     }
 
     /// Takes bytes of one segment after those that it has. After an error it isn't to be used.
-    pub fn take(&mut self, bytes: &[u8], number: u64, before: Ready) -> Result<(), Memory>
-        ensures { OnOk result (self.new ≡ record { xid = self.old.xid; offset = self.old.offset; how = self.old.how; bytes = self.old.bytes ++ bytes.now; parts = self.old.parts ++ record { size = length bytes.now; number = number; before = before } ∷ [] }) }
+    pub fn take(&mut self, bytes: Run, number: u64, before: Ready) -> Result<(), Memory>
+        ensures { OnOk result (self.new ≡ record { xid = self.old.xid; offset = self.old.offset; how = self.old.how; bytes = self.old.bytes ++ bytes; parts = self.old.parts ++ record { size = length bytes; number = number; before = before } ∷ [] }) }
     {
-        self.bytes.extend_from_slice(bytes)?;
+        let size = bytes.len() as u64;
+        self.bytes.add(bytes)?;
         self.parts.push(Part {
-            size: bytes.len() as u64,
+            size,
             number,
             before,
         })?;

@@ -106,9 +106,8 @@ fn goes_on(at: u64, segment: &Segment, how: u32, room: usize, upto: u64, sent: &
 fn take_from(piece: &mut SentPiece, segment: &Segment, room: usize) -> Result<(), Memory>
     ensures { OnOk result (piece.new ≡ with_run piece.old ((end_of_sent piece.old, head_of room segment.now) ∷ [])) }
 {
-    let size = segment.bytes().len().min(room);
     piece.take(
-        &segment.bytes()[..size],
+        segment.head(room)?,
         segment.number(),
         segment.state().ready(),
     )

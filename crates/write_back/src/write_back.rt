@@ -2,11 +2,13 @@
 
 ghost use Rattle.std.specs.Prelude.{◌≡◌, ◌↔◌, ◌+◌, ◌-◌, ◌^◌, ◌<◌, ◌≤◌, ℕ, List, [], Err, None, IsOk, IsSome, IsTrue, length, OnOk, OnErr, IfOk, IfSome};
 ghost use Rattle.std.specs.Borrow.{sem};
+ghost use Rattle.std.specs.Option.{option_map};
+ghost use Rattle.std.specs.Vec.{vec_capacity};
 ghost use Rattle.write_back.specs.declared.piece.AddFault.TheVariants.{Full};
 ghost use Rattle.write_back.specs.declared.change.Change.TheVariants as by;
 ghost use Rattle.write_back.specs.Segments.{shown, last_end};
 ghost use Rattle.write_back.specs.Changes.{count_all_changed};
-ghost use Rattle.write_back.specs.Pieces.{nothing, last_of, piece_under};
+ghost use Rattle.write_back.specs.Pieces.{nothing, last_of, bytes_sent, piece_under};
 ghost use Rattle.write_back.specs.Choice.{chosen, some_go};
 ghost use Rattle.write_back.specs.Effects.{IsAnswer, IsOfHeld};
 ghost use Rattle.write_back.specs.Sound.{IsSound, most_pending};
@@ -24,7 +26,7 @@ use nfs_types::{Handle, Verf};
 use std::alloc::Global;
 use std::collections::BTreeMap;
 use std::marker::Model;
-use xdr_codec::Memory;
+use xdr_codec::{Blob, Memory};
 
 /// The most bytes that may be pending.
 const MOST: u64 = 4_194_304;
@@ -168,6 +170,26 @@ impl WriteBack {
     {
         let piece = self.files.get(file)?.last_sent()?;
         Some(shown_piece(piece))
+    }
+
+    /// The bytes of the piece of a file that was sent last, none where none was. Those that come of one segment aren't
+    /// copied where they can be shared, else they are into room that was taken for them.
+    pub fn last_bytes(&self, file: &Handle, room: Vec<u8>) -> Blob
+        requires empty { room.items ≡ [] }
+        requires fits { length (bytes_sent (last_of (of_file file.now self.now).pieces)) ≤ vec_capacity room }
+        ensures { result ≡ bytes_sent (last_of (of_file file.now self.now).pieces) }
+    {
+        match self.last_piece(file) {
+            Some(piece) => piece.blob(self.alloc, room),
+            None => Blob::of(room),
+        }
+    }
+
+    /// The piece of a file that was sent last, with its parts.
+    fn last_piece(&self, file: &Handle) -> Option<&SentPiece>
+        ensures { option_map (λ p. p.now) result ≡ last_of (of_file file.now self.now).pieces }
+    {
+        self.files.get(file)?.last_sent()
     }
 
     /// The piece of a file that is in flight under an xid. None where there is none.

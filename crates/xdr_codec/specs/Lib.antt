@@ -5,3 +5,4 @@ pub mod Spells
 pub mod Lists
 pub mod Arms
 pub mod Whole
+pub mod Blobs

@@ -10,5 +10,5 @@ returns-then-is_empty c = no_payload _ (elim c.then-is_empty.branch [
   | then-is_empty-via-else-is_empty+then-hex w ↦ inr (omega (arith, w.if-hex.true))
 ])
 
-pub returns-in-Ok : goal.returns-in-Ok
-returns-in-Ok c = ap (λ bytes. Some bytes) c.of.ensures ∙ payload_from c.args.hex.now c.in-Ok.bytes.items c.in-Ok.ensures.ok (grind (arith, c.if-is_empty.ensures)) (omega (arith, c.if-hex.false))
+pub returns-in_ok-shared-in-Ok : goal.returns-in_ok-shared-in-Ok
+returns-in_ok-shared-in-Ok c = ap (λ bytes. Some bytes) c.in_ok-shared-in-Ok.ensures ∙ payload_from c.args.hex.now c.in-Ok.bytes.items c.in-Ok.ensures.ok (grind (arith, c.if-is_empty.ensures)) (omega (arith, c.if-hex.false))

@@ -1,32 +1,22 @@
-use Rattle.std.proofs.Common.{◌∙◌, sym, ap, subst, refl}
-use Rattle.rpc_retry.specs.Sound.{IsSound}
-use Rattle.rpc_retry.specs.Waiting.{made_call}
-use Rattle.rpc_retry.proofs.Order.{sound_inside, put_calls}
-use Rattle.rpc_retry.proofs.Steps.{does_make}
-use Rattle.rpc_retry.proofs.Records.{keeps_same, keeps_made}
+use Rattle.std.proofs.Common.{sym, subst, ℕ, List}
+use Rattle.rpc_message.specs.Call.{SpellsCallHead}
+use Rattle.rpc_retry.specs.Held.{next_xid}
+use Rattle.rpc_retry.specs.Put.{call_head, AnswersPut}
+use Rattle.rpc_retry.proofs.Putting.{spelled_by, calls_by, step_by}
 use Rattle.rpc_retry.proofs.calls.Calls.put.Goals as goal
 
-pub invariant_of-self-2 : goal.invariant_of-self-2
-invariant_of-self-2 g c =
-    let sound = subst IsSound c.self.view_is c.self.invariant in
-    let calls = put_calls c.args.self.now c.self.inside.calls.entries _ _ _ _ sound.each (ap (λ h. h.calls) c.self.view_is) c.in_ok-insert.ensures.entries c.next_xid-xid.ensures c.new.ensures in
-    sound_inside _ c.args.self.now c.insert.new.self.entries c.in_ok-bytes.bytes c.args.purpose c.self.view_is (record { prog = c.args.prog; proc = c.args.proc; args = c.args.args.now; is = c.in_ok-bytes.ensures.bytes; spells = c.in_ok-bytes.ensures.spelled }) c.self.invariant (sym c.in_ok-check.ensures) calls
+pub put_record-requires : goal.put_record-requires
+put_record-requires g c =
+    record { spelled = record { prog = c.args.prog; proc = c.args.proc; args = c.args.args.now; is = c.in_ok-bytes.ensures.bytes; spells = c.in_ok-bytes.ensures.spelled } }
 
 pub returns-clause-calls : goal.returns-clause-calls
-returns-clause-calls g c =
-    let sound = subst IsSound c.self.view_is c.self.invariant in
-    put_calls c.args.self.now c.self.inside.calls.entries _ _ _ _ sound.each (ap (λ h. h.calls) c.self.view_is) c.in_ok-insert.ensures.entries c.next_xid-xid.ensures (c.new.ensures ∙ ap (λ b. made_call b c.args.purpose) c.in_ok-bytes.ensures.bytes)
+returns-clause-calls g c = calls_by c.args.self.now c.put_record.new.self c.in_ok-bytes.bytes _ c.args.purpose c.put_record.result c.in_ok-bytes.ensures.bytes c.put_record.ensures.calls
 
-pub returns-in_err-insert-clause-records : goal.returns-in_err-insert-clause-records
-returns-in_err-insert-clause-records g c = keeps_same c.args.self.now c.insert.new.self.entries (c.in_err-insert.ensures.err ∙ ap (λ h. h.calls) c.self.view_is)
-
-pub returns-clause-records : goal.returns-clause-records
-returns-clause-records g c =
-    let sound = subst IsSound c.self.view_is c.self.invariant in
-    keeps_made c.args.self.now c.insert.new.self.entries c.new.result (put_calls c.args.self.now c.self.inside.calls.entries _ _ _ _ sound.each (ap (λ h. h.calls) c.self.view_is) c.in_ok-insert.ensures.entries c.next_xid-xid.ensures refl)
+pub returns-clause-spelled : goal.returns-clause-spelled
+returns-clause-spelled g c =
+    let makes = subst (λ r. AnswersPut c.args.self.now r c.put_record.result) (sym c.in_ok-check.ensures) c.put_record.ensures.answer in
+    let spelled = subst (λ (b : List ℕ). SpellsCallHead (call_head (next_xid c.args.self.now) c.args.prog c.args.proc) c.args.args.now b) c.in_ok-bytes.ensures.bytes c.in_ok-bytes.ensures.spelled in
+    spelled_by c.args.self.now c.args.prog c.args.proc c.args.args.now c.put_record.result makes spelled
 
 pub returns-clause-step : goal.returns-clause-step
-returns-clause-step g c =
-    let sound = subst IsSound c.self.view_is c.self.invariant in
-    does_make _ c.args.self.now c.next_xid-xid.result _ c.args.purpose c.insert.new.self.entries c.self.view_is c.next_xid-xid.ensures
-    (put_calls c.args.self.now c.self.inside.calls.entries _ _ _ _ sound.each (ap (λ h. h.calls) c.self.view_is) c.in_ok-insert.ensures.entries c.next_xid-xid.ensures (c.new.ensures ∙ ap (λ b. made_call b c.args.purpose) c.in_ok-bytes.ensures.bytes))
+returns-clause-step g c = step_by c.args.self.now c.put_record.new.self c.in_ok-bytes.bytes _ c.put_record.result c.in_ok-bytes.ensures.bytes c.put_record.ensures.step

@@ -14,7 +14,7 @@ returns-in_err-happen_all-2-clause-goes c =
 
 pub returns-clause-goes : goal.returns-clause-goes
 returns-clause-goes c =
-    then_goes _ _ _ (then_goes _ _ _ (then_goes _ _ _ (then_goes _ _ _ c.in_ok-copy_all.ensures.goes c.in_ok-happen_all.ensures.goes) c.in_ok-reply.ensures.goes) c.in_ok-happen_all-2.ensures.goes) c.reply.ensures.goes
+    then_goes _ _ _ (then_goes _ _ _ (then_goes _ _ _ (then_goes _ _ _ c.in_ok-copy_all.ensures.goes c.in_ok-happen_all.ensures.goes) c.in_ok-reply.ensures.goes) c.in_ok-happen_all-2.ensures.goes) c.reply-2.ensures.goes
 
 pub returns-in_err-happen_all-clause-stays : goal.returns-in_err-happen_all-clause-stays
 returns-in_err-happen_all-clause-stays c m s = then_stays _ _ _ c.in_ok-copy_all.ensures.stays c.in_err-happen_all.ensures.stays
@@ -34,4 +34,4 @@ returns-clause-stays c m s =
     let two = then_goes _ _ _ c.in_ok-copy_all.ensures.goes c.in_ok-happen_all.ensures.goes in
     let sent = sent_goes _ _ c.args.rec.now two s in
     then_stays _ _ _ (then_stays _ _ _ (then_stays _ _ _ (then_stays _ _ _ c.in_ok-copy_all.ensures.stays c.in_ok-happen_all.ensures.stays) (c.in_ok-reply.ensures.stays m sent)) c.in_ok-happen_all-2.ensures.stays)
-    (c.reply.ensures.stays (answer_goes _ _ c.in_ok-reply.reply c.in_ok-happen_all-2.ensures.goes (c.in_ok-reply.ensures.answers sent)))
+    (c.reply-2.ensures.stays (answer_goes _ _ c.in_ok-reply.reply c.in_ok-happen_all-2.ensures.goes (c.in_ok-reply.ensures.answers sent)))
