@@ -8,6 +8,7 @@ pub mod Nothing
 pub mod Puts
 pub mod SaveEnds
 pub mod Fits
+pub mod Sendings
 pub mod Stills
 pub mod Waits
 pub mod Readies

@@ -1,6 +1,5 @@
 -- Each step of a put leaves what the next step needs.
 use Rattle.std.proofs.Common.{◌≡◌, ◌+◌, ℕ, Bool, true, false, List, Option, Some, Result, Ok, Err, refl, sym, ap, ◌∙◌, inl, inr, subst}
-use Rattle.std.specs.List.{list_any}
 use Rattle.world_model.specs.declared.answer.Fault.{Fault}
 use Rattle.world_model.specs.declared.answer.Fault.TheVariants as faults
 use Rattle.world_model.specs.declared.answer.Value.{Value}
@@ -8,7 +7,7 @@ use Rattle.world_model.specs.declared.answer.Answer.TheVariants as answers
 use Rattle.world_model.specs.declared.message.Reply.{Reply}
 use Rattle.client_shelf.specs.declared.shelf.Shelf.{Shelf}
 use Rattle.client_shelf.specs.declared.turn.Turn.{Turn}
-use Rattle.client_shelf.specs.LaneFiles.{left, is_first, is_other}
+use Rattle.client_shelf.specs.LaneFiles.{left, is_first}
 use Rattle.client_shelf.specs.declared.next.Next.{Next}
 use Rattle.client_shelf.specs.declared.next.Next.TheVariants as nexts
 use Rattle.file_ops.specs.declared.saving.Saving.{Saving}
@@ -63,7 +62,7 @@ takes-well (writing.Room file saving) wsize machine sent turn came old next new 
 -- ---- the put
 
 put-ends : (xid lane : ℕ) (file : List ℕ) (refusal : Option Fault) (old : Shelf) (next : Next) (state : Putting) (new : Shelf) → puts.Ends lane file refusal old next state new → IsReady xid old.seq old.back → IsReady xid new.seq new.back
-put-ends xid lane file refusal old next state new e r = shelf-ready xid old.seq new (ap (λ s. s.seq) e.others) (gives (list_any (is_other lane file) old.puts) e.back)
+put-ends xid lane file refusal old next state new e r = shelf-ready xid old.seq new (ap (λ s. s.seq) e.others) (gives (puts.keeps_refused lane file old.puts old.order) e.back)
   where
     gives : (b : Bool) → puts.GivesUpAlone b refusal file old.opens old.back new.back → IsReady xid old.seq new.back
     gives true g = same-back xid old.seq old.back new.back g r

@@ -1,6 +1,5 @@
 -- What each step of a save makes of what is pending and of its call, each step of a put makes of it too.
 use Rattle.std.proofs.Common.{◌≡◌, ℕ, Bool, true, false, List, Option, Some, Result, Ok, Err, refl, sym, ap, subst}
-use Rattle.std.specs.List.{list_any}
 use Rattle.world_model.specs.declared.answer.Fault.{Fault}
 use Rattle.world_model.specs.declared.answer.Answer.TheVariants as answers
 use Rattle.world_model.specs.declared.message.Call.{Call}
@@ -8,7 +7,7 @@ use Rattle.world_model.specs.declared.message.Reply.{Reply}
 use Rattle.write_back.specs.Files.{Pending}
 use Rattle.client_shelf.specs.declared.shelf.Shelf.{Shelf}
 use Rattle.client_shelf.specs.declared.turn.Turn.{Turn}
-use Rattle.client_shelf.specs.LaneFiles.{is_first, is_other}
+use Rattle.client_shelf.specs.LaneFiles.{is_first}
 use Rattle.client_shelf.specs.declared.next.Next.{Next}
 use Rattle.client_shelf.specs.declared.next.Next.TheVariants as nexts
 use Rattle.file_ops.specs.declared.saving.Saving.{Saving}
@@ -47,7 +46,7 @@ module _ (wsize : ℕ) (turn : Turn) (P : Pending → Type 0) (M : Saving → Pe
   put-ends : (lane : ℕ) (file : List ℕ) (refusal : Option Fault) (old : Shelf) (next : Next) (state : Putting) (new : PutFile) (after : Shelf)
       → puts.Ends lane file refusal old next state after → P old.back → LeftAs P (PutHas P M) Q next new after.back
   put-ends lane file refusal old next state new after e p = done-left P (PutHas P M) Q (closed_answer refusal) next new after.back after.back e.next_is refl
-      (gives (list_any (is_other lane file) old.puts) e.back)
+      (gives (puts.keeps_refused lane file old.puts old.order) e.back)
     where
       gives : (b : Bool) → puts.GivesUpAlone b refusal file old.opens old.back after.back → P after.back
       gives true g = w.pieces old.back after.back (same-pieces old.back after.back g) p

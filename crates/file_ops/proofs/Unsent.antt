@@ -1,7 +1,6 @@
 -- A step that asks for no call puts nothing in flight.
 use Rattle.std.proofs.Common.{◌≡◌, ◌≢◌, ◌+◌, ◌-◌, ℕ, Bool, true, false, ◌||◌, List, [], ◌∷◌, Option, Some, None, Result, Ok, Err, refl, sym, ap, subst, ◌∙◌, ◌⊎◌, inl, inr}
 use Rattle.std.specs.Prelude.{Contains, nat_lt, nat_le, if◌then◌else◌}
-use Rattle.std.specs.List.{list_any}
 use Rattle.std.proofs.lemmas.List.Elements.{Contains-append_left, Contains-append_right, Contains-append_cases}
 use Rattle.nfs_types.specs.declared.verf.Verf.{Verf}
 use Rattle.nfs_types.specs.declared.wcc.Wcc.{Wcc}
@@ -24,7 +23,7 @@ use Rattle.commit_verf.specs.Decisions.{verdict_of}
 use Rattle.client_shelf.specs.declared.repeats.Repeat.{Repeat}
 use Rattle.client_shelf.specs.declared.shelf.Shelf.{Shelf}
 use Rattle.client_shelf.specs.declared.turn.Turn.{Turn}
-use Rattle.client_shelf.specs.LaneFiles.{left, is_first, is_other}
+use Rattle.client_shelf.specs.LaneFiles.{left, is_first}
 use Rattle.file_ops.specs.declared.judging.WriteTold.{WriteTold}
 use Rattle.file_ops.specs.declared.judging.WriteTold.TheVariants.{Fails}
 use Rattle.client_shelf.specs.declared.next.Next.{Next}
@@ -337,7 +336,7 @@ write-takes xid (writing.Room file saving) wsize machine sent turn came old next
 
 put-ends : (xid lane : ℕ) (file : List ℕ) (refusal : Option Fault) (old : Shelf) (next : Next) (state : Putting) (new : Shelf)
     → puts.Ends lane file refusal old next state new → IsReady xid old.seq old.back → IsReady xid new.seq new.back
-put-ends xid lane file refusal old next state new e r = shelf-ready xid old.seq new (ap (λ (s : Shelf). s.seq) e.others) (gives (list_any (is_other lane file) old.puts) e.back)
+put-ends xid lane file refusal old next state new e r = shelf-ready xid old.seq new (ap (λ (s : Shelf). s.seq) e.others) (gives (puts.keeps_refused lane file old.puts old.order) e.back)
   where
     gives : (b : Bool) → puts.GivesUpAlone b refusal file old.opens old.back new.back → IsReady xid old.seq new.back
     gives true g = same-back xid old.seq old.back new.back g r

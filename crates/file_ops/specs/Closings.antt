@@ -1,6 +1,6 @@
 -- What a close does once what was pending of its file was made stable, or wasn't: the slot is free, a file that was to be removed at
 -- its last close is removed, and bytes that were refused are given up where the file isn't open any more.
-use Rattle.std.specs.Prelude.{◌≡◌, ◌==◌, ℕ, Bool, true, false, not, ◌&&◌, if◌then◌else◌, List, Option, Some, None, Result, Ok, Err, MatchBool}
+use Rattle.std.specs.Prelude.{◌≡◌, ◌≤◌, ◌==◌, ℕ, Bool, true, false, not, ◌&&◌, if◌then◌else◌, List, Option, Some, None, Result, Ok, Err, MatchBool}
 use Rattle.std.specs.FinMap as map
 use Rattle.std.specs.Ordering.{nat_cmp}
 use Rattle.std.specs.Cmp.Lexicographic.{slice_cmp}
@@ -18,7 +18,7 @@ use Rattle.world_model.specs.declared.message.Reply.{Reply}
 use Rattle.world_model.specs.declared.message.Reply.TheVariants as replies
 use Rattle.open_files.specs.Slots.{Opens, IsOpen}
 use Rattle.write_back.specs.Pieces.{nothing}
-use Rattle.write_back.specs.Files.{Pending, OnFile}
+use Rattle.write_back.specs.Files.{Pending, all_pending, OnFile}
 use Rattle.file_ops.specs.Quiet.{is_quiet}
 use Rattle.file_ops.specs.declared.closing.Removal.{Removal}
 
@@ -71,6 +71,7 @@ pub record GivesUp (file : List ℕ) (opens : Opens) (old new : Pending) : Type 
   pub is_open : Bool
   pub told : TellsOpen opens file is_open
   pub back : GivesIf (not is_open && is_quiet file old) file old new
+  pub total : all_pending new ≤ all_pending old
 
 abbrev pub GivesUpBy : Option Fault → List ℕ → Opens → Pending → Pending → Type 0
 GivesUpBy None file opens old new = new ≡ old

@@ -1,11 +1,12 @@
 -- A put, step by step: its file is opened to be written, its bytes become pending as those of a write do, and what is pending of the
 -- file is made stable.
-use Rattle.std.specs.Prelude.{◌≡◌, ℕ, ◌-◌, Bool, true, false, List, Option, Some, Result, Ok, Err}
+use Rattle.std.specs.Prelude.{◌≡◌, ℕ, ◌-◌, Bool, true, false, not, ◌||◌, List, Option, Some, Result, Ok, Err}
 use Rattle.std.specs.List.{list_any}
 use Rattle.world_model.specs.declared.answer.Fault.{Fault}
 use Rattle.world_model.specs.declared.answer.Answer.TheVariants as answers
 use Rattle.world_model.specs.declared.message.Reply.{Reply}
 use Rattle.client_shelf.specs.declared.turn.Turn.{Turn}
+use Rattle.client_shelf.specs.declared.lane_files.LaneFile.{LaneFile}
 use Rattle.client_shelf.specs.declared.shelf.Shelf.{Shelf}
 use Rattle.client_shelf.specs.LaneFiles.{added, left, is_other, is_first}
 use Rattle.open_files.specs.Slots.{Opens}
@@ -43,7 +44,12 @@ pub record Waits (state : Putting) (old : Shelf) (next : Next) (after : Putting)
   pub state_is : after ≡ state
   pub shelf_is : new ≡ old
 
--- Where another put is at the file, its bytes stay; else refused bytes of a file that isn't open are given up.
+-- Refused bytes stay where another put is at the file, or where this one isn't the first in its order: then it wasn't its own save that was refused, but
+-- room for its bytes, and what is pending of the file came from others.
+abbrev pub keeps_refused : ℕ → List ℕ → List LaneFile → List LaneFile → Bool
+keeps_refused lane file places order = list_any (is_other lane file) places || not (is_first lane order)
+
+-- Where they don't stay, refused bytes of a file that isn't open are given up.
 abbrev pub GivesUpAlone : Bool → Option Fault → List ℕ → Opens → Pending → Pending → Type 0
 GivesUpAlone true refusal file opens old new = new ≡ old
 GivesUpAlone false refusal file opens old new = GivesUpBy refusal file opens old new
@@ -52,7 +58,7 @@ GivesUpAlone false refusal file opens old new = GivesUpBy refusal file opens old
 pub record Ends (lane : ℕ) (file : List ℕ) (refusal : Option Fault) (old : Shelf) (next : Next) (state : Putting) (new : Shelf) : Type 0 where
   pub next_is : next ≡ nexts.Done (closed_answer refusal)
   pub state_is : state ≡ Idle
-  pub back : GivesUpAlone (list_any (is_other lane file) old.puts) refusal file old.opens old.back new.back
+  pub back : GivesUpAlone (keeps_refused lane file old.puts old.order) refusal file old.opens old.back new.back
   pub others : new ≡ record old { back = new.back; order = left lane old.order; puts = left lane old.puts }
 
 -- It does as its save does, until that has ended.

@@ -1,6 +1,6 @@
 -- How what is pending of a file is made stable: WRITEs of its bytes, then a COMMIT; what the COMMIT shows to be lost is
 -- sent again (RFC 1813, sections 3.3.7, 3.3.21 and 4.8).
-use Rattle.std.specs.Prelude.{◌≡◌, ◌⊎◌, ℕ, ◌+◌, ◌-◌, ◌==◌, ◌&&◌, nat_lt, Bool, true, false, if◌then◌else◌, List, [], ◌∷◌, take, length, Option, Some, None, is_none, unwrap_or, Result, Ok, Err}
+use Rattle.std.specs.Prelude.{◌≡◌, ◌≤◌, ◌⊎◌, ℕ, ◌+◌, ◌-◌, ◌==◌, ◌&&◌, nat_lt, Bool, true, false, if◌then◌else◌, List, [], ◌∷◌, take, length, Option, Some, None, IfSome, is_none, unwrap_or, Result, Ok, Err}
 use Rattle.nfs_types.specs.declared.verf.Verf.{Verf}
 use Rattle.nfs_types.specs.declared.wcc.Wcc.{Wcc}
 use Rattle.nfs_file_calls.specs.declared.call.FileCall.TheVariants.{Write, Commit}
@@ -18,7 +18,7 @@ use Rattle.write_back.specs.Changes.{lost}
 use Rattle.write_back.specs.Pieces.{Sent, piece_under}
 use Rattle.write_back.specs.Choice.{chosen, piece_of}
 use Rattle.write_back.specs.Landing.{at_xid, landed, landed_part, acked_by, with_xid}
-use Rattle.write_back.specs.Files.{Pending, of_file, OnFile, PutsPiece}
+use Rattle.write_back.specs.Files.{Pending, of_file, all_pending, OnFile, PutsPiece}
 use Rattle.commit_verf.specs.declared.commit.Verdict.{Verdict}
 use Rattle.commit_verf.specs.declared.commit.Verdict.TheVariants.{AllStable, SendAgain}
 use Rattle.commit_verf.specs.Decisions.{decided, verdict_of}
@@ -157,12 +157,24 @@ abbrev pub refused_by : Option Fault → Saving → Saving
 refused_by None s = s
 refused_by (Some fault) s = with_refusal fault s
 
--- A WRITE's reply: the piece lands, and the save goes on.
+-- the server has so many bytes of what was sent
+abbrev pub HasAll : WriteTold → ℕ → Type 0
+HasAll (Done wcc count committed verf) size = size ≤ count
+HasAll (Refused status) size = ⊥
+HasAll (Fails fault) size = ⊥
+
+-- A piece that the server has whole lands without want of memory.
+abbrev pub LandsWhole : WriteTold → Option Sent → Option Fault → Type 0
+LandsWhole told piece refusal = IfSome piece (λ piece. HasAll told (length piece.bytes) → refusal ≡ None)
+
+-- A WRITE's reply: the piece lands, so that no more bytes are pending than before, and the save goes on.
 pub record TakesWrite (wsize asked xid : ℕ) (room : Bool) (told : WriteTold) (s : Saving) (back : Pending) (next : SavingNext) (new : Saving)
     (after : Pending) : Type 0 where
   pub refusal : Option Fault
   pub between : Pending
   pub lands : Lands asked s.file told back between refusal
+  pub whole : LandsWhole told (piece_under asked (of_file s.file back).pieces) refusal
+  pub total : all_pending between ≤ all_pending back
   pub goes : Goes wsize xid room true (refused_by refusal s) between next new after
 
 -- It is done where all is stable; else what may be lost is sent again.
@@ -170,11 +182,12 @@ abbrev pub Decides : Verdict → ℕ → ℕ → Bool → Saving → Pending →
 Decides AllStable wsize xid room s back next new after = Leads (Ended (Ok tt)) s next new × (after ≡ back)
 Decides (SendAgain count) wsize xid room s back next new after = Goes wsize xid room false (record s { phase = Resending }) back next new after
 
--- the reply to a COMMIT that was done
+-- the reply to a COMMIT that was done, after which no more bytes are pending than before
 pub record TakesVerf (wsize xid : ℕ) (room : Bool) (verf : Verf) (s : Saving) (back : Pending) (next : SavingNext) (new : Saving)
     (after : Pending) : Type 0 where
   pub between : Pending
   pub decides : OnFile back between s.file (decided s.upto verf (of_file s.file back))
+  pub total : all_pending between ≤ all_pending back
   pub goes : Decides (verdict_of (lost verf s.upto (of_file s.file back).segments)) wsize xid room s between next new after
 
 abbrev pub TakesCommit : ℕ → ℕ → Bool → Result Verf Fault → Saving → Pending → SavingNext → Saving → Pending → Type 0
@@ -205,10 +218,12 @@ abbrev pub CopiesPiece : Option Sent → List ℕ → Option Call → Type 0
 CopiesPiece None file call = call ≡ None
 CopiesPiece (Some piece) file call = (call ≡ Some (write_of file piece)) ⊎ (call ≡ None)
 
--- The WRITE goes on under another xid with the bytes that it has, or is refused once it was made again too often.
+-- The WRITE goes on under another xid with the bytes that it has, so that as many are pending as before, or is refused once it was made
+-- again too often.
 abbrev pub RepeatsWrite : Bool → ℕ → Turn → Turn → WriteTold → Saving → Pending → SavingNext → Saving → Pending → Type 0
 RepeatsWrite true wsize sent turn told s back next new after =
     Leads (Send (write_of s.file (answered sent.xid s.file back))) s next new × OnFile back after s.file (with_xid sent.xid turn.xid (of_file s.file back))
+    × (all_pending after ≡ all_pending back)
 RepeatsWrite false wsize sent turn told s back next new after = TakesWrite wsize sent.xid turn.xid turn.room told (less_waiting s) back next new after
 
 -- a WRITE's reply from a server that is busy: its bytes are copied once more, if there is memory for that

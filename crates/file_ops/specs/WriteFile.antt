@@ -1,6 +1,6 @@
 -- A write or a fill, step by step: its bytes become pending. Where there is no room for them, the file with the oldest pending byte is
 -- made stable first.
-use Rattle.std.specs.Prelude.{◌≡◌, ◌⊎◌, ℕ, ◌+◌, ◌-◌, List, [], replicate, Bool, true, false, Result, Ok, Err}
+use Rattle.std.specs.Prelude.{◌≡◌, ◌≤◌, ◌⊎◌, ℕ, ◌+◌, ◌-◌, List, [], length, replicate, Bool, true, false, Result, Ok, Err}
 use Rattle.world_model.specs.declared.answer.Fault.{Fault}
 use Rattle.world_model.specs.declared.answer.Fault.TheVariants as faults
 use Rattle.world_model.specs.declared.answer.Answer.TheVariants.{Done as done, Refused as refused}
@@ -9,7 +9,7 @@ use Rattle.client_shelf.specs.declared.repeats.Repeat.{Repeat}
 use Rattle.client_shelf.specs.declared.turn.Turn.{Turn}
 use Rattle.client_shelf.specs.declared.shelf.Shelf.{Shelf}
 use Rattle.client_shelf.specs.LaneFiles.{left, is_first}
-use Rattle.write_back.specs.Files.{Pending, of_file, OnFile, with_bytes, IsNothing, IsOldest}
+use Rattle.write_back.specs.Files.{Pending, of_file, all_pending, OnFile, with_bytes, IsNothing, IsOldest}
 use Rattle.client_shelf.specs.declared.next.Next.{Next}
 use Rattle.client_shelf.specs.declared.next.Next.TheVariants.{Send, Wait, Done}
 use Rattle.file_ops.specs.declared.saving.Saving.{Saving}
@@ -49,10 +49,11 @@ pub record Leads (next : Next) (state : Writing) (shelf : Shelf) (gives : Next) 
 abbrev pub Refuses : Fault → Shelf → Next → Writing → Shelf → Type 0
 Refuses fault shelf next new after = Leads (Done (refused fault)) Idle shelf next new after
 
--- The bytes are pending.
+-- The bytes are pending, and no others that weren't.
 pub record Adds (file : List ℕ) (offset : ℕ) (bytes : List ℕ) (shelf : Shelf) (next : Next) (new : Writing) (after : Shelf) : Type 0 where
   pub leads : Leads (Done (done Nothing)) Idle (counted after.back shelf) next new after
   pub adds : OnFile shelf.back after.back file (with_bytes offset bytes (shelf.seq + 1) (of_file file shelf.back))
+  pub total : all_pending after.back ≤ all_pending shelf.back + length bytes
 
 -- What a step of the save for room leads to. A save that hasn't just taken a reply never ends well.
 abbrev pub room_next : SavingNext → Next

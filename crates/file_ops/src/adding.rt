@@ -2,7 +2,7 @@
 
 ghost use Rattle.std.specs.Prelude.{◌≡◌, ◌↔◌, ◌+◌, ◌-◌, ◌^◌, ◌<◌, ◌≤◌, length, Err, IsTrue, OnOk, OnErr};
 ghost use Rattle.write_back.specs.declared.piece.AddFault.TheVariants.{Full};
-ghost use Rattle.write_back.specs.Files.{of_file, OnFile, with_bytes, IsNewest};
+ghost use Rattle.write_back.specs.Files.{of_file, all_pending, OnFile, with_bytes, IsNewest};
 ghost use Rattle.file_ops.specs.Adding.{counted, is_full};
 
 use client_shelf::Shelf;
@@ -21,6 +21,7 @@ pub(crate) fn add_written(
     requires seq { shelf.old.seq < 2 ^ 63 }
     ensures full { (result ≡ Err Full) ↔ IsTrue (is_full bytes.now shelf.old.back) }
     ensures back { OnOk result (OnFile shelf.old.back shelf.new.back file.now (with_bytes offset bytes.now (shelf.old.seq + 1) (of_file file.now shelf.old.back))) }
+    ensures total { OnOk result (all_pending shelf.new.back ≤ all_pending shelf.old.back + length bytes.now) }
     ensures shelf { OnOk result (shelf.new ≡ counted shelf.new.back shelf.old) }
     ensures err { OnErr result (shelf.new ≡ shelf.old) }
 {

@@ -1,8 +1,9 @@
 //! What a close does after its sync.
 
-ghost use Rattle.std.specs.Prelude.{◌≡◌};
+ghost use Rattle.std.specs.Prelude.{◌≡◌, ◌≤◌};
 ghost use Rattle.client_shelf.specs.Coming.{reply_of};
 ghost use Rattle.nfs_dir_calls.specs.Kept.{kept_of};
+ghost use Rattle.write_back.specs.Files.{all_pending};
 ghost use Rattle.file_ops.specs.Quiet.{is_quiet};
 ghost use Rattle.file_ops.specs.Closings.{TellsPlace, remove_of, removed_by, removed_of, busy_by, remove_busy, GivesIf, GivesUp, GivesUpBy, closed_answer, refusal_of};
 
@@ -117,7 +118,8 @@ fn give_up(file: &Handle, opens: &OpenFiles, back: &mut WriteBack)
 }
 
 fn give_up_quiet(file: &Handle, back: &mut WriteBack)
-    ensures { GivesIf (is_quiet file.now back.old) file.now back.old back.new }
+    ensures back { GivesIf (is_quiet file.now back.old) file.now back.old back.new }
+    ensures total { all_pending back.new ≤ all_pending back.old }
 {
     if is_quiet(back, file) {
         back.give_up(file);

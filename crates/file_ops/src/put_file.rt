@@ -1,9 +1,7 @@
 //! A put: bytes are written to the file of a name, and made stable.
 
 ghost use Rattle.std.specs.Prelude.{◌≡◌, ◌+◌, ◌-◌, ◌^◌, ◌<◌, ◌≤◌, length};
-ghost use Rattle.std.specs.List.{list_any};
 ghost use Rattle.client_shelf.specs.Coming.{reply_of};
-ghost use Rattle.client_shelf.specs.LaneFiles.{is_other};
 ghost use Rattle.world_model.specs.declared.answer.Answer.TheVariants.{Done as WasDone};
 ghost use Rattle.world_model.specs.declared.answer.Value.{Value as Told};
 ghost use Rattle.client_shelf.specs.declared.next.Next.TheVariants.{Done};
@@ -13,7 +11,7 @@ ghost use Rattle.file_ops.specs.Opening.{go_next, go_after};
 ghost use Rattle.file_ops.specs.OpenFile.{goes_as};
 ghost use Rattle.file_ops.specs.WriteFile.{made_bytes};
 ghost use Rattle.file_ops.specs.SlotFiles.{IsUnused};
-ghost use Rattle.file_ops.specs.PutFile.{GivesUpAlone, Ends, Follows, GoesOn, Queues, SavesFile, AfterWrite, TakesOne, not_begun, opening_at, AfterOpening, AddsBytes, TakesOpening, TakesRoom, ResumesRoom, Resumes, Takes};
+ghost use Rattle.file_ops.specs.PutFile.{keeps_refused, GivesUpAlone, Ends, Follows, GoesOn, Queues, SavesFile, AfterWrite, TakesOne, not_begun, opening_at, AfterOpening, AddsBytes, TakesOpening, TakesRoom, ResumesRoom, Resumes, Takes};
 
 use crate::closing::{closed_answer, give_up_by, refusal_of};
 use crate::open_file::going;
@@ -377,6 +375,7 @@ impl PutFile {
             refusal,
             file,
             &shelf.puts,
+            &shelf.order,
             &shelf.opens,
             &mut shelf.back,
         );
@@ -387,18 +386,24 @@ impl PutFile {
     }
 }
 
-/// After a refusal the bytes of a file are given up, where no other put is at it and it isn't open.
+/// After its own save was refused, a put gives the bytes of its file up, where no other put is at it and it isn't open.
+/// A put that isn't the first in the order of its file was refused before: what is pending there isn't its own.
 fn give_up_alone(
     lane: u8,
     refusal: Option<Fault>,
     file: &Handle,
     puts: &LaneFiles,
+    order: &LaneFiles,
     opens: &OpenFiles,
     back: &mut WriteBack,
 )
-    ensures { GivesUpAlone (list_any (is_other lane file.now) puts.now) refusal file.now opens.now back.old back.new }
+    ensures { GivesUpAlone (keeps_refused lane file.now puts.now order.now) refusal file.now opens.now back.old back.new }
 {
-    if !puts.has_other(lane, file) {
-        give_up_by(refusal, file, opens, back);
+    if puts.has_other(lane, file) {
+        return;
     }
+    if !order.is_first(lane) {
+        return;
+    }
+    give_up_by(refusal, file, opens, back);
 }

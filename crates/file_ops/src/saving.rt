@@ -1,18 +1,17 @@
 //! Making stable what is pending of a file.
 
-ghost use Rattle.std.specs.Prelude.{◌≡◌, ◌<◌, ◌≤◌, ◌-◌, [], length, take};
-ghost use Rattle.std.specs.Vec.{vec_capacity};
+ghost use Rattle.std.specs.Prelude.{◌≡◌, ◌<◌, ◌≤◌, ◌-◌, take};
 ghost use Rattle.nfs_file_calls.specs.declared.call.FileCall.TheVariants.{Write};
 ghost use Rattle.world_model.specs.declared.message.Call.TheVariants as calls;
 ghost use Rattle.write_back.specs.Choice.{chosen};
 ghost use Rattle.write_back.specs.Pieces.{piece_under};
-ghost use Rattle.write_back.specs.Files.{of_file, OnFile, IsFree};
+ghost use Rattle.write_back.specs.Files.{of_file, all_pending, OnFile, IsFree};
 ghost use Rattle.client_shelf.specs.Coming.{reply_of};
 ghost use Rattle.commit_verf.specs.Decisions.{decided, verdict_of};
 ghost use Rattle.write_back.specs.Changes.{lost};
 ghost use Rattle.file_ops.specs.Judging.{after_of};
 ghost use Rattle.client_shelf.specs.Learning.{Learns};
-ghost use Rattle.file_ops.specs.Saves.{answered, told_of, pages_told, pages_after, Lands, refused_by, ended_by, TakesWrite, TakesVerf, TakesCommit, Takes, TakesTold, TakesBusy, TakesFirst, last_next, last_saving, commit_again, commit_repeats, commit_of, less_waiting, may_again, told_busy, CopiesPiece, begun, is_sending, is_again, commit_phase, refused_next, may_send, CallsWrite, Sends, Goes, next_sent, saving_sent};
+ghost use Rattle.file_ops.specs.Saves.{answered, told_of, pages_told, pages_after, Lands, LandsWhole, refused_by, ended_by, TakesWrite, TakesVerf, TakesCommit, Takes, TakesTold, TakesBusy, TakesFirst, last_next, last_saving, commit_again, commit_repeats, commit_of, less_waiting, may_again, told_busy, CopiesPiece, begun, is_sending, is_again, commit_phase, refused_next, may_send, CallsWrite, Sends, Goes, next_sent, saving_sent};
 
 use crate::judging::{WriteTold, after_of, commit_told, write_told};
 use attr_cache::AttrCache;
@@ -411,26 +410,12 @@ fn write_call(
     ensures { CallsWrite xid upto file.now (chosen upto wsize (of_file file.now back.old)) back.old back.new result }
 {
     let room = Vec::with_capacity(alloc, wsize as usize)?;
-    match back.next_to_send(file, upto, wsize, xid)? {
-        Some(piece) => {
-            let bytes = copied(piece.bytes, room);
-            Ok(Some(write_of(file, piece.offset, piece.how, bytes)))
-        }
-        None => Ok(None),
-    }
-}
-
-/// These bytes, in room that was taken for them.
-fn copied(bytes: &[u8], room: Vec<u8>) -> Blob
-    requires empty { room.items ≡ [] }
-    requires fits { length bytes.now ≤ vec_capacity room }
-    ensures { result ≡ bytes.now }
-{
-    let mut copy = room;
-    let Ok(()) = copy.extend_from_slice(bytes) else {
-        unreachable!();
+    let Some(piece) = back.next_to_send(file, upto, wsize, xid)? else {
+        return Ok(None);
     };
-    Blob::of(copy)
+    let (offset, how) = (piece.offset, piece.how);
+    let bytes = back.last_bytes(file, room);
+    Ok(Some(write_of(file, offset, how, bytes)))
 }
 
 /// The WRITE of these bytes.
@@ -493,6 +478,7 @@ fn decide_of(file: &Handle, upto: u64, verf: Verf, xid: u32, back: &mut WriteBac
     requires { IsFree xid file.now back.old }
     ensures verdict { result ≡ verdict_of (lost verf upto (of_file file.now back.old).segments) }
     ensures segments { OnFile back.old back.new file.now (decided upto verf (of_file file.now back.old)) }
+    ensures total { all_pending back.new ≤ all_pending back.old }
     ensures free { IsFree xid file.now back.new }
 {
     decide(back, file, upto, verf)
@@ -562,6 +548,8 @@ fn first_bytes(bytes: &[u8], count: u32) -> &[u8]
 fn land(file: &Handle, asked: u32, told: WriteTold, xid: u32, back: &mut WriteBack) -> Option<Fault>
     requires { IsFree xid file.now back.old }
     ensures lands { Lands asked file.now told back.old back.new result }
+    ensures whole { LandsWhole told (piece_under asked (of_file file.now back.old).pieces) result }
+    ensures total { all_pending back.new ≤ all_pending back.old }
     ensures free { IsFree xid file.now back.new }
 {
     match told {

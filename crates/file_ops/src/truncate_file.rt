@@ -5,6 +5,7 @@ ghost use Rattle.client_shelf.specs.Coming.{reply_of};
 ghost use Rattle.file_ops.specs.declared.truncate_file.Truncating.TheVariants.{Idle};
 ghost use Rattle.client_shelf.specs.Busy.{fails_busy};
 ghost use Rattle.client_shelf.specs.Learning.{Learns};
+ghost use Rattle.write_back.specs.Files.{all_pending};
 ghost use Rattle.file_ops.specs.Quiet.{is_quiet};
 ghost use Rattle.file_ops.specs.TruncateFile.{size_call, queued_next, queued_state, started_next, started_state, started_shelf, resumed_next, resumed_state, size_told, attr_told, told_pages, CutsQuiet, CutsBack, ended_shelf, ended_next, ended_state, size_again, took_next, took_state, took_shelf, TookAttrs, TookBack};
 
@@ -103,6 +104,7 @@ impl TruncateFile {
         ensures next { result ≡ took_next self.old.state self.old (reply_of came.now) sent turn shelf.old.repeats }
         ensures machine { self.new ≡ record self.old { state = took_state self.old.state (reply_of came.now) sent turn shelf.old.repeats } }
         ensures back { TookBack self.old.state self.old (reply_of came.now) shelf.old.back shelf.new.back }
+        ensures total { all_pending shelf.new.back ≤ all_pending shelf.old.back }
         ensures attrs { TookAttrs self.old.state (reply_of came.now) sent.now shelf.old.attrs shelf.new.attrs }
         ensures shelf { shelf.new ≡ took_shelf self.old.state self.old (reply_of came.now) sent turn shelf.new.attrs shelf.new.back shelf.old }
     {
@@ -141,6 +143,7 @@ impl TruncateFile {
         ensures next { result ≡ ended_next (size_again (reply_of came.now) sent turn shelf.old.repeats) self.old file.now (reply_of came.now) }
         ensures machine { self.new ≡ record self.old { state = ended_state (size_again (reply_of came.now) sent turn shelf.old.repeats) self.old.state } }
         ensures back { CutsBack (size_told (reply_of came.now)) file.now self.old.size upto shelf.old.back shelf.new.back }
+        ensures total { all_pending shelf.new.back ≤ all_pending shelf.old.back }
         ensures attrs { Learns file.now (attr_told (reply_of came.now)) sent.now shelf.old.attrs shelf.new.attrs }
         ensures shelf { shelf.new ≡ ended_shelf self.old file.now (reply_of came.now) sent turn shelf.new.attrs shelf.new.back shelf.old }
     {
@@ -236,7 +239,8 @@ fn show_size(
 
 /// Pending bytes from the new end on go, where it was set.
 fn cut_pending(back: &mut WriteBack, file: &Handle, told: &Result<Wcc, Fault>, size: u64, upto: u64)
-    ensures { CutsBack told.now file.now size upto back.old back.new }
+    ensures back { CutsBack told.now file.now size upto back.old back.new }
+    ensures total { all_pending back.new ≤ all_pending back.old }
 {
     if told.is_ok() {
         cut_quiet(back, file, size, upto);
@@ -245,7 +249,8 @@ fn cut_pending(back: &mut WriteBack, file: &Handle, told: &Result<Wcc, Fault>, s
 
 /// The same, where nothing of the file is in flight.
 fn cut_quiet(back: &mut WriteBack, file: &Handle, size: u64, upto: u64)
-    ensures { CutsQuiet (is_quiet file.now back.old) file.now size upto back.old back.new }
+    ensures back { CutsQuiet (is_quiet file.now back.old) file.now size upto back.old back.new }
+    ensures total { all_pending back.new ≤ all_pending back.old }
 {
     if is_quiet(back, file) {
         back.cut(file, size, upto);

@@ -1,8 +1,9 @@
 -- The steps of an operation on a file: those of its machine.
-use Rattle.std.specs.Prelude.{◌≡◌, ℕ, Result}
+use Rattle.std.specs.Prelude.{◌≡◌, ◌≤◌, ℕ, Result}
 use Rattle.std.specs.FinMap as finite
 use Rattle.world_model.specs.declared.answer.Fault.{Fault}
 use Rattle.world_model.specs.declared.message.Reply.{Reply}
+use Rattle.write_back.specs.Files.{all_pending}
 use Rattle.client_shelf.specs.declared.shelf.Shelf.{Shelf}
 use Rattle.client_shelf.specs.declared.turn.Turn.{Turn}
 use Rattle.client_shelf.specs.declared.next.Next.{Next}
@@ -145,6 +146,7 @@ pub record TruncateTakes (m : TruncateFile) (sent turn : Turn) (came : Result Re
   pub next_is : next ≡ truncates.took_next m.state m came sent turn old.repeats
   pub machine_is : new ≡ machines.Truncate (record m { state = truncates.took_state m.state came sent turn old.repeats })
   pub back : truncates.TookBack m.state m came old.back after.back
+  pub total : all_pending after.back ≤ all_pending old.back
   pub attrs : truncates.TookAttrs m.state came sent.now old.attrs after.attrs
   pub shelf_is : after ≡ truncates.took_shelf m.state m came sent turn after.attrs after.back old
 
