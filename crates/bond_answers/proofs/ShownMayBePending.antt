@@ -105,7 +105,7 @@ module _ (m : Modes) (origin : Origin) (t : History) (s : Told) (mirrors : Mirro
           uncovered = uncovered;
           uncut = uncut;
           unsettled = unsettled;
-          unleft = unleft;
+          unleft = λ other. unleft;
         }
 
   pub may_be_pending : (last : View) → Reaches s.entries last → ((x : ℕ) → Keeps c last x) → (f : List ℕ) (i v : ℕ) → shown (c.rest (spot f i)) (c.fly (spot f i)) ≡ Some v → Pending m origin t.entries f i (length h) v

@@ -239,7 +239,7 @@ module _ (origin : Origin) (mode : Mode) (path : List (List ℕ)) (attr : Attr) 
     uncovered = λ x y u a k lt. uncovered x y u (after_it x a) k;
     uncut = λ x y size a k le lt. no_truncate mode path x k.lane k.ended.line k.slot size (begun_as x k.lane k.ended.line (ops.Truncate k.slot size) k.ended.began);
     unsettled = λ x y a k lt. unsettled x y k;
-    unleft = λ k a left lt. let e = left.left.ended in no_close mode path left.left.close left.left.lane e.line left.left.slot (begun_as left.left.close left.left.lane e.line (ops.Close left.left.slot) e.began);
+    unleft = λ other k a left lt. let e = left.left.ended in no_close mode path left.left.close left.left.lane e.line left.left.slot (begun_as left.left.close left.left.lane e.line (ops.Close left.left.slot) e.began);
   }
     where
       unrefused : RefusedWrite run 5 → ⊥

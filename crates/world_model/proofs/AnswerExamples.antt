@@ -162,14 +162,14 @@ may_not_come_back terms script status caused = elim (caused.lost 1 0 1 1 2 3 (op
 
 -- no operation goes on from NFS3ERR_ACCES, 13
 may_not_go_on : (terms : Terms) (h : List Entry) (x n : ℕ) (op : Op) (call : Call) → GoesOn terms h x n op call 13 → ⊥
-may_not_go_on terms h x n op call (makes slot path d name is place looks status unmade) = absurd (cc status)
-may_not_go_on terms h x n op call (hides path d last name f attr dir is place hidden looks status gave) = absurd (cc status)
+may_not_go_on terms h x n op call (makes slot path d name is place alone looks status unmade) = absurd (cc status)
+may_not_go_on terms h x n op call (hides path d last name f attr dir is place hidden other alone looks status gave) = absurd (cc status)
 may_not_go_on terms h x n op call (tries_again status few sync) = absurd (cc status)
 
 -- a stat doesn't go on from NFS3ERR_NOENT, 2, whatever an open does that asks for the same LOOKUP
 stat_does_not_go_on : (terms : Terms) (h : List Entry) (x n : ℕ) (path : List (List ℕ)) (d name : List ℕ) → GoesOn terms h x n (ops.Stat path) (look_up d name) 2 → ⊥
-stat_does_not_go_on terms h x n path d name (makes slot p in_ last is place looks status unmade) = absurd (cc is)
-stat_does_not_go_on terms h x n path d name (hides p in_ last hidden_name f attr dir is place hidden looks status gave) = absurd (cc is)
+stat_does_not_go_on terms h x n path d name (makes slot p in_ last is place alone looks status unmade) = absurd (cc is)
+stat_does_not_go_on terms h x n path d name (hides p in_ last hidden_name f attr dir is place hidden other alone looks status gave) = absurd (cc is)
 stat_does_not_go_on terms h x n path d name (tries_again status few sync) = absurd (cc status)
 
 -- a call that was put off three times isn't made again

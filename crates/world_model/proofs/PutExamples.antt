@@ -126,7 +126,7 @@ is_pending = record {
   uncovered = λ x y u a. absurd (never_answered 0 x a);
   uncut = λ x y size a. absurd (never_answered 0 x a);
   unsettled = λ x y a. absurd (never_answered 0 x a);
-  unleft = λ k a. absurd (never_answered 0 k a);
+  unleft = λ other k a. absurd (never_answered 0 k a);
 }
   where
     not_refused : RefusedWrite one_put 0 → ⊥
@@ -164,7 +164,7 @@ pending_until m from h w a i v f lt writes unrefused covers cuts settles leaves 
   uncovered = λ x y u b e soon. omega (arith, covers x y u b e, soon);
   uncut = λ x y size b e low soon. omega (arith, cuts x y size b e, soon);
   unsettled = λ x y b e soon. omega (arith, settles x y b e, soon);
-  unleft = λ k b e soon. omega (arith, leaves k e, soon);
+  unleft = λ other k b e soon. omega (arith, leaves k e, soon);
 }
 
 -- a put is under way at the place 1

@@ -1,5 +1,5 @@
 -- From which refusals an operation goes on.
-use Rattle.std.specs.Prelude.{◌≡◌, ◌≢◌, ◌<◌, ◌≤◌, ◌-◌, ℕ, List, length, All, AllPairs, Option}
+use Rattle.std.specs.Prelude.{◌≡◌, ◌≢◌, ◌<◌, ◌≤◌, ◌-◌, ◌++◌, ℕ, List, [], length, All, AllPairs, Option}
 use Rattle.nfs_types.specs.declared.attr.Attr.{Attr}
 use Rattle.nfs_types.specs.declared.mode.Mode.TheVariants as modes
 use Rattle.world_model.specs.declared.answer.Fault.{Fault}
@@ -12,6 +12,7 @@ use Rattle.world_model.specs.Asks.{look_up, looked_up, create_unchecked}
 use Rattle.world_model.specs.Heard.{Asked, Refused}
 use Rattle.world_model.specs.Hidden.{IsHidden}
 use Rattle.world_model.specs.Messages.{SpellsCall}
+use Rattle.world_model.specs.Mounts.{Origin}
 use Rattle.world_model.specs.PageRules.{RefusedSo}
 use Rattle.world_model.specs.Paths.{PlaceOf}
 use Rattle.world_model.specs.Slots.{NamesFile}
@@ -42,15 +43,19 @@ abbrev pub NoneRefused : List Entry → ℕ → ℕ → List ℕ → Type 0
 NoneRefused h x n f = (call : Call) (fault : Fault) → NamesFile f call → (refused : RefusedSo h x n call fault)
     → (fault ≡ faults.Nfs jukebox) × FewPutOff h x refused.heard.got_at call
 
+-- No name of the path before its last one has this place: its LOOKUP is none by which the path is walked.
+abbrev pub IsNotOnTheWay : Origin → List Entry → ℕ → List (List ℕ) → List ℕ → List ℕ → Type 0
+IsNotOnTheWay origin h n path d name = (front rest : List (List ℕ)) → path ≡ front ++ rest → rest ≢ [] → PlaceOf origin h n front d name → ⊥
+
 -- The operation at the place x goes on where the call is answered at the place n with this status.
 pub data GoesOn (terms : Terms) (h : List Entry) (x n : ℕ) (op : Op) (call : Call) (status : ℕ) : Type 0 where
   -- NFS3ERR_NOENT, 2: an open that may make its file does so, where it hasn't yet
   makes : (slot : ℕ) (path : List (List ℕ)) (d name : List ℕ) → op ≡ ops.OpenFile slot modes.C path → PlaceOf terms.origin h n path d name
-      → call ≡ look_up d name → status ≡ 2 → (MadeWithin h x n (create_unchecked d name) → ⊥)
+      → IsNotOnTheWay terms.origin h n path d name → call ≡ look_up d name → status ≡ 2 → (MadeWithin h x n (create_unchecked d name) → ⊥)
       → GoesOn terms h x n op call status
-  -- and a remove takes a hidden name that is free, once a LOOKUP of its own name gave a file
+  -- and a remove takes a hidden name that is free, and not its own, once a LOOKUP of its own name gave a file
   hides : (path : List (List ℕ)) (d last name f : List ℕ) (attr dir : Option Attr) → op ≡ ops.Remove path → PlaceOf terms.origin h n path d last
-      → IsHidden name → call ≡ look_up d name → status ≡ 2
+      → IsHidden name → name ≢ last → IsNotOnTheWay terms.origin h n path d name → call ≡ look_up d name → status ≡ 2
       → Asked h x n (look_up d last) (looked_up f attr dir) → GoesOn terms h x n op call status
   -- NFS3ERR_JUKEBOX: the call is made again, unless it was put off three times, or its sync was refused
   tries_again : status ≡ jukebox → FewPutOff h x n call → ((f : List ℕ) → NamesFile f call → NoneRefused h x n f) → GoesOn terms h x n op call status

@@ -15,6 +15,15 @@ abbrev pub NoPutAt : List Entry → ℕ → Type 0
 NoPutAt h k = (x lane line offset : ℕ) (path : List (List ℕ)) (bytes : List ℕ) → At h x (Began lane line (ops.Put path offset bytes)) → x < k
     → AnsweredBefore h x k
 
+-- the operation at the place x is a put
+pub record BeganPut (h : List Entry) (x : ℕ) : Type 0 where
+  pub lane : ℕ
+  pub line : ℕ
+  pub path : List (List ℕ)
+  pub offset : ℕ
+  pub bytes : List ℕ
+  pub began : At h x (Began lane line (ops.Put path offset bytes))
+
 -- After the place k no open of the file goes well before the next record comes.
 abbrev pub NoneOpens : Modes → List Entry → ℕ → List ℕ → Type 0
 NoneOpens m h k f = (lane slot x y : ℕ) → Opens m h lane slot x y f → k < y → NoneCame h k y → ⊥
@@ -26,7 +35,8 @@ pub record LeftAlone (m : Modes) (h : List Entry) (k : ℕ) (f : List ℕ) : Typ
   pub unopened : NoneOpens m h k f
 
 -- The byte may be pending at the moment n: an operation that began before writes it there, and since that was answered no
--- later one that went well covers, cuts or settles it, and no last close left the file alone.
+-- later one that went well covers, cuts or settles it, and no last close left the file alone. What a put that was refused leaves
+-- behind may outlast a last close.
 pub record Pending (m : Modes) (origin : Origin) (h : List Entry) (f : List ℕ) (i n v : ℕ) : Type 0 where
   pub w : ℕ
   pub before : w < n
@@ -35,4 +45,4 @@ pub record Pending (m : Modes) (origin : Origin) (h : List Entry) (f : List ℕ)
   pub uncovered : (x y u : ℕ) → AnsweredBefore h w x → Wrote m h x y f i u → y < n → ⊥
   pub uncut : (x y size : ℕ) → AnsweredBefore h w x → Truncated m h x y f size → size ≤ i → y < n → ⊥
   pub unsettled : (x y : ℕ) → AnsweredBefore h w x → MadeStable m h x y f → y < n → ⊥
-  pub unleft : (k : ℕ) → AnsweredBefore h w k → LeftAlone m h k f → k < n → ⊥
+  pub unleft : (BeganPut h w → ⊥) → (k : ℕ) → AnsweredBefore h w k → LeftAlone m h k f → k < n → ⊥

@@ -167,7 +167,7 @@ impl Op {
             } => Op::Write {
                 slot: *slot,
                 offset: *offset,
-                bytes: Blob::copy(alloc, bytes.bytes())?,
+                bytes: bytes.again(alloc)?,
             },
             Op::Fill {
                 slot,
@@ -187,7 +187,7 @@ impl Op {
             } => Op::Put {
                 path: path.copy(alloc)?,
                 offset: *offset,
-                bytes: Blob::copy(alloc, bytes.bytes())?,
+                bytes: bytes.again(alloc)?,
             },
             Op::Sync { slot } => Op::Sync { slot: *slot },
             Op::Close { slot } => Op::Close { slot: *slot },
