@@ -1,0 +1,9 @@
+pub mod Bytes
+pub mod OneFileCall
+pub mod Executions
+pub mod FirstSends
+pub mod Spared
+pub mod Steps
+pub mod Stays
+pub mod Deciding
+pub mod Zeros

@@ -1,0 +1,4 @@
+pub mod Evidence
+pub mod OwnCalls
+pub mod Stable
+pub mod Cut
