@@ -1,6 +1,11 @@
-pub mod PutRows
-pub mod ManyNames
-pub mod StatRows
-pub mod CutRows
-pub mod PutRules
-pub mod LonePuts
+pub mod bonds
+pub mod paths
+pub mod pages
+pub mod reads
+pub mod rows
+pub mod completes
+pub mod limits
+pub mod asks
+pub mod writes
+pub mod answers
+pub mod refusals

@@ -78,3 +78,5 @@ pub mod OneCalled
 pub mod OpenStory
 pub mod OpenPath
 pub mod OpenTheorems
+pub mod Noting
+pub mod Along

@@ -12,3 +12,4 @@ pub mod Naming
 pub mod Progress
 pub mod Asked
 pub mod Opened
+pub mod Notes

@@ -1,5 +1,6 @@
 //! What a history shows of the core that goes with it: of its calls, its lanes and a lost session. `specs/Reaches` says which views go
-//! with a history. Nothing here runs: each function does nothing, and its contract is the theorem.
+//! with a history, and `specs/Notes` which go with one whose answers are noted before a record is sent. Nothing here runs: each function does nothing, and its
+//! contract is the theorem.
 #![tactic(auto)]
 
 ghost use Rattle.core_facts.specs.Tries.{WaitingKnown};
@@ -15,6 +16,7 @@ ghost use Rattle.core_facts.specs.Asked.{CallsCaused};
 ghost use Rattle.core_facts.specs.Opened.{OpensShown, KindsShown};
 ghost use Rattle.core_facts.specs.Refusing.{RefusalsShown};
 ghost use Rattle.core_facts.specs.Lanes.{CallsSound, ReachedNumbered, LanesAlternate, LanesUnderWay, LossesShown, LostAnswersShown};
+ghost use Rattle.core_facts.specs.Notes.{AnswersFirst, HistoriesReached};
 
 /// The calls that wait have different xids, which rise and lie below the next one; at most 32 wait, and no more were made than may be.
 pub fn waiting_calls_are_sound()
@@ -145,4 +147,16 @@ pub fn opens_are_shown()
 /// An open is refused for the kind of its file only where it ends with the reply to GETATTR of that, of another kind than 1.
 pub fn kinds_are_shown()
     ensures { KindsShown }
+{}
+
+// Answers that are noted before a record is sent or received.
+
+/// Such a history is one that the core goes with, so all that holds of those holds of it.
+pub fn histories_are_reached()
+    ensures { HistoriesReached }
+{}
+
+/// Where a record is sent or received, after an operation began, no lane has an answer that wasn't noted.
+pub fn answers_come_first()
+    ensures { AnswersFirst }
 {}

@@ -1,4 +1,4 @@
-use Rattle.core_answers.proofs.StatStory.{stats-ok}
+use Rattle.core_answers.proofs.answers.StatStory.{stats-ok}
 use Rattle.core_answers.proofs.stats_go_well.Goals as goal
 
 pub returns : goal.returns

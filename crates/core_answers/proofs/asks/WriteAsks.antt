@@ -1,0 +1,124 @@
+-- A call that is sent for a write is one that makes room.
+use Rattle.std.proofs.Common.{◌≡◌, ◌≤◌, inl, inr, ℕ, List, [], ◌∷◌, ◌++◌, length, Result, sym, ap, subst, ◌∙◌, arith}
+use Rattle.world_model.specs.declared.answer.Fault.{Fault}
+use Rattle.world_model.specs.declared.entry.Entry.{Entry}
+use Rattle.world_model.specs.declared.entry.Entry.TheVariants.{Began}
+use Rattle.world_model.specs.declared.message.Call.{Call}
+use Rattle.world_model.specs.declared.message.Reply.{Reply}
+use Rattle.world_model.specs.declared.op.Op.{Op}
+use Rattle.world_model.specs.declared.op.Op.TheVariants as ops
+use Rattle.world_model.specs.Operations.{UnderWay}
+use Rattle.client_shelf.specs.declared.next.Next.{Next}
+use Rattle.client_shelf.specs.declared.next.Next.TheVariants as nexts
+use Rattle.client_shelf.specs.declared.shelf.Shelf.{Shelf}
+use Rattle.client_shelf.specs.declared.turn.Turn.{Turn}
+use Rattle.file_ops.specs.declared.write_file.WriteFile.{WriteFile}
+use Rattle.file_ops.specs.declared.write_file.Writing.{Writing}
+use Rattle.file_ops.specs.declared.write_file.Writing.TheVariants as writing
+use Rattle.op_machines.specs.declared.begun.Mounted.{Mounted}
+use Rattle.op_machines.specs.declared.file_machine.FileMachine.TheVariants as files
+use Rattle.op_machines.specs.declared.machine.Machine.{Machine}
+use Rattle.op_machines.specs.declared.machine.Machine.TheVariants as machines
+use Rattle.op_machines.specs.Begun.{machine_of}
+use Rattle.op_machines.specs.Steps.{Starts, Resumes, Takes}
+use Rattle.client_core.specs.declared.lane.State.{State}
+use Rattle.client_core.specs.declared.lane.State.TheVariants.{Busy, Over}
+use Rattle.core_facts.specs.InFlight.{of_writing, in_flight}
+use Rattle.core_facts.proofs.AllCounts.{begins-unbegun}
+use Rattle.core_facts.proofs.Steps.{ThenOf}
+use Rattle.core_facts.proofs.Stories.{StoryLaws, over-laws, Always, good-over}
+use Rattle.core_answers.specs.asks.PutCalls.{IsForRoom}
+use Rattle.core_answers.specs.asks.WriteCalls.{IsMadeForWrite, WritesAsk}
+use Rattle.core_answers.proofs.asks.CallsAwaited.{Expects, expects-laws}
+use Rattle.core_answers.proofs.asks.FilesAwaited.{WriteNames}
+use Rattle.core_answers.proofs.asks.PutAsks.{for-room}
+use Rattle.core_answers.proofs.asks.Sendings.{SentFor, under-until, reached-sent}
+
+-- a write or a fill
+abbrev IsStore : Op → Type 0
+IsStore (ops.Write slot offset text) = Unit {0}
+IsStore (ops.Fill slot offset count byte) = Unit {0}
+IsStore op = ⊥
+
+-- it is worked on by the machine of one
+record IsWrite (machine : Machine) : Type 0 where
+  of : WriteFile
+  is : machine ≡ machines.File (files.Write of)
+
+abbrev StateStory : State → Type 0
+StateStory (Busy machine) = IsWrite machine
+StateStory (Over answer) = Unit {0}
+
+abbrev WriteStory : List Entry → ℕ → Op → State → Type 0
+WriteStory h x op state = IsStore op → StateStory state
+
+then-writes : (h : List Entry) (x : ℕ) (op : Op) (next : Next) (new : Machine) → (IsStore op → IsWrite new)
+    → ThenOf (λ m. WriteStory h x op (Busy m)) (λ a. WriteStory h x op (Over a)) next new
+then-writes h x op (nexts.Send call) new k = k
+then-writes h x op nexts.Wait new k = k
+then-writes h x op (nexts.Done answer) new k = λ stores. tt
+
+begins : (m : Mounted) (lane : ℕ) (op : Op) (wsize : ℕ) (turn : Turn) (old : Shelf) (next : Next) (new : Machine) (after : Shelf) → Starts wsize (machine_of m lane op) turn old next new after
+    → IsStore op → IsWrite new
+begins m lane (ops.Write slot offset text) wsize turn old next new after s stores = record { of = s.step.machine; is = s.machine_is ∙ ap machines.File s.step.machine_is }
+begins m lane (ops.Fill slot offset count byte) wsize turn old next new after s stores = record { of = s.step.machine; is = s.machine_is ∙ ap machines.File s.step.machine_is }
+begins m lane op wsize turn old next new after s stores = absurd stores
+
+goes : (machine : Machine) (wsize : ℕ) (turn : Turn) (old : Shelf) (next : Next) (new : Machine) (after : Shelf) → IsWrite machine → Resumes wsize machine turn old next new after → IsWrite new
+goes machine wsize turn old next new after k r =
+    let g = subst (λ (n : Machine). Resumes wsize n turn old next new after) k.is r in
+    record { of = record k.of { state = g.step.state }; is = g.machine_is ∙ ap machines.File g.step.machine_is }
+
+hears : (machine : Machine) (wsize : ℕ) (sent turn : Turn) (came : Result Reply Fault) (old : Shelf) (next : Next) (new : Machine) (after : Shelf) → IsWrite machine
+    → Takes wsize machine sent turn came old next new after → IsWrite new
+hears machine wsize sent turn came old next new after k t =
+    let g = subst (λ (n : Machine). Takes wsize n sent turn came old next new after) k.is t in
+    record { of = record k.of { state = g.step.state }; is = g.machine_is ∙ ap machines.File g.step.machine_is }
+
+state-later : (state : State) → StateStory state → StateStory state
+state-later state k = k
+
+write-laws : (m : Mounted) → StoryLaws (machine_of m) WriteStory
+write-laws m = record {
+  starts = λ h lane line op wsize turn old next new after s. then-writes (h ++ Began lane line op ∷ []) (length h) op next new (begins m lane op wsize turn old next new after s);
+  resumes = λ h x op machine wsize turn old next new after story r. then-writes h x op next new (λ stores. goes machine wsize turn old next new after (story stores) r);
+  takes = λ h x op machine wsize sent turn came old next new after others story one told t.
+      then-writes h x op next new (λ stores. hears machine wsize sent turn came old next new after (story stores) t);
+  grows = λ h e x op state story. story;
+  lost = λ h x op shown stores. tt;
+}
+
+room-asks : (w : Writing) (call : Call) → WriteNames w call → 1 ≤ of_writing w → IsForRoom call
+room-asks writing.Idle call e some = absurd (omega (arith, some))
+room-asks (writing.Room file saving) call e some = for-room saving.file call e
+
+write-asks : (machine : Machine) (call : Call) → IsWrite machine → Expects machine call → 1 ≤ in_flight machine → IsForRoom call
+write-asks machine call k e some =
+    room-asks k.of.state call (subst (λ (n : Machine). Expects n call) k.is e).1 (subst (λ (n : Machine). 1 ≤ in_flight n) k.is some)
+
+pub writes-ask : WritesAsk
+writes-ask m setup h v r i bytes at = elim (reached-sent (machine_of m) (begins-unbegun m) setup Expects expects-laws h v r i bytes at) [
+  | inl none ↦ inl none
+  | inr w ↦ inr (made-on w)
+]
+  where
+    Sending : Type 0
+    Sending = SentFor (machine_of m) (begins-unbegun m) setup Expects expects-laws h i bytes
+
+    made-on : Sending → IsMadeForWrite setup.cred h i bytes
+    made-on w = record {
+      xid = w.xid;
+      call = w.call;
+      made = w.made;
+      lane = w.lane;
+      x = w.x;
+      op = w.op;
+      under_way = subst (λ (k : List Entry). UnderWay k w.lane w.x i w.op) (sym w.is) (under-until w.before w.after w.lane w.x i w.op w.there w.under_way);
+      write = λ slot offset text is. stored (subst IsStore (sym is) tt);
+      fill = λ slot offset count byte is. stored (subst IsStore (sym is) tt);
+    }
+      where
+        stored : IsStore w.op → IsForRoom w.call
+        stored stores = write-asks w.machine w.call
+            ((good-over (machine_of m) (begins-unbegun m) setup Always (λ g u reached kept lane other. tt) WriteStory (over-laws (machine_of m) WriteStory (write-laws m)) w.before w.old w.reached w.at
+            (record { number = w.lane; state = Busy w.machine }) w.busy).1 w.x w.op w.under_way stores) w.expects w.some

@@ -1,0 +1,145 @@
+-- How operations of one call run, and for which calls they ask: as `core_facts` has it (`proofs/OneCalled`), for a record of which it is known that it was sent for
+-- the operation.
+use Rattle.std.proofs.Common.{◌≡◌, ◌-◌, ℕ, List, [], ◌∷◌, ◌++◌, length, take, Result, refl, sym, ap, subst, arith}
+use Rattle.std.proofs.lemmas.List.Elements.{All-nil}
+use Rattle.world_model.specs.declared.answer.Fault.{Fault}
+use Rattle.world_model.specs.declared.entry.Entry.{Entry}
+use Rattle.world_model.specs.declared.entry.Entry.TheVariants.{Began}
+use Rattle.world_model.specs.declared.message.Call.{Call}
+use Rattle.world_model.specs.declared.message.Reply.{Reply}
+use Rattle.world_model.specs.declared.op.Op.{Op}
+use Rattle.world_model.specs.declared.op.Op.TheVariants as ops
+use Rattle.world_model.specs.Leads as leads
+use Rattle.world_model.specs.Terms.{Terms}
+use Rattle.world_model.proofs.Places.{length_last}
+use Rattle.client_shelf.specs.declared.next.Next.{Next}
+use Rattle.client_shelf.specs.declared.next.Next.TheVariants as nexts
+use Rattle.client_shelf.specs.declared.shelf.Shelf.{Shelf}
+use Rattle.client_shelf.specs.declared.turn.Turn.{Turn}
+use Rattle.name_ops.specs.Pairs as pairs
+use Rattle.name_ops.specs.Pairs.{walk_of}
+use Rattle.name_ops.specs.Visiting as visiting
+use Rattle.op_machines.specs.declared.begun.Mounted.{Mounted}
+use Rattle.op_machines.specs.declared.machine.Machine.{Machine}
+use Rattle.op_machines.specs.Begun.{IsAsked, front_of, machine_of}
+use Rattle.op_machines.specs.Steps.{Starts}
+use Rattle.client_core.specs.declared.setup.Setup.{Setup}
+use Rattle.core_facts.specs.Naming.{IsOneCall}
+use Rattle.core_facts.proofs.AllAwaited.{Awaits, awaits-laws}
+use Rattle.core_facts.proofs.AllCounts.{begins-unbegun}
+use Rattle.core_facts.proofs.FilesKept.{all-starts, all-resumes, all-takes}
+use Rattle.core_facts.proofs.Leading.{IsNameTold, NamesTold, names-later, WalkLeads, heard-tells}
+use Rattle.core_facts.proofs.OneCalls.{VisitStory, PairStory}
+use Rattle.core_facts.proofs.Steps.{ThenOf}
+use Rattle.core_facts.proofs.Tales.{IsTold, AsksFor, TaleLaws}
+use Rattle.core_facts.specs.InFlight.{in_flight, IsCounted, Counts}
+use Rattle.core_facts.proofs.AllCounts.{counts-calls}
+use Rattle.core_facts.proofs.OneCallAsks.{AsksNow, asks-new, asks-from}
+use Rattle.core_facts.proofs.OneCallStory.{given, Runs, Story, Shelved, NoWait, Steps, heard-all, goes, takes, state-later, for-op}
+use Rattle.core_facts.proofs.Steps.{AskedOf}
+
+-- ---- operations that begin
+
+module _ (m : Mounted) (terms : Terms) where
+  walk-begins : (h : List Entry) (path : List (List ℕ)) → WalkLeads m.root h path (walk_of m.root path)
+  walk-begins h path = record {
+    path_is = refl;
+    spot = record {
+      few = omega arith;
+      leads = leads.root (take (length path - length path) path) m.root (let none : length path - length path ≡ 0 = omega arith in ap (λ (n : ℕ). take n path) none) refl;
+    };
+  }
+
+  visit-begins : (h : List Entry) (path : List (List ℕ)) → VisitStory m.root h path (visiting.visit_of m.root path)
+  visit-begins h path = record { walk = walk-begins h path; done = λ is. absurd (cc) }
+
+  pair-begins : (h : List Entry) (first second : List (List ℕ)) → PairStory m.root h first second (pairs.pair_of m.root first second)
+  pair-begins h first second =
+      record { one = walk-begins h first; two = walk-begins h second; then_ = λ is. absurd (cc); alone = λ is. refl; done = λ is. absurd (cc) }
+
+  starts : (h : List Entry) (x lane : ℕ) (op : Op) (wsize : ℕ) (turn : Turn) (old : Shelf) (next : Next) (new : Machine) (after : Shelf) → IsOneCall op → NamesTold h old.names
+      → Starts wsize (machine_of m lane op) turn old next new after → Steps m.root terms h x op next new
+  starts h x lane (ops.Access path bits) wsize turn old next new after one t s = goes m.root terms h x (ops.Access path bits) (machine_of m lane (ops.Access path bits)) wsize turn old next new after
+      one t (record { visit = visiting.visit_of m.root path; is = refl; story = visit-begins h path }) s
+  starts h x lane (ops.ReadLink path) wsize turn old next new after one t s = goes m.root terms h x (ops.ReadLink path) (machine_of m lane (ops.ReadLink path)) wsize turn old next new after
+      one t (record { visit = visiting.visit_of m.root path; is = refl; story = visit-begins h path }) s
+  starts h x lane (ops.MakeDir path) wsize turn old next new after one t s = goes m.root terms h x (ops.MakeDir path) (machine_of m lane (ops.MakeDir path)) wsize turn old next new after
+      one t (record { visit = visiting.visit_of m.root (front_of path); is = refl; story = visit-begins h (front_of path) }) s
+  starts h x lane (ops.RemoveDir path) wsize turn old next new after one t s = goes m.root terms h x (ops.RemoveDir path) (machine_of m lane (ops.RemoveDir path)) wsize turn old next new after
+      one t (record { visit = visiting.visit_of m.root (front_of path); is = refl; story = visit-begins h (front_of path) }) s
+  starts h x lane (ops.SymLink path target) wsize turn old next new after one t s =
+      goes m.root terms h x (ops.SymLink path target) (machine_of m lane (ops.SymLink path target)) wsize turn old next new after
+      one t (record { visit = visiting.visit_of m.root (front_of path); is = refl; story = visit-begins h (front_of path) }) s
+  starts h x lane (ops.Rename from to) wsize turn old next new after one t s = goes m.root terms h x (ops.Rename from to) (machine_of m lane (ops.Rename from to)) wsize turn old next new after
+      one t (record { pair = pairs.pair_of m.root (front_of from) (front_of to); is = refl; story = pair-begins h (front_of from) (front_of to) }) s
+  starts h x lane (ops.Link from to) wsize turn old next new after one t s = goes m.root terms h x (ops.Link from to) (machine_of m lane (ops.Link from to)) wsize turn old next new after
+      one t (record { pair = pairs.pair_of m.root from (front_of to); is = refl; story = pair-begins h from (front_of to) }) s
+  starts h x lane op wsize turn old next new after one t s = absurd one
+
+  -- each call that waits is one that its operation asks for
+  abbrev pub Caused : List Entry → ℕ → Op → Call → Type 0
+  Caused h x op call = IsOneCall op → IsAsked op → AsksNow m.root terms h x op call
+
+  told-plain : (h : List Entry) (x : ℕ) (op : Op) (machine : Machine) (came : Result Reply Fault) → IsTold Awaits Caused h x op machine came → IsTold Awaits (NoWait m.root terms) h x op machine came
+  told-plain h x op machine came told = record { call = told.call; expects = told.expects; asks = tt; heard = told.heard; refused = told.refused }
+
+  only-runs : (h : List Entry) (x : ℕ) (op : Op) (next : Next) (new : Machine) → Steps m.root terms h x op next new → ThenOf (Runs m.root terms h op) (λ a. Unit {0}) next new
+  only-runs h x op (nexts.Send call) new t = t
+  only-runs h x op nexts.Wait new t = t
+  only-runs h x op (nexts.Done answer) new t = tt
+
+  asks-all : (h : List Entry) (x : ℕ) (op : Op) (next : Next) (before : ℕ) (new : Machine) → (IsOneCall op → IsAsked op → Steps m.root terms h x op next new) → AskedOf Awaits next new
+      → (IsOneCall op → IsAsked op → Counts next before new) → AsksFor (Caused h x op) next
+  asks-all h x op (nexts.Send call) before new t e c = λ one named.
+      asks-new m.root terms h x op (nexts.Send call) before new one named (only-runs h x op (nexts.Send call) new (t one named)) e (c one named)
+  asks-all h x op nexts.Wait before new t e c = tt
+  asks-all h x op (nexts.Done answer) before new t e c = tt
+
+  runs-counted : (h : List Entry) (op : Op) (machine : Machine) → IsOneCall op → Runs m.root terms h op machine → IsCounted machine
+  runs-counted h (ops.Access path bits) machine one k = subst IsCounted (sym k.is) tt
+  runs-counted h (ops.ReadLink path) machine one k = subst IsCounted (sym k.is) tt
+  runs-counted h (ops.MakeDir path) machine one k = subst IsCounted (sym k.is) tt
+  runs-counted h (ops.RemoveDir path) machine one k = subst IsCounted (sym k.is) tt
+  runs-counted h (ops.SymLink path target) machine one k = subst IsCounted (sym k.is) tt
+  runs-counted h (ops.Rename from to) machine one k = subst IsCounted (sym k.is) tt
+  runs-counted h (ops.Link from to) machine one k = subst IsCounted (sym k.is) tt
+  runs-counted h op machine one k = absurd one
+
+  pub one-laws : (setup : Setup) → TaleLaws (machine_of m) setup Awaits Caused (Shelved m.root terms) (Story m.root terms)
+  unfolding told-plain
+  one-laws setup = record {
+    fresh = λ h v up fresh. subst (λ (es : _). NamesTold h es) (sym fresh.names) (All-nil (IsNameTold h));
+    starts = λ h lane line op wsize turn old next new after kept s.
+        let steps : IsOneCall op → IsAsked op → Steps m.root terms (h ++ Began lane line op ∷ []) (length h) op next new =
+        λ one named. starts (h ++ Began lane line op ∷ []) (length h) lane op wsize turn old next new after one kept s in
+        record {
+          shelf = all-starts (IsNameTold (h ++ Began lane line op ∷ [])) (machine_of m lane op) wsize turn old next new after s kept;
+          asks = asks-all (h ++ Began lane line op ∷ []) (length h) op next 0 new steps (awaits-laws.starts (machine_of m lane op) wsize turn old next new after s)
+              (λ one named. counts-calls.start wsize (machine_of m lane op) turn old next new after s (begins-unbegun m lane op));
+          then_ = for-op m.root terms (h ++ Began lane line op ∷ []) (length h) op next new steps;
+        };
+    resumes = λ h x op machine wsize turn old next new after kept story r.
+        let steps : IsOneCall op → IsAsked op → Steps m.root terms h x op next new = λ one named. goes m.root terms h x op machine wsize turn old next new after one kept (story one named) r in
+        record {
+          shelf = all-resumes (IsNameTold h) machine wsize turn old next new after r kept;
+          asks = asks-all h x op next (in_flight machine) new steps (awaits-laws.resumes machine wsize turn old next new after r).0
+              (λ one named. counts-calls.resume wsize machine turn old next new after r (runs-counted h op machine one (story one named)));
+          then_ = for-op m.root terms h x op next new steps;
+        };
+    takes = λ h x op machine wsize sent turn came old next new after others kept story one told t.
+        let plain = told-plain h x op machine came told in
+        let steps : IsOneCall op → IsAsked op → Steps m.root terms h x op next new =
+        λ only named. takes m.root terms h x op machine wsize sent turn came old next new after only named kept (story only named) plain t in
+        record {
+          shelf = all-takes (IsNameTold h) machine wsize sent turn came old next new after told.call told.expects
+              (heard-tells m.root h came told.call (heard-all m.root terms h x op machine came plain)) t kept;
+          asks = asks-all h x op next others new steps (awaits-laws.takes machine wsize sent turn came old next new after others one t).0
+              (λ only named. counts-calls.take wsize machine sent turn came old next new after others t (runs-counted h op machine only (story only named)) one);
+          then_ = for-op m.root terms h x op next new steps;
+        };
+    still = λ h e shelf kept. names-later h e shelf.names kept;
+    waits = λ h e x op call w one named.
+        let more = length_last h e in asks-from m.root (given m.root terms) h (e ∷ []) x (length h) (length (h ++ e ∷ [])) op call one (omega (arith, more)) refl (w one named);
+    grows = λ h e x op state quiet story one named. state-later m.root terms h e x op state one quiet (story one named);
+    lost = λ h x op shown one named. tt;
+  }

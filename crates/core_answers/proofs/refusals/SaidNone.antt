@@ -1,0 +1,62 @@
+-- A status is read from a record only as that of a reply: what is read in place of a reply is a refusal by RPC or a rule that was broken.
+use Rattle.std.proofs.Common.{◌≡◌, ℕ, Bool, true, false, List, length, Result, Ok, Err, subst}
+use Rattle.std.specs.Prelude.{if◌then◌else◌, nat_lt}
+use Rattle.xdr_codec.specs.declared.reader.XdrFault.{XdrFault}
+use Rattle.nfs_dir_calls.specs.declared.keeping.DirKept.{DirKept}
+use Rattle.nfs_dir_calls.specs.Calls.{is_dir_proc}
+use Rattle.nfs_dir_calls.specs.Replies.{dir_reply_at}
+use Rattle.nfs_file_calls.specs.declared.owned.FileKept.{FileKept}
+use Rattle.nfs_file_calls.specs.Calls.{is_file_proc}
+use Rattle.nfs_file_calls.specs.Replies.{file_reply_at}
+use Rattle.rpc_message.specs.declared.reply.ReplyFault.{ReplyFault}
+use Rattle.rpc_message.specs.declared.reply.ReplyFault.TheVariants.{NotReply, Xdr}
+use Rattle.rpc_message.specs.Reply.{RpcReply, Accepted, Refused, Denied, reply_at}
+use Rattle.world_model.specs.declared.answer.Fault.{Fault}
+use Rattle.world_model.specs.declared.answer.Fault.TheVariants as faults
+use Rattle.world_model.specs.Rules.{most_bytes}
+use Rattle.call_replies.specs.Records.{results_by, results_read, results_in}
+use Rattle.call_replies.specs.Results.{dir_said, file_said, said_in}
+use Rattle.call_replies.specs.Says.{said_by, said_of}
+use Rattle.core_facts.proofs.Faults.{FineResult}
+
+-- that a server answered with a status is none of them
+abbrev NoStatus : Fault → Type 0
+NoStatus (faults.Nfs status) = ⊥
+NoStatus fault = Unit {0}
+
+either-none : {T : Type 0} → (b : Bool) (one other : Result T Fault) → FineResult NoStatus one → FineResult NoStatus other → FineResult NoStatus (if b then one else other)
+either-none true one other f g = f
+either-none false one other f g = g
+
+by-none : (reply : RpcReply) → FineResult NoStatus (results_by reply)
+by-none (Accepted xid results) = tt
+by-none (Refused xid stat low high) = tt
+by-none (Denied xid stat first second) = tt
+
+read-none : (reply : Result RpcReply ReplyFault) → FineResult NoStatus (results_read reply)
+read-none (Ok reply) = by-none reply
+read-none (Err NotReply) = tt
+read-none (Err (Xdr fault)) = tt
+
+results-none : (rec : List ℕ) → FineResult NoStatus (results_in rec)
+results-none rec = either-none (nat_lt most_bytes (length rec)) (Err (faults.Bad 7)) (results_read (reply_at rec)) tt (read-none (reply_at rec))
+
+dir-none : (said : Result DirKept XdrFault) → FineResult NoStatus (dir_said said)
+dir-none (Ok reply) = tt
+dir-none (Err fault) = tt
+
+file-none : (said : Result FileKept XdrFault) → FineResult NoStatus (file_said said)
+file-none (Ok reply) = tt
+file-none (Err fault) = tt
+
+in-none : (proc : ℕ) (results : List ℕ) → FineResult NoStatus (said_in proc results)
+in-none proc results =
+    either-none (is_dir_proc proc) (dir_said (dir_reply_at proc results)) _ (dir-none (dir_reply_at proc results))
+    (either-none (is_file_proc proc) (file_said (file_reply_at proc results)) (Err (faults.Bad 2)) (file-none (file_reply_at proc results)) tt)
+
+said-by-none : (proc : ℕ) (results : Result (List ℕ) Fault) → FineResult NoStatus results → FineResult NoStatus (said_by proc results)
+said-by-none proc (Ok results) f = in-none proc results
+said-by-none proc (Err fault) f = f
+
+pub said-none : (proc : ℕ) (rec : List ℕ) (status : ℕ) → said_of proc rec ≡ Err (faults.Nfs status) → ⊥
+said-none proc rec status is = subst (FineResult NoStatus) is (said-by-none proc (results_in rec) (results-none rec))

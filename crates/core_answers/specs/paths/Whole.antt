@@ -1,0 +1,16 @@
+-- What a list shows, of an honest server whose cookies rise (RFC 1813, section 3.3.17).
+use Rattle.world_model.specs.History.{History}
+use Rattle.world_model.specs.Modes.{Modes}
+use Rattle.world_model.specs.Mounts.{Origin}
+use Rattle.world_model.specs.Recent.{ListTrue}
+use Rattle.world_model.specs.Rising.{Rising}
+use Rattle.op_machines.specs.declared.begun.Mounted.{Mounted}
+use Rattle.client_core.specs.declared.setup.Setup.{Setup}
+use Rattle.client_core.specs.View.{View}
+use Rattle.core_answers.specs.paths.Found.{GoesHonestly}
+
+-- A list shows names in byte order, each once, of which the directory to which its path leads held each at a moment of the list; and each name that it
+-- held all the while is among them.
+abbrev pub ListsWhole : Type 0
+ListsWhole = (m : Mounted) (setup : Setup) (modes : Modes) (origin : Origin) (t : History) (v : View) → GoesHonestly m setup modes origin t v → Rising t
+    → ListTrue modes origin t

@@ -1,5 +1,0 @@
-use Rattle.core_asks.proofs.XidAsks.{xids-kept}
-use Rattle.core_asks.proofs.calls_keep_to_their_xids.Goals as goal
-
-pub returns : goal.returns
-returns c = xids-kept

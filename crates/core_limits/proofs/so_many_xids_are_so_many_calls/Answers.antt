@@ -1,5 +1,0 @@
-use Rattle.core_limits.proofs.CountOf.{calls-are-all}
-use Rattle.core_limits.proofs.so_many_xids_are_so_many_calls.Goals as goal
-
-pub returns : goal.returns
-returns c = calls-are-all

@@ -1,0 +1,10 @@
+pub mod Empty
+pub mod Seeks
+pub mod Sought
+pub mod Names
+pub mod Onwards
+pub mod Passed
+pub mod Chosen
+pub mod Soon
+pub mod Held
+pub mod Whole

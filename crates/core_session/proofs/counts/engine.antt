@@ -1,0 +1,13 @@
+pub mod Lists
+pub mod Ledger
+pub mod Wider
+pub mod Decided
+pub mod Laws
+pub mod Account
+pub mod Along
+pub mod Book
+pub mod Steps
+pub mod Kept
+pub mod Heard
+pub mod Booked
+pub mod Sum

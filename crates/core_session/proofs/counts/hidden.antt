@@ -1,0 +1,3 @@
+pub mod Script
+pub mod Laws
+pub mod Counted

@@ -1,0 +1,15 @@
+pub mod Took
+pub mod Tables
+pub mod Puts
+pub mod Rests
+pub mod TookNames
+pub mod TookFiles
+pub mod SaveSteps
+pub mod WriteSteps
+pub mod FileSteps
+pub mod AllSteps
+pub mod Limits
+pub mod Delays
+pub mod Hearing
+pub mod Story
+pub mod Rows

@@ -1,0 +1,214 @@
+-- P holds of what any operation makes of what came of its call, where that isn't made again: where it may be made again, since it wasn't put off then; and else
+-- where P holds of that too.
+use Rattle.std.proofs.Common.{◌≡◌, ◌||◌, ◌==◌, inl, inr, ℕ, Bool, true, false, List, length, Option, Some, None, Result, Ok, Err, refl, sym, subst}
+use Rattle.std.specs.Prelude.{nat_lt}
+use Rattle.nfs_types.specs.declared.wcc.Wcc.{Wcc}
+use Rattle.nfs_types.specs.declared.verf.Verf.{Verf}
+use Rattle.nfs_file_calls.specs.declared.owned.FileKept.{FileKept}
+use Rattle.nfs_file_calls.specs.declared.owned.FileKept.TheVariants as kept
+use Rattle.world_model.specs.declared.answer.Fault.{Fault}
+use Rattle.world_model.specs.declared.answer.Fault.TheVariants as faults
+use Rattle.world_model.specs.declared.message.Call.{Call}
+use Rattle.world_model.specs.declared.message.Reply.{Reply}
+use Rattle.world_model.specs.declared.message.Reply.TheVariants as replies
+use Rattle.write_back.specs.Files.{Pending}
+use Rattle.client_shelf.specs.declared.next.Next.{Next}
+use Rattle.client_shelf.specs.declared.next.Next.TheVariants as nexts
+use Rattle.client_shelf.specs.declared.repeats.Repeat.{Repeat}
+use Rattle.client_shelf.specs.declared.shelf.Shelf.{Shelf}
+use Rattle.client_shelf.specs.declared.turn.Turn.{Turn}
+use Rattle.client_shelf.specs.Busy.{is_busy, fails_busy, goes_again}
+use Rattle.file_ops.specs.declared.close_file.Closing.{Closing}
+use Rattle.file_ops.specs.declared.close_file.Closing.TheVariants as closing
+use Rattle.file_ops.specs.declared.opening.Led.{Led}
+use Rattle.file_ops.specs.declared.opening.Led.TheVariants as leads
+use Rattle.file_ops.specs.declared.put_file.PutFile.{PutFile}
+use Rattle.file_ops.specs.declared.put_file.Putting.{Putting}
+use Rattle.file_ops.specs.declared.put_file.Putting.TheVariants as putting
+use Rattle.file_ops.specs.declared.saving.Saving.{Saving}
+use Rattle.file_ops.specs.declared.sync_file.Syncing.{Syncing}
+use Rattle.file_ops.specs.declared.sync_file.Syncing.TheVariants as syncing
+use Rattle.file_ops.specs.declared.write_file.Writing.{Writing}
+use Rattle.file_ops.specs.declared.write_file.Writing.TheVariants as writing
+use Rattle.file_ops.specs.Judging.{written_by, write_told, commit_told}
+use Rattle.file_ops.specs.Opening as opening
+use Rattle.file_ops.specs.Saves as saves
+use Rattle.name_ops.specs.Looking.{found_by}
+use Rattle.name_ops.specs.Walking as walking
+use Rattle.op_machines.specs.declared.file_machine.FileMachine.{FileMachine}
+use Rattle.op_machines.specs.declared.file_machine.FileMachine.TheVariants as files
+use Rattle.op_machines.specs.declared.machine.Machine.{Machine}
+use Rattle.op_machines.specs.declared.machine.Machine.TheVariants as machines
+use Rattle.op_machines.specs.declared.name_machine.NameMachine.{NameMachine}
+use Rattle.op_machines.specs.declared.path_machine.PathMachine.{PathMachine}
+use Rattle.op_machines.specs.Steps.{Takes}
+use Rattle.op_machines.specs.Openers.{file_of}
+use Rattle.core_facts.proofs.Faults.{FineOption, FineNext, fine-as, fine-fault, fine-some}
+use Rattle.core_answers.proofs.answers.SaveFaults as once
+use Rattle.core_answers.proofs.answers.SaveFaults.{CallFaults}
+use Rattle.core_answers.proofs.answers.WriteFaults as once_write
+use Rattle.core_answers.proofs.refusals.FitAll as one
+use Rattle.core_answers.proofs.refusals.FitFiles as one_file
+use Rattle.core_answers.proofs.refusals.FitNames.{FitsWalk}
+use Rattle.core_answers.proofs.refusals.FitReads.{FineLed}
+use Rattle.core_session.proofs.delays.AllSteps.{SendsOr, Ends, FineMachine, FitsFile, FitsPath, FitsMachine, MachineStep, all-takes}
+use Rattle.core_session.proofs.delays.FileSteps.{FitsSync, FitsClose, FitsPut}
+use Rattle.core_session.proofs.delays.SaveSteps.{FitsSave}
+use Rattle.core_session.proofs.delays.WriteSteps.{FitsWrite}
+use Rattle.core_session.proofs.delays.Took.{Took, result-calm, not-again}
+use Rattle.core_session.proofs.delays.TookFiles.{Calm, CalmFile, CalmPath}
+
+module _ (P : Fault → Type 0) (own : CallFaults P) (next : Next) (sent turn : Turn) (came : Result Reply Fault) (repeats : List Repeat) where
+  -- ---- where P holds of whatever came
+
+  save-any : (s : Saving) (back : Pending) → once.FitsSave P own sent came s back → FitsSave P own sent turn came repeats s back
+  save-any s back f = record { lands = λ sending ends between refusal l. f.lands sending between refusal l; commits = λ idle ends. f.commits idle }
+
+  write-any : (at : Writing) (back : Pending) → once_write.FitsWrite P own sent came at back → FitsWrite P own sent turn came repeats at back
+  write-any writing.Idle back f = tt
+  write-any (writing.Room file s) back f = save-any s back f
+
+  sync-any : (at : Syncing) (back : Pending) → one_file.FitsSync P own sent came at back → FitsSync P own sent turn came repeats at back
+  sync-any syncing.Idle back f = tt
+  sync-any (syncing.Saves s) back f = save-any s back f
+
+  close-any : (at : Closing) (back : Pending) → one_file.FitsClose P own sent came at back → FitsClose P own sent turn came repeats at back
+  close-any closing.Idle back f = tt
+  close-any (closing.Queued s) back f = tt
+  close-any (closing.Saves s) back f = save-any s back f
+  close-any (closing.ToRemove removal) back f = tt
+  close-any (closing.Removing removal) back f = tt
+
+  put-any : (at : Putting) (m : PutFile) (back : Pending) → one_file.FitsPut P own sent came at m back → FitsPut P own sent turn came repeats at m back
+  put-any putting.Idle m back f = tt
+  put-any putting.Opens m back f = λ ends. f
+  put-any (putting.Adds file) m back f = write-any m.write.state back f
+  put-any (putting.Saves s) m back f = save-any s back f
+
+  file-any : (m : FileMachine) (back : Pending) → one.FitsFile P own sent came m back → FitsFile P own next sent turn came repeats m back
+  file-any (files.Open m) back f = inr f
+  file-any (files.Read m) back f = inr f
+  file-any (files.Write m) back f = write-any m.state back f
+  file-any (files.Sync m) back f = sync-any m.state back f
+  file-any (files.Close m) back f = close-any m.state back f
+  file-any (files.Truncate m) back f = inr f
+  file-any (files.Put m) back f = put-any m.state m back f
+
+  path-any : (b : Bool) (m : PathMachine) (back : Pending) → one.FitsPath P own b sent came m back → FitsPath P own b next sent turn came repeats m back
+  path-any true m back f = file-any (file_of m.opener) back f
+  path-any false m back f = λ ends. f
+
+  pub any-fits : (m : Machine) (back : Pending) → one.FitsMachine P own sent came m back → FitsMachine P own next sent turn came repeats m back
+  any-fits (machines.File m) back f = file-any m back f
+  any-fits (machines.Path m) back f = path-any m.arrived m back f
+  any-fits (machines.Name m) back f = inr f
+
+  -- ---- where the call may be made again
+
+  module _ (other : (fault : Fault) → is_busy fault ≡ false → P fault) (outer : (fault : Fault) → came ≡ Err fault → P fault) (may : goes_again true sent turn repeats ≡ true) where
+    -- what becomes of a piece that wasn't put off
+    module _ (how size xid : ℕ) (file : List ℕ) (back between : Pending) where
+      written-calm : (a b : Bool) (wcc : Wcc) (count committed : ℕ) (verf : Verf) (refusal : Option Fault) → (nat_lt committed how || nat_lt 2 committed) ≡ a
+          → ((count == 0) || nat_lt size count) ≡ b → saves.Lands xid file (written_by how size wcc count committed verf) back between refusal → FineOption P refusal
+      written-calm true b wcc count committed verf refusal i j l = let k = rw i at l in fine-some P (faults.Bad 3) refusal k.0 (other (faults.Bad 3) refl)
+      written-calm false true wcc count committed verf refusal i j l = let k = rw (i, j) at l in fine-some P (faults.Bad 4) refusal k.0 (other (faults.Bad 4) refl)
+      written-calm false false wcc count committed verf None i j l = tt
+      written-calm false false wcc count committed verf (Some fault) i j l = let k = rw (i, j) at l in fine-fault P fault faults.Memory k.0 own.memory
+
+      file-calm : (reply : FileKept) (refusal : Option Fault) → saves.told_busy (write_told how size (Ok (replies.File reply))) ≡ false
+          → saves.Lands xid file (write_told how size (Ok (replies.File reply))) back between refusal → FineOption P refusal
+      file-calm (kept.Write wcc count committed verf) refusal none l =
+          written-calm (nat_lt committed how || nat_lt 2 committed) ((count == 0) || nat_lt size count) wcc count committed verf refusal refl refl l
+      file-calm (kept.WriteFail status wcc) refusal none l = fine-some P (faults.Nfs status.0) refusal l.0 (other (faults.Nfs status.0) none)
+      file-calm reply refusal none l = fine-some P (faults.Bad 2) refusal l.0 (other (faults.Bad 2) refl)
+
+      lands-calm : (r : Result Reply Fault) (refusal : Option Fault) → ((fault : Fault) → r ≡ Err fault → P fault) → saves.told_busy (write_told how size r) ≡ false
+          → saves.Lands xid file (write_told how size r) back between refusal → FineOption P refusal
+      lands-calm (Ok (replies.File reply)) refusal out none l = file-calm reply refusal none l
+      lands-calm (Ok (replies.Dir reply)) refusal out none l = fine-some P (faults.Bad 2) refusal l.0 (other (faults.Bad 2) refl)
+      lands-calm (Ok (replies.Mount reply)) refusal out none l = fine-some P (faults.Bad 2) refusal l.0 (other (faults.Bad 2) refl)
+      lands-calm (Err fault) refusal out none l = fine-some P fault refusal l.0 (out fault refl)
+
+    save-calm : (s : Saving) (back : Pending) → FitsSave P own sent turn came repeats s back
+    save-calm s back = record {
+      lands = λ sending ends between refusal l.
+          let p = saves.answered sent.xid s.file back in
+          lands-calm p.how (length p.bytes) sent.xid s.file back between came refusal outer
+          (not-again (saves.told_busy (saves.told_of sent.xid s.file back came)) sent turn repeats may ends) l;
+      commits = λ idle ends. result-calm P other (commit_told came) (not-again (fails_busy (commit_told came)) sent turn repeats may ends);
+    }
+
+    write-calm : (at : Writing) (back : Pending) → FitsWrite P own sent turn came repeats at back
+    write-calm writing.Idle back = tt
+    write-calm (writing.Room file s) back = save-calm s back
+
+    sync-calm : (at : Syncing) (back : Pending) → FitsSync P own sent turn came repeats at back
+    sync-calm syncing.Idle back = tt
+    sync-calm (syncing.Saves s) back = save-calm s back
+
+    close-calm : (at : Closing) (back : Pending) → FitsClose P own sent turn came repeats at back
+    close-calm closing.Idle back = tt
+    close-calm (closing.Queued s) back = tt
+    close-calm (closing.Saves s) back = save-calm s back
+    close-calm (closing.ToRemove removal) back = tt
+    close-calm (closing.Removing removal) back = tt
+
+    led-calm : (led : Led) → opening.ends_busy led ≡ false → FineLed P own led
+    led-calm (leads.Goes step) is = tt
+    led-calm (leads.Opens file attr) is = tt
+    led-calm (leads.Knows file stamp) is = tt
+    led-calm (leads.Ends fault) is = other fault is
+
+    put-calm : (at : Putting) (m : PutFile) (back : Pending) → FitsPut P own sent turn came repeats at m back
+    put-calm putting.Idle m back = tt
+    put-calm putting.Opens m back = λ ends. led-calm (opening.told_led m.opening came) (not-again (opening.ends_busy (opening.told_led m.opening came)) sent turn repeats may ends)
+    put-calm (putting.Adds file) m back = write-calm m.write.state back
+    put-calm (putting.Saves s) m back = save-calm s back
+
+    walk-calm : (name : Option (List ℕ)) → fails_busy (found_by came) ≡ false → FitsWalk P own name came
+    walk-calm None is = tt
+    walk-calm (Some name) is = result-calm P other (found_by came) is
+
+    module _ (E : Fault → Type 0) (later : List Repeat) (call : Call) where
+      abbrev TookAll : Type 0 → Type 0
+      TookAll X = Took E sent turn repeats later (next ≡ nexts.Send call) X
+
+      -- it is made again, or it wasn't put off
+      sends-calm : (X : Type 0) → TookAll X → SendsOr next X
+      sends-calm X t = by (goes_again t.busy sent turn repeats) refl
+        where
+          by : (b : Bool) → goes_again t.busy sent turn repeats ≡ b → SendsOr next X
+          by true again = inl (call, t.again again)
+          by false ends = inr (t.calm (not-again t.busy sent turn repeats may ends))
+
+      machine-calm : (m : FileMachine) (back : Pending) → TookAll (CalmFile P own came m) → FitsFile P own next sent turn came repeats m back
+      machine-calm (files.Open m) back t = sends-calm _ t
+      machine-calm (files.Read m) back t = sends-calm _ t
+      machine-calm (files.Write m) back t = write-calm m.state back
+      machine-calm (files.Sync m) back t = sync-calm m.state back
+      machine-calm (files.Close m) back t = close-calm m.state back
+      machine-calm (files.Truncate m) back t = sends-calm _ t
+      machine-calm (files.Put m) back t = put-calm m.state m back
+
+      path-calm : (b : Bool) (m : PathMachine) (back : Pending) → TookAll (CalmPath P own came b m) → FitsPath P own b next sent turn came repeats m back
+      path-calm true m back t = machine-calm (file_of m.opener) back t
+      path-calm false m back t = λ ends. walk-calm (walking.waiting_name m.walk) (not-again (fails_busy (found_by came)) sent turn repeats may ends)
+
+      -- an operation on names: of its step itself
+      name-calm : (m : NameMachine) → TookAll (FineNext P next) → FineNext P next
+      name-calm m t = by (sends-calm (FineNext P next) t)
+        where
+          by : SendsOr next (FineNext P next) → FineNext P next
+          by (inl s) = fine-as P (nexts.Send s.0) next s.1 tt
+          by (inr f) = f
+
+      -- What any operation then makes of it.
+      pub calm-takes : (m : Machine) (wsize : ℕ) (old : Shelf) (new : Machine) (after : Shelf) → old.repeats ≡ repeats → Ends P own m old → FineMachine P own m → TookAll (Calm P own came next m)
+          → Takes wsize m sent turn came old next new after → MachineStep P own next new
+      calm-takes (machines.File m) wsize old new after same place f t s =
+          all-takes P own (machines.File m) wsize sent turn came old next new after place
+          (subst (λ (r : List Repeat). FitsFile P own next sent turn came r m old.back) (sym same) (machine-calm m old.back t)) f s
+      calm-takes (machines.Path m) wsize old new after same place f t s =
+          all-takes P own (machines.Path m) wsize sent turn came old next new after place
+          (subst (λ (r : List Repeat). FitsPath P own m.arrived next sent turn came r m old.back) (sym same) (path-calm m.arrived m old.back t)) f s
+      calm-takes (machines.Name m) wsize old new after same place f t s = (name-calm m t, subst (FineMachine P own) (sym s.machine_is) tt)

@@ -1,0 +1,13 @@
+pub mod SillyFiles
+pub mod SillyNames
+pub mod SillySteps
+pub mod MoveTales
+pub mod Places
+pub mod HiddenTales
+pub mod Shut
+pub mod AloneNow
+pub mod AloneTales
+pub mod CloseCause
+pub mod Whole
+pub mod NotedSends
+pub mod Joined

@@ -1,0 +1,40 @@
+-- As the reply to an own change comes, the page cache knows the file already.
+use Rattle.std.proofs.Common.{◌≡◌, ◌<◌, ℕ, true, false, List, ◌∷◌, ◌++◌, length, Some, slice_get, sym, subst, arith}
+use Rattle.nfs_file_calls.specs.declared.call.FileCall.{FileCall}
+use Rattle.rpc_retry.specs.declared.waiting.Waiting.{Waiting}
+use Rattle.rpc_retry.specs.Waiting.{waiting_at}
+use Rattle.page_cache.specs.declared.state.FileState.{FileState}
+use Rattle.page_cache.specs.Pages.{state_of}
+use Rattle.world_model.specs.declared.entry.Entry.{Entry}
+use Rattle.world_model.specs.declared.entry.Entry.TheVariants.{Delivered}
+use Rattle.world_model.specs.declared.message.Call.TheVariants as calls
+use Rattle.world_model.specs.Modes.{Modes}
+use Rattle.world_model.specs.Slots.{Opens}
+use Rattle.op_machines.specs.declared.begun.Mounted.{Mounted}
+use Rattle.op_machines.specs.declared.machine.Machine.{Machine}
+use Rattle.op_machines.specs.Begun.{machine_of}
+use Rattle.client_core.specs.declared.lane.Purpose.{Purpose}
+use Rattle.client_core.specs.declared.lane.State.TheVariants.{Busy}
+use Rattle.client_core.specs.declared.setup.Setup.{Setup}
+use Rattle.client_core.specs.View.{View}
+use Rattle.core_facts.specs.Reaches.{Reaches}
+use Rattle.core_facts.specs.Tries.{IsMade}
+use Rattle.core_answers.specs.bonds.Kept.{LastAtMost}
+use Rattle.core_session.proofs.current.Good.{reached-good}
+use Rattle.core_session.proofs.current.ReadsRecent.{opens-front}
+
+-- so it is in the view before the place d, where the call of a lane that waits is the change
+abbrev pub Stated : Mounted → Setup → List Entry → ℕ → List ℕ → FileCall → Type 0
+Stated mounted setup H d f change = (h rest : List Entry) (rec : List ℕ) → h ++ Delivered rec ∷ rest ≡ H → d ≡ length h → (old : View) → Reaches (machine_of mounted) setup h old → old.lost ≡ false
+    → (xid : ℕ) (call : Waiting Purpose) → waiting_at xid old.calls.calls ≡ Some call → (at number : ℕ) (machine : Machine)
+    → slice_get old.lanes at ≡ Some (record { number = number; state = Busy machine }) → number ≡ call.purpose.lane → (made : IsMade setup.cred xid call) → calls.File change ≡ made.asked
+    → (s : FileState) × (state_of f old.shelf.pages ≡ Some s)
+
+-- an open of the file was answered before
+pub stated-opens : (mounted : Mounted) (modes : Modes) → mounted.nocto ≡ modes.nocto → (setup : Setup) → (modes.nocto ≡ true → LastAtMost setup.lives modes.longest) → (H : List Entry) (d : ℕ) (f : List ℕ) (change : FileCall)
+    (lane slot o yo : ℕ) → Opens modes H lane slot o yo f → yo < d → Stated mounted setup H d f change
+stated-opens mounted modes same setup lasts H d f change lane slot o yo opens early h rest rec is here old r found xid call waits at number machine there number_is made asked =
+    let g = reached-good mounted modes same setup lasts h old r found in
+    let front = opens-front modes h (Delivered rec ∷ rest) lane slot o yo f (omega (arith, early, here)) (subst (λ (l : List Entry). Opens modes l lane slot o yo f) (sym is) opens) in
+    let k = g.opened lane slot o yo f front in
+    (k.since.marked.state, k.since.marked.there)

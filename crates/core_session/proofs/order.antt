@@ -1,0 +1,13 @@
+pub mod Adds
+pub mod Rooms
+pub mod PutFinds
+pub mod PutTales
+pub mod Unmade
+pub mod Sounds
+pub mod Basis
+pub mod Tame
+pub mod Answered
+pub mod Beside
+pub mod Earliers
+pub mod Cuts
+pub mod PutWrites

@@ -1,0 +1,10 @@
+pub mod Calm
+pub mod Unheard
+pub mod Earlier
+pub mod Later
+pub mod SizeReply
+pub mod Bare
+pub mod Zeros
+pub mod CutFollows
+pub mod CutHad
+pub mod ReadCuts

@@ -1,0 +1,135 @@
+-- A lane goes on: what stands of the newest bytes goes on standing.
+use Rattle.std.proofs.Common.{◌≡◌, ◌≤◌, ◌<◌, ℕ, Bool, true, false, nat_eq, List, ◌++◌, length, refl, arith}
+use Rattle.std.proofs.lemmas.Bool.{eqb-true, eqb-false}
+use Rattle.world_model.specs.declared.answer.Answer.TheVariants as answers
+use Rattle.world_model.specs.declared.answer.Value.{Value}
+use Rattle.world_model.specs.declared.entry.Entry.{Entry}
+use Rattle.world_model.specs.declared.entry.Entry.TheVariants.{Began}
+use Rattle.world_model.specs.declared.op.Op.{Op}
+use Rattle.world_model.specs.Entries.{At}
+use Rattle.world_model.specs.LanesTogether.{IsBusy}
+use Rattle.world_model.specs.Terms.{Terms}
+use Rattle.world_model.specs.Touched.{Cuts}
+use Rattle.op_machines.specs.declared.begun.Mounted.{Mounted}
+use Rattle.op_machines.specs.declared.machine.Machine.{Machine}
+use Rattle.client_core.specs.declared.lane.State.TheVariants.{Busy, Over}
+use Rattle.client_core.specs.declared.setup.Setup.{Setup}
+use Rattle.client_core.specs.Steps.{Stirs, with_state}
+use Rattle.client_core.specs.View.{View, turn_at, unmade_turn}
+use Rattle.core_facts.specs.SlotAnswers.{GoesWith}
+use Rattle.core_facts.proofs.Keeping.{Known}
+use Rattle.core_facts.proofs.LaneMarks.{Runs, lanes-under-way, number_of}
+use Rattle.core_facts.proofs.Lists.{at-set, to-map}
+use Rattle.core_facts.proofs.Placing.{Placed}
+use Rattle.core_session.proofs.saves.WholeSteps.{Wholly}
+use Rattle.core_session.proofs.syncs.Causes.{IsWriter, IsPut, OfOp}
+use Rattle.core_session.proofs.syncs.Fates.{job_kind}
+use Rattle.core_session.proofs.syncs.Plans.{Plan, Came_, stirs-came}
+use Rattle.core_session.proofs.syncs.Seen.{bases}
+use Rattle.core_session.proofs.syncs.Aims.{write-has}
+use Rattle.core_session.proofs.syncs.Turning.{turns-stir}
+use Rattle.core_session.proofs.drops.Along.{GuardsKnown}
+use Rattle.core_session.proofs.pending.Letting.{stirs-lets}
+use Rattle.core_session.proofs.syncs.SlotHeld.{HoldsSlot}
+use Rattle.core_session.proofs.pending.Above.{Above}
+use Rattle.core_session.proofs.syncs.Aparts.{apart-turns}
+use Rattle.core_session.proofs.pending.Cuttings.{IsTruncate, IsCutter, cutter-resumes, cutter-resumes-not, cutter-takes, cutter-takes-err, leads-keeps, leads-done}
+use Rattle.core_session.proofs.pending.LaneSettles.{stirs-good}
+use Rattle.core_session.proofs.pending.Newest.{OfNewest}
+use Rattle.core_session.proofs.syncs.PutGoes.{stirs-not}
+use Rattle.core_session.proofs.pending.Settles as settles
+use Rattle.core_session.proofs.pending.Settles.{StateGood, IsPast}
+use Rattle.core_session.proofs.pending.Standing.{IsSaverOf, past, PutEnd, tale, Told, Phase, C, c-e, plan}
+use Rattle.core_session.proofs.pending.Stepping.{machine-saver, was-all, save-file, writer-here, saver-here, put-here, truncate-here, next-phase}
+
+module _ (mt : Mounted) (terms : Terms) (setup : Setup) (H : List Entry) (V : View) (g : GoesWith mt terms setup H V) (f : List ℕ) (i : ℕ) (h rest : List Entry) (split_ : h ++ rest ≡ H) (old new : View) (at : ℕ)
+    (k : Known setup h old) (t : Stirs old at new) (wholly : Wholly setup h old) (placed : Placed old) (some : 1 ≤ old.wsize) (gk : GuardsKnown terms.modes h old) (gk2 : GuardsKnown terms.modes h new) (slots2 : (x : ℕ) → HoldsSlot terms.modes H x f h new)
+    (p : Phase mt terms setup H f i h old) where
+  run : IsBusy h t.number (length h)
+  run = (lanes-under-way h old k.lanes).busy at (record { number = t.number; state = Busy t.machine }) t.there
+
+  runs : Runs h t.number
+  runs = k.lanes.busy at t.number (to-map number_of old.lanes at (record { number = t.number; state = Busy t.machine }) t.there)
+
+  abbrev least : 1 ≤ t.number
+  least = (placed.live at (record { number = t.number; state = Busy t.machine }) t.there).least
+
+  abbrev most : t.number ≤ 16
+  most = (placed.live at (record { number = t.number; state = Busy t.machine }) t.there).most
+
+  told_ : Told mt terms setup H f i p.u t.number run.x t.machine run.op
+  told_ = p.story at t.number t.machine run.x run.op t.there run.under_way
+
+  none-late : (y lane line : ℕ) (o : Op) → At H y (Began lane line o) → length h ≤ y → y < length h → p.u y ≡ old.shelf.seq
+  none-late y lane line o at_y low high = absurd (omega (arith, low, high))
+
+  abbrev plan_ : Plan f old.wsize (job_kind t.machine) old.shelf.seq (λ z. Unit {0})
+  plan_ = plan mt terms setup H f i h old p.u run.x (p.u run.x) old.shelf.seq old.wsize (job_kind t.machine) new.shelf (p.low run.x)
+
+  was : C mt terms setup H f i h old p.u run.x (p.u run.x) old.shelf.seq old.shelf.seq old.shelf.back
+  was = was-all mt terms setup H V g f i h old p run.x (p.u run.x)
+
+  writer : OfOp H run.x IsWriter → job_kind t.machine ≡ 1
+  writer =
+      writer-here mt terms setup H V g f i h h rest split_ old new at t.number run.x run.op old.wsize some least most (bases f old.lanes) (job_kind t.machine) told_.0 runs run.under_way (omega arith)
+      (λ lane y z o a d. d) p p.u (λ y low. refl) p.low none-late
+
+  came : Came_ f old.wsize some t.number least most (bases f old.lanes) (job_kind t.machine) old.shelf.seq (λ z. Unit {0}) plan_ old.lanes at new
+  came = by (nat_eq (job_kind t.machine) 1) refl
+    where
+      by : (b : Bool) → nat_eq (job_kind t.machine) 1 ≡ b → Came_ f old.wsize some t.number least most (bases f old.lanes) (job_kind t.machine) old.shelf.seq (λ z. Unit {0}) plan_ old.lanes at new
+      by true d =
+          stirs-came mt setup h old k wholly placed some f p.owned (λ z. Unit {0}) tt tt new at t plan_ refl (λ alone. tt) ⊥ (λ none c. absurd none) was
+          (write-has f (Unit {0}) ⊥ (tale mt terms setup H f i run.x (p.u run.x)) (tale mt terms setup H f i run.x (p.u run.x)) old.shelf.seq old.shelf.back old.shelf.order old.shelf.seq old.shelf.back
+          old.shelf.order t.machine (eqb-true (job_kind t.machine) 1 d) (λ file offset bytes z. z) (told_.1 old.shelf.seq old.shelf.back old.shelf.order))
+      by false d =
+          stirs-came mt setup h old k wholly placed some f p.owned (λ z. Unit {0}) tt tt new at t plan_ refl (λ alone. tt) (Unit {0})
+          (λ u c. (c-e mt terms setup H f i h old p.u run.x (p.u run.x) old.shelf.seq old.shelf.seq old.shelf.back c, λ of byte writes. absurd (eqb-false (job_kind t.machine) 1 d (writer of)))) was
+          (told_.1 old.shelf.seq old.shelf.back old.shelf.order)
+
+  settled : StateGood came.state → IsSaverOf mt terms setup H f i run.x → OfNewest (Above f i (p.u run.x)) new.shelf.back
+  settled good sv =
+      stirs-good f i (p.u run.x) old new at t saver
+      (λ z is. (save-file mt terms setup H V g f i run.x (p.u run.x) t.machine z old.shelf.seq old.shelf.back old.shelf.order saver sv (told_.1 old.shelf.seq old.shelf.back old.shelf.order) is).0)
+      p.common.sound (λ is. p.marks run.x (past at t.number t.machine run.op t.there run.under_way is sv)) came.state came.but.here good
+    where
+      saver : settles.IsSaver t.machine
+      saver = machine-saver t.machine
+          (saver-here mt terms setup H V g f i h h rest split_ old new at t.number run.x run.op old.wsize some least most (bases f old.lanes) (job_kind t.machine) told_.0 runs run.under_way (omega arith)
+          (λ lane y z o a d. d) p p.u (λ y low. refl) p.low none-late sv)
+
+  marks : IsTruncate run.op → (machine : Machine) → came.state ≡ Busy machine → IsCutter (p.u run.x) machine
+  marks truncates machine busy =
+      leads-keeps (IsCutter (p.u run.x)) (cutter-takes (p.u run.x)) (with_state old at t.number (Busy t.after) t.shelf) new at t.number t.after t.next
+      (at-set old.lanes at (record { number = t.number; state = Busy t.machine }) (record { number = t.number; state = Busy t.after }) t.there) t.leads
+      (cutter-resumes (p.u run.x) t.machine (told_.2 truncates) old.wsize (turn_at old) old.shelf t.next t.after t.shelf t.resumes) came.state came.but.here machine busy
+
+  -- a truncate doesn't go well without a reply
+  done : (value : Value) → came.state ≡ Over (answers.Done value) → Cuts terms.modes H run.x f i → OfNewest (Above f i (p.u run.x)) new.shelf.back
+  done value is c =
+      leads-done (with_state old at t.number (Busy t.after) t.shelf) new at t.number t.after t.next
+      (at-set old.lanes at (record { number = t.number; state = Busy t.machine }) (record { number = t.number; state = Busy t.after }) t.there) t.leads came.state came.but.here value is
+      (OfNewest (Above f i (p.u run.x)))
+      (λ good. absurd (cutter-resumes-not (p.u run.x) t.machine cutter old.wsize (turn_at old) old.shelf t.next t.after t.shelf t.resumes good))
+      (λ fault n after left k good. absurd (cutter-takes-err (p.u run.x) t.after
+      (cutter-resumes (p.u run.x) t.machine cutter old.wsize (turn_at old) old.shelf t.next t.after t.shelf t.resumes) old.wsize (turn_at (with_state old at t.number (Busy t.after) t.shelf))
+      (unmade_turn (with_state old at t.number (Busy t.after) t.shelf)) fault t.shelf n after left k good))
+    where
+      cutter : IsCutter (p.u run.x) t.machine
+      cutter = told_.2
+          (truncate-here mt terms setup H V g f i h h rest split_ old new at t.number run.x run.op old.wsize some least most (bases f old.lanes) (job_kind t.machine) told_.0 runs run.under_way (omega arith)
+          (λ lane y z o a d. d) p p.u (λ y low. refl) p.low none-late c)
+
+  -- nor does a put
+  put-done : (value : Value) → came.state ≡ Over (answers.Done value) → OfOp H run.x IsPut → PutEnd mt terms setup H f i h new run.x (p.u run.x)
+  put-done value is puts = absurd (stirs-not old new at t
+      (put-here mt terms setup H V g f i h h rest split_ old new at t.number run.x run.op old.wsize some least most (bases f old.lanes) (job_kind t.machine) told_.0 runs run.under_way (omega arith)
+      (λ lane y z o a d. d) p p.u (λ y low. refl) p.low none-late puts) t.number came.state came.but.here value is)
+
+  pub stirs-phase : Phase mt terms setup H f i h new
+  stirs-phase =
+      next-phase mt terms setup H V g f i h h rest split_ old new at t.number run.x run.op old.wsize some least most (bases f old.lanes) (job_kind t.machine) told_.0 runs run.under_way (omega arith)
+      (λ lane y z o a d. d) p p.u (λ y low. refl) p.low none-late came (turns-stir f setup h old new at t.number t.machine came.state k t.there came.but run.x run.op run.under_way) settled marks done put-done
+      (λ y a. apart-turns f h h old new at t.number run.x run.op came.state (turns-stir f setup h old new at t.number t.machine came.state k t.there came.but run.x run.op run.under_way) (λ z l. l) y a)
+      (λ sound number few guard. stirs-lets setup terms.modes h old new at k t gk.drops gk2.drops gk.ranked f i number came.state came.but p.common.sound sound p.owned came.owned_ guard)
+      (slots2 run.x) (λ w number guard u. u)

@@ -1,0 +1,412 @@
+-- Each newest byte that is pending was given by an operation since whose answer none that went well covered or settled it.
+use Rattle.std.proofs.Common.{◌≡◌, ◌≤◌, ◌<◌, ℕ, false, List, [], ◌∷◌, ◌++◌, length, Option, Some, None, position, append_assoc, append-nil, slice_get, refl, sym, ap, subst, ◌∙◌, arith}
+use Rattle.rpc_retry.specs.declared.waiting.Waiting.{Waiting}
+use Rattle.rpc_retry.specs.Waiting.{waiting_at}
+use Rattle.world_model.specs.declared.answer.Answer.{Answer}
+use Rattle.world_model.specs.declared.answer.Answer.TheVariants as answers
+use Rattle.world_model.specs.declared.answer.Fault.{Fault}
+use Rattle.world_model.specs.declared.answer.Value.{Value}
+use Rattle.world_model.specs.declared.entry.Entry.{Entry}
+use Rattle.world_model.specs.declared.entry.Entry.TheVariants.{Began, Answered, Delivered}
+use Rattle.world_model.specs.declared.op.Op.{Op}
+use Rattle.world_model.specs.declared.op.Op.TheVariants as ops
+use Rattle.world_model.specs.Entries.{At}
+use Rattle.world_model.specs.Operations.{AnsweredBefore, Ended}
+use Rattle.world_model.specs.Slots.{PutsTo}
+use Rattle.world_model.specs.Terms.{Terms}
+use Rattle.world_model.specs.Touched.{MadeStable, RefusedWrite, Truncated, WritesByte, Wrote}
+use Rattle.world_model.specs.Touched as touched
+use Rattle.world_model.proofs.Places.{At-grow, At-back, At-one}
+use Rattle.call_replies.specs.Says.{said_of}
+use Rattle.write_back.specs.Files.{of_file}
+use Rattle.write_back.specs.Segments.{Cell, byte_of, cell_at, newest_at}
+use Rattle.op_machines.specs.declared.begun.Mounted.{Mounted}
+use Rattle.op_machines.specs.Begun.{machine_of}
+use Rattle.client_core.specs.declared.lane.Purpose.{Purpose}
+use Rattle.client_core.specs.declared.setup.Setup.{Setup}
+use Rattle.client_core.specs.Lanes.{is_busy}
+use Rattle.client_core.specs.Numbers.{IsIdle}
+use Rattle.client_core.specs.Steps.{StartsLane, TakesAt, Stirs, AnswersAt, counted}
+use Rattle.client_core.specs.View.{View}
+use Rattle.core_facts.specs.Naming.{KnowsRoot}
+use Rattle.core_facts.specs.Reaches.{Reaches}
+use Rattle.core_facts.specs.SlotAnswers.{GoesWith}
+use Rattle.core_facts.proofs.AllCounts.{begins-unbegun}
+use Rattle.core_facts.proofs.Cases.{taken_one}
+use Rattle.core_facts.proofs.Keeping.{Known, reached-all}
+use Rattle.core_facts.proofs.LaneMarks.{lanes-under-way}
+use Rattle.core_facts.proofs.Placing.{keeps-placed}
+use Rattle.core_facts.proofs.Walks.{stirs-stay, starts-stay, steps-stay, Stays}
+use Rattle.core_session.proofs.saves.WholeSteps.{keeps-wholly, starts-wholly}
+use Rattle.core_session.specs.syncs.Synced.{PutsNamed}
+use Rattle.core_session.proofs.syncs.Causes.{IsWriter, IsPut, OfOp}
+use Rattle.core_session.proofs.syncs.Turning.{IsFixed, gone, under-was, under-answers-back, under-plain-back}
+use Rattle.core_session.proofs.syncs.WatchingAlong.{KeepsWatching, reached-watching}
+use Rattle.core_session.specs.pending.Held.{IsUnsettled, PendingUnsettled, PendingHeldBack}
+use Rattle.core_session.proofs.pending.Entries.{answers-phase, same-phase, fresh-phase}
+use Rattle.world_model.specs.Pending.{BeganPut, LeftAlone, Pending}
+use Rattle.client_shelf.specs.declared.shelf.Shelf.{Shelf}
+use Rattle.op_machines.specs.declared.file_machine.FileMachine.TheVariants as files
+use Rattle.op_machines.specs.declared.machine.Machine.TheVariants as machines
+use Rattle.client_core.specs.declared.lane.Lane.{Lane}
+use Rattle.client_core.specs.declared.lane.State.TheVariants.{Busy}
+use Rattle.client_core.specs.Fresh.{IsFresh}
+use Rattle.core_facts.proofs.Slots.{Kind, BeginsAs}
+use Rattle.core_session.proofs.drops.Along.{GuardsKnown, guards-steps}
+use Rattle.core_session.proofs.drops.Drops.{own-others}
+use Rattle.core_session.proofs.drops.GuardLaws.{stirs-step, takes-step}
+use Rattle.core_session.proofs.drops.KnowingAlong.{IsPlain, StepsKnowing}
+use Rattle.core_session.proofs.drops.Laws.{DropsKnown, drops-fresh, Begun, starts-begun}
+use Rattle.core_session.proofs.drops.Shown.{guards-kept}
+use Rattle.core_session.proofs.drops.SlotKinds.{begins-as}
+use Rattle.core_session.proofs.pending.Above.{Above}
+use Rattle.core_session.proofs.pending.Alone.{HeldSoon, at-once, alone-not, unleft-step}
+use Rattle.core_session.proofs.syncs.Guard.{starts-plain}
+use Rattle.core_session.proofs.syncs.SlotHeld.{HoldsSlot, holds-step, holds-starts, holds-same, holds-unbegun}
+use Rattle.core_session.proofs.syncs.Aparts.{apart-done}
+use Rattle.core_session.proofs.pending.Newest.{OfNewest, cell-of}
+use Rattle.core_session.proofs.pending.Onwards.{refused-not, never-refused}
+use Rattle.core_session.proofs.room.Onward.{Onward}
+use Rattle.core_session.proofs.pending.Standing.{IsGiven, Marked, wrote, cut, saved, PutEnd, settled_, left_, never, Here, Phase, Stands}
+use Rattle.core_session.proofs.pending.StartsOn.{starts-phase}
+use Rattle.core_session.proofs.pending.StirsOn.{stirs-phase}
+use Rattle.core_session.proofs.pending.TakesOn.{takes-phase}
+
+abbrev has-some : View → Type 0
+has-some v = 1 ≤ v.wsize
+
+some-stays : Stays has-some
+some-stays = record {
+  makes = λ old new number call made p. subst (λ (v : View). 1 ≤ v.wsize) (sym made.is) p;
+  sets = λ old at number was state shelf there p. p;
+}
+
+began-op : (a b c d : ℕ) (o p : Op) → Began a b o ≡ Began c d p → o ≡ p
+began-op a b c d o p e = cc
+
+refused-done : (fault : Fault) (value : Value) → answers.Refused fault ≡ answers.Done value → ⊥
+refused-done fault value e = cc
+
+-- what was answered in a longer history, before the end of this one
+pub ended-in : (H h rest : List Entry) → h ++ rest ≡ H → (lane x y : ℕ) (op : Op) (answer : Answer) → y < length h → Ended H lane x op y answer → Ended h lane x op y answer
+ended-in H h rest is lane x y op answer low d = record {
+  line = u.line;
+  began = At-back h rest x (Began lane u.line op) u.began (let later = u.later in omega (arith, later, low));
+  answered = At-back h rest y (Answered lane u.line answer) u.answered low;
+  later = u.later;
+  first = λ q b at after. u.first q b (At-grow h rest q (Answered lane u.line b) at) after;
+}
+  where
+    u : Ended (h ++ rest) lane x op y answer
+    u = subst (λ (z : List Entry). Ended z lane x op y answer) (sym is) d
+
+refused-writer : (H : List Entry) (w : ℕ) → RefusedWrite H w → OfOp H w IsWriter
+refused-writer H w (touched.write lane slot offset y bytes fault ended) n l other there =
+    subst IsWriter (began-op lane ended.line n l (ops.Write slot offset bytes) other (At-one H w (Began lane ended.line (ops.Write slot offset bytes)) (Began n l other) ended.began there)) tt
+refused-writer H w (touched.fill lane slot offset count byte y fault ended) n l other there =
+    subst IsWriter (began-op lane ended.line n l (ops.Fill slot offset count byte) other (At-one H w (Began lane ended.line (ops.Fill slot offset count byte)) (Began n l other) ended.began there)) tt
+
+module _ (mt : Mounted) (terms : Terms) (setup : Setup) (H : List Entry) (V : View) (g : GoesWith mt terms setup H V) (roots : KnowsRoot terms.origin H mt.root) (puts_named : PutsNamed H) (f : List ℕ) (i : ℕ) where
+  abbrev St : List Entry → View → Type 0
+  St = Stands mt terms setup H f i
+
+  -- ---- along the history
+
+  abbrev Guards : List Entry → View → Type 0
+  Guards h v = GuardsKnown terms.modes h v
+
+  abbrev laws : StepsKnowing (machine_of mt) setup (GuardsKnown terms.modes)
+  laws = guards-steps mt terms.modes g.nocto setup
+
+  abbrev SlotsOf : List Entry → View → Type 0
+  SlotsOf h v = (x : ℕ) (rest : List Entry) → h ++ rest ≡ H → HoldsSlot terms.modes H x f h v
+
+  guards-fresh : (h : List Entry) (v : View) → IsFresh setup v → Guards h v
+  guards-fresh h v fresh = record {
+    drops = drops-fresh mt terms.modes g.nocto setup h v fresh;
+    ranked = record {
+      sorted = λ n l c d f u w a b low. absurd (none a.close.at (record { number = n; state = Busy (machines.File (files.Close c)) }) a.close.there);
+      below = λ n c f u a. absurd (none a.close.at (record { number = n; state = Busy (machines.File (files.Close c)) }) a.close.there);
+    };
+  }
+    where
+      none : (k : ℕ) (lane : Lane) → slice_get v.lanes k ≡ Some lane → ⊥
+      none k lane there = let no_way : None ≡ Some lane = ap (λ (lanes : List Lane). slice_get lanes k) (sym fresh.lanes) ∙ there in cc
+
+  slots-stirs : (h : List Entry) (old new : View) (at : ℕ) → Known setup h old → Stirs old at new → Guards h old → SlotsOf h old → SlotsOf h new
+  slots-stirs h old new at k t d slots x rest is =
+      holds-step mt terms setup H V g x f h h old new (stirs-step setup terms.modes h old new k d.drops at t) d.drops k (λ o n u. u) (slots x rest is)
+
+  slots-takes : (h : List Entry) (old new : View) (rec : List ℕ) (xid : ℕ) (call : Waiting Purpose) (at : ℕ) → Known setup h old → waiting_at xid old.calls.calls ≡ Some call
+      → position (is_busy call.purpose.lane) old.lanes ≡ Some at → TakesAt (taken_one old xid) at call.purpose.sent (said_of call.purpose.proc rec) new → Guards h old → SlotsOf h old
+      → SlotsOf (h ++ Delivered rec ∷ []) new
+  slots-takes h old new rec xid call at k waits there t d slots x rest is =
+      holds-step mt terms setup H V g x f h (h ++ Delivered rec ∷ []) old new (takes-step setup terms.modes h old new k d.drops rec xid call at waits there t) d.drops k
+      (λ o n u. under-was h (Delivered rec) n x o (λ l p e. absurd (cc e)) u) (slots x (Delivered rec ∷ rest) (sym (append_assoc h (Delivered rec ∷ []) rest) ∙ is))
+
+  slots-starts : (h : List Entry) (old new : View) (lane line : ℕ) (op : Op) (now : ℕ) (r : Reaches (machine_of mt) setup h old) (found : old.lost ≡ false) (idle : IsIdle lane old.lanes)
+      (t : StartsLane (counted old now) lane (machine_of mt lane op) new) → SlotsOf h old → SlotsOf (h ++ Began lane line op ∷ []) new
+  slots-starts h old new lane line op now r found idle t slots x rest is =
+      holds-starts mt terms setup H V g x f h rest old new lane line op is r found idle (own-others _ _ _ _ _ _ _ _ _ _ begun.state begun.own)
+      (λ plain. starts-plain (counted old now) new lane (machine_of mt lane op) t
+      (subst (λ (q : Kind). BeginsAs terms.modes.nocto lane q (machine_of mt lane op)) plain (begins-as terms.modes mt g.nocto lane op)))
+      (slots x (Began lane line op ∷ rest) (sym (append_assoc h (Began lane line op ∷ []) rest) ∙ is))
+    where
+      begun : Begun mt terms.modes g.nocto setup h old new lane line op
+      begun = starts-begun mt terms.modes g.nocto setup h old new lane line op now r found idle t
+
+  slots-answers : (h : List Entry) (old new : View) (at lane line : ℕ) (answer : Answer) → AnswersAt old at lane (Some answer) new → SlotsOf h old → SlotsOf (h ++ Answered lane line answer ∷ []) new
+  slots-answers h old new at lane line answer a slots x rest is =
+      holds-same terms.modes H x f h (h ++ Answered lane line answer ∷ []) old new (ap (λ (v : View). v.shelf.opens) a.is) (λ o n u. under-answers-back h lane line answer n x o u)
+      (slots x (Answered lane line answer ∷ rest) (sym (append_assoc h (Answered lane line answer ∷ []) rest) ∙ is))
+
+  slots-same : (h : List Entry) (e : Entry) (old new : View) → IsPlain e → new.shelf ≡ old.shelf → SlotsOf h old → SlotsOf (h ++ e ∷ []) new
+  slots-same h e old new plain shelf slots x rest is =
+      holds-same terms.modes H x f h (h ++ e ∷ []) old new (ap (λ (z : Shelf). z.opens) shelf) (λ o n u. under-plain-back h e n x o plain u)
+      (slots x (e ∷ rest) (sym (append_assoc h (e ∷ []) rest) ∙ is))
+
+  pub stands-all : KeepsWatching (machine_of mt) setup (Stands mt terms setup H f i)
+  stands-all = record {
+    fresh = λ h v may up fresh. record {
+      wholly = (keeps-wholly mt setup).fresh h v fresh;
+      placed = (keeps-placed mt setup).fresh v fresh;
+      wsize = subst (λ (n : ℕ). 1 ≤ n) (sym fresh.wsize) may.sizes.write;
+      guards = guards-fresh h v fresh;
+      slots = λ x rest is. holds-unbegun terms.modes H x f h v up.unbegun;
+      phase = λ rest is. fresh-phase mt terms setup H f i h v fresh;
+    };
+    stirs = λ h old new at k t st.
+        let gk2 = laws.stirs h old new at k t st.guards in
+        let slots2 = slots-stirs h old new at k t st.guards st.slots in
+        record {
+          wholly = (keeps-wholly mt setup).stirs h old new at k t st.wholly;
+          placed = (keeps-placed mt setup).stirs h old new at k t st.placed;
+          wsize = stirs-stay has-some some-stays old new at t st.wsize;
+          guards = gk2;
+          slots = slots2;
+          phase = λ rest is. stirs-phase mt terms setup H V g f i h rest is old new at k t st.wholly st.placed st.wsize st.guards gk2 (λ x. slots2 x rest is) (st.phase rest is);
+        };
+    starts = λ h old new lane line op now r found k idle fits t st.
+        let gk2 = laws.starts h old new lane line op now r found k idle fits t st.guards in
+        let slots2 = slots-starts h old new lane line op now r found idle t st.slots in
+        record {
+          wholly = starts-wholly mt setup h old new lane line op now r found k idle t st.wholly;
+          placed = (keeps-placed mt setup).starts h old new lane op now k idle t st.placed;
+          wsize = starts-stay has-some some-stays (counted old now) new lane (machine_of mt lane op) (λ state shelf. st.wsize) t;
+          guards = gk2;
+          slots = slots2;
+          phase = λ rest is. (
+              let here : h ++ Began lane line op ∷ rest ≡ H = sym (append_assoc h (Began lane line op ∷ []) rest) ∙ is in
+              starts-phase mt terms setup H V g f i h rest old new lane line op now here r found k idle fits t st.wholly st.placed st.wsize st.guards gk2 (λ x. slots2 x rest is)
+              (st.phase (Began lane line op ∷ rest) here));
+        };
+    takes = λ h old new rec xid call at r found k fin hears named waits there t st.
+        let gk2 = laws.takes h old new rec xid call at r found k fin hears named waits there t st.guards in
+        let slots2 = slots-takes h old new rec xid call at k waits there t st.guards st.slots in
+        record {
+          wholly = (keeps-wholly mt setup).takes h old new rec xid call at r found k waits there t st.wholly;
+          placed = (keeps-placed mt setup).takes h old new rec xid call at k waits there t st.placed;
+          wsize = steps-stay has-some some-stays (taken_one old xid) new at t.number t.machine t.after t.shelf t.next t.there t.leads st.wsize;
+          guards = gk2;
+          slots = slots2;
+          phase = λ rest is. (
+              let here : h ++ Delivered rec ∷ rest ≡ H = sym (append_assoc h (Delivered rec ∷ []) rest) ∙ is in
+              takes-phase mt terms setup H V g roots puts_named f i h rest rec here old new xid call at r found k fin hears named waits there t st.wholly st.placed st.wsize st.guards gk2
+              (λ x. slots2 x rest is) (st.phase (Delivered rec ∷ rest) here));
+        };
+    answers = λ h old new at lane line answer r found k r2 found2 open_line a st. record {
+      wholly = (keeps-wholly mt setup).answers h old new at lane line answer k a st.wholly;
+      placed = (keeps-placed mt setup).answers h old new at lane answer k a st.placed;
+      wsize = subst (λ (v : View). 1 ≤ v.wsize) (sym a.is) st.wsize;
+      guards = laws.answers h old new at lane line answer r found k r2 found2 open_line a st.guards;
+      slots = slots-answers h old new at lane line answer a st.slots;
+      phase = λ rest is. (
+          let here : h ++ Answered lane line answer ∷ rest ≡ H = sym (append_assoc h (Answered lane line answer ∷ []) rest) ∙ is in
+          answers-phase mt terms setup H f i h rest old new at lane line answer here k open_line a
+          (lanes-under-way (h ++ Answered lane line answer ∷ []) new (reached-all (machine_of mt) (begins-unbegun mt) setup (h ++ Answered lane line answer ∷ []) new r2 found2).lanes).apart
+          (λ number guard. (guards-kept mt terms setup h old (record { nocto = g.nocto; reaches = r }) found).noted at lane answer new a number f guard)
+          (λ w number guard u. unleft-step mt terms setup H V g f h (Answered lane line answer ∷ rest) here (Answered lane line answer) rest refl old st.guards.drops (λ b e. absurd (cc e)) w number guard u)
+          (st.phase (Answered lane line answer ∷ rest) here));
+    };
+    same = λ h e old new r found k plain noted sends lanes shelf wsize calls st. record {
+      wholly = (keeps-wholly mt setup).same h e old new lanes shelf calls st.wholly;
+      placed = (keeps-placed mt setup).same old new lanes shelf calls.purposes st.placed;
+      wsize = subst (λ (n : ℕ). 1 ≤ n) (sym wsize) st.wsize;
+      guards = laws.same h e old new plain noted lanes shelf wsize calls st.guards;
+      slots = slots-same h e old new plain shelf st.slots;
+      phase = λ rest is. (
+          let here : h ++ e ∷ rest ≡ H = sym (append_assoc h (e ∷ []) rest) ∙ is in
+          same-phase mt terms setup H f i h e rest old new here plain noted lanes shelf
+          (λ w number guard u. unleft-step mt terms setup H V g f h (e ∷ rest) here e rest refl old st.guards.drops
+          (λ b is_. at-once mt terms setup H V g f h (e ∷ rest) here old r found (noted b is_).noted) w number guard u)
+          (st.phase (e ∷ rest) here));
+    };
+  }
+
+  of-write : (P : Op → Type 0) (x lane line : ℕ) (op : Op) → At H x (Began lane line op) → P op → OfOp H x P
+  of-write P x lane line op at p n l other there = subst P (began-op lane line n l op other (At-one H x (Began lane line op) (Began n l other) at there)) p
+
+  -- ---- at any of its moments
+
+  module _ (h rest : List Entry) (is : h ++ rest ≡ H) (v : View) (p : Phase mt terms setup H f i h v) (cell : Cell) (there : cell_at (of_file f v.shelf.back).segments i ≡ Some cell) where
+    pub given : IsGiven mt terms setup H f i h v p.u cell.byte cell.number
+    given = cell-of (λ place byte number. Here mt terms setup H f i (IsGiven mt terms setup H f i h v p.u) f place byte number) (of_file f v.shelf.back).segments i cell (p.given.file f) there refl refl
+
+    -- what was answered before
+    fixed : (lane x y : ℕ) (op : Op) (answer : Answer) → Ended H lane x op y answer → y < length h → IsFixed h v x answer
+    fixed lane x y op answer d low = gone lane y op (ended-in H h rest is lane x y op answer low d)
+
+    within : (lane x y : ℕ) (op : Op) (answer : Answer) → Ended H lane x op y answer → y < length h → x < length h
+    within lane x y op answer d low = let later = d.later in omega (arith, later, low)
+
+    -- none that marks the place began after the giver was answered
+    above-not : (x lane line : ℕ) (op : Op) → At H x (Began lane line op) → x < length h → OfNewest (Above f i (p.u x)) v.shelf.back → AnsweredBefore H given.w x → ⊥
+    above-not x lane line op at low above before =
+        given.late x lane line op at low (cell-of (λ place byte number. f ≡ f → place ≡ i → p.u x < number) (of_file f v.shelf.back).segments i cell (above.file f) there refl refl) before
+
+    unmarked : (x lane line : ℕ) (op : Op) → At H x (Began lane line op) → x < length h → Marked mt terms setup H f i h v x → AnsweredBefore H given.w x → ⊥
+    unmarked x lane line op at low m before = above-not x lane line op at low (p.marks x m) before
+
+    -- no put of the file went well since
+    put-not : (x y offset : ℕ) (bytes : List ℕ) → PutsTo H x y f offset bytes → y < length h → AnsweredBefore H given.w x → ⊥
+    put-not x y offset bytes t low before =
+        by
+        (p.puts x t.value (fixed t.lane x y (ops.Put t.path offset bytes) (answers.Done t.value) t.ended low)
+        (of-write IsPut x t.lane t.ended.line (ops.Put t.path offset bytes) t.ended.began tt))
+      where
+        by : PutEnd mt terms setup H f i h v x (p.u x) → ⊥
+        by (settled_ above) =
+            above-not x t.lane t.ended.line (ops.Put t.path offset bytes) t.ended.began (within t.lane x y (ops.Put t.path offset bytes) (answers.Done t.value) t.ended low) above before
+        by (left_ a) =
+            apart-done f h v x a t.lane y (ops.Put t.path offset bytes) (answers.Done t.value) (ended-in H h rest is t.lane x y (ops.Put t.path offset bytes) (answers.Done t.value) low t.ended)
+        by (never none) = none t.lane y (ops.Put t.path offset bytes) (answers.Done t.value) t.ended t.call t.names t.asked
+
+    uncovered-by : (x y u : ℕ) → AnsweredBefore H given.w x → Wrote terms.modes H x y f i u → y < length h → ⊥
+    uncovered-by x y u before (touched.write lane slot offset bytes value of ended c) low =
+        unmarked x of.lane of.line (ops.Write slot offset bytes) of.began (within lane x y (ops.Write slot offset bytes) (answers.Done value) ended low)
+        (wrote u value (fixed lane x y (ops.Write slot offset bytes) (answers.Done value) ended low) (of-write IsWriter x of.lane of.line (ops.Write slot offset bytes) of.began tt)
+        (touched.write slot offset bytes of c)) before
+    uncovered-by x y u before (touched.fill lane slot offset count value of ended from to) low =
+        unmarked x of.lane of.line (ops.Fill slot offset count u) of.began (within lane x y (ops.Fill slot offset count u) (answers.Done value) ended low)
+        (wrote u value (fixed lane x y (ops.Fill slot offset count u) (answers.Done value) ended low) (of-write IsWriter x of.lane of.line (ops.Fill slot offset count u) of.began tt)
+        (touched.fill slot offset count of from to)) before
+    uncovered-by x y u before (touched.put offset bytes t c) low = put-not x y offset bytes t low before
+
+    unsettled-by : (x y : ℕ) → AnsweredBefore H given.w x → MadeStable terms.modes H x y f → y < length h → ⊥
+    unsettled-by x y before (touched.sync lane slot value of ended) low =
+        unmarked x of.lane of.line (ops.Sync slot) of.began (within lane x y (ops.Sync slot) (answers.Done value) ended low)
+        (saved value (fixed lane x y (ops.Sync slot) (answers.Done value) ended low)
+        (record { lane = of.lane; line = of.line; op = ops.Sync slot; began = of.began; saver = tt; of = of })) before
+    unsettled-by x y before (touched.close lane slot value of ended) low =
+        unmarked x of.lane of.line (ops.Close slot) of.began (within lane x y (ops.Close slot) (answers.Done value) ended low)
+        (saved value (fixed lane x y (ops.Close slot) (answers.Done value) ended low)
+        (record { lane = of.lane; line = of.line; op = ops.Close slot; began = of.began; saver = tt; of = of })) before
+    unsettled-by x y before (touched.put offset bytes t) low = put-not x y offset bytes t low before
+
+    uncut-by : (x y size : ℕ) → AnsweredBefore H given.w x → Truncated terms.modes H x y f size → size ≤ i → y < length h → ⊥
+    uncut-by x y size before t least low =
+        unmarked x t.of.lane t.of.line (ops.Truncate t.slot size) t.of.began (within t.lane x y (ops.Truncate t.slot size) (answers.Done t.value) t.ended low)
+        (cut t.value (fixed t.lane x y (ops.Truncate t.slot size) (answers.Done t.value) t.ended low) (record { slot = t.slot; size = size; of = t.of; low = least })) before
+
+    -- no last close left the file alone since
+    abbrev pub NoPut : Type 0
+    NoPut = BeganPut H given.w → ⊥
+
+    writer-of : NoPut → WritesByte terms.modes terms.origin H given.w f i cell.byte → OfOp H given.w IsWriter
+    writer-of none (touched.write slot offset bytes of c) = of-write IsWriter given.w of.lane of.line (ops.Write slot offset bytes) of.began tt
+    writer-of none (touched.fill slot offset count of low high) = of-write IsWriter given.w of.lane of.line (ops.Fill slot offset count cell.byte) of.began tt
+    writer-of none (touched.put lane line offset n path bytes at ends leads c) = absurd (none (record { lane = lane; line = line; path = path; offset = offset; bytes = bytes; began = at }))
+
+    pub unleft-by : DropsKnown terms.modes h v → HeldSoon mt terms setup H V g f h rest is v → NoPut → (k : ℕ) → AnsweredBefore H given.w k → LeftAlone terms.modes H k f → k < length h → ⊥
+    unleft-by d soon none k before left low =
+        let writer = writer-of none given.writes in
+        alone-not mt terms setup H V g f h rest is k low left (λ j bytes at from to. given.unleft writer k before left j bytes at from to) v d soon cell.number (given.guard writer)
+
+    -- where what has a good answer isn't refused later
+    pub unsettled : (OfOp H given.w IsWriter → (value : Value) → IsFixed h v given.w (answers.Done value) → RefusedWrite H given.w → ⊥) → IsUnsettled terms.modes terms.origin H f i (length h) cell.byte
+    unsettled never_refused = record {
+      w = given.w;
+      before = given.began;
+      writes = given.writes;
+      unrefused = λ r. refused r;
+      uncovered = λ x y u before wrote_ low. uncovered-by x y u before wrote_ low;
+      uncut = λ x y size before t least low. uncut-by x y size before t least low;
+      unsettled = λ x y before made low. unsettled-by x y before made low;
+    }
+      where
+        refused : RefusedWrite H given.w → ⊥
+        refused r = (let writer = refused-writer H given.w r in let k = given.well writer in never_refused writer k.0 k.1 r)
+
+    -- where the table's slots of the file are held before a record comes
+    pub whole : (OfOp H given.w IsWriter → (value : Value) → IsFixed h v given.w (answers.Done value) → RefusedWrite H given.w → ⊥) → DropsKnown terms.modes h v
+        → HeldSoon mt terms setup H V g f h rest is v → Pending terms.modes terms.origin H f i (length h) cell.byte
+    whole never_refused d soon = record {
+      w = given.w;
+      before = given.began;
+      writes = given.writes;
+      unrefused = λ r. refused r;
+      uncovered = λ x y u before wrote_ low. uncovered-by x y u before wrote_ low;
+      uncut = λ x y size before t least low. uncut-by x y size before t least low;
+      unsettled = λ x y before made low. unsettled-by x y before made low;
+      unleft = λ none k before left low. unleft-by d soon none k before left low;
+    }
+      where
+        refused : RefusedWrite H given.w → ⊥
+        refused r = (let writer = refused-writer H given.w r in let k = given.well writer in never_refused writer k.0 k.1 r)
+
+-- ---- at its end
+
+some-byte : (a b : ℕ) → Some a ≡ Some b → a ≡ b
+some-byte a b e = cc
+
+-- the newest byte of a place
+record IsNewest (v : View) (f : List ℕ) (i byte : ℕ) : Type 0 where
+  cell : Cell
+  there : cell_at (of_file f v.shelf.back).segments i ≡ Some cell
+  byte_is : cell.byte ≡ byte
+
+newest : (v : View) (f : List ℕ) (i byte : ℕ) → newest_at (of_file f v.shelf.back).segments i ≡ Some byte → IsNewest v f i byte
+newest v f i byte is = by (cell_at (of_file f v.shelf.back).segments i) refl is
+  where
+    by : (o : Option Cell) → cell_at (of_file f v.shelf.back).segments i ≡ o → byte_of o ≡ Some byte → IsNewest v f i byte
+    by None there e = absurd (let no_way : None ≡ Some byte = e in cc)
+    by (Some cell) there e = record { cell = cell; there = there; byte_is = some-byte cell.byte byte e }
+
+pub pending-unsettled : PendingUnsettled
+pending-unsettled mt terms setup h v g found roots puts_named f i byte is =
+    let st = reached-watching (machine_of mt) (begins-unbegun mt) setup (Stands mt terms setup h f i) (stands-all mt terms setup h v g roots puts_named f i) h v g.reaches found in
+    let n = newest v f i byte is in
+    subst (IsUnsettled terms.modes terms.origin h f i (length h)) n.byte_is
+    (unsettled mt terms setup h v g roots puts_named f i h [] (append-nil h) v (st.phase [] (append-nil h)) n.cell n.there (λ writer value k r. refused-not h v _ value k r))
+
+-- Along a session that goes on: of each moment through which it came.
+pub held-at : (mt : Mounted) (terms : Terms) (setup : Setup) (H : List Entry) (V : View) → GoesWith mt terms setup H V → KnowsRoot terms.origin H mt.root → PutsNamed H → (h rest : List Entry) → h ++ rest ≡ H
+    → (v : View) → Reaches (machine_of mt) setup h v → v.lost ≡ false → Onward (machine_of mt) setup h v H V → (f : List ℕ) (i byte : ℕ)
+    → newest_at (of_file f v.shelf.back).segments i ≡ Some byte → IsUnsettled terms.modes terms.origin H f i (length h) byte
+held-at mt terms setup H V g roots puts_named h rest is v r found on f i byte at =
+    let st = reached-watching (machine_of mt) (begins-unbegun mt) setup (Stands mt terms setup H f i) (stands-all mt terms setup H V g roots puts_named f i) h v r found in
+    let n = newest v f i byte at in
+    let p = st.phase rest is in
+    subst (IsUnsettled terms.modes terms.origin H f i (length h)) n.byte_is
+    (unsettled mt terms setup H V g roots puts_named f i h rest is v p n.cell n.there
+    (λ writer value k refused. never-refused mt setup H V h rest is v r on _ writer value k refused))
+
+pub pending-held : PendingHeldBack
+pending-held mt terms setup h v g found roots puts_named noted f i byte is =
+    let st = reached-watching (machine_of mt) (begins-unbegun mt) setup (Stands mt terms setup h f i) (stands-all mt terms setup h v g roots puts_named f i) h v g.reaches found in
+    let n = newest v f i byte is in
+    subst (Pending terms.modes terms.origin h f i (length h)) n.byte_is
+    (whole mt terms setup h v g roots puts_named f i h [] (append-nil h) v (st.phase [] (append-nil h)) n.cell n.there (λ writer value k r. refused-not h v _ value k r) st.guards.drops
+    (at-once mt terms setup h v g f h [] (append-nil h) v g.reaches found noted))
+
+-- Along a session that goes on: of each moment through which it came.
+pub held-whole : (mt : Mounted) (terms : Terms) (setup : Setup) (H : List Entry) (V : View) (g : GoesWith mt terms setup H V) → KnowsRoot terms.origin H mt.root → PutsNamed H → (h rest : List Entry) (is : h ++ rest ≡ H)
+    (v : View) → Reaches (machine_of mt) setup h v → v.lost ≡ false → Onward (machine_of mt) setup h v H V → (f : List ℕ) → HeldSoon mt terms setup H V g f h rest is v → (i byte : ℕ)
+    → newest_at (of_file f v.shelf.back).segments i ≡ Some byte → Pending terms.modes terms.origin H f i (length h) byte
+held-whole mt terms setup H V g roots puts_named h rest is v r found on f soon i byte at =
+    let st = reached-watching (machine_of mt) (begins-unbegun mt) setup (Stands mt terms setup H f i) (stands-all mt terms setup H V g roots puts_named f i) h v r found in
+    let n = newest v f i byte at in
+    let p = st.phase rest is in
+    subst (Pending terms.modes terms.origin H f i (length h)) n.byte_is
+    (whole mt terms setup H V g roots puts_named f i h rest is v p n.cell n.there
+    (λ writer value k refused. never-refused mt setup H V h rest is v r on _ writer value k refused) st.guards.drops soon)

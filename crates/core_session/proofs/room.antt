@@ -1,0 +1,9 @@
+pub mod Totals
+pub mod Stages
+pub mod Steps
+pub mod Machines
+pub mod Writers
+pub mod Entered
+pub mod Onward
+pub mod Rooms
+pub mod Needed

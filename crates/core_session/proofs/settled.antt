@@ -1,0 +1,9 @@
+pub mod Converted
+pub mod Given
+pub mod Joined
+pub mod Leaving
+pub mod LonePuts
+pub mod LostLone
+pub mod LostSyncs
+pub mod PutLeads
+pub mod Synced

@@ -1,0 +1,4 @@
+pub mod Long
+pub mod WereLong
+pub mod Moves
+pub mod Runs

@@ -1,0 +1,5 @@
+pub mod Commits
+pub mod Equal
+pub mod Hidden
+pub mod Pages
+pub mod Reads

@@ -1,0 +1,4 @@
+pub mod Dropped
+pub mod Guarded
+pub mod LaneSteps
+pub mod Told

@@ -1,0 +1,28 @@
+-- What an open shows that goes well, in any session.
+use Rattle.std.specs.Prelude.{◌≡◌, ℕ, true, false, List}
+use Rattle.nfs_types.specs.declared.mode.Mode.{Mode}
+use Rattle.world_model.specs.declared.answer.Answer.TheVariants.{Done}
+use Rattle.world_model.specs.declared.answer.Value.{Value}
+use Rattle.world_model.specs.declared.entry.Entry.{Entry}
+use Rattle.world_model.specs.declared.op.Op.TheVariants as ops
+use Rattle.world_model.specs.OkRows.{OkRow}
+use Rattle.world_model.specs.Operations.{Ended}
+use Rattle.world_model.specs.Terms.{Terms}
+use Rattle.op_machines.specs.declared.begun.Mounted.{Mounted}
+use Rattle.op_machines.specs.Begun.{IsNamed}
+use Rattle.client_core.specs.declared.setup.Setup.{Setup}
+use Rattle.client_core.specs.View.{View}
+use Rattle.core_facts.specs.Naming.{KnowsRoot}
+use Rattle.core_facts.specs.SlotAnswers.{GoesWith}
+
+-- a session that opens files by kept attributes keeps them (nfs(5), nocto and noac)
+abbrev pub KeepsThem : Terms → Type 0
+KeepsThem terms = terms.modes.nocto ≡ true → terms.modes.noac ≡ false
+
+-- An open goes well only so: it ends with the reply to GETATTR of its file, of kind 1; or, where the session may go by kept attributes, with the reply to the
+-- LOOKUP or CREATE that gave the file, of which a reply before showed kind 1 (RFC 1813, sections 3.3.1, 3.3.3 and 3.3.8).
+abbrev pub OpensWell : Type 0
+OpensWell = (m : Mounted) (terms : Terms) (setup : Setup) (h : List Entry) (v : View) → GoesWith m terms setup h v → KeepsThem terms
+    → KnowsRoot terms.origin h m.root
+    → (lane x y slot : ℕ) (mode : Mode) (path : List (List ℕ)) (value : Value) → IsNamed path → Ended h lane x (ops.OpenFile slot mode path) y (Done value)
+    → OkRow terms h lane x y (ops.OpenFile slot mode path) value

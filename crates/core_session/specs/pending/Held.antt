@@ -1,0 +1,41 @@
+-- Which bytes the client holds back: whose they are, and what has happened since.
+use Rattle.std.specs.Prelude.{◌≡◌, ◌<◌, ◌≤◌, ℕ, List, length, Some, false}
+use Rattle.write_back.specs.Files.{of_file}
+use Rattle.write_back.specs.Segments.{newest_at}
+use Rattle.world_model.specs.declared.entry.Entry.{Entry}
+use Rattle.world_model.specs.Modes.{Modes}
+use Rattle.world_model.specs.Mounts.{Origin}
+use Rattle.world_model.specs.Operations.{AnsweredBefore}
+use Rattle.world_model.specs.Terms.{Terms}
+use Rattle.world_model.specs.Touched.{WritesByte, RefusedWrite, Wrote, Truncated, MadeStable}
+use Rattle.op_machines.specs.declared.begun.Mounted.{Mounted}
+use Rattle.client_core.specs.declared.setup.Setup.{Setup}
+use Rattle.client_core.specs.View.{View}
+use Rattle.core_facts.specs.Naming.{KnowsRoot}
+use Rattle.core_facts.specs.SlotAnswers.{GoesWith}
+use Rattle.core_facts.specs.Notes.{NoneReady}
+use Rattle.core_session.specs.syncs.Synced.{PutsNamed}
+use Rattle.world_model.specs.Pending.{Pending}
+
+-- Before the moment n an operation w began that writes the byte to the place of the file, and it isn't a refused write or fill. Since w was answered, and
+-- before n, no write, fill or put that began then and went well covers the place, no truncate cut the file there, and no sync, close or put of it went well.
+pub record IsUnsettled (m : Modes) (origin : Origin) (h : List Entry) (f : List ℕ) (i n v : ℕ) : Type 0 where
+  pub w : ℕ
+  pub before : w < n
+  pub writes : WritesByte m origin h w f i v
+  pub unrefused : RefusedWrite h w → ⊥
+  pub uncovered : (x y u : ℕ) → AnsweredBefore h w x → Wrote m h x y f i u → y < n → ⊥
+  pub uncut : (x y size : ℕ) → AnsweredBefore h w x → Truncated m h x y f size → size ≤ i → y < n → ⊥
+  pub unsettled : (x y : ℕ) → AnsweredBefore h w x → MadeStable m h x y f → y < n → ⊥
+
+-- As long as the session isn't lost, so is the newest byte that is pending at a place, whether it is in flight or not.
+abbrev pub PendingUnsettled : Type 0
+PendingUnsettled = (m : Mounted) (terms : Terms) (setup : Setup) (h : List Entry) (v : View) → GoesWith m terms setup h v → v.lost ≡ false
+    → KnowsRoot terms.origin h m.root → PutsNamed h → (f : List ℕ) (i byte : ℕ)
+    → newest_at (of_file f v.shelf.back).segments i ≡ Some byte → IsUnsettled terms.modes terms.origin h f i (length h) byte
+
+-- Where each answer that is ready was noted, it may be pending at this moment, in world_model's words.
+abbrev pub PendingHeldBack : Type 0
+PendingHeldBack = (m : Mounted) (terms : Terms) (setup : Setup) (h : List Entry) (v : View) → GoesWith m terms setup h v → v.lost ≡ false
+    → KnowsRoot terms.origin h m.root → PutsNamed h → NoneReady v → (f : List ℕ) (i byte : ℕ)
+    → newest_at (of_file f v.shelf.back).segments i ≡ Some byte → Pending terms.modes terms.origin h f i (length h) byte

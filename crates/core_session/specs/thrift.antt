@@ -1,0 +1,4 @@
+pub mod KeptReads
+pub mod OnlyReads
+pub mod Reads
+pub mod Unkept
