@@ -1,23 +1,18 @@
 -- The core goes on with the history: at each entry that a session notes with a call of the core.
-use Rattle.std.proofs.Common.{◌≡◌, ◌≢◌, ◌≤◌, ◌<◌, ◌+◌, ◌⊎◌, inl, inr, ℕ, zero, suc, List, [], ◌∷◌, ◌++◌, length, map, position, remove, slice_get, Bool, true, false, cond, nat_eq, Option, Some, None, MatchOption, option_map, refl, sym, ap, subst, ◌∙◌, arith}
+use Rattle.std.proofs.Common.{◌≡◌, ◌≤◌, ◌<◌, ◌+◌, ◌⊎◌, inl, inr, ℕ, List, [], ◌∷◌, ◌++◌, length, Bool, true, false, cond, nat_eq, Option, Some, None, MatchOption, option_map, refl, sym, ap, subst, ◌∙◌, arith}
 use Rattle.std.proofs.lemmas.Bool.{cases_lt, eq-eqb}
-use Rattle.std.proofs.lemmas.Option.{get_or_from_slice_get, slice_get_within}
-use Rattle.std.proofs.lemmas.List.{append-nil}
-use Rattle.std.proofs.Common.{append_assoc}
 use borrow.Author.Tests.{eqb-true}
 use Rattle.rpc_message.specs.Call.{xid_at}
 use Rattle.rpc_retry.specs.declared.waiting.Waiting.{Waiting}
 use Rattle.rpc_retry.specs.Held.{Held, next_xid}
 use Rattle.rpc_retry.specs.Fail.{failed_after}
 use Rattle.rpc_retry.specs.Take.{awaited}
-use Rattle.rpc_retry.specs.Waiting.{waiting_at, without, sent, sent_call, failed, failed_call, first_due, first_given_up}
+use Rattle.rpc_retry.specs.Waiting.{waiting_at, sent, sent_call, failed, failed_call, first_due}
 use Rattle.rpc_retry.proofs.Lookups.{SentAt, at_sent, others_sent, others_taken, all_failed}
-use Rattle.world_model.specs.declared.answer.Answer.{Answer}
 use Rattle.world_model.specs.declared.entry.Entry.{Entry}
 use Rattle.world_model.specs.declared.entry.Entry.TheVariants.{Began, Answered, Dialed, Sent, Executed, Foreign, Flushed, Reboot, Delivered, Failed, Clock}
-use Rattle.world_model.specs.declared.message.Call.{Call}
 use Rattle.world_model.specs.declared.op.Op.{Op}
-use Rattle.world_model.specs.Entries.{At, ours}
+use Rattle.world_model.specs.Entries.{At}
 use Rattle.world_model.specs.LanesTogether.{HasBegun}
 use Rattle.world_model.specs.Lost.{Loses}
 use Rattle.world_model.specs.Messages.{HasXid}
@@ -28,12 +23,11 @@ use Rattle.world_model.proofs.Places.{At-grow, At-below, At-last, At-cases, leng
 use Rattle.op_machines.specs.Begun.{machine_of}
 use Rattle.op_machines.specs.declared.begun.Mounted.{Mounted}
 use Rattle.op_machines.specs.declared.machine.Machine.{Machine}
-use Rattle.client_core.specs.declared.lane.Lane.{Lane}
 use Rattle.client_core.specs.declared.lane.Purpose.{Purpose}
 use Rattle.client_core.specs.declared.setup.Setup.{Setup}
-use Rattle.client_core.specs.Steps.{Begins, Hears, HearsFor, SendsBy, SendsIf, taken, lost, counted, Makes}
+use Rattle.client_core.specs.Steps.{Hears, HearsFor, SendsBy, SendsIf, taken, lost}
 use Rattle.client_core.specs.View.{View}
-use Rattle.core_facts.specs.Reaches.{StepsTo, Reaches, begins, goes, loses, last_reading, MayHear, HearsRecord}
+use Rattle.core_facts.specs.Reaches.{StepsTo, Reaches, last_reading, MayHear}
 use Rattle.core_facts.proofs.AllCounts.{begins-unbegun}
 use Rattle.core_facts.proofs.Cases.{Heard, dropped, replied, heard, sent_now, FailedNow, goes_on, gives_up, failed_now, answered_now, taken_one}
 use Rattle.core_facts.proofs.Grown.{one-xid}
@@ -41,7 +35,9 @@ use Rattle.core_facts.proofs.Owning.{reached-owned}
 use Rattle.core_facts.proofs.Rows.{under}
 use Rattle.core_facts.proofs.Sound.{Sound, reached-sound}
 use Rattle.core_facts.proofs.Walks.{Stays, begins-stay, hears-for-stay}
-use Rattle.lane_session.specs.Bonds.{IsAwaited, Bond, SentSince, steps}
+use Rattle.core_facts.specs.Notes.{NoneReady, ComesAfter, notes_step, notes_lost}
+use Rattle.core_facts.proofs.Noting.{notes-reach}
+use Rattle.lane_session.specs.Bonds.{IsAwaited, Bond, SentSince}
 
 -- ---- a call that waits goes on waiting
 
@@ -234,18 +230,23 @@ module _ (m : Mounted) (setup : Setup) where
 -- ---- the bond
 
 module _ (m : Mounted) (setup : Setup) (from : List Entry) where
-  pub bond-step : (h : List Entry) (old : View) (e : Entry) (new : View) (n : ℕ) → StepsTo (machine_of m) h old e new → ((bytes : List ℕ) → e ≡ Delivered bytes → ⊥) → Bond m setup from h old n
-      → Bond m setup from (h ++ e ∷ []) new n
-  bond-step h old e new n t other b = record {
-    reaches = goes (h ++ e ∷ []) h new old e b.reaches refl t;
-    since = since-step m setup from h old e new b.reaches t b.since;
-    known = known-step (machine_of m) setup h old e new t (reached-sound (machine_of m) setup h old b.reaches) b.known;
-    run = run-stays h e n other b.run;
-  }
+  pub reached : (h : List Entry) (v : View) (n : ℕ) → Bond m setup from h v n → Reaches (machine_of m) setup h v
+  reached h v n b = notes-reach (machine_of m) setup h v b.notes
+
+  pub bond-step : (h : List Entry) (old : View) (e : Entry) (new : View) (n : ℕ) → (ComesAfter e → NoneReady old) → StepsTo (machine_of m) h old e new
+      → ((bytes : List ℕ) → e ≡ Delivered bytes → ⊥) → Bond m setup from h old n → Bond m setup from (h ++ e ∷ []) new n
+  bond-step h old e new n none t other b =
+      let r = reached h old n b in
+      record {
+        notes = notes_step (h ++ e ∷ []) h new old e b.notes refl none t;
+        since = since-step m setup from h old e new r t b.since;
+        known = known-step (machine_of m) setup h old e new t (reached-sound (machine_of m) setup h old r) b.known;
+        run = run-stays h e n other b.run;
+      }
 
   -- the session is given up
   pub bond-loses : (h : List Entry) (v : View) (n : ℕ) → Loses h (length h) → Bond m setup from h v n → Bond m setup from h (lost v) n
-  bond-loses h v n shown b = record { reaches = loses h (lost v) v b.reaches shown refl; since = b.since; known = b.known; run = b.run }
+  bond-loses h v n shown b = record { notes = notes_lost h (lost v) v b.notes shown refl; since = b.since; known = b.known; run = b.run }
 
   -- a record that no call waits for
   drop-of : (h : List Entry) (old : View) (rec : List ℕ) (n : ℕ) → awaited (xid_at rec) old.calls.calls ≡ None → Bond m setup from h old n → Drops (h ++ Delivered rec ∷ []) (length h) rec
@@ -262,10 +263,11 @@ module _ (m : Mounted) (setup : Setup) (from : List Entry) where
       → Bond m setup from (h ++ Delivered rec ∷ []) new 0
   bond-taken h old rec result new n may hears took b =
       let t : StepsTo (machine_of m) h old (Delivered rec) new = record { may = may; result = result; hears = hears } in
+      let r = reached h old n b in
       record {
-        reaches = goes (h ++ Delivered rec ∷ []) h new old (Delivered rec) b.reaches refl t;
-        since = since-step m setup from h old (Delivered rec) new b.reaches t b.since;
-        known = known-step (machine_of m) setup h old (Delivered rec) new t (reached-sound (machine_of m) setup h old b.reaches) b.known;
+        notes = notes_step (h ++ Delivered rec ∷ []) h new old (Delivered rec) b.notes refl (λ comes. may.noted) t;
+        since = since-step m setup from h old (Delivered rec) new r t b.since;
+        known = known-step (machine_of m) setup h old (Delivered rec) new t (reached-sound (machine_of m) setup h old r) b.known;
         run = no_drop 0 (length (h ++ Delivered rec ∷ [])) refl;
       }
 
@@ -273,10 +275,11 @@ module _ (m : Mounted) (setup : Setup) (from : List Entry) where
       → Bond m setup from (h ++ Delivered rec ∷ []) new (n + 1)
   bond-dropped h old rec result new n may hears not b =
       let t : StepsTo (machine_of m) h old (Delivered rec) new = record { may = may; result = result; hears = hears } in
+      let r = reached h old n b in
       record {
-        reaches = goes (h ++ Delivered rec ∷ []) h new old (Delivered rec) b.reaches refl t;
-        since = since-step m setup from h old (Delivered rec) new b.reaches t b.since;
-        known = known-step (machine_of m) setup h old (Delivered rec) new t (reached-sound (machine_of m) setup h old b.reaches) b.known;
+        notes = notes_step (h ++ Delivered rec ∷ []) h new old (Delivered rec) b.notes refl (λ comes. may.noted) t;
+        since = since-step m setup from h old (Delivered rec) new r t b.since;
+        known = known-step (machine_of m) setup h old (Delivered rec) new t (reached-sound (machine_of m) setup h old r) b.known;
         run = run-more h rec n (drop-of h old rec n (none-waits (awaited (xid_at rec) old.calls.calls) refl hears) b) b.run;
       }
     where

@@ -1,6 +1,5 @@
 -- What a session promises, once its lines have ended and its counts are written.
-use Rattle.std.proofs.Common.{◌≡◌, ◌≢◌, ◌≤◌, ◌⊎◌, inl, inr, ℕ, Bool, List, [], ◌++◌, length, Option, Result, Ok, Err, refl, sym, ap, subst, ◌∙◌, arith, append-nil, append_assoc}
-use Rattle.outside.specs.Causes.{Rose}
+use Rattle.std.proofs.Common.{◌≡◌, ◌≢◌, ◌≤◌, inl, inr, ℕ, Bool, List, [], ◌++◌, length, Option, Err, refl, sym, ap, subst, ◌∙◌, arith, append-nil, append_assoc}
 use Rattle.world_model.specs.declared.entry.Entry.{Entry}
 use Rattle.world_model.specs.declared.tally.Tally.{Tally}
 use Rattle.world_model.specs.Clocked.{clocks}
@@ -12,7 +11,7 @@ use Rattle.nfs_script.specs.declared.script.ScriptLine.{ScriptLine}
 use Rattle.lane_session.specs.declared.halt.Halt.{Halt}
 use Rattle.lane_session.specs.declared.halt.Halt.TheVariants as halts
 use Rattle.lane_session.specs.declared.top.End.{End}
-use Rattle.lane_session.specs.Sessions.{SessionIs, SessionCounts, EndsAs, whole, cut, TextOf, whole_text, front_text, NotesAll, IsDone, IsBroken, counts_text, TellsEnd, tells, tells_front}
+use Rattle.lane_session.specs.Sessions.{SessionIs, SessionCounts, whole, cut, TextOf, whole_text, front_text, IsDone, IsBroken, counts_text, TellsEnd, tells, tells_front}
 use Rattle.lane_session.specs.Statuses.{of_halt, IsCutOff, IsLeft, HasStatus, IsEnding, CausedBy}
 use Rattle.lane_session.specs.Streams.{Says, Passes}
 use Rattle.lane_session.proofs.Passing.{appends_then, relates_less}

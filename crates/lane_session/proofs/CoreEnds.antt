@@ -1,5 +1,5 @@
 -- The core of a session at its end.
-use Rattle.std.proofs.Common.{◌≡◌, ◌≤◌, ◌<◌, ℕ, List, [], ◌∷◌, ◌++◌, length, take, false, Option, Some, None, Result, Ok, Err, refl, sym, ap, subst, ◌∙◌, arith, append-nil}
+use Rattle.std.proofs.Common.{◌≡◌, ◌≤◌, ℕ, List, [], ◌++◌, length, false, Option, Some, None, Result, Ok, Err, refl, sym, ap, subst, ◌∙◌, arith, append-nil}
 use Rattle.std.proofs.lemmas.List.{length-append}
 use Rattle.std.specs.FinMap as map
 use Rattle.world_model.specs.declared.entry.Entry.{Entry}
@@ -19,14 +19,15 @@ use Rattle.page_cache.specs.Pages.{nothing_kept}
 use Rattle.client_core.specs.declared.setup.Setup.{Setup}
 use Rattle.client_core.specs.Fresh.{IsFresh}
 use Rattle.client_core.specs.View.{View}
-use Rattle.core_facts.specs.Reaches.{MaySetUp, begins}
+use Rattle.core_facts.specs.Reaches.{MaySetUp}
+use Rattle.core_facts.specs.Notes.{notes_fresh}
 use Rattle.lane_session.specs.declared.halt.Halt.{Halt}
 use Rattle.lane_session.specs.declared.running.Session.{Session}
 use Rattle.lane_session.specs.declared.top.End.{End}
-use Rattle.lane_session.specs.Bonds.{HasCore, IsOpened, EndsWith}
+use Rattle.lane_session.specs.Bonds.{IsOpened, CanCount, EndsWith}
 use Rattle.lane_session.specs.Going.{GoesOn, CutsOff}
 use Rattle.lane_session.specs.Losing.{LosesBy, LostLines, no_line, one_line, lost_line}
-use Rattle.lane_session.specs.Running.{IsFreshFor, mounted_by}
+use Rattle.lane_session.specs.Running.{IsFreshFor}
 use Rattle.lane_session.proofs.Bonding.{since-none}
 use Rattle.lane_session.proofs.Counted.{xids-append}
 use Rattle.lane_session.proofs.Ending.{fresh-goes}
@@ -145,7 +146,7 @@ first-fresh setup = record {
 }
 
 none-with : (settings : Settings) (setup : Setup) (h : List Entry) → MaySetUp setup → IsOpened (Some setup) h → EndsWith settings (Some setup) h h
-none-with settings setup h may o = record { core = first_view setup; reaches = begins h (first_view setup) may o.0 (first-fresh setup); since = since-none h }
+none-with settings setup h may o = record { core = first_view setup; notes = notes_fresh h (first_view setup) may o.0 (first-fresh setup); since = since-none h }
 
 -- ---- where the link tells its history
 
@@ -158,9 +159,9 @@ module _ (a b : Option History) (script : List ScriptLine) (given text : List �
       relates_less a b (λ h k. LosesBy script result given text h k) (λ h k. IsLost h (length h) → IsLost k (length k)) (λ h k l o. lost-by script result given text h k l o) p
 
   pub told-lost-counted : (end : End) (tally : Tally) → end.tally ≡ tally → Relates a b (λ h k. LosesBy script (Ok tt) given text h k)
-      → Relates a b (λ h k. IsOpened None h → tally ≡ tally_of h → end.tally ≡ tally_of k)
+      → Relates a b (λ h k. CanCount None h → tally ≡ tally_of h → end.tally ≡ tally_of k)
   told-lost-counted end tally same p =
-      relates_less a b (λ h k. LosesBy script (Ok tt) given text h k) (λ h k. IsOpened None h → tally ≡ tally_of h → end.tally ≡ tally_of k)
+      relates_less a b (λ h k. LosesBy script (Ok tt) given text h k) (λ h k. CanCount None h → tally ≡ tally_of h → end.tally ≡ tally_of k)
       (λ h k l o is. same ∙ is ∙ sym (lost-count script h k l.0 l.1 l.2)) p
 
   module _ (settings : Settings) (setup : Setup) (s : Session) (may : MaySetUp setup) (f : IsFreshFor settings setup s) where

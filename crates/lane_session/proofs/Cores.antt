@@ -1,37 +1,26 @@
 -- What each call of the core leaves as it is: numbers of lanes, how many operations began, a lost session, and how much is left of the calls.
-use Rattle.std.proofs.Common.{◌≡◌, ◌≢◌, ◌≤◌, ◌<◌, ◌+◌, ◌-◌, ◌*◌, ℕ, zero, suc, List, [], ◌∷◌, ◌++◌, length, map, slice_get, slice_set, remove, Bool, true, false, cond, nat_eq, Option, Some, None, Result, Ok, Err, MatchOption, refl, sym, ap, subst, ◌∙◌, arith, ◌⊎◌, inl, inr}
+use Rattle.std.proofs.Common.{◌≡◌, ◌≢◌, ◌≤◌, ◌+◌, ◌-◌, ◌*◌, ℕ, zero, suc, List, [], ◌∷◌, ◌++◌, length, map, slice_get, remove, Bool, true, false, nat_eq, Option, Some, None, Ok, Err, MatchOption, refl, sym, ap, subst, ◌∙◌, arith}
 use Rattle.std.proofs.lemmas.List.{length-append}
 use Rattle.std.proofs.lemmas.Bool.{eq-eqb}
-use Rattle.attr_cache.specs.Attrs.{usual_lives}
 use Rattle.rpc_retry.specs.declared.answers.PutRefusal.TheVariants as refusals
 use Rattle.rpc_retry.specs.Held.{Held}
 use Rattle.rpc_message.specs.Call.{xid_at}
 use Rattle.rpc_retry.specs.Take.{awaited, after_taking}
 use Rattle.rpc_retry.specs.Put.{check_of}
-use Rattle.rpc_retry.specs.Sound.{IsSound}
-use Rattle.rpc_retry.specs.Waiting.{waiting_at, without, sent, first_due, first_given_up}
+use Rattle.rpc_retry.specs.Waiting.{waiting_at, without, first_given_up}
 use Rattle.rpc_retry.specs.Fail.{after_failure, failed_after}
 use Rattle.rpc_retry.specs.declared.waiting.Waiting.{Waiting}
 use Rattle.rpc_retry.proofs.Dues.{length-sent, if_true, if_false}
 use Rattle.rpc_retry.proofs.Failing.{length-failed}
-use Rattle.world_model.specs.declared.answer.Answer.{Answer}
-use Rattle.world_model.specs.declared.entry.Entry.{Entry}
-use Rattle.world_model.specs.declared.entry.Entry.TheVariants.{Began, Answered, Sent, Delivered, Failed, Clock}
 use Rattle.world_model.specs.declared.message.Call.{Call}
-use Rattle.world_model.specs.declared.op.Op.{Op}
 use Rattle.op_machines.specs.declared.machine.Machine.{Machine}
-use Rattle.client_shelf.specs.declared.shelf.Shelf.{Shelf}
 use Rattle.client_core.specs.declared.lane.Lane.{Lane}
 use Rattle.client_core.specs.declared.lane.Purpose.{Purpose}
-use Rattle.client_core.specs.declared.lane.State.{State}
-use Rattle.client_core.specs.declared.setup.Setup.{Setup}
-use Rattle.client_core.specs.Lanes.{lost_lane, is_over}
+use Rattle.client_core.specs.Lanes.{lost_lane}
 use Rattle.client_core.specs.Numbers.{numbers_of, IsOther, AreOnce}
 use Rattle.client_core.specs.View.{View}
-use Rattle.client_core.specs.Steps.{with_state, put_view, Makes, Begins, counted, taken, Hears, HearsFor, SendsIf, FailsAs, AnswersAt, WereSent, SendsBy, FailsBy, failed_view, lost, AnswersBy}
-use Rattle.core_facts.proofs.Cases.{Heard, dropped, replied, heard, sent_now, FailedNow, goes_on, gives_up, failed_now, answered_now, taken_one}
-use Rattle.core_facts.proofs.Lists.{map-set, map-push, map-remove}
-use Rattle.core_facts.proofs.Sound.{Sound, sound-stays, sound-taken, sound-failed, same-calls}
+use Rattle.client_core.specs.Steps.{Makes, Begins, taken, Hears, HearsFor, SendsIf, FailsAs, SendsBy, FailsBy, failed_view, lost}
+use Rattle.core_facts.proofs.Lists.{map-set, map-push}
 use Rattle.core_facts.proofs.Walks.{Stays, begins-stay, hears-for-stay}
 use Rattle.lane_session.specs.Holding.{calls_left}
 

@@ -1,35 +1,32 @@
 -- What a session comes to, whose lines were all begun and answered, or that was cut off.
-use Rattle.std.proofs.Common.{Bool, ◌≡◌, ◌≢◌, ◌≤◌, ◌<◌, ◌-◌, ◌⊎◌, inl, inr, ℕ, zero, suc, List, [], ◌∷◌, ◌++◌, length, take, replicate, slice_get, All, true, false, cond, nat_eq, nat_lt, Option, Some, None, Result, Ok, Err, refl, sym, ap, subst, ◌∙◌, arith, append-nil}
+use Rattle.std.proofs.Common.{Bool, ◌≡◌, ◌≢◌, ◌≤◌, ◌<◌, ◌⊎◌, inl, inr, ℕ, zero, suc, List, [], ◌∷◌, ◌++◌, length, take, replicate, slice_get, All, true, false, nat_lt, Some, None, refl, sym, ap, subst, ◌∙◌, arith, append-nil}
 use Rattle.world_model.specs.declared.entry.Entry.{Entry}
 use Rattle.world_model.specs.declared.entry.Entry.TheVariants.{Began}
-use Rattle.world_model.specs.declared.op.Op.{Op}
-use Rattle.world_model.specs.Clocked.{clocks}
-use Rattle.world_model.specs.Entries.{At}
-use Rattle.world_model.specs.Follows.{begun, marks_of, Follows, Finishes}
-use Rattle.world_model.specs.Operations.{AnsweredBefore}
-use Rattle.world_model.specs.Transcript.{transcript}
+use Rattle.world_model.specs.Follows.{begun}
 use Rattle.nfs_script.specs.Asked.{IsAskedLine}
 use Rattle.nfs_script.specs.declared.script.ScriptLine.{ScriptLine}
 use Rattle.std.proofs.lemmas.Bool.{ltb-true, ltb-false}
+use Rattle.bond_calls.specs.Calls.{Numbered}
+use Rattle.rpc_retry.specs.Held.{Held}
 use Rattle.rpc_retry.specs.Sound.{IsSound}
 use Rattle.session_words.specs.declared.settings.Settings.{Settings}
 use Rattle.client_core.specs.declared.lane.Lane.{Lane}
+use Rattle.client_core.specs.declared.lane.Purpose.{Purpose}
 use Rattle.client_core.specs.declared.setup.Setup.{Setup}
 use Rattle.client_core.specs.Numbers.{IsOther, numbers_of}
-use Rattle.core_facts.specs.Reaches.{MaySetUp}
+use Rattle.core_facts.specs.Reaches.{MaySetUp, begins}
 use Rattle.lane_session.specs.declared.halt.Halt.{Halt}
 use Rattle.lane_session.specs.declared.halt.Halt.TheVariants as halts
 use Rattle.lane_session.specs.declared.lanes.Place.{Place}
 use Rattle.lane_session.specs.declared.running.Session.{Session}
 use Rattle.lane_session.specs.declared.top.End.{End}
-use Rattle.lane_session.specs.Going.{Goes, Went, GoesOn, CutsOff, GoesBy}
-use Rattle.lane_session.specs.Holding.{AreQuiet, IsHeld}
+use Rattle.lane_session.specs.Going.{Goes, Went, GoesOn, CutsOff}
+use Rattle.lane_session.specs.Holding.{AreQuiet, IsHeld, TriedSo}
 use Rattle.lane_session.specs.LaneMarks.{IsResting}
 use Rattle.lane_session.specs.Places.{entries_of, IsOpen, IsPlaced, AreIdle}
-use Rattle.lane_session.specs.Sessions.{IsUnmarked, IsDone, IsBroken, EndsBy}
+use Rattle.lane_session.specs.Sessions.{IsUnmarked, IsDone, IsBroken}
 use Rattle.lane_session.specs.Statuses.{HasStatus}
 use Rattle.lane_session.specs.Running.{IsFreshFor, first_place}
-use Rattle.lane_session.specs.Streams.{IsFrontOf}
 use Rattle.lane_session.proofs.LaneLaws.{resting-alternates}
 use Rattle.lane_session.proofs.LostLaws.{Gone, none-gone, untold}
 use Rattle.lane_session.proofs.Placing.{begun-other}
@@ -121,6 +118,9 @@ session-breaks script old halt given text h k u g c =
 
 -- ---- a session that begins
 
+none-numbered : Numbered []
+none-numbered = record { equal = λ i j xid a b at other has same. absurd (cc); unrepeated = λ g i xid reply bytes answers at has. absurd (cc) }
+
 replicate-get : (m n : ℕ) (p q : Place) → slice_get (replicate m q) n ≡ Some p → p ≡ q
 replicate-get zero n p q there = absurd (cc)
 replicate-get (suc m) zero p q there = let is : q ≡ p = cc in sym is
@@ -146,6 +146,22 @@ module _ (script : List ScriptLine) (settings : Settings) (setup : Setup) (s : S
       begun = let b = f.core.begun in omega (arith, b);
     };
     status = inl f.status;
+    alive = record {
+      story = λ found. record {
+        setup = setup;
+        h = [];
+        reaches = begins [] s.core may (record { unmarked = λ lane. refl; unbegun = λ i lane line op at. absurd (cc); numbered = none-numbered; below = λ i xid bytes at has. absurd (cc) }) f.core;
+        lines = λ n line p there own. absurd (
+            let none : p.line ≡ None = ap (λ (q : Place). q.line) (first-place n p there) in
+            let no_way : None ≡ Some line = sym none ∙ own in cc);
+      };
+      tried = λ found. subst (λ (k : ℕ). TriedSo k s.core.calls.calls) (sym f.attempts) (subst (λ (h : Held Purpose). TriedSo 4 h.calls) (sym f.core.calls) refl);
+      none = λ zero_is. absurd (let a = f.attempts in omega (arith, a, zero_is));
+      over = λ gone. absurd (let no_way : true ≡ false = sym gone ∙ f.core.lost in cc);
+      busy = λ n line p there own other. absurd (
+          let none : p.line ≡ None = ap (λ (q : Place). q.line) (first-place n p there) in
+          let no_way : None ≡ Some line = sym none ∙ own in cc);
+    };
   }
 
   pub fresh-goes : (h : List Entry) → IsUnmarked h → Goes script h s

@@ -1,27 +1,26 @@
 -- The lanes of a core that goes with a history are of 1 to 16; so where each has told its answer none is ready.
-use Rattle.std.proofs.Common.{◌≡◌, ◌≤◌, ◌<◌, ◌+◌, ◌-◌, inl, inr, ℕ, zero, suc, List, [], ◌∷◌, ◌++◌, length, map, position, remove, slice_get, Bool, true, false, nat_eq, Option, Some, None, refl, sym, ap, subst, ◌∙◌, arith}
+use Rattle.std.proofs.Common.{◌≡◌, ◌≤◌, ◌-◌, inl, inr, ℕ, zero, suc, List, [], ◌∷◌, ◌++◌, position, remove, slice_get, true, false, nat_eq, Some, None, refl, sym, ap, subst, ◌∙◌, arith}
 use Rattle.std.proofs.lemmas.Bool.{eq-eqb}
 use Rattle.std.proofs.lemmas.Option.{get_or_from_slice_get, slice_get_within}
 use Rattle.rpc_retry.proofs.Dues.{fails_everywhere}
-use Rattle.world_model.specs.declared.answer.Answer.{Answer}
 use Rattle.world_model.specs.declared.entry.Entry.{Entry}
 use Rattle.world_model.specs.declared.entry.Entry.TheVariants.{Began, Answered, Dialed, Sent, Executed, Foreign, Flushed, Reboot, Delivered, Failed, Clock}
 use Rattle.world_model.specs.declared.op.Op.{Op}
 use Rattle.op_machines.specs.declared.machine.Machine.{Machine}
 use Rattle.client_core.specs.declared.lane.Lane.{Lane}
-use Rattle.client_core.specs.declared.lane.State.{State}
 use Rattle.client_core.specs.declared.lane.State.TheVariants.{Over}
 use Rattle.client_core.specs.declared.setup.Setup.{Setup}
 use Rattle.client_core.specs.Lanes.{is_over}
 use Rattle.client_core.specs.Numbers.{AreUpTo, numbers_of}
-use Rattle.client_core.specs.Steps.{WereSent, lost}
+use Rattle.client_core.specs.Steps.{WereSent}
 use Rattle.client_core.specs.View.{View}
 use Rattle.core_facts.specs.Reaches.{StepsTo, Reaches, begins, goes, loses, last_reading, MayHear}
 use Rattle.core_facts.proofs.Cases.{answered_now}
 use Rattle.core_facts.proofs.Lists.{map-remove, to-map}
 use Rattle.core_facts.proofs.Sound.{Sound, reached-sound}
+use Rattle.core_facts.specs.Notes.{NoneReady}
 use Rattle.lane_session.specs.Running.{NoneOver}
-use Rattle.lane_session.proofs.Cores.{Keeps, begins-so, HeardSo, heard_none, heard_one, heard-so, sends-so, fails-so, lost-so}
+use Rattle.lane_session.proofs.Cores.{begins-so, HeardSo, heard_none, heard_one, heard-so, sends-so, fails-so, lost-so}
 
 abbrev AreFew : View → Type 0
 AreFew v = AreUpTo 16 (numbers_of v.lanes)
@@ -74,20 +73,21 @@ reached-few machine setup _ _ (begins h v may up fresh) = subst (λ (ls : List L
 reached-few machine setup _ _ (goes h before v b e r is t) = few-step machine setup before b e v t (reached-sound machine setup before b r) (reached-few machine setup before b r)
 reached-few machine setup _ _ (loses h v b r shown is) = few-like b v (ap (λ (w : View). numbers_of w.lanes) is ∙ (lost-so b).numbers_are) (reached-few machine setup h b r)
 
+-- where each lane has told its answer, none is ready
+pub none-ready : (machine : ℕ → Op → Machine) (setup : Setup) (h : List Entry) (v : View) → Reaches machine setup h v → NoneOver v → NoneReady v
+none-ready machine setup h v r told at number answer there =
+    let lane : Lane = record { number = number; state = Over answer } in
+    let bounds = up-to-at 16 (numbers_of v.lanes) at number (reached-few machine setup h v r) (to-map (λ (l : Lane). l.number) v.lanes at lane there) in
+    let least = bounds.0 in
+    let most = bounds.1 in
+    let same : suc (number - 1) ≡ number = omega (arith, least) in
+    let not_there : position (is_over number) v.lanes ≡ None = subst (λ (n : ℕ). position (is_over n) v.lanes ≡ None) same (told (number - 1) (omega (arith, least, most))) in
+    let fails = fails_everywhere (is_over number) v.lanes not_there lane at (slice_get_within v.lanes at lane there) in
+    let here : is_over number lane ≡ false = subst (λ (l : Lane). is_over number l ≡ false) (get_or_from_slice_get v.lanes at lane lane there) fails in
+    let own : nat_eq number number ≡ true = eq-eqb number number refl in
+    let no_way : true ≡ false = sym own ∙ here in
+    cc
+
 -- a record may be received once each call that waits was sent, and each lane has told its answer
 pub may-hear : (machine : ℕ → Op → Machine) (setup : Setup) (h : List Entry) (v : View) → Reaches machine setup h v → WereSent v.calls.calls → NoneOver v → MayHear v
-may-hear machine setup h v r all_sent told = record { sent = all_sent; noted = none }
-  where
-    none : (at number : ℕ) (answer : Answer) → slice_get v.lanes at ≡ Some (record { number = number; state = Over answer }) → ⊥
-    none at number answer there =
-        let lane : Lane = record { number = number; state = Over answer } in
-        let bounds = up-to-at 16 (numbers_of v.lanes) at number (reached-few machine setup h v r) (to-map (λ (l : Lane). l.number) v.lanes at lane there) in
-        let least = bounds.0 in
-        let most = bounds.1 in
-        let same : suc (number - 1) ≡ number = omega (arith, least) in
-        let not_there : position (is_over number) v.lanes ≡ None = subst (λ (n : ℕ). position (is_over n) v.lanes ≡ None) same (told (number - 1) (omega (arith, least, most))) in
-        let fails = fails_everywhere (is_over number) v.lanes not_there lane at (slice_get_within v.lanes at lane there) in
-        let here : is_over number lane ≡ false = subst (λ (l : Lane). is_over number l ≡ false) (get_or_from_slice_get v.lanes at lane lane there) fails in
-        let own : nat_eq number number ≡ true = eq-eqb number number refl in
-        let no_way : true ≡ false = sym own ∙ here in
-        cc
+may-hear machine setup h v r all_sent told = record { sent = all_sent; noted = none-ready machine setup h v r told }

@@ -7,6 +7,7 @@ pub mod Sounds
 pub mod Placing
 pub mod Beginnings
 pub mod Asking
+pub mod Alive
 pub mod Seating
 pub mod Together
 pub mod Turning

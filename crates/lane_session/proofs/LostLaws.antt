@@ -11,9 +11,9 @@ use Rattle.world_model.specs.declared.entry.Entry.TheVariants.{Began, Answered, 
 use Rattle.world_model.specs.declared.op.Op.{Op}
 use Rattle.world_model.specs.Clocked.{clocks}
 use Rattle.world_model.specs.Entries.{At}
-use Rattle.world_model.specs.Follows.{begun, marks_of, Alternates, IsFront, Follows, Finishes}
+use Rattle.world_model.specs.Follows.{begun, marks_of, Alternates, IsFront}
 use Rattle.world_model.specs.LanesTogether.{HasBegun}
-use Rattle.world_model.specs.Transcript.{transcript, line_text}
+use Rattle.world_model.specs.Transcript.{transcript}
 use Rattle.world_model.proofs.Places.{At-below, At-cases}
 use Rattle.nfs_script.specs.declared.script.ScriptLine.{ScriptLine}
 use Rattle.core_facts.proofs.Marks.{not-began, not-answered, began-other, answered-other}
@@ -23,9 +23,8 @@ use Rattle.lane_session.specs.Going.{AllTimed}
 use Rattle.lane_session.specs.LaneMarks.{IsRunning, IsResting, closed_none}
 use Rattle.lane_session.specs.Losing.{lost_line, LostLines, no_line, one_line, LostPart, nothing, timed, begun as part_begun, answered as part_answered, IsToldOf, LosesBy, status_of}
 use Rattle.lane_session.specs.Places.{entries_of}
-use Rattle.lane_session.specs.Sessions.{IsUnmarked, IsDone, IsBroken, EndsBy}
+use Rattle.lane_session.specs.Sessions.{IsUnmarked, IsDone, IsBroken}
 use Rattle.lane_session.specs.Statuses.{HasStatus, well, IsSessionStatus}
-use Rattle.lane_session.specs.Streams.{IsFrontOf}
 use Rattle.lane_session.proofs.LaneLaws.{running-alternates, resting-alternates, resting-grow, begins-now, answers-now}
 use Rattle.lane_session.proofs.Placing.{status-quiet, status-answer, timed-quiet, timed-begin}
 use Rattle.lane_session.proofs.Pushes.{clocks-append, transcript-append, begun-append}

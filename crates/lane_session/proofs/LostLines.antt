@@ -1,12 +1,10 @@
 -- A line of a session that was lost before, and all lines one after the other.
-use Rattle.std.proofs.Common.{◌≡◌, ◌≤◌, ◌<◌, ◌+◌, ◌⊎◌, inl, inr, ℕ, zero, suc, List, [], ◌∷◌, ◌++◌, length, take, slice_get, Option, Some, Result, Ok, Err, refl, sym, ap, subst, ◌∙◌, arith, append-nil, append_assoc}
+use Rattle.std.proofs.Common.{◌≡◌, ◌≤◌, ◌+◌, inl, inr, ℕ, zero, suc, List, [], ◌∷◌, ◌++◌, length, take, slice_get, Option, Some, Result, Ok, Err, refl, sym, ap, subst, ◌∙◌, arith, append-nil, append_assoc}
 use Rattle.xdr_codec.specs.declared.blob.Memory.{Memory}
-use Rattle.world_model.specs.declared.answer.Answer.{Answer}
 use Rattle.world_model.specs.declared.answer.Answer.TheVariants.{Refused}
 use Rattle.world_model.specs.declared.answer.Fault.TheVariants as faults
 use Rattle.world_model.specs.declared.entry.Entry.{Entry}
 use Rattle.world_model.specs.declared.entry.Entry.TheVariants.{Began, Answered, Clock}
-use Rattle.world_model.specs.declared.op.Op.{Op}
 use Rattle.world_model.specs.Clocked.{clocks}
 use Rattle.world_model.specs.History.{History}
 use Rattle.world_model.specs.Told.{Relates}
@@ -15,11 +13,11 @@ use Rattle.nfs_script.specs.declared.script.ScriptLine.{ScriptLine}
 use Rattle.lane_session.specs.declared.halt.Halt.{Halt}
 use Rattle.lane_session.specs.declared.halt.Halt.TheVariants as halts
 use Rattle.lane_session.specs.Going.{NotesBeginning, TellsAnswer}
-use Rattle.lane_session.specs.Losing.{lost_line, LostLines, no_line, one_line, LostPart, nothing, timed, begun as part_begun, answered as part_answered, IsToldOf, LosesLine, LosesBy}
+use Rattle.lane_session.specs.Losing.{lost_line, no_line, one_line, nothing, timed, begun as part_begun, answered as part_answered, LosesLine, LosesBy}
 use Rattle.lane_session.specs.Statuses.{IsLeft}
 use Rattle.lane_session.specs.Streams.{Says, ReadsOnce, Passes}
 use Rattle.lane_session.proofs.LostLaws.{take-more}
-use Rattle.lane_session.proofs.Passing.{reads_one, appends_same, relates_less, relates_then, passes_same, passes_then, passes_less}
+use Rattle.lane_session.proofs.Passing.{reads_one, appends_same, relates_less, relates_then}
 use Rattle.lane_session.proofs.Pushes.{clocks-append, transcript-append}
 
 none-left : (halt : Halt) → IsLeft halt []

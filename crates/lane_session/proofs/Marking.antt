@@ -1,12 +1,12 @@
 -- A lane begins a line, tells an answer, or finds no line left.
-use Rattle.std.proofs.Common.{◌≡◌, ◌≢◌, ◌≤◌, ◌<◌, ◌+◌, ◌-◌, ◌^◌, ◌⊎◌, inl, inr, ℕ, zero, suc, List, [], ◌∷◌, ◌++◌, length, take, slice_get, slice_set, Option, Some, None, Result, Ok, Err, refl, sym, ap, subst, ◌∙◌, arith, append-nil, append_assoc}
+use Rattle.std.proofs.Common.{◌≡◌, ◌≢◌, ◌≤◌, ◌<◌, ◌+◌, ◌-◌, ◌^◌, ◌⊎◌, inl, inr, ℕ, suc, List, [], ◌∷◌, ◌++◌, length, take, slice_get, slice_set, Some, None, Ok, Err, refl, sym, ap, subst, ◌∙◌, arith, append-nil, append_assoc}
 use Rattle.world_model.specs.declared.answer.Answer.{Answer}
 use Rattle.world_model.specs.declared.entry.Entry.{Entry}
 use Rattle.world_model.specs.declared.entry.Entry.TheVariants.{Began, Answered, Clock}
 use Rattle.world_model.specs.declared.op.Op.{Op}
 use Rattle.world_model.specs.Clocked.{clocks, IsTimed}
 use Rattle.world_model.specs.Entries.{At}
-use Rattle.world_model.specs.Follows.{begun, marks_of}
+use Rattle.world_model.specs.Follows.{begun}
 use Rattle.world_model.specs.Transcript.{transcript, line_text}
 use Rattle.nfs_script.specs.declared.script.ScriptLine.{ScriptLine}
 use Rattle.op_machines.specs.Begun.{machine_of}
@@ -20,12 +20,12 @@ use Rattle.lane_session.specs.declared.halt.Halt.TheVariants as halts
 use Rattle.lane_session.specs.declared.lanes.Place.{Place}
 use Rattle.lane_session.specs.declared.running.Session.{Session}
 use Rattle.lane_session.specs.Bonds.{CoreGoes, CoreWent}
-use Rattle.lane_session.specs.Going.{Goes, Went, GoesOn, CutsOff, GoesBy, TellsAnswer}
-use Rattle.lane_session.specs.LaneMarks.{IsRunning, IsResting}
-use Rattle.lane_session.specs.Places.{entries_of, IsOpen, IsPlaced, FoundAt, Seeks, Ends}
+use Rattle.lane_session.specs.Going.{Goes, Went, GoesOn, CutsOff, TellsAnswer}
+use Rattle.lane_session.specs.LaneMarks.{IsRunning}
+use Rattle.lane_session.specs.Places.{entries_of, IsOpen, IsPlaced, Seeks, Ends}
 use Rattle.lane_session.specs.Running.{LineIs}
 use Rattle.lane_session.specs.Statuses.{after_answer, IsLeft}
-use Rattle.lane_session.proofs.LaneLaws.{running-grow, resting-grow, begins-now, answers-now}
+use Rattle.lane_session.proofs.LaneLaws.{resting-grow, begins-now, answers-now}
 use Rattle.lane_session.proofs.Placing.{status-quiet, status-answer, timed-quiet, timed-begin, get-set, begun-other, begun-own, passed-over, one-begun, placed-grow}
 use Rattle.lane_session.proofs.Pushes.{clocks-append, transcript-append, begun-append}
 use Rattle.lane_session.proofs.Reaching.{core-then-cut, core-cut, core-like, core-begins, core-unbegun, core-answers}

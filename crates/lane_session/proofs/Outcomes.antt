@@ -1,5 +1,5 @@
 -- What holds of results.
-use Rattle.std.proofs.Common.{◌≡◌, ◌≤◌, ◌<◌, ◌+◌, ◌-◌, ◌^◌, ℕ, List, Result, Ok, Err, OnOk, IfOk, min, arith}
+use Rattle.std.proofs.Common.{◌≤◌, ℕ, Result, Ok, Err, OnOk, IfOk, arith}
 use Rattle.outside.specs.Causes.{Rose}
 use Rattle.lane_session.specs.declared.halt.Halt.{Halt}
 use Rattle.lane_session.specs.declared.halt.Halt.TheVariants as halts

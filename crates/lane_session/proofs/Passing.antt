@@ -1,12 +1,12 @@
 -- Calls of a clock, a link and a sink one after the other.
-use Rattle.std.proofs.Common.{◌≡◌, ◌≤◌, ℕ, List, [], ◌∷◌, ◌++◌, length, Option, Some, None, refl, sym, ap, subst, ◌∙◌, append_assoc}
+use Rattle.std.proofs.Common.{◌≡◌, ℕ, List, [], ◌∷◌, ◌++◌, Option, Some, None, refl, sym, ap, ◌∙◌, append_assoc}
 use Rattle.std.proofs.lemmas.List.{append-nil}
 use Rattle.world_model.specs.declared.entry.Entry.{Entry}
 use Rattle.world_model.specs.History.{History}
 use Rattle.world_model.specs.Told.{Adds, Tells, Relates}
 use Rattle.outside.specs.Clock.{ReadsClock}
-use Rattle.outside.specs.Link.{Appends as AddsOnly, NotesOnly}
-use Rattle.lane_session.specs.Streams.{Appends, Says, Reads, ReadsAll, ReadsOnce, Passes}
+use Rattle.outside.specs.Link.{NotesOnly}
+use Rattle.lane_session.specs.Streams.{Appends, Says, Reads, ReadsAll, Passes}
 
 -- ---- what is written
 

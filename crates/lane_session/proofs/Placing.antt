@@ -1,5 +1,5 @@
 -- Lanes, statuses and readings along a history.
-use Rattle.std.proofs.Common.{◌≡◌, ◌≢◌, ◌≤◌, ◌<◌, ◌+◌, ◌-◌, ◌⊎◌, inl, inr, ℕ, zero, suc, List, [], ◌∷◌, ◌++◌, length, map, take, slice_get, slice_set, true, false, cond, nat_eq, Option, Some, None, max, refl, sym, ap, subst, ◌∙◌, arith, append-nil, append_assoc}
+use Rattle.std.proofs.Common.{◌≡◌, ◌≢◌, ◌≤◌, ◌<◌, ◌+◌, ◌-◌, ◌⊎◌, inl, inr, ℕ, zero, suc, List, [], ◌∷◌, ◌++◌, length, take, slice_get, slice_set, nat_eq, Option, Some, None, max, refl, sym, ap, subst, ◌∙◌, arith, append-nil}
 use Rattle.std.proofs.lemmas.Bool.{eq-eqb, ne_eqb}
 use Rattle.rpc_retry.proofs.Dues.{if_true, if_false}
 use Rattle.world_model.specs.declared.answer.Answer.{Answer}
@@ -16,15 +16,12 @@ use Rattle.world_model.specs.Follows.{begun, marks_of}
 use Rattle.world_model.specs.Transcript.{transcript}
 use Rattle.world_model.proofs.Places.{At-grow, At-last, At-cases, length_last}
 use Rattle.nfs_script.specs.declared.script.ScriptLine.{ScriptLine}
-use Rattle.core_facts.proofs.Lists.{at-set}
-use Rattle.core_facts.proofs.Marks.{began-other, answered-other}
 use Rattle.lane_session.specs.declared.lanes.Place.{Place}
 use Rattle.lane_session.specs.Going.{AllTimed}
-use Rattle.lane_session.specs.LaneMarks.{IsRunning, IsResting}
 use Rattle.lane_session.specs.Places.{entries_of, IsOpen, IsPlaced, IsNext}
 use Rattle.lane_session.specs.Running.{marks}
 use Rattle.lane_session.specs.Statuses.{after_answer, IsAnswered, HasStatus, lost, refused, well}
-use Rattle.lane_session.proofs.LaneLaws.{running-grow, resting-grow, begins-now, answers-now}
+use Rattle.lane_session.proofs.LaneLaws.{running-grow, resting-grow}
 use Rattle.lane_session.proofs.Pushes.{begun-append}
 
 -- ---- an entry that is no mark

@@ -1,6 +1,5 @@
 -- The core of a session goes on with the history, at each part of the session's work.
-use Rattle.std.proofs.Common.{◌≡◌, ◌≢◌, ◌≤◌, ◌<◌, ◌+◌, ◌^◌, ◌⊎◌, inl, inr, ℕ, zero, suc, List, [], ◌∷◌, ◌++◌, length, Bool, true, false, Option, Some, None, option_map, Result, Ok, Err, refl, sym, ap, subst, ◌∙◌, arith, append-nil, append_assoc}
-use Rattle.xdr_codec.specs.declared.blob.Memory.{Memory}
+use Rattle.std.proofs.Common.{◌≡◌, ◌<◌, ◌+◌, ◌^◌, ◌⊎◌, inl, inr, ℕ, List, [], ◌∷◌, ◌++◌, length, Bool, true, false, Option, Some, None, option_map, Result, Ok, Err, refl, sym, ap, subst, ◌∙◌, append_assoc}
 use Rattle.rpc_message.specs.Call.{call_at}
 use Rattle.rpc_retry.specs.Waiting.{first_due, sent, sent_call}
 use Rattle.rpc_retry.specs.declared.waiting.Waiting.{Waiting}
@@ -9,14 +8,12 @@ use Rattle.world_model.specs.declared.answer.Answer.{Answer}
 use Rattle.world_model.specs.declared.entry.Entry.{Entry}
 use Rattle.world_model.specs.declared.entry.Entry.TheVariants.{Began, Answered, Dialed, Sent, Executed, Foreign, Flushed, Reboot, Delivered, Failed, Clock}
 use Rattle.world_model.specs.declared.op.Op.{Op}
-use Rattle.world_model.specs.Entries.{ours}
 use Rattle.world_model.specs.History.{History}
 use Rattle.world_model.specs.declared.tally.Tally.{Tally}
 use Rattle.world_model.specs.Counts.{tally_of}
 use Rattle.world_model.specs.Lost.{Loses, dropped as dropped_run}
 use Rattle.world_model.specs.Rows.{DropRun, most_dropped, begins as no_drop}
 use Rattle.world_model.specs.Told.{Adds, Tells, Relates}
-use Rattle.world_model.specs.Waiting.{Waits}
 use Rattle.world_model.proofs.Histories.{IsQuiet, steps_on, steps_on_twice}
 use Rattle.session_words.specs.declared.settings.Settings.{Settings}
 use Rattle.op_machines.specs.Begun.{machine_of}
@@ -26,21 +23,20 @@ use Rattle.op_machines.specs.declared.machine.Machine.{Machine}
 use Rattle.client_core.specs.declared.lane.Purpose.{Purpose}
 use Rattle.client_core.specs.declared.setup.Setup.{Setup}
 use Rattle.client_core.specs.Numbers.{IsIdle}
-use Rattle.client_core.specs.Steps.{Begins, SendsIf, SendsBy, FailsBy, AnswersBy, WereSent, lost}
+use Rattle.client_core.specs.Steps.{Begins, SendsIf, SendsBy, AnswersBy, WereSent, lost}
 use Rattle.client_core.specs.View.{View}
 use Rattle.core_facts.proofs.Rows.{reached-rows}
 use Rattle.core_facts.proofs.Sound.{reached-sound}
-use Rattle.core_facts.specs.Reaches.{MaySetUp, MayHear, IsSetUp, IsOpenLine, StepsTo, Reaches, begins, goes, last_reading}
+use Rattle.core_facts.specs.Reaches.{MaySetUp, MayHear, IsOpenLine, StepsTo, last_reading}
+use Rattle.core_facts.specs.Notes.{ComesAfter, NoneReady, notes_fresh}
 use Rattle.lane_session.specs.declared.counts.Counts.{Counts}
-use Rattle.lane_session.specs.declared.halt.Halt.{Halt}
-use Rattle.lane_session.specs.declared.lanes.Place.{Place}
 use Rattle.lane_session.specs.declared.running.Session.{Session}
 use Rattle.lane_session.specs.Bonds.{Start, SentSince, Bond, Bonded, HasCore, CoreGoes, CoreWent, CoreBy, steps, Redials, RedialsBy, IsOpened, EndsWith}
 use Rattle.lane_session.specs.LaneMarks.{IsRunning}
-use Rattle.lane_session.specs.Running.{IsFreshFor, NoneOver, Fails, Takes, TakesBy, Redialed, given_up, attempts_after, mounted_by}
-use Rattle.lane_session.proofs.Bonding.{since-none, bond-step, bond-loses, bond-taken, bond-dropped}
+use Rattle.lane_session.specs.Running.{IsFreshFor, NoneOver, Fails, Takes, TakesBy, given_up, mounted_by}
+use Rattle.lane_session.proofs.Bonding.{since-none, reached, bond-step, bond-loses, bond-taken, bond-dropped}
 use Rattle.lane_session.specs.Tallies.{CountsBy, Tallied}
-use Rattle.lane_session.proofs.LaneNumbers.{may-hear}
+use Rattle.lane_session.proofs.LaneNumbers.{none-ready, may-hear}
 use Rattle.lane_session.proofs.Redialing.{still_by, still-ours, redials-call}
 use Rattle.lane_session.proofs.Tallying.{tallied-step, tallied-like, tallied-sends, fresh-tallied}
 
@@ -65,20 +61,38 @@ still-record e bytes q is = let here : Delivered bytes ∷ [] ≡ [] = subst (λ
 still-sent : (e : Entry) (bytes : List ℕ) → steps (e ∷ []) ≡ [] → e ≡ Sent bytes → ⊥
 still-sent e bytes q is = let here : Sent bytes ∷ [] ≡ [] = subst (λ (d : Entry). steps (d ∷ []) ≡ []) is q in cc
 
+still-before : (e : Entry) → steps (e ∷ []) ≡ [] → ComesAfter e → ⊥
+still-before (Began l line op) q comes = comes
+still-before (Answered l line a) q comes = comes
+still-before (Dialed port) q comes = comes
+still-before (Sent bytes) q comes = absurd cc
+still-before (Executed xid call reply) q comes = comes
+still-before (Foreign call reply) q comes = comes
+still-before (Flushed file from len) q comes = comes
+still-before (Reboot verf) q comes = comes
+still-before (Delivered bytes) q comes = absurd cc
+still-before Failed q comes = comes
+still-before (Clock ms) q comes = comes
+
 module _ (m : Mounted) (setup : Setup) (start : Start) where
+  -- one entry that leaves the core as it is
+  bond-one : (h : List Entry) (e : Entry) (v : View) (n : ℕ) → steps (e ∷ []) ≡ [] → Bond m setup start.from h v n → Bond m setup start.from (h ++ e ∷ []) v n
+  bond-one h e v n still b =
+      bond-step m setup start.from h v e v n (λ comes. absurd (still-before e still comes)) (still-step (machine_of m) h v e still) (λ bytes is. still-record e bytes still is) b
+
   bond-still : (h more : List Entry) (v : View) (n : ℕ) → steps more ≡ [] → Bond m setup start.from h v n → Bond m setup start.from (h ++ more) v n
   bond-still h more v n q b =
-      still_by (λ (k : List Entry). Bond m setup start.from k v n) (λ k e still c. bond-step m setup start.from k v e v n (still-step (machine_of m) k v e still) (λ bytes is. still-record e bytes still is) c) h more q b
+      still_by (λ (k : List Entry). Bond m setup start.from k v n) (λ k e still c. bond-one k e v n still c) h more q b
 
   -- one entry that isn't sent
   tallied-on : (h : List Entry) (old : View) (e : Entry) (new : View) (n : ℕ) (c : Counts) → StepsTo (machine_of m) h old e new → ((bytes : List ℕ) → e ≡ Sent bytes → ⊥) → Bond m setup start.from h old n → Tallied h old c
       → Tallied (h ++ e ∷ []) new c
-  tallied-on h old e new n c t other b was = tallied-step (machine_of m) setup h old e new c t other (reached-sound (machine_of m) setup h old b.reaches) was
+  tallied-on h old e new n c t other b was = tallied-step (machine_of m) setup h old e new c t other (reached-sound (machine_of m) setup h old (reached m setup start.from h old n b)) was
 
   tallied-still : (h more : List Entry) (v : View) (n : ℕ) (c : Counts) → steps more ≡ [] → Bond m setup start.from h v n → Tallied h v c → Tallied (h ++ more) v c
   tallied-still h more v n c q b t =
       (still_by (λ (k : List Entry). Bond m setup start.from k v n × Tallied k v c) (λ k e still p. (
-        bond-step m setup start.from k v e v n (still-step (machine_of m) k v e still) (λ bytes is. still-record e bytes still is) p.0,
+        bond-one k e v n still p.0,
         tallied-on k v e v n c (still-step (machine_of m) k v e still) (λ bytes is. still-sent e bytes still is) p.0 p.1,
       )) h more q (b, t)).1
 
@@ -96,7 +110,7 @@ module _ (m : Mounted) (setup : Setup) (start : Start) where
   bonded-redials h k s r b = subst (λ (t : List Entry). Bonded m setup start t s) (sym r.is) (bonded-still h r.more s r.still b)
 
   pub core-of : (h : List Entry) (s : Session) → Bonded m setup start h s → HasCore m setup start.from h
-  core-of h s b = record { core = s.core; reaches = b.bond.reaches; since = b.bond.since }
+  core-of h s b = record { core = s.core; notes = b.bond.notes; since = b.bond.since }
 
   -- the session's other fields don't count
   bonded-like : (h : List Entry) (s t : Session) → t.mounted ≡ s.mounted → t.core ≡ s.core → t.dropped ≡ s.dropped → t.counts ≡ s.counts → Bonded m setup start h s → Bonded m setup start h t
@@ -109,6 +123,10 @@ module _ (m : Mounted) (setup : Setup) (start : Start) where
   pub bonded-given-up : (h : List Entry) (s : Session) → Loses h (length h) → Bonded m setup start h s → Bonded m setup start h (given_up s)
   bonded-given-up h s shown b = record { mounted = b.mounted; bond = bond-loses m setup start.from h s.core s.dropped shown b.bond; tallied = λ is. tallied-like h s.core (lost s.core) s.counts refl (b.tallied is) }
 
+  -- where each lane has told its answer, none is ready
+  bonded-none : (h : List Entry) (s : Session) → NoneOver s.core → Bonded m setup start h s → NoneReady s.core
+  bonded-none h s told b = none-ready (machine_of m) setup h s.core (reached m setup start.from h s.core s.dropped b.bond) told
+
   -- ---- one call of the link
 
   -- the attempts that run have ended
@@ -116,7 +134,7 @@ module _ (m : Mounted) (setup : Setup) (start : Start) where
   bonded-fails h old new f b =
       subst (Bonded m setup start (h ++ Failed ∷ [])) (sym f.is) (record {
         mounted = b.mounted;
-        bond = bond-step m setup start.from h old.core Failed new.core old.dropped (inl (f.result, f.core)) (λ bytes e. absurd cc) b.bond;
+        bond = bond-step m setup start.from h old.core Failed new.core old.dropped (λ comes. absurd comes) (inl (f.result, f.core)) (λ bytes e. absurd cc) b.bond;
         tallied = λ is. tallied-on h old.core Failed new.core old.dropped old.counts (inl (f.result, f.core)) (λ bytes e. absurd cc) b.bond (b.tallied is);
       })
 
@@ -129,7 +147,7 @@ module _ (m : Mounted) (setup : Setup) (start : Start) where
       k = h ++ Delivered rec ∷ []
 
       may : MayHear old.core
-      may = may-hear (machine_of m) setup h old.core b.bond.reaches all_sent told
+      may = may-hear (machine_of m) setup h old.core (reached m setup start.from h old.core old.dropped b.bond) all_sent told
 
       dropped_so : t.result ≡ false → Bond m setup start.from k t.core (old.dropped + 1)
       dropped_so is = bond-dropped m setup start.from h old.core rec t.result t.core old.dropped may t.hears is b.bond
@@ -147,12 +165,14 @@ module _ (m : Mounted) (setup : Setup) (start : Start) where
           (bonded-given-up k (record old { core = t.core; dropped = old.dropped + 1 }) (dropped_run run) (record { mounted = b.mounted; bond = dropped_so not; tallied = tallied_so }))
 
   -- a record was sent
-  pub bonded-sends : (h : List Entry) (old new : Session) (rec : List ℕ) → SendsBy old.core (Some rec) new.core → CountsBy (call_at rec) old.counts new.counts → new.mounted ≡ old.mounted → new.dropped ≡ old.dropped
-      → Bonded m setup start h old → Bonded m setup start (h ++ Sent rec ∷ []) new
-  bonded-sends h old new rec t counts mounted count b = record {
+  pub bonded-sends : (h : List Entry) (old new : Session) (rec : List ℕ) → NoneOver old.core → SendsBy old.core (Some rec) new.core → CountsBy (call_at rec) old.counts new.counts → new.mounted ≡ old.mounted
+      → new.dropped ≡ old.dropped → Bonded m setup start h old → Bonded m setup start (h ++ Sent rec ∷ []) new
+  bonded-sends h old new rec told t counts mounted count b = record {
     mounted = mounted ∙ b.mounted;
-    bond = subst (λ (n : ℕ). Bond m setup start.from (h ++ Sent rec ∷ []) new.core n) (sym count) (bond-step m setup start.from h old.core (Sent rec) new.core old.dropped t (λ bytes e. absurd cc) b.bond);
-    tallied = λ is. tallied-sends setup h old.core rec new.core old.counts new.counts (reached-rows (machine_of m) setup h old.core b.bond.reaches) t counts (b.tallied is);
+    bond = subst (λ (n : ℕ). Bond m setup start.from (h ++ Sent rec ∷ []) new.core n) (sym count)
+        (bond-step m setup start.from h old.core (Sent rec) new.core old.dropped (λ comes. bonded-none h old told b) t (λ bytes e. absurd cc) b.bond);
+    tallied = λ is.
+        tallied-sends setup h old.core rec new.core old.counts new.counts (reached-rows (machine_of m) setup h old.core (reached m setup start.from h old.core old.dropped b.bond)) t counts (b.tallied is);
   }
 
 -- ---- what the parts of an exchange do to the core
@@ -187,19 +207,19 @@ core-takes old new rec a b all_sent told t p m setup start c =
     steps_on (λ (h : List Entry). Bonded m setup start h old) (λ (h : List Entry). Bonded m setup start h new) a b (Delivered rec) (bonded-quiet m setup start old) (bonded-quiet m setup start new)
     (λ h x. bonded-takes m setup start h old new rec all_sent told t x) p c
 
-pub core-sends : (old new : Session) (rec : List ℕ) (a b : History) → SendsBy old.core (Some rec) new.core → CountsBy (call_at rec) old.counts new.counts → new.mounted ≡ old.mounted → new.dropped ≡ old.dropped
+pub core-sends : (old new : Session) (rec : List ℕ) (a b : History) → NoneOver old.core → SendsBy old.core (Some rec) new.core → CountsBy (call_at rec) old.counts new.counts → new.mounted ≡ old.mounted → new.dropped ≡ old.dropped
     → Adds a b (Sent rec ∷ []) → CoreGoes old new a.entries b.entries
-core-sends old new rec a b t counts mounted count p m setup start c =
+core-sends old new rec a b told t counts mounted count p m setup start c =
     steps_on (λ (h : List Entry). Bonded m setup start h old) (λ (h : List Entry). Bonded m setup start h new) a b (Sent rec) (bonded-quiet m setup start old) (bonded-quiet m setup start new)
-    (λ h x. bonded-sends m setup start h old new rec t counts mounted count x) p c
+    (λ h x. bonded-sends m setup start h old new rec told t counts mounted count x) p c
 
 -- the record went out, and the link failed
-pub core-sends-fails : (old mid new : Session) (rec : List ℕ) (a b : History) → SendsBy old.core (Some rec) mid.core → CountsBy (call_at rec) old.counts mid.counts → mid.mounted ≡ old.mounted → mid.dropped ≡ old.dropped
+pub core-sends-fails : (old mid new : Session) (rec : List ℕ) (a b : History) → NoneOver old.core → SendsBy old.core (Some rec) mid.core → CountsBy (call_at rec) old.counts mid.counts → mid.mounted ≡ old.mounted → mid.dropped ≡ old.dropped
     → Fails mid new → Adds a b (Sent rec ∷ Failed ∷ []) → CoreGoes old new a.entries b.entries
-core-sends-fails old mid new rec a b t counts mounted count f p m setup start c =
+core-sends-fails old mid new rec a b told t counts mounted count f p m setup start c =
     steps_on_twice (λ (h : List Entry). Bonded m setup start h old) (λ (h : List Entry). Bonded m setup start h mid) (λ (h : List Entry). Bonded m setup start h new) a b (Sent rec) Failed
     (bonded-quiet m setup start old) (bonded-quiet m setup start mid) (bonded-quiet m setup start new)
-    (λ h x. bonded-sends m setup start h old mid rec t counts mounted count x) (λ h x. bonded-fails m setup start h mid new f x) p c
+    (λ h x. bonded-sends m setup start h old mid rec told t counts mounted count x) (λ h x. bonded-fails m setup start h mid new f x) p c
 
 -- none was due
 none-due : (o : Option (ℕ × Waiting Purpose)) → None ≡ option_map (λ (e : ℕ × Waiting Purpose). e.1.bytes) o → o ≡ None
@@ -214,7 +234,7 @@ sent-none (e ∷ es) n = (elim e.1.due as (λ b. e.1.due ≡ b → sent (e ∷ e
       ∙ ap (λ (l : List (ℕ × Waiting Purpose)). e ∷ l) (sent-none es (sym (if_false e.1.due (Some e) (first_due es) d) ∙ n))
 ]) refl
 
-sends-nothing : (old new : View) → SendsBy old None new → new ≡ old
+pub sends-nothing : (old new : View) → SendsBy old None new → new ≡ old
 sends-nothing old new t = by old.lost t
   where
     by : (b : Bool) → SendsIf b old None new → new ≡ old
@@ -243,7 +263,7 @@ relates-both (Some a) (Some b) R S p q = (p, q)
 
 -- ---- a line begins
 
-now-read : (h : List Entry) (first ms : ℕ) → last_reading first (h ++ Clock ms ∷ []) ≡ ms
+pub now-read : (h : List Entry) (first ms : ℕ) → last_reading first (h ++ Clock ms ∷ []) ≡ ms
 now-read [] first ms = refl
 now-read (Began l line op ∷ h) first ms = now-read h first ms
 now-read (Answered l line a ∷ h) first ms = now-read h first ms
@@ -260,7 +280,7 @@ now-read (Clock now ∷ h) first ms = now-read h now ms
 bonded-clock : (m : Mounted) (setup : Setup) (start : Start) (h : List Entry) (s : Session) (ms : ℕ) → Bonded m setup start h s → Bonded m setup start (h ++ Clock ms ∷ []) s
 bonded-clock m setup start h s ms b = record {
   mounted = b.mounted;
-  bond = bond-step m setup start.from h s.core (Clock ms) s.core s.dropped refl (λ bytes e. absurd cc) b.bond;
+  bond = bond-step m setup start.from h s.core (Clock ms) s.core s.dropped (λ comes. absurd comes) refl (λ bytes e. absurd cc) b.bond;
   tallied = λ is. tallied-on m setup start h s.core (Clock ms) s.core s.dropped s.counts refl (λ bytes e. absurd cc) b.bond (b.tallied is);
 }
 
@@ -274,7 +294,8 @@ core-begins s t h ms lane line op idle few fits step mounted count tally m setup
     let begun : StepsTo (machine_of m) h1 s.core (Began lane line op) t.core = record { idle = idle; few = few; fits = subst (λ (x : Mounted). Fits (machine_of x lane op)) b.mounted fits; step = step_now } in
     subst (λ (k : List Entry). Bonded m setup start k t) (append_assoc h (Clock ms ∷ []) (Began lane line op ∷ [])) (record {
       mounted = mounted ∙ b.mounted;
-      bond = subst (λ (n : ℕ). Bond m setup start.from (h1 ++ Began lane line op ∷ []) t.core n) (sym count) (bond-step m setup start.from h1 s.core (Began lane line op) t.core s.dropped begun (λ bytes e. absurd cc) c.bond);
+      bond = subst (λ (n : ℕ). Bond m setup start.from (h1 ++ Began lane line op ∷ []) t.core n) (sym count)
+          (bond-step m setup start.from h1 s.core (Began lane line op) t.core s.dropped (λ comes. absurd comes) begun (λ bytes e. absurd cc) c.bond);
       tallied = λ is. subst (Tallied (h1 ++ Began lane line op ∷ []) t.core) (sym tally)
           (tallied-on m setup start h1 s.core (Began lane line op) t.core s.dropped s.counts begun (λ bytes e. absurd cc) c.bond (c.tallied is));
     })
@@ -294,7 +315,7 @@ pub core-answers : (s t : Session) (h : List Entry) (lane line : ℕ) (answer : 
 core-answers s t h lane line answer running answers mounted count tally m setup start b = record {
   mounted = mounted ∙ b.mounted;
   bond = subst (λ (n : ℕ). Bond m setup start.from (h ++ Answered lane line answer ∷ []) t.core n) (sym count)
-      (bond-step m setup start.from h s.core (Answered lane line answer) t.core s.dropped (record { line_is = open-line h lane line running; answers = answers }) (λ bytes e. absurd cc) b.bond);
+      (bond-step m setup start.from h s.core (Answered lane line answer) t.core s.dropped (λ comes. absurd comes) (record { line_is = open-line h lane line running; answers = answers }) (λ bytes e. absurd cc) b.bond);
   tallied = λ is. subst (Tallied (h ++ Answered lane line answer ∷ []) t.core) (sym tally)
       (tallied-on m setup start h s.core (Answered lane line answer) t.core s.dropped s.counts (record { line_is = open-line h lane line running; answers = answers }) (λ bytes e. absurd cc) b.bond (b.tallied is));
 }
@@ -310,7 +331,7 @@ pub fresh-bonded : (settings : Settings) (setup : Setup) (start : Start) (s : Se
 fresh-bonded settings setup start s h may f is tallied o = record {
   mounted = f.mounted;
   bond = record {
-    reaches = begins h s.core may o.0 f.core;
+    notes = notes_fresh h s.core may o.0 f.core;
     since = subst (λ (k : List Entry). SentSince k h) (sym is) (since-none h);
     known = λ xid w. absurd (o.1 xid w);
     run = no_drop s.dropped (length h) f.dropped;

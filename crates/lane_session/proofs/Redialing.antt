@@ -1,6 +1,5 @@
 -- Dials that fail one after the other lose a session, and leave its core as it is.
-use Rattle.std.proofs.Common.{◌≡◌, ◌≤◌, ◌<◌, ◌+◌, ◌⊎◌, inl, inr, ℕ, zero, suc, List, [], ◌∷◌, ◌++◌, length, Bool, true, false, Some, Result, Ok, Err, refl, sym, ap, subst, ◌∙◌, arith, append-nil, append_assoc}
-use Rattle.std.proofs.lemmas.List.{length-append}
+use Rattle.std.proofs.Common.{◌≡◌, ◌≤◌, ◌<◌, ◌+◌, inl, inr, ℕ, suc, List, [], ◌∷◌, ◌++◌, length, Bool, true, false, Result, Ok, Err, refl, sym, ap, subst, ◌∙◌, arith, append-nil, append_assoc}
 use Rattle.xdr_codec.specs.declared.blob.Memory.{Memory}
 use Rattle.world_model.specs.declared.entry.Entry.{Entry}
 use Rattle.world_model.specs.declared.entry.Entry.TheVariants.{Began, Answered, Dialed, Sent, Executed, Foreign, Flushed, Reboot, Delivered, Failed, Clock}
@@ -9,7 +8,7 @@ use Rattle.world_model.specs.History.{History}
 use Rattle.world_model.specs.Lost.{FailedDial, IsTraffic, sent, came, dialed, Loses, undialed}
 use Rattle.world_model.specs.Told.{Adds}
 use Rattle.world_model.proofs.Histories.{IsQuiet, quiet_by, steps_on_twice}
-use Rattle.world_model.proofs.Places.{At-grow, At-below, At-back, At-last, At-cases, At-one, length_last}
+use Rattle.world_model.proofs.Places.{At-grow, At-below, At-back, At-last, At-cases, length_last}
 use Rattle.lane_session.specs.Bonds.{steps, Redials, RedialsBy}
 use Rattle.lane_session.specs.Running.{marks, Quietly}
 

@@ -1,6 +1,5 @@
 -- What is held of a session after each part of its work.
-use Rattle.std.proofs.Common.{◌≡◌, ◌≢◌, ◌≤◌, ◌<◌, ◌+◌, ◌-◌, ◌*◌, ◌^◌, ◌⊎◌, inl, inr, ℕ, zero, suc, List, [], ◌∷◌, ◌++◌, length, map, position, remove, slice_get, slice_set, replicate, Bool, true, false, Option, Some, None, MatchOption, option_map, max, refl, sym, ap, subst, ◌∙◌, arith}
-use Rattle.std.proofs.lemmas.Option.{get_or_from_slice_get}
+use Rattle.std.proofs.Common.{◌≡◌, ◌≤◌, ◌<◌, ◌+◌, ◌-◌, ◌*◌, ◌^◌, inl, inr, ℕ, zero, suc, List, [], ◌∷◌, ◌++◌, length, remove, slice_get, slice_set, Option, Some, None, option_map, max, refl, sym, ap, subst, ◌∙◌, arith}
 use Rattle.world_model.specs.declared.answer.Answer.{Answer}
 use Rattle.world_model.specs.declared.answer.Answer.TheVariants as answers
 use Rattle.world_model.specs.declared.answer.Fault.TheVariants as faults
@@ -9,18 +8,18 @@ use Rattle.nfs_script.specs.declared.script.ScriptLine.{ScriptLine}
 use Rattle.op_machines.specs.declared.machine.Machine.{Machine}
 use Rattle.client_core.specs.declared.lane.Lane.{Lane}
 use Rattle.client_core.specs.declared.lane.State.TheVariants.{Over}
-use Rattle.client_core.specs.Lanes.{is_over}
 use Rattle.client_core.specs.Numbers.{IsOther, IsIdle, AreLanes, numbers_of}
-use Rattle.client_core.specs.Steps.{Begins, AnswersBy, AnswersAt}
+use Rattle.client_core.specs.Steps.{Begins, AnswersBy}
 use Rattle.client_core.specs.View.{View}
 use Rattle.core_facts.proofs.Lists.{map-remove, to-map}
 use Rattle.core_facts.proofs.Cases.{AnsweredNow, answered_now}
 use Rattle.lane_session.specs.declared.lanes.Place.{Place}
 use Rattle.lane_session.specs.declared.running.Session.{Session}
-use Rattle.lane_session.specs.Holding.{IsHeld, IsLive, IsSeated, IsQuiet, Lessens, SameTries, calls_left}
+use Rattle.lane_session.specs.Holding.{IsHeld, IsLive, IsSeated, Lessens, calls_left}
 use Rattle.lane_session.specs.Places.{PlaceAt, FoundAt, Seeks, Ends, lines_left, passed, one_if}
-use Rattle.lane_session.specs.Running.{LineIs, RestsOne}
+use Rattle.lane_session.specs.Running.{LineIs}
 use Rattle.lane_session.specs.Statuses.{after_answer, IsSessionStatus}
+use Rattle.lane_session.proofs.Alive.{alive-rests, alive-answers}
 use Rattle.lane_session.proofs.Cores.{Keeps, begins-so, other-push, other-remove, once-remove}
 use Rattle.lane_session.proofs.Placing.{get-set}
 use Rattle.lane_session.proofs.Sounds.{sound-begins}
@@ -82,7 +81,7 @@ line-of lanes lane line p is there = same (sym (ap (option_map (λ (q : Place). 
 
 pub rested : (script : List ScriptLine) (lane : ℕ) (old : Session) (lanes : List Place) → IsHeld script old → LineIs lane None old → Seeks script lane old.lanes None lanes
     → IsHeld script (record old { lanes = lanes })
-rested script lane old lanes held line seeks = record { live = live; seated = seated; status = held.status }
+rested script lane old lanes held line seeks = record { live = live; seated = seated; status = held.status; alive = alive-rests script lane old lanes seeks held.alive }
   where
     l : IsLive old
     l = held.live
@@ -233,7 +232,12 @@ status-after n (answers.Refused faults.Memory) s = status-more n s
 
 pub answered-held : (script : List ScriptLine) (lane line : ℕ) (answer : Answer) (old : Session) (core : View) (lanes : List Place) → 1 ≤ lane → AreLanes old.core.lanes → IsHeld script old
     → LineIs lane (Some line) old → AnswersBy old.core lane (Some answer) core → Ends lane old.lanes lanes → IsHeld script (record old { core = core; lanes = lanes; status = after_answer old.status answer })
-answered-held script lane line answer old core lanes least numbers held line_is answers ends = record { live = live; seated = seated; status = status-after old.status answer held.status }
+answered-held script lane line answer old core lanes least numbers held line_is answers ends = record {
+  live = live;
+  seated = seated;
+  status = status-after old.status answer held.status;
+  alive = alive-answers lane line answer old core lanes (after_answer old.status answer) least ends.before ends.there (line-of old.lanes lane (Some line) ends.before line_is ends.there) answers ends held.alive;
+}
   where
     s : IsSeated script old
     s = held.seated

@@ -1,11 +1,11 @@
 -- The calls that wait stay sound, and all were sent where none is due.
-use Rattle.std.proofs.Common.{◌≡◌, ◌≤◌, ◌<◌, ◌+◌, ℕ, zero, suc, List, [], ◌∷◌, Bool, true, false, Option, Some, None, refl, sym, ap, subst, ◌∙◌, arith}
+use Rattle.std.proofs.Common.{◌≡◌, ◌≤◌, ◌<◌, ◌+◌, ℕ, List, [], ◌∷◌, Bool, true, false, Option, Some, None, refl, sym, ap, subst, ◌∙◌, arith}
 use Rattle.std.specs.Prelude.{option_map}
 use Rattle.std.proofs.lemmas.List.Elements.{All-cons}
 use Rattle.attr_cache.specs.Attrs.{usual_lives}
 use Rattle.rpc_message.specs.declared.cred.Cred.{Cred}
 use Rattle.rpc_retry.specs.Held.{next_xid}
-use Rattle.rpc_retry.specs.Sound.{IsSound, IsSoundCall, AreSound}
+use Rattle.rpc_retry.specs.Sound.{IsSound, AreSound}
 use Rattle.rpc_retry.specs.Waiting.{first_due, sent, sent_call}
 use Rattle.rpc_retry.specs.declared.waiting.Waiting.{Waiting}
 use Rattle.rpc_retry.proofs.Dues.{if_true, if_false, sound_next}
@@ -59,8 +59,12 @@ none-due cred low next (e ∷ es) s none = (elim e.1.due as (λ b. e.1.due ≡ b
   | false ↦ λ d. All-cons (λ (x : ℕ × Waiting Purpose). 1 ≤ x.1.attempts) e es (s.1.given d) (none-due cred (e.0 + 1) next es s.2 (sym (if_false e.1.due (Some e) (first_due es) d) ∙ none))
 ]) refl
 
+-- each was sent, and none is due
+abbrev AllGone : List (ℕ × Waiting Purpose) → Type 0
+AllGone es = WereSent es × (first_due es ≡ None)
+
 -- the record that was sent, or none, where the session isn't lost
-pub all-sent : (old : View) (new : View) → old.lost ≡ false → SendsBy old None new → IsSound old.calls → WereSent new.calls.calls
+pub all-sent : (old : View) (new : View) → old.lost ≡ false → SendsBy old None new → IsSound old.calls → WereSent new.calls.calls × (first_due new.calls.calls ≡ None)
 all-sent old new live t s = by old.lost live t
   where
     none : (o : Option (ℕ × Waiting Purpose)) → None ≡ option_map (λ (e : ℕ × Waiting Purpose). e.1.bytes) o → o ≡ None
@@ -74,11 +78,12 @@ all-sent old new live t s = by old.lost live t
       | false ↦ λ d. if_false e.1.due ((e.0, sent_call e.1) ∷ es) (e ∷ sent es) d ∙ ap (λ (l : List (ℕ × Waiting Purpose)). e ∷ l) (same es (sym (if_false e.1.due (Some e) (first_due es) d) ∙ n))
     ]) refl
 
-    by : (b : Bool) → b ≡ false → SendsIf b old None new → WereSent new.calls.calls
+    by : (b : Bool) → b ≡ false → SendsIf b old None new → AllGone new.calls.calls
     by true e t = absurd cc
     by false e t =
         let due : first_due old.calls.calls ≡ None = none (first_due old.calls.calls) t.gives in
-        subst (λ (v : View). WereSent v.calls.calls) (sym t.is) (subst WereSent (sym (same old.calls.calls due)) (none-due old.calls.cred old.calls.first_xid (next_xid old.calls) old.calls.calls s.each due))
+        subst (λ (v : View). AllGone v.calls.calls) (sym t.is)
+        (subst AllGone (sym (same old.calls.calls due)) (none-due old.calls.cred old.calls.first_xid (next_xid old.calls) old.calls.calls s.each due, due))
 
 zero-less : (m n : ℕ) → m < n → 0 + m < n
 zero-less m n lt = omega (arith, lt)

@@ -1,5 +1,5 @@
 -- A lane that begins its next line.
-use Rattle.std.proofs.Common.{◌≡◌, ◌≤◌, ◌<◌, ◌+◌, ◌-◌, ◌^◌, ◌⊎◌, inl, inr, ℕ, zero, suc, List, [], ◌∷◌, ◌++◌, length, All, slice_get, slice_set, Option, Some, None, Result, Ok, Err, refl, sym, ap, subst, ◌∙◌, arith}
+use Rattle.std.proofs.Common.{◌≡◌, ◌≤◌, ◌<◌, ◌+◌, ◌-◌, ◌^◌, inl, inr, ℕ, zero, suc, List, [], ◌∷◌, ◌++◌, length, slice_get, slice_set, Option, Some, None, Ok, Err, refl, sym, ap, subst, ◌∙◌, arith}
 use Rattle.xdr_codec.specs.declared.blob.Memory.{Memory}
 use Rattle.outside.specs.Clock.{ReadsClock}
 use Rattle.world_model.specs.declared.entry.Entry.{Entry}
@@ -7,7 +7,6 @@ use Rattle.world_model.specs.declared.entry.Entry.TheVariants.{Began, Clock}
 use Rattle.world_model.specs.declared.op.Op.{Op}
 use Rattle.world_model.specs.History.{History}
 use Rattle.world_model.specs.Told.{Relates}
-use Rattle.nfs_script.specs.Asked.{IsAsked, IsAskedLine}
 use Rattle.nfs_script.specs.declared.script.ScriptLine.{ScriptLine}
 use Rattle.op_machines.specs.Begun.{machine_of}
 use Rattle.op_machines.specs.declared.machine.Machine.{Machine}
@@ -23,9 +22,10 @@ use Rattle.lane_session.specs.Holding.{IsHeld, Lessens}
 use Rattle.lane_session.specs.Places.{FoundAt, Seeks}
 use Rattle.lane_session.specs.Running.{LineIs, Starts, NotesStart}
 use Rattle.lane_session.specs.Streams.{Reads, ReadsOnce}
+use Rattle.lane_session.proofs.Alive.{alive-begins}
 use Rattle.lane_session.proofs.Marking.{started, unstarted, rested-on}
 use Rattle.lane_session.proofs.Passing.{reads_same, reads_one, relates_same, relates_less}
-use Rattle.lane_session.proofs.Seating.{begun-seated, begun-live, begun-less, few-begun, line-of}
+use Rattle.lane_session.proofs.Seating.{begun-seated, begun-live, begun-less, few-begun, line-of, set-set}
 use Rattle.lane_session.proofs.Stepping.{same-lane}
 
 -- ---- the clock and the link
@@ -108,16 +108,21 @@ module _ (script : List ScriptLine) (lane place : ℕ) (l : ScriptLine) (old : S
   abbrev q : Place
   q = record { next = place + 1; line = Some l.line }
 
+  all : slice_set mid (lane - 1) q ≡ slice_set old.lanes (lane - 1) q
+  all = ap (λ (t : List Place). slice_set t (lane - 1) q) seeks.is ∙ set-set old.lanes (lane - 1) (record { next = seeks.at; line = seeks.before.line }) q
+
   -- the lane began the line
   abbrev after : Session → Session
   after s = record s { lanes = slice_set s.lanes (lane - 1) q }
 
-  pub starting-held : (new : Session) (given : List ℕ) (lanes : List Place) → Starts lane l.op (record old { lanes = mid }) new (Ok tt) given → lanes ≡ slice_set new.lanes (lane - 1) q → IsHeld script (record new { lanes = lanes })
-  starting-held new given lanes st is =
+  pub starting-held : length script ≤ 16384 → Fits (machine_of old.mounted lane l.op) → (new : Session) (given : List ℕ) (lanes : List Place) → Starts lane l.op (record old { lanes = mid }) new (Ok tt) given → lanes ≡ slice_set new.lanes (lane - 1) q → IsHeld script (record new { lanes = lanes })
+  starting-held few fits new given lanes st is =
       let held_mid : IsHeld script (record old { core = new.core; lanes = slice_set mid (lane - 1) q }) = record {
         live = begun-live script lane l.line place old (machine_of old.mounted lane l.op) st.0 new.core mid held st.2 (slice_set mid (lane - 1) q);
         seated = begun-seated script lane l.line place old (machine_of old.mounted lane l.op) st.0 new.core mid least held line_is seeks st.2;
         status = held.status;
+        alive = alive-begins lane l.line l.op old st.0 new.core (slice_set mid (lane - 1) q) q least (idle-there script lane place old mid least most held line_is seeks) (few-begun script old few held) fits
+            held.live.calls.within st.2 refl all held.alive;
       } in
       subst (λ (ps : List Place). IsHeld script (record new { lanes = ps })) (sym is) (subst (λ (s : Session). IsHeld script (after s)) (sym st.3) held_mid)
 

@@ -1,5 +1,5 @@
 -- Lanes that go on, one after the other.
-use Rattle.std.proofs.Common.{◌≡◌, ◌≢◌, ◌≤◌, ◌<◌, ◌+◌, ◌-◌, ◌*◌, ◌⊎◌, inl, inr, ℕ, zero, suc, List, [], ◌∷◌, ◌==◌, ◌++◌, length, position, get_or, slice_get, slice_set, Bool, true, false, nat_eq, Option, Some, None, MatchOption, option_map, refl, sym, ap, subst, ◌∙◌, arith}
+use Rattle.std.proofs.Common.{◌≡◌, ◌≤◌, ◌<◌, ◌+◌, ◌-◌, inl, inr, ℕ, zero, suc, List, [], ◌∷◌, ◌==◌, length, position, get_or, slice_get, Bool, true, false, nat_eq, Option, Some, None, MatchOption, refl, sym, ap, subst, ◌∙◌, arith}
 use borrow.Author.Tests.{eqb-true, eqb-false}
 use Rattle.std.proofs.lemmas.Bool.{ne_eqb}
 use Rattle.std.proofs.lemmas.List.Quantifiers.{position-Some}
@@ -14,8 +14,8 @@ use Rattle.client_core.specs.Steps.{AnswersBy, AnswersAt}
 use Rattle.client_core.specs.View.{View}
 use Rattle.lane_session.specs.declared.lanes.Place.{Place}
 use Rattle.lane_session.specs.declared.running.Session.{Session}
-use Rattle.lane_session.specs.Holding.{IsHeld, IsQuiet, AreQuiet, Lessens, SameTries, calls_left, tries_left}
-use Rattle.lane_session.specs.Places.{FoundAt, Seeks, lines_left, one_if}
+use Rattle.lane_session.specs.Holding.{IsHeld, IsQuiet, Lessens, SameTries, calls_left, tries_left}
+use Rattle.lane_session.specs.Places.{Seeks, lines_left}
 use Rattle.lane_session.specs.Running.{LineIs, RestsOne, RestsAll, StepsSo, StepsLane}
 use Rattle.lane_session.proofs.Placing.{get-set}
 use Rattle.lane_session.proofs.Seating.{line-of, lines-set, get-other}

@@ -1,14 +1,13 @@
 -- The calls of a session are counted as its history shows them.
-use Rattle.std.proofs.Common.{◌≡◌, ◌≢◌, ◌≤◌, ◌<◌, ◌+◌, ◌-◌, ◌^◌, ◌==◌, ◌&&◌, ◌⊎◌, inl, inr, ℕ, zero, suc, Bool, true, false, cond, nat_eq, min, List, [], ◌∷◌, ◌++◌, length, Option, Some, None, option_map, Result, Ok, Err, refl, sym, ap, subst, ◌∙◌, arith, append-nil, eqb, ◌||◌}
-use Rattle.std.proofs.lemmas.Bool.{eq-eqb, ne_eqb, eqb-false}
+use Rattle.std.proofs.Common.{◌≡◌, ◌≢◌, ◌≤◌, ◌<◌, ◌+◌, ◌==◌, inl, inr, ℕ, suc, Bool, true, false, cond, nat_eq, min, List, [], ◌∷◌, ◌++◌, length, Option, Some, None, option_map, Result, Ok, Err, refl, sym, ap, subst, ◌∙◌, arith, append-nil, eqb, ◌||◌}
+use Rattle.std.proofs.lemmas.Bool.{eqb-false}
 use borrow.Author.Tests.{eqb-true}
 use Rattle.nfs_types.specs.declared.nfs_proc.TheConstants.{GETATTR, LOOKUP, READ, WRITE, COMMIT}
-use Rattle.nfs_types.specs.declared.program.TheConstants.{NFS_PROGRAM}
 use Rattle.xdr_codec.specs.Reading.{u32_at}
 use Rattle.xdr_codec.specs.declared.reader.XdrFault.{XdrFault}
 use Rattle.xdr_codec.proofs.Laws.{bind_ok}
 use Rattle.rpc_message.specs.Auth.{auth_at}
-use Rattle.rpc_message.specs.Call.{◌>>=-call◌, xid_at, head_at, call_at, value_read}
+use Rattle.rpc_message.specs.Call.{◌>>=-call◌, head_at, call_at, value_read}
 use Rattle.rpc_message.specs.declared.call.CallHead.{CallHead}
 use Rattle.rpc_message.specs.declared.call.CallFault.{CallFault}
 use Rattle.rpc_message.proofs.CallLaws.{call_again}
@@ -17,17 +16,16 @@ use Rattle.rpc_retry.specs.declared.waiting.Waiting.{Waiting}
 use Rattle.rpc_retry.specs.Held.{Held, next_xid}
 use Rattle.rpc_retry.specs.Fail.{failed_after}
 use Rattle.rpc_retry.specs.Sound.{AreSound}
-use Rattle.rpc_retry.specs.Waiting.{waiting_at, without, made_call, sent, sent_call, failed, failed_call, first_due}
+use Rattle.rpc_retry.specs.Waiting.{waiting_at, without, sent, sent_call, failed, failed_call, first_due}
 use Rattle.rpc_retry.proofs.Apart.{sound_of}
-use Rattle.rpc_retry.proofs.Lookups.{SentAt, waits_early, at_made, others_made, at_sent, others_sent, others_taken, all_failed}
-use Rattle.rpc_retry.proofs.Order.{bounds}
+use Rattle.rpc_retry.proofs.Lookups.{SentAt, waits_early, others_made, at_sent, others_sent, others_taken, all_failed}
 use Rattle.rpc_retry.proofs.Records.{gone}
 use Rattle.world_model.specs.declared.entry.Entry.{Entry}
 use Rattle.world_model.specs.declared.entry.Entry.TheVariants.{Began, Answered, Dialed, Sent, Executed, Foreign, Flushed, Reboot, Delivered, Failed, Clock}
 use Rattle.world_model.specs.declared.message.Call.{Call}
 use Rattle.world_model.specs.declared.op.Op.{Op}
 use Rattle.world_model.specs.declared.tally.Tally.{Tally}
-use Rattle.world_model.specs.Counts.{Counted, Every, Only, counts_proc, counts_head, xid_counted, xids_sent, different, calls_made, tally_of}
+use Rattle.world_model.specs.Counts.{Counted, Every, Only, counts_head, xid_counted, xids_sent, different, calls_made, tally_of}
 use Rattle.world_model.specs.Entries.{At}
 use Rattle.world_model.specs.Messages.{HasXid, head_of}
 use Rattle.op_machines.specs.declared.machine.Machine.{Machine}
@@ -36,16 +34,16 @@ use Rattle.client_core.specs.declared.setup.Setup.{Setup}
 use Rattle.client_core.specs.Fresh.{IsFresh}
 use Rattle.client_core.specs.Steps.{Makes, SendsBy}
 use Rattle.client_core.specs.View.{View}
-use Rattle.core_facts.specs.Reaches.{IsSetUp, StepsTo, Reaches, last_reading}
+use Rattle.core_facts.specs.Reaches.{IsSetUp, StepsTo, last_reading}
 use Rattle.core_facts.specs.Tries.{Tried, unsent, runs, ended, IsOutstanding, IsKnown}
 use Rattle.core_facts.proofs.Cases.{Heard, dropped, replied, heard, sent_now, FailedNow, goes_on, gives_up, failed_now, answered_now, taken_one}
-use Rattle.core_facts.proofs.Rows.{Rows, reached-rows}
-use Rattle.core_facts.proofs.Sound.{Sound, sound-stays, sound-taken}
+use Rattle.core_facts.proofs.Rows.{Rows}
+use Rattle.core_facts.proofs.Sound.{Sound}
 use Rattle.core_facts.proofs.Walks.{Stays, begins-stay, hears-for-stay}
 use Rattle.lane_session.specs.declared.counts.Counts.{Counts}
 use Rattle.lane_session.specs.Running.{one_where}
 use Rattle.lane_session.specs.Tallies.{with_proc, IsNew, CountsBy, AreBelow, Tallied}
-use Rattle.lane_session.proofs.Counted.{xids-append, xids-same, xids-more, is_in, one-more, none-more, below-absent, below-append, below-wide, few-different, sent-in}
+use Rattle.lane_session.proofs.Counted.{xids-same, xids-more, is_in, one-more, none-more, below-absent, below-append, below-wide, few-different, sent-in}
 
 -- ---- the xid of a call that is read is the record's
 

@@ -1,5 +1,5 @@
 -- A lane that tells the answer of its line, or has none to tell.
-use Rattle.std.proofs.Common.{◌≡◌, ◌≤◌, ◌-◌, ℕ, List, [], slice_get, Option, Some, None, option_map, Bool, true, false, Result, Ok, Err, refl, sym, ap, subst}
+use Rattle.std.proofs.Common.{◌≡◌, ◌≤◌, ◌-◌, ℕ, List, [], slice_get, Option, Some, None, option_map, Ok, Err, refl, sym, subst}
 use Rattle.world_model.specs.declared.answer.Answer.{Answer}
 use Rattle.world_model.specs.declared.entry.Entry.{Entry}
 use Rattle.world_model.specs.History.{History}
@@ -11,7 +11,7 @@ use Rattle.client_core.specs.View.{View}
 use Rattle.lane_session.specs.declared.halt.Halt.{Halt}
 use Rattle.lane_session.specs.declared.lanes.Place.{Place}
 use Rattle.lane_session.specs.declared.running.Session.{Session}
-use Rattle.lane_session.specs.Going.{GoesOn, GoesBy, CutsOff, TellsAnswer}
+use Rattle.lane_session.specs.Going.{GoesOn, CutsOff, TellsAnswer}
 use Rattle.lane_session.specs.Holding.{IsHeld, Lessens}
 use Rattle.lane_session.specs.Places.{Ends}
 use Rattle.lane_session.specs.Running.{LineIs, RestsOne}

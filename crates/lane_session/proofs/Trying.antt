@@ -1,27 +1,29 @@
 -- What is left to be tried after each part of the exchange with the server.
-use Rattle.std.proofs.Common.{◌≡◌, ◌≢◌, ◌≤◌, ◌<◌, ◌+◌, ◌-◌, ◌*◌, ◌⊎◌, inl, inr, ℕ, zero, suc, List, [], ◌∷◌, ◌++◌, length, position, slice_get, Bool, true, false, Option, Some, None, refl, sym, ap, subst, ◌∙◌, arith}
+use Rattle.std.proofs.Common.{◌≡◌, ◌≢◌, ◌≤◌, ◌<◌, ◌+◌, ◌-◌, ◌*◌, inl, inr, ℕ, suc, List, [], length, position, slice_get, Bool, true, false, Option, Some, None, refl, sym, ap, subst, ◌∙◌, arith}
 use Rattle.rpc_retry.specs.Sound.{IsSound}
 use Rattle.nfs_script.specs.declared.script.ScriptLine.{ScriptLine}
+use Rattle.client_core.specs.declared.lane.Lane.{Lane}
 use Rattle.client_core.specs.Lanes.{is_over}
 use Rattle.client_core.specs.Numbers.{IsOther, numbers_of}
-use Rattle.client_core.specs.Steps.{Hears, SendsBy, FailsBy, WereSent, lost}
+use Rattle.client_core.specs.Steps.{SendsBy, WereSent}
 use Rattle.client_core.specs.View.{View}
 use Rattle.lane_session.specs.declared.lanes.Place.{Place}
 use Rattle.lane_session.specs.declared.running.Session.{Session}
-use Rattle.lane_session.specs.Holding.{IsHeld, IsLive, IsSeated, AreQuiet, IsQuiet, SameTries, calls_left, tries_left}
+use Rattle.lane_session.specs.Holding.{HeadSent, IsAlive, IsHeld, IsLive, AreQuiet, calls_left}
 use Rattle.lane_session.specs.Places.{passed}
-use Rattle.lane_session.specs.Running.{SameLines, Exchanges, Sends, Fails, Takes, TakesBy, Redialed, given_up, attempts_after, NoneOver, dues}
+use Rattle.lane_session.specs.Running.{Exchanges, Sends, Fails, Takes, TakesBy, Redialed, given_up, attempts_after, NoneOver}
 use Rattle.lane_session.specs.Statuses.{IsSessionStatus}
-use Rattle.lane_session.proofs.Cores.{Keeps, HeardSo, heard_none, heard_one, heard-so, SentSo, sends-so, FailedSo, lost-so, fails-so}
+use Rattle.lane_session.proofs.Alive.{alive-fails, alive-given-up, alive-sends, alive-takes, sends-wait}
+use Rattle.lane_session.proofs.Cores.{HeardSo, heard_none, heard_one, heard-so, SentSo, sends-so, FailedSo, lost-so, fails-so}
 use Rattle.lane_session.proofs.Sounds.{sound-hears, sound-sends, sound-fails}
 
 -- ---- the attempts have ended
 
-pub fails-on : (old new : Session) → 1 ≤ old.attempts → IsLive old → Fails old new → Exchanges old new
-fails-on old new some live f = subst (Exchanges old) (sym f.is) (by f.result (fails-so old.core f.result new.core f.core))
+pub fails-on : (old new : Session) → 1 ≤ old.attempts → IsLive old → HeadSent old.core.calls.calls → Fails old new → Exchanges old new
+fails-on old new some live head f = subst (Exchanges old) (sym f.is) (by f.result refl (fails-so old.core f.result new.core f.core))
   where
-    by : (b : Bool) → FailedSo old.core b new.core → Exchanges old (record old { core = new.core; attempts = attempts_after b old.attempts })
-    by b k = record {
+    by : (b : Bool) → f.result ≡ b → FailedSo old.core b new.core → Exchanges old (record old { core = new.core; attempts = attempts_after b old.attempts })
+    by b result_is k = record {
       lines = record { mounted = refl; lanes = refl; status = refl; numbers = k.numbers_are; begun = k.begun_is };
       live = record {
         calls = sound-fails old.core f.result new.core f.core live.calls;
@@ -31,6 +33,7 @@ fails-on old new some live f = subst (Exchanges old) (sym f.is) (by f.result (fa
         undropped = λ left. live.undropped some;
       };
       less = less b (k.left_is);
+      alive = λ a. subst (λ (c : Bool). IsAlive (record old { core = new.core; attempts = attempts_after c old.attempts })) result_is (subst IsAlive f.is (alive-fails old new some live head f a));
     }
       where
         alive : (b : Bool) → FailedSo old.core b new.core → 1 ≤ attempts_after b old.attempts → new.core.lost ≡ false
@@ -59,6 +62,7 @@ given-up-on old mid x =
       };
       live = record { calls = x.live.calls; some = λ left. absurd (omega (arith, left)); few = omega arith; dropped = x.live.dropped; undropped = λ left. absurd (omega (arith, left)) };
       less = let l = x.less in let e = k.left_is in omega (arith, l, e);
+      alive = λ a. alive-given-up mid (x.alive a);
     }
 
 pub redialed-on : (old mid new : Session) → Exchanges old mid → Redialed mid new → Exchanges old new
@@ -67,30 +71,34 @@ redialed-on old mid new x (inr is) = subst (Exchanges old) (sym is) (given-up-on
 
 -- ---- a record came
 
-pub takes-on : (old new : Session) (rec : List ℕ) → 1 ≤ old.attempts → IsLive old → Takes old rec new → Exchanges old new
-takes-on old new rec some live t = by t.result t.is (heard-so old.core rec t.result t.core live.calls.within t.hears)
+pub takes-on : (old new : Session) (rec : List ℕ) → 1 ≤ old.attempts → IsLive old → WereSent old.core.calls.calls → NoneOver old.core → Takes old rec new → Exchanges old new
+takes-on old new rec some live all_sent told t = by t.result t.is (heard-so old.core rec t.result t.core live.calls.within t.hears)
   where
     sound : IsSound t.core.calls
     sound = sound-hears old.core rec t.result t.core t.hears live.calls
 
-    alive : old.core.lost ≡ false
-    alive = live.some some
+    found : old.core.lost ≡ false
+    found = live.some some
 
-    dropped-on : t.core ≡ old.core → (old.dropped + 1 ≡ 65536 → ⊥) → Exchanges old (record old { core = t.core; dropped = old.dropped + 1 })
-    dropped-on is other = record {
+    alive-new : (after : Session) → new ≡ after → IsAlive old → IsAlive after
+    alive-new after is a = subst IsAlive is (alive-takes old new rec some live all_sent told t a)
+
+    dropped-on : t.core ≡ old.core → (old.dropped + 1 ≡ 65536 → ⊥) → new ≡ record old { core = t.core; dropped = old.dropped + 1 } → Exchanges old (record old { core = t.core; dropped = old.dropped + 1 })
+    dropped-on is other new_is = record {
       lines = record { mounted = refl; lanes = refl; status = refl; numbers = ap (λ (v : View). numbers_of v.lanes) is; begun = ap (λ (v : View). v.begun) is };
       live = record {
         calls = sound;
-        some = λ left. ap (λ (v : View). v.lost) is ∙ alive;
+        some = λ left. ap (λ (v : View). v.lost) is ∙ found;
         few = live.few;
         dropped = let d = live.undropped some in omega (arith, d);
         undropped = λ left. let d = live.undropped some in omega (arith, d, other);
       };
       less = let e : calls_left t.core ≡ calls_left old.core = ap calls_left is in let d = live.undropped some in omega (arith, e, d);
+      alive = alive-new (record old { core = t.core; dropped = old.dropped + 1 }) new_is;
     }
 
-    last-on : t.core ≡ old.core → old.dropped + 1 ≡ 65536 → Exchanges old (given_up (record old { core = t.core; dropped = old.dropped + 1 }))
-    last-on is last =
+    last-on : t.core ≡ old.core → old.dropped + 1 ≡ 65536 → new ≡ given_up (record old { core = t.core; dropped = old.dropped + 1 }) → Exchanges old (given_up (record old { core = t.core; dropped = old.dropped + 1 }))
+    last-on is last new_is =
         let k = lost-so t.core in
         record {
           lines = record {
@@ -102,17 +110,19 @@ takes-on old new rec some live t = by t.result t.is (heard-so old.core rec t.res
           };
           live = record { calls = sound; some = λ left. absurd (omega (arith, left)); few = omega arith; dropped = omega (arith, last); undropped = λ left. absurd (omega (arith, left)) };
           less = let e : calls_left t.core ≡ calls_left old.core = ap calls_left is in let m = k.left_is in omega (arith, e, m, some, last);
+          alive = alive-new (given_up (record old { core = t.core; dropped = old.dropped + 1 })) new_is;
         }
 
     by : (b : Bool) → TakesBy old b t.core new → HeardSo old.core b t.core → Exchanges old new
     by true is (heard_none no_way same) = absurd (cc)
     by true is (heard_one yes_way k one) = subst (Exchanges old) (sym is) (record {
       lines = record { mounted = refl; lanes = refl; status = refl; numbers = k.numbers_are; begun = k.begun_is };
-      live = record { calls = sound; some = λ left. k.lost_is ∙ alive; few = omega arith; dropped = omega arith; undropped = λ left. omega arith };
+      live = record { calls = sound; some = λ left. k.lost_is ∙ found; few = omega arith; dropped = omega arith; undropped = λ left. omega arith };
       less = let l = k.left_is in let d = live.dropped in omega (arith, l, one, d);
+      alive = alive-new (record old { core = t.core; attempts = 4; dropped = 0 }) is;
     })
-    by false (inl p) (heard_none no_way same) = subst (Exchanges old) (sym p.1) (dropped-on same p.0)
-    by false (inr p) (heard_none no_way same) = subst (Exchanges old) (sym p.1) (last-on same p.0)
+    by false (inl p) (heard_none no_way same) = subst (Exchanges old) (sym p.1) (dropped-on same p.0 p.1)
+    by false (inr p) (heard_none no_way same) = subst (Exchanges old) (sym p.1) (last-on same p.0 p.1)
     by false is (heard_one no_way k one) = absurd (cc)
 
 -- ---- a record was sent
@@ -134,6 +144,8 @@ sends-on old result core new live t core_is mounted lanes status attempts droppe
         dropped = let d = live.dropped in omega (arith, d, dropped);
         undropped = λ left. let d = live.undropped (omega (arith, left, attempts)) in omega (arith, d, dropped);
       };
+      alive = alive-sends old new result (subst (SendsBy old.core result) (sym core_is) t) mounted lanes attempts;
+      waits = subst (λ (v : View). old.core.calls.calls ≢ [] → v.calls.calls ≢ []) (sym core_is) (sends-wait old.core result core t);
     }
 
 pub sends-none : (old : Session) → IsLive old → Sends old old
@@ -144,6 +156,8 @@ sends-none old live = record {
   calls = refl;
   lost_is = refl;
   live = live;
+  alive = λ a. a;
+  waits = λ some. some;
 }
 
 pub sends-then : (old mid new : Session) → Sends old mid → Sends mid new → Sends old new
@@ -160,6 +174,8 @@ sends-then old mid new p q = record {
   calls = q.calls ∙ p.calls;
   lost_is = q.lost_is ∙ p.lost_is;
   live = q.live;
+  alive = λ a. q.alive (p.alive a);
+  waits = λ some. q.waits (p.waits some);
 }
 
 pub sends-exchange : (old mid new : Session) → Sends old mid → Exchanges mid new → Exchanges old new
@@ -173,6 +189,7 @@ sends-exchange old mid new p x = record {
   };
   live = x.live;
   less = let l = x.less in let c = p.calls in let a = p.tries.attempts in let d = p.tries.dropped in omega (arith, l, c, a, d);
+  alive = λ a. x.alive (p.alive a);
 }
 
 -- ---- what is held
@@ -180,6 +197,7 @@ sends-exchange old mid new p x = record {
 pub exchanged-held : (script : List ScriptLine) (old new : Session) → IsHeld script old → Exchanges old new → IsHeld script new
 exchanged-held script old new h x = record {
   live = x.live;
+  alive = x.alive h.alive;
   status = subst IsSessionStatus (sym x.lines.status) h.status;
   seated = record {
     sixteen = ap length x.lines.lanes ∙ h.seated.sixteen;
@@ -191,3 +209,6 @@ exchanged-held script old new h x = record {
 
 pub none-over : (script : List ScriptLine) (s : Session) → AreQuiet script s → NoneOver s.core
 none-over script s q n lt = (q n lt).told
+
+pub sends-told : (old new : Session) → Sends old new → NoneOver old.core → NoneOver new.core
+sends-told old new s told n lt = subst (λ (ls : List Lane). position (is_over (suc n)) ls ≡ None) (sym s.same) (told n lt)

@@ -1,37 +1,28 @@
 -- How a session goes on along its history.
-use Rattle.std.proofs.Common.{◌≡◌, ◌≢◌, ◌≤◌, ◌<◌, ◌+◌, ◌-◌, ◌⊎◌, inl, inr, ℕ, zero, suc, List, [], ◌∷◌, ◌++◌, length, take, drop, slice_get, slice_set, All, nat_lt, Bool, true, false, Option, Some, None, Result, Ok, Err, refl, sym, ap, subst, ◌∙◌, arith, append-nil, append_assoc}
+use Rattle.std.proofs.Common.{◌≡◌, ◌<◌, ◌⊎◌, inl, inr, ℕ, zero, suc, List, [], ◌∷◌, ◌++◌, length, take, drop, slice_get, All, Option, Some, None, Result, Ok, Err, refl, sym, ap, subst, ◌∙◌, arith, append-nil, append_assoc}
 use Rattle.std.proofs.lemmas.Bool.{cases_lt}
 use Rattle.std.proofs.lemmas.List.{take-append-drop}
-use Rattle.xdr_codec.specs.declared.blob.Memory.{Memory}
-use Rattle.world_model.specs.declared.answer.Answer.{Answer}
 use Rattle.world_model.specs.declared.answer.Answer.TheVariants.{Refused}
 use Rattle.world_model.specs.declared.entry.Entry.{Entry}
-use Rattle.world_model.specs.declared.entry.Entry.TheVariants.{Began, Answered, Clock}
-use Rattle.world_model.specs.declared.op.Op.{Op}
 use Rattle.world_model.specs.Clocked.{clocks}
 use Rattle.world_model.specs.Follows.{begun, marks_of, Alternates, IsFront}
-use Rattle.world_model.specs.Transcript.{transcript, line_text}
+use Rattle.world_model.specs.Transcript.{transcript}
 use Rattle.nfs_script.specs.Asked.{IsAskedLine}
 use Rattle.nfs_script.specs.declared.script.ScriptLine.{ScriptLine}
-use Rattle.client_core.specs.View.{View}
-use Rattle.core_facts.proofs.Marks.{began-other, answered-other}
 use Rattle.lane_session.specs.declared.halt.Halt.{Halt}
 use Rattle.lane_session.specs.declared.halt.Halt.TheVariants as halts
 use Rattle.lane_session.specs.declared.lanes.Place.{Place}
 use Rattle.lane_session.specs.declared.running.Session.{Session}
 use Rattle.lane_session.specs.Bonds.{CoreGoes, CoreWent}
-use Rattle.lane_session.specs.Going.{Grows, Goes, Went, GoesOn, CutsOff, GoesBy, TellsAnswer, AllTimed}
+use Rattle.lane_session.specs.Going.{Grows, Goes, Went, GoesOn, CutsOff, GoesBy}
 use Rattle.lane_session.specs.Holding.{AreQuiet}
-use Rattle.lane_session.specs.LaneMarks.{IsRunning, IsResting}
-use Rattle.lane_session.specs.Places.{entries_of, IsOpen, IsPlaced, PlaceAt, FoundAt, Seeks, Ends}
-use Rattle.lane_session.specs.Running.{marks, Quietly, LineIs}
-use Rattle.lane_session.specs.Statuses.{after_answer, IsLeft, HasStatus}
-use Rattle.lane_session.specs.Streams.{IsFrontOf}
-use Rattle.lane_session.proofs.LaneLaws.{running-grow, resting-grow, begins-now, answers-now, running-alternates, resting-alternates}
-use Rattle.lane_session.proofs.Placing.{silent, no-mark, marks-none, status-quiet, status-answer, timed-quiet, timed-begin, get-set, begun-other, begun-own, passed-over, one-begun, placed-grow, entries-append}
+use Rattle.lane_session.specs.Places.{entries_of, IsOpen, IsPlaced}
+use Rattle.lane_session.specs.Running.{marks, Quietly}
+use Rattle.lane_session.specs.Statuses.{IsLeft, HasStatus}
+use Rattle.lane_session.proofs.LaneLaws.{resting-grow, running-alternates, resting-alternates}
+use Rattle.lane_session.proofs.Placing.{silent, no-mark, marks-none, status-quiet, timed-quiet, placed-grow, entries-append}
 use Rattle.lane_session.proofs.Pushes.{clocks-append, transcript-append, begun-append, marks-append, quiet_by}
 use Rattle.lane_session.proofs.Reaching.{core-then, core-then-cut}
-use Rattle.lane_session.proofs.Seating.{line-of}
 use Rattle.lane_session.proofs.Together.{together-quiet}
 
 -- ---- nothing is noted

@@ -17,7 +17,8 @@ use Rattle.op_machines.specs.declared.begun.Mounted.{Mounted}
 use Rattle.client_core.specs.declared.lane.Purpose.{Purpose}
 use Rattle.client_core.specs.declared.setup.Setup.{Setup}
 use Rattle.client_core.specs.View.{View}
-use Rattle.core_facts.specs.Reaches.{IsSetUp, Reaches}
+use Rattle.core_facts.specs.Reaches.{IsSetUp}
+use Rattle.core_facts.specs.Notes.{Notes}
 use Rattle.lane_session.specs.declared.halt.Halt.{Halt}
 use Rattle.lane_session.specs.declared.running.Session.{Session}
 use Rattle.lane_session.specs.declared.top.End.{End}
@@ -32,10 +33,10 @@ IsAwaited xid v = (call : Waiting Purpose) × (waiting_at xid v.calls.calls ≡ 
 abbrev pub SentSince : List Entry → List Entry → Type 0
 SentSince from h = (i : ℕ) (bytes : List ℕ) → At h i (Sent bytes) → (i < length from) ⊎ HasBegun h i
 
--- The core goes with the history, and sends nothing before an operation begins; each xid that waits is that of one of its calls; and so many records were
--- dropped last.
+-- The core goes with the history, in which each answer is noted first, and sends nothing before an operation begins; each xid that waits is that of one of
+-- its calls; and so many records were dropped last.
 pub record Bond (m : Mounted) (setup : Setup) (from h : List Entry) (v : View) (dropped : ℕ) : Type 0 where
-  pub reaches : Reaches (machine_of m) setup h v
+  pub notes : Notes (machine_of m) setup h v
   pub since : SentSince from h
   pub known : (xid : ℕ) → Waits h xid (length h) → IsAwaited xid v
   pub run : DropRun h dropped (length h)
@@ -51,10 +52,10 @@ pub record Bonded (m : Mounted) (setup : Setup) (start : Start) (h : List Entry)
   pub bond : Bond m setup start.from h s.core s.dropped
   pub tallied : start.counted ≡ true → Tallied h s.core s.counts
 
--- a core goes with the history, and sent nothing since the first one before an operation began
+-- a core goes with the history, in which each answer is noted first, and sent nothing since the first one before an operation began
 pub record HasCore (m : Mounted) (setup : Setup) (from h : List Entry) : Type 0 where
   pub core : View
-  pub reaches : Reaches (machine_of m) setup h core
+  pub notes : Notes (machine_of m) setup h core
   pub since : SentSince from h
 
 -- the core goes on with the history
@@ -99,6 +100,11 @@ RedialsBy (Err e) h k = Redials h k
 abbrev pub IsOpened : Option Setup → List Entry → Type 0
 IsOpened (Some setup) h = IsSetUp setup h × ((xid : ℕ) → Waits h xid (length h) → ⊥)
 IsOpened None h = IsLost h (length h)
+
+-- Where the counts are those of the whole history: a set-up that there is has made its calls; one that isn't there made none.
+abbrev pub CanCount : Option Setup → List Entry → Type 0
+CanCount (Some setup) h = IsOpened (Some setup) h
+CanCount None h = Unit {0}
 
 -- From a history to a later one: this is one with which a core goes that was so set up; or that of a session that the set-up lost.
 abbrev pub EndsWith : Settings → Option Setup → List Entry → List Entry → Type 0

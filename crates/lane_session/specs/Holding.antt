@@ -1,11 +1,17 @@
 -- What holds of a session at any time, whatever its link tells.
-use Rattle.std.specs.Prelude.{◌≡◌, ◌≤◌, ◌<◌, ◌+◌, ◌-◌, ◌*◌, ℕ, suc, List, length, position, slice_get, Bool, true, false, Option, Some, None}
+use Rattle.std.specs.Prelude.{◌≡◌, ◌≤◌, ◌<◌, ◌+◌, ◌-◌, ◌*◌, ℕ, suc, List, [], ◌∷◌, length, position, slice_get, Bool, true, false, Some, None}
 use Rattle.nfs_script.specs.declared.script.ScriptLine.{ScriptLine}
 use Rattle.rpc_retry.specs.Sound.{IsSound}
+use Rattle.rpc_retry.specs.declared.waiting.Waiting.{Waiting}
+use Rattle.world_model.specs.declared.entry.Entry.{Entry}
+use Rattle.op_machines.specs.Begun.{machine_of}
+use Rattle.client_core.specs.declared.lane.Purpose.{Purpose}
+use Rattle.client_core.specs.declared.setup.Setup.{Setup}
 use Rattle.client_core.specs.Lanes.{is_over}
 use Rattle.client_core.specs.Numbers.{IsOther, numbers_of}
-use Rattle.client_core.specs.Steps.{WereSent}
 use Rattle.client_core.specs.View.{View}
+use Rattle.core_facts.specs.Reaches.{IsOpenLine, Reaches}
+use Rattle.core_facts.specs.Resting.{NoneBusy}
 use Rattle.lane_session.specs.declared.lanes.Place.{Place}
 use Rattle.lane_session.specs.declared.running.Session.{Session}
 use Rattle.lane_session.specs.Places.{lines_left, passed}
@@ -30,10 +36,41 @@ pub record IsSeated (script : List ScriptLine) (s : Session) : Type 0 where
   pub within : (n : ℕ) (p : Place) → slice_get s.lanes n ≡ Some p → p.next ≤ length script
   pub begun : s.core.begun ≤ passed s.lanes
 
+-- There is a history with which the core goes, whatever the link tells, in which each line under way is the last one that its lane began.
+pub record HasStory (s : Session) : Type 0 where
+  pub setup : Setup
+  pub h : List Entry
+  pub reaches : Reaches (machine_of s.mounted) setup h s.core
+  pub lines : (n line : ℕ) (p : Place) → slice_get s.lanes n ≡ Some p → p.line ≡ Some line → IsOpenLine h (suc n) line
+
+-- one attempt more is to come of a call that is due
+abbrev pub to_come : Bool → ℕ
+to_come true = 1
+to_come false = 0
+
+-- the oldest call that waits was sent at each attempt since the last reply
+abbrev pub TriedSo : ℕ → List (ℕ × Waiting Purpose) → Type 0
+TriedSo attempts [] = attempts ≡ 4
+TriedSo attempts (e ∷ es) = 5 ≤ e.1.attempts + attempts + to_come e.1.due
+
+-- a call waits, and the oldest one isn't due
+abbrev pub HeadSent : List (ℕ × Waiting Purpose) → Type 0
+HeadSent [] = ⊥
+HeadSent (e ∷ es) = e.1.due ≡ false
+
+-- No attempt is left only in a lost session, which has an answer for each operation; and each line under way has its lane in the core.
+pub record IsAlive (s : Session) : Type 0 where
+  pub story : s.core.lost ≡ false → HasStory s
+  pub tried : s.core.lost ≡ false → TriedSo s.attempts s.core.calls.calls
+  pub none : s.attempts ≡ 0 → s.core.lost ≡ true
+  pub over : s.core.lost ≡ true → NoneBusy s.core
+  pub busy : (n line : ℕ) (p : Place) → slice_get s.lanes n ≡ Some p → p.line ≡ Some line → IsOther (suc n) (numbers_of s.core.lanes) → ⊥
+
 pub record IsHeld (script : List ScriptLine) (s : Session) : Type 0 where
   pub live : IsLive s
   pub seated : IsSeated script s
   pub status : IsSessionStatus s.status
+  pub alive : IsAlive s
 
 -- what working on lines leaves as it is
 pub record SameTries (old new : Session) : Type 0 where

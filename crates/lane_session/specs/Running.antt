@@ -1,5 +1,6 @@
 -- What the parts of a session's work do.
-use Rattle.std.specs.Prelude.{◌≡◌, ◌≤◌, ◌<◌, ◌⊎◌, ◌-◌, ◌+◌, ℕ, zero, suc, List, [], ◌∷◌, ◌++◌, length, map, position, replicate, slice_get, option_map, Bool, true, false, Option, Some, None, Result, Ok, Err}
+use Rattle.std.specs.Prelude.{◌≡◌, ◌≢◌, ◌≤◌, ◌<◌, ◌⊎◌, ◌-◌, ◌+◌, ℕ, suc, List, [], ◌∷◌, ◌++◌, length, position, replicate, slice_get, option_map, Bool, true, false, Option, Some, None, Result, Ok, Err}
+use Rattle.rpc_retry.specs.Waiting.{first_due}
 use Rattle.rpc_retry.specs.declared.waiting.Waiting.{Waiting}
 use Rattle.client_core.specs.declared.lane.Purpose.{Purpose}
 use Rattle.xdr_codec.specs.declared.blob.Memory.{Memory}
@@ -13,16 +14,15 @@ use Rattle.op_machines.specs.declared.begun.Mounted.{Mounted}
 use Rattle.client_core.specs.declared.setup.Setup.{Setup}
 use Rattle.client_core.specs.Fresh.{IsFresh}
 use Rattle.client_core.specs.Lanes.{is_over}
-use Rattle.client_core.specs.Numbers.{IsIdle, numbers_of}
+use Rattle.client_core.specs.Numbers.{numbers_of}
 use Rattle.client_core.specs.Steps.{Begins, FailsBy, Hears, WereSent, lost}
 use Rattle.client_core.specs.View.{View}
 use Rattle.lane_session.specs.declared.running.Session.{Session}
 use Rattle.lane_session.specs.declared.running.Sending.{Sending}
 use Rattle.lane_session.specs.declared.running.Sending.TheVariants as sendings
-use Rattle.lane_session.specs.declared.halt.Halt.{Halt}
 use Rattle.lane_session.specs.declared.lanes.Place.{Place}
 use Rattle.lane_session.specs.Places.{lines_left}
-use Rattle.lane_session.specs.Holding.{IsHeld, IsLive, IsQuiet, AreQuiet, Lessens, SameTries, calls_left, tries_left}
+use Rattle.lane_session.specs.Holding.{IsLive, IsAlive, IsQuiet, AreQuiet, Lessens, SameTries, calls_left, tries_left}
 
 -- ---- a session that begins
 
@@ -107,6 +107,7 @@ pub record Exchanges (old new : Session) : Type 0 where
   pub lines : SameLines old new
   pub live : IsLive new
   pub less : tries_left new < tries_left old
+  pub alive : IsAlive old → IsAlive new
 
 -- the lines and the lanes of the core stay, and so does what is left to be tried
 pub record Sends (old new : Session) : Type 0 where
@@ -116,6 +117,8 @@ pub record Sends (old new : Session) : Type 0 where
   pub calls : calls_left new.core ≡ calls_left old.core
   pub lost_is : new.core.lost ≡ old.core.lost
   pub live : IsLive new
+  pub alive : IsAlive old → IsAlive new
+  pub waits : old.core.calls.calls ≢ [] → new.core.calls.calls ≢ []
 
 -- each lane has told its answer
 abbrev pub NoneOver : View → Type 0
@@ -131,11 +134,11 @@ dues [] = 0
 dues (e ∷ es) = one_where e.1.due + dues es
 
 abbrev pub SendsAll : Session → Bool → Session → Type 0
-SendsAll old true new = Sends old new × WereSent new.core.calls.calls
+SendsAll old true new = Sends old new × WereSent new.core.calls.calls × (first_due new.core.calls.calls ≡ None)
 SendsAll old false new = Exchanges old new
 
 abbrev pub SendsOne : Session → Sending → Session → Type 0
-SendsOne old sendings.Nothing new = Sends old new × WereSent new.core.calls.calls
+SendsOne old sendings.Nothing new = Sends old new × WereSent new.core.calls.calls × (first_due new.core.calls.calls ≡ None)
 SendsOne old sendings.Went new = Sends old new × (dues new.core.calls.calls < dues old.core.calls.calls)
 SendsOne old sendings.Failed new = Exchanges old new
 

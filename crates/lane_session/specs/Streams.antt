@@ -1,5 +1,5 @@
 -- What is written, what the clock gave and what the link tells, from one moment of a session to a later one.
-use Rattle.std.specs.Prelude.{◌≡◌, ◌≤◌, ℕ, List, [], ◌∷◌, ◌++◌, length, Option, Some, None}
+use Rattle.std.specs.Prelude.{◌≡◌, ℕ, List, ◌++◌, Option, Some, None}
 use Rattle.world_model.specs.declared.entry.Entry.{Entry}
 use Rattle.world_model.specs.Follows.{IsFront}
 use Rattle.world_model.specs.History.{History}

@@ -1,10 +1,9 @@
 -- How a session counts its calls: those of NFS, each xid once (RFC 5531, section 9: a call that is sent again keeps its xid).
-use Rattle.std.specs.Prelude.{◌≡◌, ◌≤◌, ◌<◌, ◌⊎◌, ◌+◌, ◌==◌, ℕ, List, [], ◌∷◌, Bool, min, Some, Result, Ok, Err}
+use Rattle.std.specs.Prelude.{◌≡◌, ◌≤◌, ◌<◌, ◌⊎◌, ◌+◌, ◌==◌, ℕ, List, [], ◌∷◌, min, Some, Result, Ok, Err}
 use Rattle.nfs_types.specs.declared.nfs_proc.TheConstants.{GETATTR, LOOKUP, READ, WRITE, COMMIT}
 use Rattle.nfs_types.specs.declared.program.TheConstants.{NFS_PROGRAM}
 use Rattle.rpc_message.specs.declared.call.CallHead.{CallHead}
 use Rattle.rpc_message.specs.declared.call.CallFault.{CallFault}
-use Rattle.rpc_message.specs.Call.{call_at}
 use Rattle.rpc_retry.specs.declared.waiting.Waiting.{Waiting}
 use Rattle.rpc_retry.specs.Held.{next_xid}
 use Rattle.rpc_retry.specs.Waiting.{waiting_at}

@@ -2,7 +2,7 @@
 
 ghost use Rattle.std.specs.Prelude.{◌≡◌, ◌≤◌, ◌<◌, ◌-◌, ◌+◌, ◌^◌, IfOk, Some, None, slice_get, slice_set, option_map, replicate, length, MatchOption, ℕ};
 ghost use Rattle.lane_session.specs.declared.lanes.Place.{Place as PlaceOf};
-ghost use Rattle.std.specs.Bool.{OnFalse};
+ghost use Rattle.std.specs.Bool.{OnFalse, OnTrue};
 ghost use Rattle.lane_session.specs.Places.{AreIdle, Ends, IsNext, Seeks};
 
 use nfs_script::Script;
@@ -125,7 +125,8 @@ impl Lanes {
 
     /// Whether a line is under way.
     pub fn are_busy(&self) -> bool
-        ensures { OnFalse result (AreIdle self.now) }
+        ensures idle { OnFalse result (AreIdle self.now) }
+        ensures busy { OnTrue result (AreIdle self.now → ⊥) }
     {
         self.places.iter().any(|place| place.line.is_some())
     }

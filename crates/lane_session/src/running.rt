@@ -1,6 +1,6 @@
 //! A session over the core: its lines begin, calls are sent, records are taken, answers are told.
 
-ghost use Rattle.std.specs.Prelude.{◌≡◌, ◌≤◌, ◌<◌, ◌^◌, [], List, All, None, Some, false, IfOk, OnOk, length};
+ghost use Rattle.std.specs.Prelude.{◌≡◌, ◌≢◌, ◌≤◌, ◌<◌, ◌^◌, [], List, All, None, Some, false, IfOk, OnOk, length};
 ghost use Rattle.outside.specs.Causes.{Rose};
 ghost use Rattle.world_model.specs.Told.{Relates};
 ghost use Rattle.link_dials.specs.Dials.{DialsOnly};
@@ -13,7 +13,7 @@ ghost use Rattle.client_core.specs.Steps.{WereSent};
 ghost use Rattle.core_facts.specs.Reaches.{MaySetUp};
 ghost use Rattle.lane_session.specs.Bonds.{CoreBy, RedialsBy};
 ghost use Rattle.lane_session.specs.Going.{GoesBy};
-ghost use Rattle.lane_session.specs.Holding.{IsHeld, IsLive, AreQuiet, tries_left};
+ghost use Rattle.lane_session.specs.Holding.{IsHeld, IsLive, AreQuiet, HeadSent, tries_left};
 ghost use Rattle.lane_session.specs.Places.{AreIdle};
 ghost use Rattle.lane_session.specs.Ports.{KeepsPort};
 ghost use Rattle.lane_session.specs.Running.{IsFreshFor, StepsSo, StepsLane, LineIs, Starts, NotesStart, Quietly, Exchanges, Redialed, NoneOver, SendsAll, SendsOne, Fails, Takes, given_up};
@@ -153,6 +153,7 @@ impl Session {
         requires few { length script.now ≤ 16384 }
         requires held { IsHeld script.now self.old }
         requires quiet { AreQuiet script.now self.old }
+        requires busy { AreIdle self.old.lanes → ⊥ }
         ensures held { OnOk result (IsHeld script.now self.new) }
         ensures quiet { OnOk result (AreQuiet script.now self.new) }
         ensures less { OnOk result (tries_left self.new < tries_left self.old) }
@@ -380,7 +381,9 @@ impl Session {
     /// Sends each record that is due, and waits once for one that comes.
     fn exchange<L: Link>(&mut self, link: &mut L) -> Result<(), Halt>
         requires live { IsLive self.old }
+        requires some { 1 ≤ self.old.attempts }
         requires told { NoneOver self.old.core }
+        requires waits { self.old.core.calls.calls ≢ [] }
         ensures exchanges { OnOk result (Exchanges self.old self.new) }
         ensures goes { Relates (L.told link.old) (L.told link.new) Quietly }
         ensures core { Relates (L.told link.old) (L.told link.new) (CoreBy self.old self.new result) }
@@ -388,10 +391,6 @@ impl Session {
         ensures honest { L.honest link.old → L.honest link.new }
         ensures only { CausedBy result ⊥ }
     {
-        if self.attempts == 0 {
-            // Never so: a lost session has answered each line, and after so many attempts no call waits.
-            return Err(Halt::Memory);
-        }
         match self.send_all(link) {
             Ok(went) => {
                 if went {
@@ -407,6 +406,7 @@ impl Session {
     fn send_all<L: Link>(&mut self, link: &mut L) -> Result<bool, Halt>
         requires live { IsLive self.old }
         requires some { 1 ≤ self.old.attempts }
+        requires told { NoneOver self.old.core }
         ensures sends { IfOk result (λ went. SendsAll self.old went self.new) }
         ensures goes { Relates (L.told link.old) (L.told link.new) Quietly }
         ensures core { Relates (L.told link.old) (L.told link.new) (CoreBy self.old self.new result) }
@@ -430,6 +430,7 @@ impl Session {
     fn send_next<L: Link>(&mut self, link: &mut L) -> Result<Sending, Memory>
         requires live { IsLive self.old }
         requires some { 1 ≤ self.old.attempts }
+        requires told { NoneOver self.old.core }
         ensures sends { IfOk result (λ sending. SendsOne self.old sending self.new) }
         ensures goes { Relates (L.told link.old) (L.told link.new) Quietly }
         ensures core { Relates (L.told link.old) (L.told link.new) (CoreBy self.old self.new result) }
@@ -456,6 +457,7 @@ impl Session {
         requires some { 1 ≤ self.old.attempts }
         requires told { NoneOver self.old.core }
         requires sent { WereSent self.old.core.calls.calls }
+        requires head { HeadSent self.old.core.calls.calls }
         ensures exchanges { OnOk result (Exchanges self.old self.new) }
         ensures goes { Relates (L.told link.old) (L.told link.new) Quietly }
         ensures core { Relates (L.told link.old) (L.told link.new) (CoreBy self.old self.new result) }

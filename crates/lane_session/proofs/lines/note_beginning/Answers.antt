@@ -1,4 +1,4 @@
-use Rattle.std.proofs.Common.{inl, inr, ◌∙◌, refl, append-nil, append_assoc, ap, List}
+use Rattle.std.proofs.Common.{inl, inr, ◌∙◌, refl, append-nil}
 use Rattle.lane_session.proofs.Passing.{relates_note, relates_then}
 use Rattle.lane_session.proofs.Beginnings.{Timed, Same, More, note-more}
 use Rattle.lane_session.proofs.lines.note_beginning.Goals as goal

@@ -1,7 +1,7 @@
 use Rattle.std.proofs.Common.{arith, Ok}
 use Rattle.lane_session.specs.Losing.{LosesLine}
-use Rattle.lane_session.proofs.LostLines.{LostSo, lost-none, lost-more, lost-off, lost-whole}
-use Rattle.lane_session.proofs.Passing.{passes_same, passes_then, passes_less}
+use Rattle.lane_session.proofs.LostLines.{LostSo, lost-none, lost-more, lost-off}
+use Rattle.lane_session.proofs.Passing.{passes_same, passes_then}
 use Rattle.lane_session.proofs.lost_lines.lose_lines.Goals as goal
 
 pub loop-at-init : goal.loop-at-init

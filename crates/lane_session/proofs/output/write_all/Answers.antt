@@ -1,7 +1,6 @@
-use Rattle.std.proofs.Common.{List, ℕ, Ok, Err, subst, arith}
+use Rattle.std.proofs.Common.{List, ℕ, Ok, subst, arith}
 use Rattle.outside.specs.Sink.{WritesTo}
-use Rattle.outside.specs.declared.link.LinkFault.TheVariants as faults
-use Rattle.lane_session.proofs.Writing.{appends_none, appends_more, appends_all, says_front, rose_on}
+use Rattle.lane_session.proofs.Writing.{appends_none, appends_more, appends_all}
 use Rattle.lane_session.proofs.output.write_all.Goals as goal
 
 pub loop-done-init : goal.loop-done-init

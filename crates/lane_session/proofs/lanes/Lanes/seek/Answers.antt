@@ -1,4 +1,3 @@
-use Rattle.std.proofs.Common.{subst, sym, ap}
 use Rattle.lane_session.proofs.Beginnings.{found-at}
 use Rattle.lane_session.proofs.lanes.Lanes.seek.Goals as goal
 

@@ -33,7 +33,7 @@ pub returns-in-Ok-clause-held : goal.returns-in-Ok-clause-held
 returns-in-Ok-clause-held g c =
     let l : ScriptLine = record { lane = c.op-line.result.0; line = c.op-line.result.1; op = c.op-line.result.2.now } in
     starting-held c.args.script.now c.args.lane c.in-Some.place l c.args.self.now c.seek.new.self c.requires.least c.requires.most c.requires.held c.requires.line c.in-Some.ensures c.op-line.ensures
-    c.start.new.self c.in-Ok.ensures.goes.given c.begin.new.self c.in-Ok.ensures.goes.is.0 c.begin.ensures
+    c.requires.few c.in-Ok.ensures.fits c.start.new.self c.in-Ok.ensures.goes.given c.begin.new.self c.in-Ok.ensures.goes.is.0 c.begin.ensures
 
 pub returns-in-Ok-clause-steps : goal.returns-in-Ok-clause-steps
 returns-in-Ok-clause-steps g c =

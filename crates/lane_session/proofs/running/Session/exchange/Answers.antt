@@ -1,10 +1,11 @@
-use Rattle.lane_session.specs.Bonds.{CoreWent}
+use Rattle.std.proofs.Common.{arith}
+use Rattle.lane_session.proofs.Alive.{head-sent}
 use Rattle.lane_session.proofs.Outcomes.{ok-map}
-use Rattle.lane_session.proofs.Passing.{relates_same, relates_then}
+use Rattle.lane_session.proofs.Passing.{relates_then}
 use Rattle.lane_session.proofs.Quiets.{quiet_then}
-use Rattle.lane_session.proofs.Reaching.{core-cut, core-then-by}
-use Rattle.lane_session.proofs.Trying.{redialed-on}
-use Rattle.lane_session.proofs.Ports.{keeps_none, keeps_then}
+use Rattle.lane_session.proofs.Reaching.{core-then-by}
+use Rattle.lane_session.proofs.Trying.{redialed-on, sends-told}
+use Rattle.lane_session.proofs.Ports.{keeps_then}
 use Rattle.lane_session.proofs.running.Session.exchange.Goals as goal
 
 pub returns-then-went-clause-goes : goal.returns-then-went-clause-goes
@@ -18,9 +19,6 @@ returns-else-went-clause-exchanges g c =
 pub returns-else-went-clause-goes : goal.returns-else-went-clause-goes
 returns-else-went-clause-goes g c = quiet_then _ _ _ c.in-Ok.ensures.goes c.reconnect.ensures.goes
 
-pub returns-then-self-eq0-clause-core : goal.returns-then-self-eq0-clause-core
-returns-then-self-eq0-clause-core g c = relates_same (g.L.Link.told c.args.link.now) (CoreWent c.args.self.now) (λ h. core-cut c.args.self.now h)
-
 pub returns-then-went-clause-core : goal.returns-then-went-clause-core
 returns-then-went-clause-core g c =
     relates_then _ _ _ _ _ _ (λ h k l p q. core-then-by c.args.self.now c.send_all.new.self c.hear.new.self c.hear.result h k l p q) c.in-Ok.ensures.core c.hear.ensures.core
@@ -29,11 +27,19 @@ pub returns-else-went-clause-core : goal.returns-else-went-clause-core
 returns-else-went-clause-core g c =
     relates_then _ _ _ _ _ _ (λ h k l p q. core-then-by c.args.self.now c.send_all.new.self c.reconnect.new.self c.reconnect.result h k l p q) c.in-Ok.ensures.core c.reconnect.ensures.core
 
-pub returns-then-self-eq0-clause-dials : goal.returns-then-self-eq0-clause-dials
-returns-then-self-eq0-clause-dials g c = keeps_none _ _
-
 pub returns-then-went-clause-dials : goal.returns-then-went-clause-dials
 returns-then-went-clause-dials g c = keeps_then _ _ _ _ _ _ c.in-Ok.ensures.dials c.hear.ensures.dials
 
 pub returns-else-went-clause-dials : goal.returns-else-went-clause-dials
 returns-else-went-clause-dials g c = keeps_then _ _ _ _ _ _ c.in-Ok.ensures.dials c.reconnect.ensures.dials
+
+pub hear-requires : goal.hear-requires
+hear-requires g c =
+    let gone = rw c.if-went.true at c.in-Ok.ensures.sends in
+    record {
+      live = gone.0.live;
+      some = let a = gone.0.tries.attempts in let some = c.requires.some in omega (arith, a, some);
+      told = sends-told c.args.self.now c.send_all.new.self gone.0 c.requires.told;
+      sent = gone.1;
+      head = head-sent c.send_all.new.self.core.calls.calls (gone.0.waits c.requires.waits) gone.2;
+    }

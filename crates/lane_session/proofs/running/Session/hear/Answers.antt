@@ -11,20 +11,20 @@ use Rattle.lane_session.proofs.Ports.{fails_port, takes_port, keeps_then}
 use Rattle.lane_session.proofs.running.Session.hear.Goals as goal
 
 pub returns-in-Whole-clause-exchanges : goal.returns-in-Whole-clause-exchanges
-returns-in-Whole-clause-exchanges g c = takes-on c.args.self.now c.take.new.self _ c.requires.some c.requires.live c.take.ensures
+returns-in-Whole-clause-exchanges g c = takes-on c.args.self.now c.take.new.self _ c.requires.some c.requires.live c.requires.sent c.requires.told c.take.ensures
 
 pub returns-in-Whole-clause-goes : goal.returns-in-Whole-clause-goes
 returns-in-Whole-clause-goes g c = quiet_tells _ _ (Delivered c.receive.new.rec.items ∷ []) refl c.in-Whole.ensures.told
 
 pub returns-in-Silent-clause-exchanges : goal.returns-in-Silent-clause-exchanges
-returns-in-Silent-clause-exchanges g c = fails-on c.args.self.now c.fail.new.self c.requires.some c.requires.live c.fail.ensures
+returns-in-Silent-clause-exchanges g c = fails-on c.args.self.now c.fail.new.self c.requires.some c.requires.live c.requires.head c.fail.ensures
 
 pub returns-in-Silent-clause-goes : goal.returns-in-Silent-clause-goes
 returns-in-Silent-clause-goes g c = quiet_tells _ _ (Failed ∷ []) refl c.in-Silent.ensures.told
 
 pub returns-in-Failed-clause-exchanges : goal.returns-in-Failed-clause-exchanges
 returns-in-Failed-clause-exchanges g c =
-    let ended = fails-on c.args.self.now c.fail-in-Failed.new.self c.requires.some c.requires.live c.fail-in-Failed.ensures in
+    let ended = fails-on c.args.self.now c.fail-in-Failed.new.self c.requires.some c.requires.live c.requires.head c.fail-in-Failed.ensures in
     ok-map c.reconnect.result _ _ (λ r. redialed-on c.args.self.now c.fail-in-Failed.new.self c.reconnect.new.self ended r) c.reconnect.ensures.redials
 
 pub returns-in-Failed-clause-goes : goal.returns-in-Failed-clause-goes

@@ -1,9 +1,8 @@
-use Rattle.std.proofs.Common.{refl}
 use Rattle.lane_session.specs.Bonds.{CoreGoes}
 use Rattle.lane_session.proofs.Passing.{relates_same, relates_then}
 use Rattle.lane_session.proofs.Quiets.{quiet_same, quiet_then}
 use Rattle.lane_session.proofs.Reaching.{core-same, core-then, core-then-cut}
-use Rattle.lane_session.proofs.Trying.{sends-none, sends-then}
+use Rattle.lane_session.proofs.Trying.{sends-none, sends-then, sends-told}
 use Rattle.lane_session.proofs.Ports.{keeps_none, keeps_then}
 use Rattle.lane_session.proofs.running.Session.send_all.Goals as goal
 
@@ -56,3 +55,6 @@ returns-in-Failed-clause-dials g c = keeps_then _ _ _ _ _ _ c.sending.invariant.
 
 pub returns-in-Err-clause-dials : goal.returns-in-Err-clause-dials
 returns-in-Err-clause-dials g c = keeps_then _ _ _ _ _ _ c.sending.invariant.dials c.in-Err.ensures.dials
+
+pub send_next-requires-clause-told : goal.send_next-requires-clause-told
+send_next-requires-clause-told g c = sends-told c.args.self.now c.sending.self c.sending.invariant.sends c.requires.told

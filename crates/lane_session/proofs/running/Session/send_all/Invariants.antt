@@ -1,4 +1,3 @@
-use Rattle.std.proofs.Common.{◌≤◌}
 use Rattle.world_model.specs.Told.{Relates}
 use Rattle.lane_session.specs.Bonds.{CoreGoes}
 use Rattle.lane_session.specs.Running.{Quietly, Sends, dues}

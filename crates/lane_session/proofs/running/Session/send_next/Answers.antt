@@ -6,7 +6,7 @@ use Rattle.lane_session.proofs.Passing.{relates_call, relates_same}
 use Rattle.lane_session.proofs.Quiets.{quiet_tells}
 use Rattle.lane_session.proofs.Reaching.{core-sends-none, core-sends, core-sends-fails, core-unmade}
 use Rattle.lane_session.proofs.Sounds.{all-sent, fewer-due}
-use Rattle.lane_session.proofs.Sendings.{sends-core, sends-fails}
+use Rattle.lane_session.proofs.Sendings.{sends-core, sends-fails, sent-head}
 use Rattle.link_dials.proofs.Dialing.{dials_sent}
 use Rattle.lane_session.proofs.Ports.{keeps_none, fails_port}
 use Rattle.lane_session.proofs.running.Session.send_next.Goals as goal
@@ -14,10 +14,9 @@ use Rattle.lane_session.proofs.running.Session.send_next.Goals as goal
 pub returns-in_default-clause-sends : goal.returns-in_default-clause-sends
 returns-in_default-clause-sends g c =
     let live = c.requires.live in
-    let sent = rw c.in_default.is at c.next_send.follows.holds-at-none in (
-      sends-core c.args.self.now None c.next_send.follows.lender-at-none c.args.self.now.counts live sent,
-      all-sent c.args.self.now.core c.next_send.follows.lender-at-none (live.some c.requires.some) sent live.calls,
-    )
+    let sent = rw c.in_default.is at c.next_send.follows.holds-at-none in
+    let gone = all-sent c.args.self.now.core c.next_send.follows.lender-at-none (live.some c.requires.some) sent live.calls in
+    (sends-core c.args.self.now None c.next_send.follows.lender-at-none c.args.self.now.counts live sent, gone.0, gone.1)
 
 pub returns-in-Ok-clause-sends : goal.returns-in-Ok-clause-sends
 returns-in-Ok-clause-sends g c =
@@ -31,7 +30,9 @@ returns-in-Ok-clause-goes g c = quiet_tells _ _ (Sent c.in-Some.rec.now ∷ []) 
 
 pub returns-in-Err-Failed-clause-sends : goal.returns-in-Err-Failed-clause-sends
 returns-in-Err-Failed-clause-sends g c =
-    sends-fails c.args.self.now _ c.next_send.follows.lender-at-none c.count.new.self c.fail.new.self c.requires.some c.requires.live c.next_send.follows.holds-at-none c.fail.ensures
+    let sent = rw c.in-Some.is at c.next_send.follows.holds-at-none in
+    sends-fails c.args.self.now (Some c.in-Some.rec.now) c.next_send.follows.lender-at-none c.count.new.self c.fail.new.self c.requires.some c.requires.live sent
+    (sent-head c.args.self.now.core c.in-Some.rec.now c.next_send.follows.lender-at-none sent) c.fail.ensures
 
 pub returns-in-Err-Failed-clause-goes : goal.returns-in-Err-Failed-clause-goes
 returns-in-Err-Failed-clause-goes g c =
@@ -53,7 +54,7 @@ pub returns-in-Ok-clause-core : goal.returns-in-Ok-clause-core
 returns-in-Ok-clause-core g c =
     let sent = rw c.in-Some.is at c.next_send.follows.holds-at-none in
     let new : Session = record c.args.self.now { core = c.next_send.follows.lender-at-none; counts = c.count.new.self } in
-    relates_call _ _ (Sent c.in-Some.rec.now ∷ []) (CoreGoes c.args.self.now new) (λ a b p. core-sends c.args.self.now new c.in-Some.rec.now a b sent c.count.ensures refl refl p) c.in-Ok.ensures.told
+    relates_call _ _ (Sent c.in-Some.rec.now ∷ []) (CoreGoes c.args.self.now new) (λ a b p. core-sends c.args.self.now new c.in-Some.rec.now a b c.requires.told sent c.count.ensures refl refl p) c.in-Ok.ensures.told
 
 pub returns-in-Err-Failed-clause-core : goal.returns-in-Err-Failed-clause-core
 returns-in-Err-Failed-clause-core g c =
@@ -61,7 +62,7 @@ returns-in-Err-Failed-clause-core g c =
     let r = rw c.in-Err-Failed.field-0-is at c.in-Err-Failed.ensures in
     let mid : Session = record c.args.self.now { core = c.next_send.follows.lender-at-none; counts = c.count.new.self } in
     relates_call _ _ (Sent c.in-Some.rec.now ∷ Failed ∷ []) (CoreGoes c.args.self.now c.fail.new.self)
-    (λ a b p. core-sends-fails c.args.self.now mid c.fail.new.self c.in-Some.rec.now a b sent c.count.ensures refl refl c.fail.ensures p) r.told
+    (λ a b p. core-sends-fails c.args.self.now mid c.fail.new.self c.in-Some.rec.now a b c.requires.told sent c.count.ensures refl refl c.fail.ensures p) r.told
 
 pub returns-in-Err-Memory-clause-core : goal.returns-in-Err-Memory-clause-core
 returns-in-Err-Memory-clause-core g c =

@@ -1,4 +1,4 @@
-use Rattle.std.proofs.Common.{◌≤◌, length, Ok}
+use Rattle.std.proofs.Common.{◌≤◌, length}
 use Rattle.lane_session.specs.Going.{GoesOn}
 use Rattle.lane_session.specs.Holding.{IsHeld, tries_left}
 use Rattle.lane_session.specs.Places.{lines_left}

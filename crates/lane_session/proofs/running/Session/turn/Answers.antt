@@ -1,5 +1,6 @@
 use Rattle.std.proofs.Common.{arith, Err}
 use Rattle.outside.specs.Causes.{Rose}
+use Rattle.lane_session.proofs.Alive.{may-exchange}
 use Rattle.lane_session.proofs.Outcomes.{ok-map, only-memory}
 use Rattle.lane_session.proofs.Passing.{passes_then, passes_link}
 use Rattle.lane_session.proofs.Reaching.{relates-both}
@@ -9,7 +10,9 @@ use Rattle.lane_session.proofs.Ports.{keeps_then}
 use Rattle.lane_session.proofs.running.Session.turn.Goals as goal
 
 pub exchange-requires : goal.exchange-requires
-exchange-requires g c = record { live = c.requires.held.live; told = none-over c.args.script.now c.args.self.now c.requires.quiet }
+exchange-requires g c =
+    let may = may-exchange c.args.script.now c.args.self.now c.requires.held c.requires.quiet c.requires.busy in
+    record { live = c.requires.held.live; some = may.0; told = none-over c.args.script.now c.args.self.now c.requires.quiet; waits = may.1 }
 
 pub settle-requires : goal.settle-requires
 settle-requires g c = record { asked = c.requires.asked; few = c.requires.few; held = exchanged-held c.args.script.now c.args.self.now c.exchange.new.self c.requires.held c.in-Ok.ensures.exchanges }

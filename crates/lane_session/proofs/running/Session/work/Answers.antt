@@ -1,4 +1,4 @@
-use Rattle.std.proofs.Common.{arith, refl}
+use Rattle.std.proofs.Common.{arith}
 use Rattle.lane_session.proofs.Outcomes.{caused-later}
 use Rattle.lane_session.proofs.Passing.{passes_then}
 use Rattle.lane_session.proofs.Turning.{goes-then-on, goes-then-off}

@@ -1,4 +1,4 @@
-use Rattle.std.proofs.Common.{◌≤◌, length}
+use Rattle.std.proofs.Common.{◌≤◌}
 use Rattle.lane_session.specs.Going.{GoesOn}
 use Rattle.lane_session.specs.Holding.{IsHeld, AreQuiet, tries_left}
 use Rattle.lane_session.specs.Streams.{Passes}
