@@ -1,14 +1,15 @@
 -- A session is what its set-up and its lines came to.
-use Rattle.std.proofs.Common.{inl, inr, ◌≡◌, ◌≤◌, ◌<◌, ◌+◌, ◌-◌, ◌^◌, ◌⊎◌, ◌∙◌, ℕ, suc, List, [], ◌∷◌, length, Option, Some, None, Ok, Err, refl, ap, subst, arith}
+use Rattle.std.proofs.Common.{inl, inr, ◌≡◌, ◌≤◌, ◌+◌, ◌-◌, ◌^◌, ◌∙◌, ℕ, suc, List, [], ◌∷◌, length, All, Option, Some, None, Ok, Err, refl, sym, ap, subst, arith}
 use Rattle.world_model.specs.declared.answer.Fault.{Fault}
 use Rattle.world_model.specs.declared.entry.Entry.{Entry}
 use Rattle.world_model.specs.declared.entry.Entry.TheVariants.{Began, Answered, Dialed, Sent, Executed, Foreign, Flushed, Reboot, Delivered, Failed, Clock}
 use Rattle.world_model.specs.declared.tally.Tally.{Tally}
+use Rattle.world_model.specs.Counts.{tally_of}
 use Rattle.world_model.specs.Follows.{marks_of}
 use Rattle.world_model.specs.History.{History}
 use Rattle.world_model.specs.Told.{Relates}
-use Rattle.outside.specs.Clock.{ReadsClock}
 use Rattle.nfs_script.specs.declared.script.ScriptLine.{ScriptLine}
+use Rattle.nfs_script.specs.Asked.{IsAskedLine}
 use Rattle.session_words.specs.declared.settings.Settings.{Settings}
 use Rattle.client_core.specs.declared.setup.Setup.{Setup}
 use Rattle.core_facts.specs.Reaches.{MaySetUp}
@@ -18,7 +19,7 @@ use Rattle.session_setup.specs.declared.opening.SetUpFault.TheVariants.{Refused,
 use Rattle.session_setup.specs.Along.{Along}
 use Rattle.session_setup.specs.Outcomes.{FitsSession, SetsUp}
 use Rattle.session_setup.specs.Sendings.{IsUnmarked}
-use Rattle.lane_session.specs.Bonds.{IsOpened, EndsWith}
+use Rattle.lane_session.specs.Bonds.{IsOpened, CanCount, EndsWith}
 use Rattle.lane_session.specs.Sessions.{SessionIs, SessionCounts}
 use Rattle.lane_session.specs.Sessions.{IsUnmarked as IsFresh}
 use Rattle.lane_session.specs.Statuses.{IsEnding as IsLaneEnding}
@@ -30,6 +31,7 @@ use Rattle.nfs_client.specs.Run.{IsFirst, SessionBy, no_lines, some_lines, Says}
 use Rattle.nfs_client.specs.Shown.{setup_of}
 use Rattle.nfs_client.specs.Streams.{Appends}
 use Rattle.nfs_client.proofs.Readings.{reads_none, reads_more}
+use Rattle.nfs_client.proofs.ScriptAsked.{script-asked}
 use Rattle.nfs_client.proofs.Showing.{run-shows}
 use Rattle.nfs_client.proofs.StreamLaws.{appends_none}
 
@@ -95,7 +97,7 @@ may_set_up s first v setup one most f a b c d = record {
 
 abbrev LaneSays : (v w a b : Option (List ℕ)) (old new : Option History) (s : Settings) (lines : List ScriptLine) (setup : Option Setup) (before : Tally) (status : ℕ) → Type 0
 LaneSays v w a b old new s lines setup before status =
-    Passes a b old new v w (λ given text h k. IsFresh h → SessionCounts (IsOpened setup h) before s.count lines given h k status text)
+    Passes a b old new v w (λ given text h k. IsFresh h → SessionCounts (CanCount setup h) before s.count lines given h k status text)
 
 abbrev RunSays : (v w a b : Option (List ℕ)) (old new : Option History) (s : Settings) (lines : List ScriptLine) (status : ℕ) → Type 0
 RunSays v w a b old new s lines status = Says v w (λ text. Reads a b (λ given. Relates old new (λ before h. before ≡ [] → SessionBy s lines given h status text)))
@@ -124,14 +126,14 @@ abbrev CoreSays : (old new : Option History) (s : Settings) (setup : Option Setu
 CoreSays old new s setup = Relates old new (λ h k. IsOpened setup h → EndsWith s setup h k)
 
 lost_told : (old new : Option History) (s : Settings) (lines : List ScriptLine) (tally : Tally) (given text : List ℕ) (status : ℕ)
-    → Relates old new (λ h k. IsFresh h → SessionCounts (IsOpened None h) tally s.count lines given h k status text) → CoreSays old new s None
+    → Relates old new (λ h k. IsFresh h → SessionCounts (CanCount None h) tally s.count lines given h k status text) → CoreSays old new s None
     → Relates old new (λ before h. (first : ℕ) → SetsUp s first (Err (Lost tally)) before → SetUpAndRun s lines first given h status text)
 lost_told None new s lines tally given text status r core = tt
 lost_told (Some x) None s lines tally given text status r core = absurd r
 lost_told (Some x) (Some y) s lines tally given text status r core = λ first so.
     let session = r (fresh x.entries so.unmarked) in
     let open_ = lost_opened s first tally x.entries so in
-    lost tally x.entries so session.is (core open_) (session.counted open_ so.ends.counts)
+    lost tally x.entries so session.is (core open_) (session.counted tt so.ends.counts)
 
 -- the session was lost in its set-up
 pub lost_says : (v w a b : Option (List ℕ)) (old new : Option History) (s : Settings) (lines : List ScriptLine) (tally : Tally) (status : ℕ)
@@ -185,47 +187,49 @@ early_says v w a b c old mid new s lines fault first status one up said = record
   is = (one.0 ∷ said.is.0, reads_more a b c one.0 said.is.0 one.1 said.is.1, early_told old mid new s lines fault first one.0 said.is.0 said.text status one.2 up said.is.2);
 }
 
-ready_told : (old mid new : Option History) (s : Settings) (lines : List ScriptLine) (v : SetUp) (first ms : ℕ) (given text : List ℕ) (status : ℕ) → FitsSession s first v → IsFirst (ms ∷ []) s.xid first
-    → Along old mid (λ h k. h ≡ [] → SetsUp s first (Ok v) k)
+ready_told : (old mid new : Option History) (s : Settings) (lines : List ScriptLine) (v : SetUp) (first ms : ℕ) (given text : List ℕ) (status : ℕ) → All IsAskedLine lines → FitsSession s first v
+    → IsFirst (ms ∷ []) s.xid first → Along old mid (λ h k. h ≡ [] → SetsUp s first (Ok v) k)
     → Relates mid new (λ h k. IsFresh h → SessionCounts (IsOpened (Some (setup_of s v)) h) v.tally s.count lines given h k status text)
     → CoreSays mid new s (Some (setup_of s v)) → Relates old new (λ before h. before ≡ [] → SessionBy s lines (ms ∷ given) h status text)
-ready_told None mid new s lines v first ms given text status fits is up r core = tt
-ready_told (Some x) None new s lines v first ms given text status fits is up r core = absurd up
-ready_told (Some x) (Some y) None s lines v first ms given text status fits is up r core = absurd r
-ready_told (Some x) (Some y) (Some z) s lines v first ms given text status fits is up r core = λ e.
+ready_told None mid new s lines v first ms given text status asked fits is up r core = tt
+ready_told (Some x) None new s lines v first ms given text status asked fits is up r core = absurd up
+ready_told (Some x) (Some y) None s lines v first ms given text status asked fits is up r core = absurd r
+ready_told (Some x) (Some y) (Some z) s lines v first ms given text status asked fits is up r core = λ e.
     let so = up.1 e in
     let session = r (fresh y.entries so.unmarked) in
     let open_ = opened s first v y.entries so in
     some_lines ms first given refl (first_in s.xid ms first given is)
-    (ready v y.entries so session.is (run-shows s first v y.entries z.entries so fits session.is.grown session.is.timed (core open_)) (session.counted open_ so.ends.tally))
+    (ready v y.entries so session.is (run-shows s first v y.entries z.entries so fits session.is.grown session.is.timed (script-asked lines z.entries asked session.is.follows) (core open_)) (session.counted open_ so.ends.tally))
 
 -- the session was set up, and its lines were run
 pub ready_says : (v w a b c : Option (List ℕ)) (old mid new : Option History) (s : Settings) (lines : List ScriptLine) (up : SetUp) (first status : ℕ)
-    → FitsSession s first up → ReadsOnce a b (λ ms. IsFirst (ms ∷ []) s.xid first) → Along old mid (λ h k. h ≡ [] → SetsUp s first (Ok up) k) → LaneSays v w b c mid new s lines (Some (setup_of s up)) up.tally status
+    → All IsAskedLine lines → FitsSession s first up → ReadsOnce a b (λ ms. IsFirst (ms ∷ []) s.xid first) → Along old mid (λ h k. h ≡ [] → SetsUp s first (Ok up) k) → LaneSays v w b c mid new s lines (Some (setup_of s up)) up.tally status
     → CoreSays mid new s (Some (setup_of s up)) → RunSays v w a c old new s lines status
-ready_says v w a b c old mid new s lines up first status fits one along p core = record {
+ready_says v w a b c old mid new s lines up first status asked fits one along p core = record {
   text = p.text;
   added = appended v w p.text p.added;
-  is = (one.0 ∷ p.given, reads_more a b c one.0 p.given one.1 (read_all b c p.given p.read), ready_told old mid new s lines up first one.0 p.given p.text status fits one.2 along p.told core);
+  is = (one.0 ∷ p.given, reads_more a b c one.0 p.given one.1 (read_all b c p.given p.read), ready_told old mid new s lines up first one.0 p.given p.text status asked fits one.2 along p.told core);
 }
 
 none_left : (lines : List ScriptLine) → length lines ≡ 0 → lines ≡ []
 none_left [] e = refl
 none_left (line ∷ lines) e = absurd (omega (arith, e))
 
-empty_told : (old new : Option History) (s : Settings) (lines : List ScriptLine) (before : Tally) (given text : List ℕ) (status : ℕ) → lines ≡ []
-    → Relates old new (λ h k. IsFresh h → SessionCounts (IsOpened None h) before s.count lines given h k status text) → Relates old new (λ before h. before ≡ [] → SessionBy s lines given h status text)
-empty_told None new s lines before given text status none r = tt
-empty_told (Some x) None s lines before given text status none r = absurd r
-empty_told (Some x) (Some y) s lines before given text status none r = λ e.
-    let is : SessionIs s.count lines given x.entries y.entries status text = (r (λ lane. ap (marks_of lane) e)).is in
+empty_told : (old new : Option History) (s : Settings) (lines : List ScriptLine) (before : Tally) (given text : List ℕ) (status : ℕ) → lines ≡ [] → before ≡ tally_of []
+    → Relates old new (λ h k. IsFresh h → SessionCounts (CanCount None h) before s.count lines given h k status text) → Relates old new (λ before h. before ≡ [] → SessionBy s lines given h status text)
+empty_told None new s lines before given text status none none_made r = tt
+empty_told (Some x) None s lines before given text status none none_made r = absurd r
+empty_told (Some x) (Some y) s lines before given text status none none_made r = λ e.
+    let counts = r (λ lane. ap (marks_of lane) e) in
+    let is : SessionIs s.count lines given x.entries y.entries status text = counts.is in
     no_lines none (subst (λ (z : List ScriptLine). SessionIs s.count z given [] y.entries status text) none (subst (λ (z : List Entry). SessionIs s.count lines given z y.entries status text) e is))
+    (counts.counted tt (none_made ∙ sym (ap tally_of e)))
 
 -- there are no lines
-pub empty_says : (v w a b : Option (List ℕ)) (old new : Option History) (s : Settings) (lines : List ScriptLine) (before : Tally) (status : ℕ) → length lines ≡ 0
+pub empty_says : (v w a b : Option (List ℕ)) (old new : Option History) (s : Settings) (lines : List ScriptLine) (before : Tally) (status : ℕ) → length lines ≡ 0 → before ≡ tally_of []
     → LaneSays v w a b old new s lines None before status → RunSays v w a b old new s lines status
-empty_says v w a b old new s lines before status none p = record {
+empty_says v w a b old new s lines before status none none_made p = record {
   text = p.text;
   added = appended v w p.text p.added;
-  is = (p.given, read_all a b p.given p.read, empty_told old new s lines before p.given p.text status (none_left lines none) p.told);
+  is = (p.given, read_all a b p.given p.read, empty_told old new s lines before p.given p.text status (none_left lines none) none_made p.told);
 }

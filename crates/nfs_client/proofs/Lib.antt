@@ -1,6 +1,9 @@
 pub mod Readings
 pub mod StreamLaws
 pub mod ScriptLines
+pub mod ScriptAsked
+pub mod AllAsked
+pub mod AllOks
 pub mod Showing
 pub mod LaneRuns
 pub mod Runs

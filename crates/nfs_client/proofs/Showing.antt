@@ -1,5 +1,5 @@
 -- A session that was set up shows what its core does: its root was known as each operation began, and its terms are those of the settings.
-use Rattle.std.proofs.Common.{◌≡◌, ◌≤◌, ◌<◌, ◌+◌, ◌⊎◌, inl, inr, ℕ, List, [], ◌∷◌, ◌++◌, length, max, Bool, true, false, cond, Some, Ok, refl, sym, ap, subst, ◌∙◌, arith}
+use Rattle.std.proofs.Common.{◌≡◌, ◌≤◌, ◌<◌, ◌+◌, ◌⊎◌, inl, inr, ℕ, List, [], ◌∷◌, ◌++◌, length, Bool, true, false, cond, Some, Ok, refl, sym, ap, subst, arith}
 use Rattle.std.proofs.lemmas.Bool.{cases_lt, eq-eqb}
 use Rattle.attr_cache.specs.declared.lives.Lives.{Lives}
 use Rattle.rpc_message.specs.declared.cred.Cred.{Cred}
@@ -8,25 +8,25 @@ use Rattle.rpc_retry.specs.Waiting.{waiting_at}
 use Rattle.world_model.specs.declared.entry.Entry.{Entry}
 use Rattle.world_model.specs.declared.entry.Entry.TheVariants.{Began, Sent}
 use Rattle.world_model.specs.declared.op.Op.{Op}
-use Rattle.world_model.specs.CallsAsked.{NoneBegan}
+use Rattle.world_model.specs.declared.op.Op.TheVariants as ops
+use Rattle.world_model.specs.CallsAsked.{CallsAsked, NoneBegan}
 use Rattle.world_model.specs.Entries.{At}
 use Rattle.world_model.specs.Fresh.{Fresh}
 use Rattle.world_model.specs.History.{History}
 use Rattle.world_model.specs.Lawful.{Lawful}
-use Rattle.world_model.specs.Messages.{HasXid}
 use Rattle.world_model.specs.Mounts.{Rooted}
+use Rattle.world_model.specs.Once.{Once}
 use Rattle.world_model.specs.Rows.{WasSent}
 use Rattle.world_model.specs.Terms.{Terms}
 use Rattle.world_model.proofs.Growth.{Rooted-grow, Rooted-wide}
 use Rattle.world_model.proofs.Places.{At-back, At-below, At-grow}
-use Rattle.op_machines.specs.Begun.{machine_of}
+use Rattle.op_machines.specs.Begun.{IsNamed, machine_of}
 use Rattle.op_machines.specs.declared.begun.Mounted.{Mounted}
 use Rattle.op_machines.specs.declared.machine.Machine.{Machine}
 use Rattle.client_core.specs.declared.lane.Purpose.{Purpose}
 use Rattle.client_core.specs.declared.setup.Setup.{Setup}
 use Rattle.client_core.specs.Steps.{WereSent}
 use Rattle.client_core.specs.View.{View}
-use Rattle.core_facts.specs.Asked.{IsMadeFor}
 use Rattle.core_facts.specs.Naming.{KnowsRoot}
 use Rattle.core_facts.specs.Reaches.{MaySetUp, Reaches, begins, goes, loses}
 use Rattle.core_facts.specs.SlotAnswers.{GoesWith}
@@ -34,63 +34,77 @@ use Rattle.core_facts.proofs.AllCounts.{begins-unbegun}
 use Rattle.core_facts.proofs.Coming.{lanes-wait, none-unanswered}
 use Rattle.core_facts.proofs.Losing.{reached-shown}
 use Rattle.core_facts.proofs.LostAnswers.{lost-answers}
-use Rattle.core_facts.proofs.OneCalled.{calls-caused, one-calls-done}
-use Rattle.core_facts.proofs.OpenTheorems.{kinds-shown, opens-shown}
 use Rattle.core_facts.proofs.Owning.{reached-owned}
 use Rattle.core_facts.proofs.Refusals.{refusals-shown}
 use Rattle.core_facts.proofs.Rows.{reached-rows}
 use Rattle.core_facts.proofs.SlotTheorems.{places-caused, places-exact, slots-hold-opens}
-use Rattle.core_rows.specs.Listed.{IsMadeForList}
-use Rattle.core_rows.specs.OpenCalls.{IsMadeForOpen}
-use Rattle.core_rows.proofs.ListStory.{lists-ask, lists-shown}
-use Rattle.core_rows.proofs.OpenAsks.{opens-ask}
-use Rattle.core_rows.proofs.WholeRows.{slot-rows}
-use Rattle.core_answers.proofs.CutRows.{truncates-ok}
-use Rattle.core_answers.proofs.LonePuts.{lone-refusals}
-use Rattle.core_answers.proofs.ManyStory.{many-shown}
-use Rattle.core_answers.proofs.PutRows.{put-kinds-shown, puts-shown}
-use Rattle.core_answers.proofs.PutRules.{put-faults-few, put-rules-shown}
-use Rattle.core_answers.proofs.StatStory.{stats-ok}
-use Rattle.core_asks.specs.PutCalls.{IsMadeAlone, IsMadeForPut}
-use Rattle.core_asks.specs.ReadCalls.{IsMadeForRead}
-use Rattle.core_asks.specs.RemoveCalls.{IsMadeForRemove}
-use Rattle.core_asks.specs.SlotCalls.{IsMadeOnSlot}
-use Rattle.core_asks.specs.StatCalls.{IsMadeForStat}
-use Rattle.core_asks.specs.WriteCalls.{IsMadeForWrite}
-use Rattle.core_asks.specs.Xids.{IsAmong}
-use Rattle.core_asks.proofs.PutAsks.{lone-puts-ask, puts-ask}
-use Rattle.core_asks.proofs.ReadAsks.{reads-ask}
-use Rattle.core_asks.proofs.RemoveAsks.{removes-ask}
-use Rattle.core_asks.proofs.SlotAsks.{slots-ask}
-use Rattle.core_asks.proofs.StatAsks.{stats-ask}
-use Rattle.core_asks.proofs.WriteAsks.{writes-ask}
-use Rattle.core_asks.proofs.XidAsks.{xids-kept}
-use Rattle.core_bonds.specs.Aged.{Rises}
-use Rattle.core_bonds.specs.Kept.{LastAtMost}
-use Rattle.core_bonds.proofs.Aged.{attrs-aged}
-use Rattle.core_bonds.proofs.NamesShown.{names-stood}
-use Rattle.core_bonds.proofs.StatsLed.{stats-led}
-use Rattle.core_limits.proofs.AllSent.{all-sent}
-use Rattle.core_limits.proofs.CountOf.{calls-are-all}
-use Rattle.core_limits.proofs.Unspent.{all-made}
-use Rattle.core_pages.proofs.PagesShown.{pages-shown}
-use Rattle.core_pages.proofs.PagesTrue.{pages-true}
-use Rattle.core_paths.specs.Found.{GoesHonestly}
-use Rattle.core_paths.proofs.ListsWhole.{lists-whole}
-use Rattle.core_paths.proofs.PutNames.{names-held}
-use Rattle.core_reads.proofs.ReadsFrom.{reads-from, reads-given}
-use Rattle.core_saves.proofs.Lone.{puts-written}
-use Rattle.core_writes.proofs.CommitsAlone.{commits-alone}
-use Rattle.core_writes.proofs.PendingWritten.{pending-written}
-use Rattle.core_writes.proofs.PiecesCarried.{pieces-carried}
-use Rattle.core_writes.proofs.WholeWrites.{writes-whole}
+use Rattle.core_answers.proofs.answers.LonePuts.{lone-refusals}
+use Rattle.core_answers.proofs.answers.PutRules.{put-faults-few, put-rules-shown}
+use Rattle.core_answers.specs.asks.PutCalls.{IsMadeAlone}
+use Rattle.core_answers.proofs.asks.PutAsks.{lone-puts-ask}
+use Rattle.core_answers.proofs.asks.XidAsks.{xids-kept}
+use Rattle.core_answers.specs.bonds.Aged.{Rises}
+use Rattle.core_answers.specs.bonds.Kept.{LastAtMost}
+use Rattle.core_answers.proofs.bonds.Aged.{attrs-aged}
+use Rattle.core_answers.proofs.bonds.NamesShown.{names-stood}
+use Rattle.core_answers.proofs.bonds.StatsLed.{stats-led}
+use Rattle.core_session.specs.calls.Sessions.{AreAsked}
+use Rattle.core_session.specs.calls.Whole.{GoesFrom}
+use Rattle.core_session.proofs.calls.WritesSome.{writes-some}
+use Rattle.core_answers.proofs.limits.AllSent.{all-sent}
+use Rattle.core_answers.proofs.limits.CountOf.{calls-are-all}
+use Rattle.core_answers.proofs.limits.Unspent.{all-made}
+use Rattle.core_session.proofs.current.ReadsRecent.{reads-recent}
+use Rattle.core_session.proofs.current.SteadyBytes.{stable-read}
+use Rattle.core_session.proofs.shown.Current.{reads-current}
+use Rattle.core_answers.proofs.pages.PagesShown.{pages-shown}
+use Rattle.core_answers.proofs.pages.PagesTrue.{pages-true}
+use Rattle.core_answers.specs.paths.Found.{GoesHonestly}
+use Rattle.core_answers.proofs.paths.ListsWhole.{lists-whole}
+use Rattle.core_answers.proofs.paths.PutNames.{names-held}
+use Rattle.core_session.proofs.pending.Unsettled.{pending-held}
+use Rattle.core_answers.proofs.reads.ReadsFrom.{reads-from, reads-given}
+use Rattle.core_session.proofs.counts.commits.Counted.{few-commits-with-room}
+use Rattle.core_session.proofs.counts.equal.Counted.{equal-few}
+use Rattle.core_session.proofs.counts.hidden.Counted.{hidden-few}
+use Rattle.core_session.proofs.counts.listed.Counted.{pages-few}
+use Rattle.core_session.proofs.counts.reads.Counted.{few-reads-made}
+use Rattle.core_session.proofs.thrift.Once.{given-once}
+use Rattle.core_session.proofs.thrift.ReadsLong.{reads-long}
+use Rattle.core_session.proofs.asked.Whole.{all-asked}
+use Rattle.core_facts.specs.Notes.{Notes}
+use Rattle.core_facts.proofs.Noting.{notes-reach}
+use Rattle.core_session.specs.outcomes.Complete.{CarriesBytes}
+use Rattle.core_session.proofs.endings.Endings.{refusals-all-rowed, sessions-complete}
+use Rattle.core_session.proofs.outcomes.Complete.{served-complete}
+use Rattle.core_session.proofs.outcomes.OwnFaults.{faults-own}
+use Rattle.core_answers.specs.refusals.Rowed.{GoesSo}
+use Rattle.core_answers.proofs.refusals.OwnRows.{refusals-owned}
+use Rattle.core_session.proofs.saves.Lone.{puts-written}
+use Rattle.core_session.specs.settled.Settling.{OnlySetsUp}
+use Rattle.core_session.proofs.settled.LonePuts.{lone-puts-stay}
+use Rattle.core_session.proofs.settled.Synced.{synced-stay, settled-stay}
+use Rattle.core_session.specs.syncs.Synced.{PutsNamed}
+use Rattle.core_session.proofs.kept.OwnShows.{own-bytes-read, reads-end-rightly}
+use Rattle.core_session.proofs.own.Bare.{cuts-stay}
+use Rattle.core_session.proofs.own.ReadCuts.{cuts-read}
+use Rattle.core_session.specs.current.Recent.{KeepsBriefly}
+use Rattle.core_answers.proofs.writes.CommitsAlone.{commits-alone}
+use Rattle.core_answers.proofs.writes.PendingWritten.{pending-written}
+use Rattle.core_answers.proofs.writes.PiecesCarried.{pieces-carried}
+use Rattle.core_answers.proofs.writes.WholeWrites.{writes-whole}
 use Rattle.session_words.specs.declared.settings.Settings.{Settings}
 use Rattle.session_setup.specs.declared.opening.SetUp.{SetUp}
 use Rattle.session_setup.specs.Outcomes.{FitsSession, SetsUp, origin_of}
 use Rattle.lane_session.specs.Bonds.{HasCore, SentSince}
 use Rattle.lane_session.specs.Going.{AllTimed, Grows}
 use Rattle.lane_session.specs.Running.{mounted_by}
-use Rattle.nfs_client.specs.Shown.{CallsShown, SlotsShown, PathsShown, FaultsShown, KeptShown, RestShown, HonestShown, RunShows, NeverBack, NoneUnderWay, longest_of, modes_of, setup_of, terms_by}
+use Rattle.core_session.proofs.coarse.Along.{writes-were-long}
+use Rattle.bond_calls.proofs.CallsWait.{xid_of_call}
+use Rattle.core_session.specs.coarse.WereLong.{write_call}
+use Rattle.nfs_client.specs.Shown.{AllRowed, CallsShown, SlotsShown, PutsShown, CompleteShown, FaultsShown, KeptShown, RestShown, StableShown, HonestShown, RunShows, NeverBack, NoneUnderWay, longest_of, modes_of, setup_of, terms_by}
+use Rattle.nfs_client.proofs.AllAsked.{goes-from, only-sets-up}
+use Rattle.nfs_client.proofs.AllOks.{all-oks}
 
 -- ---- the root
 
@@ -106,6 +120,10 @@ module _ (s : Settings) (first : ℕ) (v : SetUp) (before : List Entry) (so : Se
 
   root-known : (h : List Entry) → Grows before h → KnowsRoot (origin_of s.export) h v.root
   root-known h g = subst (λ (k : List Entry). KnowsRoot (origin_of s.export) k v.root) (sym g.1) (known-on g.0)
+
+-- each put has a name
+puts-named : (h : List Entry) → AreAsked h → PutsNamed h
+puts-named h asked x lane line offset path bytes at = (asked x lane line (ops.Put path offset bytes) at).0
 
 -- ---- what a core shows
 
@@ -123,10 +141,11 @@ module _ (m : Mounted) (setup : Setup) (h : List Entry) (core : View) (r : Reach
   goes-with : (terms : Terms) → m.nocto ≡ terms.modes.nocto → GoesWith m terms setup h core
   goes-with terms nocto = record { nocto = nocto; reaches = r }
 
-  kept-shown : (terms : Terms) → m.nocto ≡ terms.modes.nocto → KeptShown terms setup h core
-  kept-shown terms nocto = record {
+  kept-shown : (terms : Terms) → m.nocto ≡ terms.modes.nocto → KnowsRoot terms.origin h m.root → PutsNamed h → KeptShown terms setup h core
+  kept-shown terms nocto root named = record {
     pages = pages-shown m setup h core r;
     pending = pending-written m terms setup h core (goes-with terms nocto);
+    held_back = λ found told. pending-held m terms setup h core (goes-with terms nocto) found root named told;
     carried = pieces-carried m setup h core r;
     flying = writes-whole m setup h core r;
     commits = commits-alone m setup h core r;
@@ -137,28 +156,22 @@ module _ (m : Mounted) (setup : Setup) (h : List Entry) (core : View) (r : Reach
   slots-shown terms nocto =
       let g : GoesWith m terms setup h core = goes-with terms nocto in
       record {
-        rows = slot-rows m terms setup h core g;
-        truncates = truncates-ok m terms setup h core g;
         reads = reads-given m terms setup h core g;
         held = slots-hold-opens m terms setup h core g;
         places = places-exact m terms setup h core g;
         caused = places-caused m terms setup h core g;
       }
 
-  paths-shown : (terms : Terms) → m.nocto ≡ terms.modes.nocto → KnowsRoot terms.origin h m.root → PathsShown terms h
-  paths-shown terms nocto root = record {
-    one_calls = one-calls-done m setup h core r terms root;
-    lists = lists-shown m setup h core r terms root;
-    stats = stats-ok m setup h core r terms root;
-    puts = puts-shown m setup h core r terms root;
-    opens = λ asks. opens-shown m setup h core r terms root (nocto ∙ asks);
-    kinds = kinds-shown m setup h core r terms root;
-    put_kinds = put-kinds-shown m setup h core r terms root;
-    put_rules = put-rules-shown m setup h core r;
-    put_faults = put-faults-few m setup h core r;
-    lone_puts = lone-refusals m setup h core r terms root;
-    many = many-shown m setup h core r terms root;
+  puts-refused : (terms : Terms) → KnowsRoot terms.origin h m.root → AreAsked h → PutsShown terms h
+  puts-refused terms root asked = record {
+    rules = λ lane x path offset bytes y n ended. put-rules-shown m setup h core r lane x path offset bytes y n (named asked lane x path offset bytes ended.line ended.began) ended;
+    faults = λ lane x path offset bytes y fault ended. put-faults-few m setup h core r lane x path offset bytes y fault (named asked lane x path offset bytes ended.line ended.began) ended;
+    alone = λ lane x path offset bytes y fault alone ended.
+        lone-refusals m setup h core r terms root lane x path offset bytes y fault (named asked lane x path offset bytes ended.line ended.began) alone ended;
   }
+    where
+      named : AreAsked h → (lane x : ℕ) (path : List (List ℕ)) (offset : ℕ) (bytes : List ℕ) (line : ℕ) → At h x (Began lane line (ops.Put path offset bytes)) → IsNamed path
+      named asked lane x path offset bytes line began = (asked x lane line (ops.Put path offset bytes) began).0
 
   rest-shown : RestShown core
   rest-shown = record { waits = lanes-wait m setup h core r; answered = none-unanswered m setup h core r }
@@ -172,28 +185,11 @@ module _ (m : Mounted) (setup : Setup) (h : List Entry) (core : View) (r : Reach
       | inr begun ↦ absurd (none begun.at begun.lane begun.line begun.op begun.began begun.before)
     ]
 
-    -- each xid is one of those that there are
-    abbrev Within : Terms → Type 0
-    Within terms = (i xid : ℕ) (bytes : List ℕ) → At h i (Sent bytes) → HasXid bytes xid → (terms.first ≤ xid) × (xid < terms.first + terms.calls)
-
-    calls-shown : (terms : Terms) → m.nocto ≡ terms.modes.nocto → m.noac ≡ terms.modes.noac → m.rsize ≡ setup.rsize → setup.cred ≡ terms.cred
-        → KnowsRoot terms.origin h m.root → Within terms → CallsShown terms setup before h
-    calls-shown terms nocto noac rsize cred root within = record {
-      within = within;
+    calls-shown : (terms : Terms) → setup.cred ≡ terms.cred → KnowsRoot terms.origin h m.root → CallsAsked terms h → CallsShown terms setup before h
+    calls-shown terms cred root asked = record {
+      asked = asked;
       numbered = (reached-rows (machine_of m) setup h core r).numbered;
       among = λ i xid bytes at has. or-set-up i bytes at (xids-kept m setup h core r i xid bytes at has);
-      one_calls = λ i bytes at. or-set-up i bytes at (subst (λ (c : Cred). NoneBegan h i ⊎ IsMadeFor terms c h i bytes) cred (calls-caused m setup h core r terms root i bytes at));
-      lists = λ i bytes at. or-set-up i bytes at (subst (λ (c : Cred). NoneBegan h i ⊎ IsMadeForList terms c h i bytes) cred (lists-ask m setup h core r terms root i bytes at));
-      opens = λ i bytes at. or-set-up i bytes at (subst (λ (c : Cred). NoneBegan h i ⊎ IsMadeForOpen terms c h i bytes) cred (opens-ask m setup h core r terms root i bytes at));
-      stats = λ i bytes at. or-set-up i bytes at (subst (λ (c : Cred). NoneBegan h i ⊎ IsMadeForStat terms c h i bytes) cred (stats-ask m setup h core r terms root i bytes at));
-      reads = λ i bytes at. or-set-up i bytes at
-          (subst (λ (n : ℕ). NoneBegan h i ⊎ IsMadeForRead terms terms.cred n h i bytes) rsize
-          (subst (λ (c : Cred). NoneBegan h i ⊎ IsMadeForRead terms c m.rsize h i bytes) cred
-          (reads-ask m terms setup h core (goes-with terms nocto) noac (let one = (reached-may (machine_of m) setup h core r).sizes.read in omega (arith, one, rsize)) i bytes at)));
-      writes = λ i bytes at. or-set-up i bytes at (subst (λ (c : Cred). NoneBegan h i ⊎ IsMadeForWrite c h i bytes) cred (writes-ask m setup h core r i bytes at));
-      removes = λ i bytes at. or-set-up i bytes at (subst (λ (c : Cred). NoneBegan h i ⊎ IsMadeForRemove terms c h i bytes) cred (removes-ask m setup h core r terms root i bytes at));
-      slots = λ i bytes at. or-set-up i bytes at (subst (λ (c : Cred). NoneBegan h i ⊎ IsMadeOnSlot terms c h i bytes) cred (slots-ask m terms setup h core (goes-with terms nocto) i bytes at));
-      puts = λ i bytes at. or-set-up i bytes at (subst (λ (c : Cred). NoneBegan h i ⊎ IsMadeForPut terms c h i bytes) cred (puts-ask m setup h core r terms root i bytes at));
       lone_puts = λ i bytes at. or-set-up i bytes at (subst (λ (c : Cred). NoneBegan h i ⊎ IsMadeAlone terms c h i bytes) cred (lone-puts-ask m setup h core r terms root i bytes at));
     }
 
@@ -204,9 +200,13 @@ module _ (m : Mounted) (setup : Setup) (h : List Entry) (core : View) (r : Reach
         none w.purpose.lane own.x own.op own.under_way
 
     faults-shown : (terms : Terms) → CallsShown terms setup before h → ((xid : ℕ) → terms.first ≤ xid → xid < setup.first_xid → WasSent h xid (length h))
-        → setup.first_xid + setup.limit ≡ terms.first + terms.calls → FaultsShown terms setup h core
-    faults-shown terms shown early total = record {
+        → setup.first_xid + setup.limit ≡ terms.first + terms.calls → AreAsked h → GoesSo m terms setup h core
+        → AllRowed terms h → FaultsShown terms setup h core
+    faults-shown terms shown early total asked so rows = record {
       refusals = refusals-shown m setup h core r;
+      rows = rows;
+      own = λ lane x y op fault final ended. refusals-owned m terms setup h core so lane x y op fault (asked x lane ended.line op ended.began) final ended;
+      kinds = faults-own m terms setup h core so;
       lost_answers = lost-answers m setup h core r;
       lost = reached-shown (machine_of m) setup h core r;
       all_made = all-made m setup h core r;
@@ -215,7 +215,7 @@ module _ (m : Mounted) (setup : Setup) (h : List Entry) (core : View) (r : Reach
             | true ↦ λ is. absurd (never (reached-shown (machine_of m) setup h core r is))
             | false ↦ λ is. is
           ] refl in
-          calls-are-all h terms.first terms.calls shown.within (λ xid low high. elim (cases_lt xid setup.first_xid) [
+          calls-are-all h terms.first terms.calls shown.asked.among (λ xid low high. elim (cases_lt xid setup.first_xid) [
             | inl set_up ↦ early xid low set_up
             | inr own ↦ all-sent m setup h core r lane x op y ended (no-calls core.calls.calls (none-wait none found)) xid own (omega (arith, high, total))
           ]);
@@ -234,7 +234,7 @@ rises h timed never = record {
 }
 
 module _ (s : Settings) (first : ℕ) (v : SetUp) (t : History) (core : View) (lawful : Lawful t) (fresh : Fresh t) (timed : AllTimed t.entries) (root : KnowsRoot (origin_of s.export) t.entries v.root)
-    (r : Reaches (machine_of (mounted_by s (setup_of s v))) (setup_of s v) t.entries core) where
+    (asked : AreAsked t.entries) (r : Reaches (machine_of (mounted_by s (setup_of s v))) (setup_of s v) t.entries core) where
   abbrev m : Mounted
   m = mounted_by s (setup_of s v)
 
@@ -245,6 +245,13 @@ module _ (s : Settings) (first : ℕ) (v : SetUp) (t : History) (core : View) (l
   honest-shown = record {
     stats = stats-led m (setup_of s v) (longest_of s.lives) t core (longest-last s.lives) lawful fresh r;
     reads = reads-from m (terms_by s first) (setup_of s v) t core (record { nocto = refl; reaches = r }) lawful fresh;
+    recent = λ never.
+        reads-recent m (terms_by s first) (setup_of s v) t core (record { nocto = refl; reaches = r }) refl
+        (λ may. record { rises = rises t.entries timed (never may); lasts = longest-last s.lives }) lawful fresh;
+    read_true = λ never.
+        reads-current m (terms_by s first) (setup_of s v) t core (record { nocto = refl; reaches = r }) refl
+        (λ may. record { rises = rises t.entries timed (never may); lasts = longest-last s.lives }) root (puts-named t.entries asked) lawful fresh;
+    read_back = λ asks. stable-read m (terms_by s first) (setup_of s v) t core (record { nocto = refl; reaches = r }) refl asks lawful fresh;
     stood = names-stood m (setup_of s v) (longest_of s.lives) t core (longest-last s.lives) lawful fresh r;
     pages = pages-true m (setup_of s v) t core lawful fresh r;
     ages = λ never. attrs-aged m (setup_of s v) (modes_of s) (origin_of s.export) t core (longest-last s.lives) lawful fresh (rises t.entries timed never) root r;
@@ -253,6 +260,45 @@ module _ (s : Settings) (first : ℕ) (v : SetUp) (t : History) (core : View) (l
   }
 
 -- ---- all
+
+-- ---- stable bytes
+
+module _ (s : Settings) (first : ℕ) (v : SetUp) (t : History) (core : View) (lawful : Lawful t) (once : Once t.entries) (timed : AllTimed t.entries) (root : KnowsRoot (origin_of s.export) t.entries v.root)
+    (only : OnlySetsUp t.entries) (asked : AreAsked t.entries) (notes : Notes (machine_of (mounted_by s (setup_of s v))) (setup_of s v) t.entries core) where
+  abbrev mount : Mounted
+  mount = mounted_by s (setup_of s v)
+
+  with-core : GoesWith mount (terms_by s first) (setup_of s v) t.entries core
+  with-core = record { nocto = refl; reaches = notes-reach (machine_of mount) (setup_of s v) t.entries core notes }
+
+  briefly : (s.nocto ≡ true → NeverBack t.entries) → (modes_of s).nocto ≡ true → KeepsBriefly (modes_of s) (setup_of s v) t.entries
+  briefly never may = record { rises = rises t.entries timed (never may); lasts = longest-last s.lives }
+
+  stable-shown : StableShown s t
+  stable-shown =
+      let named : PutsNamed t.entries = puts-named t.entries asked in
+      record {
+        lone_puts = lone-puts-stay mount (terms_by s first) (setup_of s v) t core with-core root only lawful once;
+        synced = synced-stay mount (terms_by s first) (setup_of s v) t core with-core root named only lawful once;
+        settled = settled-stay mount (terms_by s first) (setup_of s v) t core with-core root named only lawful once;
+        cuts_stay = cuts-stay mount (terms_by s first) (setup_of s v) t core refl notes root named only lawful once;
+        reads = λ fresh never. record {
+          current = reads-current mount (terms_by s first) (setup_of s v) t core with-core refl (briefly never) root named lawful fresh;
+          own = own-bytes-read mount (terms_by s first) (setup_of s v) t core with-core refl (briefly never) root named only lawful fresh once;
+          cut = cuts-read mount (terms_by s first) (setup_of s v) t core refl refl notes (briefly never) root named only lawful fresh once;
+        };
+        ends = λ fresh never. reads-end-rightly mount (terms_by s first) (setup_of s v) t core with-core refl (briefly never) root named only lawful fresh once;
+      }
+
+-- ---- complete sessions
+
+complete-shown : (m : Mounted) (terms : Terms) (setup : Setup) (before : List Entry) (t : History) (core : View) → GoesFrom m terms setup before t.entries core
+    → Notes (machine_of m) setup t.entries core → CompleteShown terms t
+complete-shown m terms setup before t core from notes =
+    let carries : CarriesBytes t.entries = writes-some m terms setup before t.entries core from in
+    record { served = served-complete m terms setup before t core from carries; completes = sessions-complete m terms setup before t core from notes }
+
+-- ---- a session
 
 module _ (s : Settings) (first : ℕ) (v : SetUp) (before h : List Entry) (so : SetsUp s first (Ok v) before) (fits : FitsSession s first v) (grown : Grows before h) where
   -- what was sent in the set-up was sent
@@ -263,42 +309,52 @@ module _ (s : Settings) (first : ℕ) (v : SetUp) (before h : List Entry) (so : 
       let at : At h w.at (Sent w.bytes) = subst (λ (k : List Entry). At k w.at (Sent w.bytes)) (sym grown.1) (At-grow before grown.0 w.at (Sent w.bytes) w.sent) in
       record { at = w.at; bytes = w.bytes; sent = at; under = w.under; before = At-below h w.at (Sent w.bytes) at }
 
-  all-within : (core : View) → Reaches (machine_of (mounted_by s (setup_of s v))) (setup_of s v) h core → SentSince before h
-      → (i xid : ℕ) (bytes : List ℕ) → At h i (Sent bytes) → HasXid bytes xid → (first ≤ xid) × (xid < first + s.calls)
-  all-within core r since i xid bytes at has =
-      by (or-set-up (mounted_by s (setup_of s v)) (setup_of s v) h core r before since i bytes at (xids-kept (mounted_by s (setup_of s v)) (setup_of s v) h core r i xid bytes at has))
-    where
-      by : (i < length before) ⊎ IsAmong v.next_xid v.left xid → (first ≤ xid) × (xid < first + s.calls)
-      by (inl early) =
-          let was : At before i (Sent bytes) = At-back before grown.0 i (Sent bytes) (subst (λ (k : List Entry). At k i (Sent bytes)) grown.1 at) early in
-          let among = so.sent.among i xid bytes was has in
-          let within = so.within in
-          (among.0, omega (arith, among.1, within))
-      by (inr own) =
-          let starts = fits.starts in
-          let total = fits.total in
-          let low = own.low in
-          let high = own.high in
-          (omega (arith, starts, low), omega (arith, high, total))
-
-  pub run-shows : AllTimed h → HasCore (mounted_by s (setup_of s v)) (setup_of s v) before h → RunShows s first v before h
-  run-shows timed has =
+  pub run-shows : AllTimed h → AreAsked h → HasCore (mounted_by s (setup_of s v)) (setup_of s v) before h → RunShows s first v before h
+  run-shows timed asked has =
       let root = root-known s first v before so h grown in
       let mounted : Mounted = mounted_by s (setup_of s v) in
+      let reaches : Reaches (machine_of mounted) (setup_of s v) h has.core = notes-reach (machine_of mounted) (setup_of s v) h has.core has.notes in
       let terms : Terms = terms_by s first in
+      let from : GoesFrom mounted terms (setup_of s v) before h has.core = goes-from s first v before so fits h grown.0 grown.1 asked has in
       let calls : CallsShown terms (setup_of s v) before h =
-      calls-shown mounted (setup_of s v) h has.core has.reaches before has.since terms refl refl refl refl root (all-within has.core has.reaches has.since) in
+      calls-shown mounted (setup_of s v) h has.core reaches before has.since terms refl root (all-asked mounted terms (setup_of s v) before h has.core from has.notes) in
       record {
         has = has;
         calls = calls;
-        slots = slots-shown mounted (setup_of s v) h has.core has.reaches terms refl;
-        paths = paths-shown mounted (setup_of s v) h has.core has.reaches terms refl root;
-        faults = faults-shown mounted (setup_of s v) h has.core has.reaches before has.since terms calls sent-early fits.total;
-        rest = rest-shown mounted (setup_of s v) h has.core has.reaches;
-        kept = kept-shown mounted (setup_of s v) h has.core has.reaches terms refl;
+        counts = record {
+          reads = few-reads-made mounted terms (setup_of s v) before h has.core from has.notes;
+          equal = equal-few mounted terms (setup_of s v) before h has.core from has.notes;
+          commits = few-commits-with-room mounted terms (setup_of s v) before h has.core from has.notes;
+          pages = pages-few mounted terms (setup_of s v) before h has.core from has.notes;
+          hidden = hidden-few mounted terms (setup_of s v) before h has.core from has.notes;
+          long = reads-long mounted terms (setup_of s v) before h has.core from;
+          once = given-once mounted terms (setup_of s v) before h has.core from;
+        };
+        writes = λ i xid offset how file bytes rec at spells late.
+            writes-were-long mounted (setup_of s v) h has.core reaches i xid offset how file bytes rec at spells (elim (calls.among i xid rec at (xid_of_call xid (write_call file offset how bytes) rec spells)) [
+              | inl early ↦ absurd (omega (arith, early, late))
+              | inr among ↦ among.low
+            ]);
+        oks = all-oks mounted terms (setup_of s v) h has.core (record { nocto = refl; reaches = reaches }) root asked;
+        slots = slots-shown mounted (setup_of s v) h has.core reaches terms refl;
+        puts = puts-refused mounted (setup_of s v) h has.core reaches terms root asked;
+        faults = faults-shown mounted (setup_of s v) h has.core reaches before has.since terms calls sent-early fits.total asked
+            (record { goes = record { nocto = refl; reaches = reaches }; noac = refl; some = (reached-may (machine_of mounted) (setup_of s v) h has.core reaches).sizes.read; known = root })
+            (refusals-all-rowed mounted terms (setup_of s v) before h has.core from has.notes);
+        rest = rest-shown mounted (setup_of s v) h has.core reaches;
+        kept = kept-shown mounted (setup_of s v) h has.core reaches terms refl root (puts-named h asked);
+        complete = λ t is. complete-shown mounted terms (setup_of s v) before t has.core (subst (λ (k : List Entry). GoesFrom mounted terms (setup_of s v) before k has.core) (sym is) from)
+            (subst (λ (k : List Entry). Notes (machine_of mounted) (setup_of s v) k has.core) (sym is) has.notes);
+        stable = λ t is lawful once.
+            stable-shown s first v t has.core lawful once (subst AllTimed (sym is) timed)
+            (subst (λ (k : List Entry). KnowsRoot (origin_of s.export) k v.root) (sym is) root)
+            (subst OnlySetsUp (sym is) (only-sets-up s first v before so fits h grown.0 grown.1 has.since))
+            (subst AreAsked (sym is) asked)
+            (subst (λ (k : List Entry). Notes (machine_of mounted) (setup_of s v) k has.core) (sym is) has.notes);
         honest = λ t is lawful fresh.
             honest-shown s first v t has.core lawful fresh
             (subst AllTimed (sym is) timed)
             (subst (λ (k : List Entry). KnowsRoot (origin_of s.export) k v.root) (sym is) root)
-            (subst (λ (k : List Entry). Reaches (machine_of mounted) (setup_of s v) k has.core) (sym is) has.reaches);
+            (subst AreAsked (sym is) asked)
+            (subst (λ (k : List Entry). Reaches (machine_of mounted) (setup_of s v) k has.core) (sym is) reaches);
       }

@@ -1,13 +1,14 @@
 -- What the top call promises: statuses with their causes, the history and the text.
 use Rattle.std.specs.Prelude.{◌≡◌, ◌≤◌, ◌⊎◌, ◌^◌, ◌+◌, ◌%◌, ℕ, List, [], ◌∷◌, take, Option, Some, None, Result, Ok, Err}
 use Rattle.world_model.specs.declared.entry.Entry.{Entry}
+use Rattle.world_model.specs.Counts.{tally_of}
 use Rattle.nfs_script.specs.declared.script.ScriptLine.{ScriptLine}
 use Rattle.nfs_script.specs.declared.fault.ScriptFault.{ScriptFault}
 use Rattle.nfs_script.specs.Script.{script_of}
 use Rattle.nfs_script.specs.RefusalText.{refusal_text}
 use Rattle.session_words.specs.declared.settings.Settings.{Settings}
 use Rattle.session_words.specs.Words.{IsCommand}
-use Rattle.lane_session.specs.Sessions.{SessionIs}
+use Rattle.lane_session.specs.Sessions.{SessionIs, TextOf}
 use Rattle.nfs_client.specs.LaneRuns.{SetUpAndRun}
 use Rattle.nfs_client.specs.Streams.{script_limit, IsFront, Appends}
 
@@ -61,9 +62,9 @@ pub data Unbegun (left : Option (List ℕ)) (status : ℕ) (text : List ℕ) : T
   cut_before : IsCutOff status → text ≡ [] → Unbegun left status text
   no_script : (fault : ScriptFault) → IsFaultOf left fault → RefusesWith fault status text → Unbegun left status text
 
--- A session of these lines. Without lines no call is made; else the first reading of the clock, for the first xid, isn't noted.
+-- A session of these lines. Without lines no call is made, and the counts are those of the history all the same; else the first reading of the clock, for the first xid, isn't noted.
 pub data SessionBy (s : Settings) (lines : List ScriptLine) (given : List ℕ) (h : List Entry) (status : ℕ) (text : List ℕ) : Type 0 where
-  no_lines : lines ≡ [] → SessionIs s.count [] given [] h status text → SessionBy s lines given h status text
+  no_lines : lines ≡ [] → SessionIs s.count [] given [] h status text → TextOf s.count (tally_of h) h status text → SessionBy s lines given h status text
   some_lines : (ms first : ℕ) (rest : List ℕ) → given ≡ ms ∷ rest → IsFirst given s.xid first → SetUpAndRun s lines first rest h status text
       → SessionBy s lines given h status text
 

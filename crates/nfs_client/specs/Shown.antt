@@ -1,22 +1,23 @@
 -- What the history of a run shows, by its settings alone: its core goes with it, and its root, the one of the set-up, was known as each operation began.
-use Rattle.std.specs.Prelude.{◌≡◌, ◌≢◌, ◌<◌, ◌≤◌, ◌+◌, ◌⊎◌, ℕ, List, [], true, false, length, take, Some, max}
+use Rattle.std.specs.Prelude.{◌≡◌, ◌≢◌, ◌<◌, ◌≤◌, ◌+◌, ◌⊎◌, ℕ, List, [], true, false, length, take, slice_get, Some, max}
 use Rattle.attr_cache.specs.Attrs.{kept_of}
 use Rattle.attr_cache.specs.declared.kept.KeptAttr.{KeptAttr}
 use Rattle.attr_cache.specs.declared.lives.Lives.{Lives}
 use Rattle.name_cache.specs.Names.{looked}
 use Rattle.nfs_types.specs.declared.attr.Attr.{Attr}
-use Rattle.nfs_types.specs.declared.mode.Mode.{Mode}
+use Rattle.nfs_types.specs.declared.verf.Verf.{Verf}
 use Rattle.nfs_types.specs.declared.wcc.Stamp.{Stamp}
 use Rattle.nfs_types.specs.Stamps.{stamp_of}
 use Rattle.page_cache.specs.Bytes.{page_at}
 use Rattle.page_cache.specs.Pages.{known_of, page_of}
 use Rattle.write_back.specs.Files.{of_file}
+use Rattle.write_back.specs.Segments.{newest_at}
 use Rattle.write_back.specs.Pieces.{piece_under}
 use Rattle.write_back.specs.Pieces.{Sent as Piece}
 use Rattle.world_model.specs.declared.answer.Answer.{Answer}
 use Rattle.world_model.specs.declared.answer.Answer.TheVariants.{Done, Refused}
 use Rattle.world_model.specs.declared.answer.Fault.{Fault}
-use Rattle.world_model.specs.declared.answer.Fault.TheVariants.{Bad, Kind, Lost, Many, Nfs, Spent}
+use Rattle.world_model.specs.declared.answer.Fault.TheVariants.{Bad, Lost, Nfs, Spent}
 use Rattle.world_model.specs.declared.answer.Value.{Value}
 use Rattle.world_model.specs.declared.answer.Value.TheVariants.{Attrs, Bytes}
 use Rattle.world_model.specs.declared.entry.Entry.{Entry}
@@ -25,52 +26,70 @@ use Rattle.world_model.specs.declared.message.Call.{Call}
 use Rattle.world_model.specs.declared.op.Op.{Op}
 use Rattle.world_model.specs.declared.op.Op.TheVariants as ops
 use Rattle.world_model.specs.Caused.{IsTried, calls_in}
+use Rattle.world_model.specs.Complete.{IsOwn, Completes}
+use Rattle.world_model.specs.CallsAsked.{CallsAsked}
+use Rattle.world_model.specs.CallCounts.{FewCommits, FewEqual, FewHidden, FewPages, FewReads}
 use Rattle.world_model.specs.Entries.{At}
+use Rattle.world_model.specs.Follows.{Follows}
 use Rattle.world_model.specs.Fresh.{Fresh}
 use Rattle.world_model.specs.History.{History}
 use Rattle.world_model.specs.Lawful.{Lawful}
 use Rattle.world_model.specs.Lost.{IsLost}
-use Rattle.world_model.specs.Messages.{HasXid}
+use Rattle.world_model.specs.Messages.{HasXid, SpellsCall}
 use Rattle.world_model.specs.Modes.{Modes}
+use Rattle.world_model.specs.Mounts.{Rooted}
 use Rattle.world_model.specs.OkRows.{OkRow}
+use Rattle.world_model.specs.Once.{Once}
 use Rattle.world_model.specs.Operations.{Ended, UnderWay}
+use Rattle.world_model.specs.Pending.{Pending}
+use Rattle.world_model.specs.ReadSize.{ReadSized}
+use Rattle.world_model.specs.ReadTrue.{ReadCurrent, ReadShort, ReadsBytes, ReadTrue}
 use Rattle.world_model.specs.Recent.{AttrAge, ListTrue, NamesTrue}
 use Rattle.world_model.specs.RefusalRows.{RefusalRow}
 use Rattle.world_model.specs.Rising.{Rising}
+use Rattle.world_model.specs.Settled.{HoldsStable, SettledBy, Settled}
 use Rattle.world_model.specs.Terms.{Terms, jukebox}
+use Rattle.world_model.specs.Thrifty.{read_call, LongReads, MeetsPage, OneLane, TookPage}
+use Rattle.world_model.specs.Touched.{Wrote}
+use Rattle.world_model.specs.Waiting.{FirstSent}
 use Rattle.bond_calls.specs.Calls.{Numbered}
+use Rattle.bond_own.specs.Own.{CutsStay}
 use Rattle.bond_reads.specs.Kept.{HasStamp}
-use Rattle.op_machines.specs.Begun.{IsAsked, IsNamed}
+use Rattle.bond_stable.specs.OwnCalls.{NoForeign}
 use Rattle.op_machines.specs.declared.machine.Machine.{Machine}
 use Rattle.client_core.specs.declared.setup.Setup.{Setup}
 use Rattle.client_core.specs.Steps.{IsBusyAt}
 use Rattle.client_core.specs.View.{View}
-use Rattle.core_facts.specs.Asked.{IsMadeFor}
-use Rattle.core_facts.specs.Naming.{IsOneCall}
 use Rattle.core_facts.specs.Progress.{WaitsFor}
 use Rattle.core_facts.specs.Refusing.{IsRefusalShown, IsRefusedSo}
 use Rattle.core_facts.specs.Resting.{NoneBusy}
 use Rattle.core_facts.specs.SlotAnswers.{HoldOpens, FindsPlace, PlaceRows}
-use Rattle.core_rows.specs.Listed.{IsMadeForList}
-use Rattle.core_rows.specs.OpenCalls.{IsMadeForOpen}
-use Rattle.core_rows.specs.SlotRows.{IsOnSlot}
-use Rattle.core_answers.specs.PutRules.{MayRefusePut}
-use Rattle.core_asks.specs.PutCalls.{IsAlone, IsMadeAlone, IsMadeForPut}
-use Rattle.core_asks.specs.ReadCalls.{IsMadeForRead}
-use Rattle.core_asks.specs.RemoveCalls.{IsMadeForRemove}
-use Rattle.core_asks.specs.SlotCalls.{IsMadeOnSlot}
-use Rattle.core_asks.specs.StatCalls.{IsMadeForStat}
-use Rattle.core_asks.specs.WriteCalls.{IsMadeForWrite}
-use Rattle.core_asks.specs.Xids.{IsAmong}
-use Rattle.core_bonds.specs.Led.{HadWhereLed}
-use Rattle.core_bonds.specs.Named.{StoodAfter}
-use Rattle.core_pages.specs.Kept.{IsKept}
-use Rattle.core_reads.specs.From.{ReadFrom, ReadGiven}
-use Rattle.core_saves.specs.PutsWritten.{AllMadeStable}
-use Rattle.core_writes.specs.Alone.{IsWaiting, IsQuiet, committed_file, written_file}
-use Rattle.core_writes.specs.Carried.{IsCarried}
-use Rattle.core_writes.specs.Flights.{IsInFlight}
-use Rattle.core_writes.specs.Written.{PlaceWritten}
+use Rattle.core_answers.specs.answers.PutRules.{MayRefusePut}
+use Rattle.core_answers.specs.asks.PutCalls.{IsAlone, IsMadeAlone}
+use Rattle.core_answers.specs.asks.Xids.{IsAmong}
+use Rattle.core_answers.specs.bonds.Led.{HadWhereLed}
+use Rattle.core_answers.specs.bonds.Named.{StoodAfter}
+use Rattle.op_machines.specs.declared.begun.Mounted.{Mounted}
+use Rattle.core_session.specs.coarse.WereLong.{write_call, WasLong}
+use Rattle.core_session.specs.counts.Commits.{HasRoom}
+use Rattle.core_session.specs.counts.Equal.{DoesIt}
+use Rattle.core_session.specs.thrift.KeptReads.{IsFirstReply, StaysSo}
+use Rattle.core_session.specs.current.Recent.{ReadRecent}
+use Rattle.core_session.specs.current.Steady.{IsStable}
+use Rattle.core_answers.specs.pages.Kept.{IsKept}
+use Rattle.core_answers.specs.reads.From.{ReadFrom, ReadGiven}
+use Rattle.core_facts.specs.Notes.{NoneReady}
+use Rattle.core_session.specs.outcomes.Complete.{IsServed}
+use Rattle.core_session.specs.outcomes.Opened.{KeepsThem}
+use Rattle.core_session.specs.outcomes.Refusals.{IsItsOwn}
+use Rattle.core_answers.specs.refusals.Rowed.{IsFinal, RefusedFor}
+use Rattle.core_session.specs.saves.PutsWritten.{AllMadeStable}
+use Rattle.core_session.specs.settled.Lone.{PutStays}
+use Rattle.core_session.specs.syncs.Until.{TouchedUntil}
+use Rattle.core_answers.specs.writes.Alone.{IsWaiting, IsQuiet, committed_file, written_file}
+use Rattle.core_answers.specs.writes.Carried.{IsCarried}
+use Rattle.core_answers.specs.writes.Flights.{IsInFlight}
+use Rattle.core_answers.specs.writes.Written.{PlaceWritten}
 use Rattle.session_words.specs.declared.settings.Settings.{Settings}
 use Rattle.session_setup.specs.declared.opening.SetUp.{SetUp}
 use Rattle.session_setup.specs.Outcomes.{origin_of}
@@ -97,78 +116,85 @@ terms_by s first =
 
 -- ---- calls
 
--- All records under one xid are equal, and none is sent after its reply. Each was sent in the history that the set-up left, or is a call of an operation
--- that was under way, with the session's credential and under one of the xids that the set-up left; so no more calls are made than there are xids. An
--- operation that makes one call after its LOOKUPs, a list, a stat, a read, a sync, a truncate, and an open of a path with a name ask for it; a close too,
--- but for its REMOVE, a remove, but for the RENAME that hides its file, and a put, but where it makes room; a write or fill only makes room; alone a put
--- asks for each.
+-- Each record was sent by the set-up, as MNT or FSINFO, or is a call of an operation that is under way and asks for it, with the session's credential. Each
+-- keeps to the session's sizes; each byte of a WRITE is one that an operation which began before writes there; MNT and FSINFO have one xid each. The xids are
+-- among those that there are, so no more calls are made; all records under one xid are equal, and none is sent after its reply. A put that is the only
+-- operation until then makes no room.
 pub record CallsShown (terms : Terms) (setup : Setup) (before h : List Entry) : Type 0 where
+  pub asked : CallsAsked terms h
   pub numbered : Numbered h
-  pub within : (i xid : ℕ) (bytes : List ℕ) → At h i (Sent bytes) → HasXid bytes xid → (terms.first ≤ xid) × (xid < terms.first + terms.calls)
   pub among : (i xid : ℕ) (bytes : List ℕ) → At h i (Sent bytes) → HasXid bytes xid → (i < length before) ⊎ IsAmong setup.first_xid setup.limit xid
-  pub one_calls : (i : ℕ) (bytes : List ℕ) → At h i (Sent bytes) → (i < length before) ⊎ IsMadeFor terms terms.cred h i bytes
-  pub lists : (i : ℕ) (bytes : List ℕ) → At h i (Sent bytes) → (i < length before) ⊎ IsMadeForList terms terms.cred h i bytes
-  pub opens : (i : ℕ) (bytes : List ℕ) → At h i (Sent bytes) → (i < length before) ⊎ IsMadeForOpen terms terms.cred h i bytes
-  pub stats : (i : ℕ) (bytes : List ℕ) → At h i (Sent bytes) → (i < length before) ⊎ IsMadeForStat terms terms.cred h i bytes
-  pub reads : (i : ℕ) (bytes : List ℕ) → At h i (Sent bytes) → (i < length before) ⊎ IsMadeForRead terms terms.cred setup.rsize h i bytes
-  pub writes : (i : ℕ) (bytes : List ℕ) → At h i (Sent bytes) → (i < length before) ⊎ IsMadeForWrite terms.cred h i bytes
-  pub removes : (i : ℕ) (bytes : List ℕ) → At h i (Sent bytes) → (i < length before) ⊎ IsMadeForRemove terms terms.cred h i bytes
-  pub slots : (i : ℕ) (bytes : List ℕ) → At h i (Sent bytes) → (i < length before) ⊎ IsMadeOnSlot terms terms.cred h i bytes
-  pub puts : (i : ℕ) (bytes : List ℕ) → At h i (Sent bytes) → (i < length before) ⊎ IsMadeForPut terms terms.cred h i bytes
   pub lone_puts : (i : ℕ) (bytes : List ℕ) → At h i (Sent bytes) → (i < length before) ⊎ IsMadeAlone terms terms.cred h i bytes
+
+-- How many calls are made at most, not counting those that are made again since the server was busy: of a file as many READs as the pages take that its
+-- reads ask for, and one more for each short reply; of equal calls that do what an operation is for, as many as its paths have names and three more; two
+-- COMMITs for each sync and close of a file and each put, where all writes, fills and puts of the session together leave room; of a directory, from a
+-- cookie on, as many READDIRPLUS as replies lead there, and from its beginning one for each list; and LOOKUPs of hidden names as removes began, and as
+-- such names were found taken. Each READ asks for as many bytes as it may; and in a session of one lane a page that a READ gave isn't asked for again as
+-- long as operations only read, and the file stays as it was.
+pub record CountsShown (terms : Terms) (h : List Entry) : Type 0 where
+  pub reads : (f root : List ℕ) (rsize : ℕ) → Rooted terms.origin h (length h) root → ReadSized h (length h) root terms.rsize rsize → FewReads terms h f rsize
+  pub equal : (call : Call) → DoesIt call → FewEqual terms h call
+  pub commits : HasRoom h → (f : List ℕ) → FewCommits terms h f
+  pub pages : (d : List ℕ) (cookie : ℕ) (verf : Verf) → FewPages terms h d cookie verf
+  pub hidden : (script : List Entry) → Follows script h → FewHidden script h
+  pub long : LongReads terms h
+  pub once : terms.modes.nocto ≡ false → OneLane h → (o at page n xid offset count : ℕ) (f bytes : List ℕ) (stamp : Stamp)
+      → (took : TookPage terms h o f stamp at page) → IsFirstReply h took.xid at → FirstSent h n xid bytes → SpellsCall xid (read_call f offset count) bytes
+      → at < n → MeetsPage offset count page → StaysSo h o n f stamp → ⊥
+
+-- Each WRITE that is sent after the set-up had as many bytes as the session's WRITE size, as it was made; or its bytes didn't go on where it ends.
+abbrev pub WritesShown : Mounted → Setup → List Entry → List Entry → Type 0
+WritesShown m setup before h = (i xid offset how : ℕ) (file bytes rec : List ℕ) → At h i (Sent rec) → SpellsCall xid (write_call file offset how bytes) rec
+    → length before ≤ i → WasLong m setup h i file offset how bytes
 
 -- ---- answers
 
--- An operation on a slot goes well only where it has its row, and where the slot holds an open as it begins, for reading or writing as it needs. One that
--- finds no such place is refused so, and no other is. Each byte that a read answers is one that an operation gave to its place, or that a kept page or the
--- reply to a READ of its own had, or a zero past the end of these.
+-- an open
+abbrev pub IsOpen : Op → Type 0
+IsOpen (ops.OpenFile slot mode path) = Unit {0}
+IsOpen op = ⊥
+
+-- An operation goes well only where it has its row; of an open this is said unless the session keeps no attributes but opens files by those.
+abbrev pub OksShown : Terms → List Entry → Type 0
+OksShown terms h = (lane x y : ℕ) (op : Op) (value : Value) → (IsOpen op → KeepsThem terms) → Ended h lane x op y (Done value) → OkRow terms h lane x y op value
+
+-- An operation on a slot goes well only where the slot holds an open as it begins, for reading or writing as it needs. One that finds no such place is
+-- refused so, and no other is. Each byte that a read answers is one that an operation gave to its place, or that a kept page or the reply to a READ of its own
+-- had, or a zero past the end of these.
 pub record SlotsShown (terms : Terms) (h : List Entry) : Type 0 where
-  pub rows : (lane x y : ℕ) (op : Op) (value : Value) → IsOnSlot op → Ended h lane x op y (Done value) → OkRow terms h lane x y op value
-  pub truncates : (lane x slot size y : ℕ) (value : Value) → Ended h lane x (ops.Truncate slot size) y (Done value)
-      → OkRow terms h lane x y (ops.Truncate slot size) value
   pub reads : (lane x slot offset count y : ℕ) (bytes : List ℕ) → Ended h lane x (ops.Read slot offset count) y (Done (Bytes bytes))
       → ReadGiven terms.modes (take y h) x (ops.Read slot offset count) offset bytes
   pub held : (lane x slot y : ℕ) (value : Value) → HoldOpens terms h lane x slot y value
   pub places : (lane x y : ℕ) (op : Op) (answer : Answer) → Ended h lane x op y answer → IsTried answer → FindsPlace terms h lane x op answer
   pub caused : (lane x y : ℕ) (op : Op) → PlaceRows terms h lane x y op
 
--- An operation that walks along its paths and makes one call, a list, a stat and a put go well only where they have their rows; an open too, where each
--- open asks anew. An open or put is refused for the kind of its file, and a list for too many names, only where they have those rows; a put for a rule
--- that a reply broke only where a record broke it, and never for a slot; and a put alone only where it has its row, but that nothing is said of the status
--- after which it may go on.
-pub record PathsShown (terms : Terms) (h : List Entry) : Type 0 where
-  pub one_calls : (lane x : ℕ) (op : Op) (y : ℕ) (value : Value) → IsOneCall op → IsAsked op → Ended h lane x op y (Done value)
-      → OkRow terms h lane x y op value
-  pub lists : (lane x : ℕ) (path : List (List ℕ)) (y : ℕ) (value : Value) → Ended h lane x (ops.List path) y (Done value)
-      → OkRow terms h lane x y (ops.List path) value
-  pub stats : (lane x : ℕ) (path : List (List ℕ)) (y : ℕ) (value : Value) → Ended h lane x (ops.Stat path) y (Done value)
-      → OkRow terms h lane x y (ops.Stat path) value
-  pub puts : (lane x : ℕ) (path : List (List ℕ)) (offset : ℕ) (bytes : List ℕ) (y : ℕ) (value : Value) → IsNamed path
-      → Ended h lane x (ops.Put path offset bytes) y (Done value) → OkRow terms h lane x y (ops.Put path offset bytes) value
-  pub opens : terms.modes.nocto ≡ false → (lane x slot : ℕ) (mode : Mode) (path : List (List ℕ)) (y : ℕ) (value : Value) → IsNamed path
-      → Ended h lane x (ops.OpenFile slot mode path) y (Done value) → OkRow terms h lane x y (ops.OpenFile slot mode path) value
-  pub kinds : (lane x slot : ℕ) (mode : Mode) (path : List (List ℕ)) (y : ℕ) → IsNamed path
-      → Ended h lane x (ops.OpenFile slot mode path) y (Refused Kind) → RefusalRow terms h lane x y (ops.OpenFile slot mode path) Kind
-  pub put_kinds : (lane x : ℕ) (path : List (List ℕ)) (offset : ℕ) (bytes : List ℕ) (y : ℕ) → IsNamed path
-      → Ended h lane x (ops.Put path offset bytes) y (Refused Kind) → RefusalRow terms h lane x y (ops.Put path offset bytes) Kind
-  pub put_rules : (lane x : ℕ) (path : List (List ℕ)) (offset : ℕ) (bytes : List ℕ) (y n : ℕ) → IsNamed path
-      → Ended h lane x (ops.Put path offset bytes) y (Refused (Bad n)) → IsRefusedSo h x y (Bad n)
-  pub put_faults : (lane x : ℕ) (path : List (List ℕ)) (offset : ℕ) (bytes : List ℕ) (y : ℕ) (fault : Fault) → IsNamed path
+-- A put is refused for a rule that a reply broke only where a record broke it, and never for a slot; and alone only where it has its row.
+pub record PutsShown (terms : Terms) (h : List Entry) : Type 0 where
+  pub rules : (lane x : ℕ) (path : List (List ℕ)) (offset : ℕ) (bytes : List ℕ) (y n : ℕ) → Ended h lane x (ops.Put path offset bytes) y (Refused (Bad n))
+      → IsRefusedSo h x y (Bad n)
+  pub faults : (lane x : ℕ) (path : List (List ℕ)) (offset : ℕ) (bytes : List ℕ) (y : ℕ) (fault : Fault)
       → Ended h lane x (ops.Put path offset bytes) y (Refused fault) → MayRefusePut fault
-  pub lone_puts : (lane x : ℕ) (path : List (List ℕ)) (offset : ℕ) (bytes : List ℕ) (y : ℕ) (fault : Fault) → IsNamed path → IsAlone h x y
+  pub alone : (lane x : ℕ) (path : List (List ℕ)) (offset : ℕ) (bytes : List ℕ) (y : ℕ) (fault : Fault) → IsAlone h x y
       → Ended h lane x (ops.Put path offset bytes) y (Refused fault) → fault ≢ Nfs jukebox → RefusalRow terms h lane x y (ops.Put path offset bytes) fault
-  pub many : (lane x : ℕ) (path : List (List ℕ)) (y : ℕ) → Ended h lane x (ops.List path) y (Refused Many)
-      → RefusalRow terms h lane x y (ops.List path) Many
 
 -- no operation is under way at the end of the history
 abbrev pub NoneUnderWay : List Entry → Type 0
 NoneUnderWay h = (lane x : ℕ) (op : Op) → UnderWay h lane x (length h) op → ⊥
 
--- A status of NFS and a refusal by RPC come from a record that refused a call of the operation; and the session is lost, and an operation answered so,
--- only for a cause. An operation is answered that all calls were made only where they were: where none is under way and the session isn't lost, so many
--- were sent.
+-- each operation that is refused has its row
+abbrev pub AllRowed : Terms → List Entry → Type 0
+AllRowed terms h = (lane x y : ℕ) (op : Op) (fault : Fault) → Ended h lane x op y (Refused fault) → RefusalRow terms h lane x y op fault
+
+-- Each operation that is refused has its row, whichever it is and whatever it is refused for. A status and a refusal by RPC come from a record that refused a
+-- call of it, and what doesn't let it go on from one that refused so a call that was sent for this very operation. None is refused for the kind of a file that
+-- wants none, nor for too many names that lists none. The session is lost, and an operation answered so, only for a cause. An operation is answered that all
+-- calls were made only where they were: where none is under way and the session isn't lost, so many were sent.
 pub record FaultsShown (terms : Terms) (setup : Setup) (h : List Entry) (core : View) : Type 0 where
+  pub rows : AllRowed terms h
   pub refusals : (lane x : ℕ) (op : Op) (y : ℕ) (fault : Fault) → Ended h lane x op y (Refused fault) → IsRefusalShown h x y fault
+  pub own : (lane x y : ℕ) (op : Op) (fault : Fault) → IsFinal op fault → Ended h lane x op y (Refused fault) → RefusedFor terms h x y op fault
+  pub kinds : (lane x y : ℕ) (op : Op) (fault : Fault) → Ended h lane x op y (Refused fault) → IsItsOwn op fault
   pub lost_answers : (lane x : ℕ) (op : Op) (y : ℕ) → Ended h lane x op y (Refused Lost) → IsLost h y
   pub lost : core.lost ≡ true → IsLost h (length h)
   pub all_made : (lane x : ℕ) (op : Op) (y : ℕ) → Ended h lane x op y (Refused Spent) → core.calls.made ≡ setup.limit
@@ -184,12 +210,15 @@ pub record RestShown (core : View) : Type 0 where
 -- ---- what is kept
 
 -- Each page that the core keeps is one that a READ gave, with what the client wrote and cut since. As long as the session isn't lost, each byte that is
--- pending is one that an operation gave to its place; what is in flight is what a WRITE carries that waits, and of each WRITE that waits it is in flight;
+-- pending is one that an operation gave to its place, and the newest of each place is `Pending` by the history, where each answer that is ready was noted:
+-- nothing that went well since has covered, cut or settled it, and no last close left it alone; what is in flight is what a WRITE carries that waits, and of each WRITE that waits it is in flight;
 -- and a COMMIT waits while nothing of its file does. And each byte of a put that went well, as the only operation until then, was made stable within it: a
 -- WRITE carried it, and was answered as stable or followed by a COMMIT of the whole file under the same verifier.
 pub record KeptShown (terms : Terms) (setup : Setup) (h : List Entry) (core : View) : Type 0 where
   pub pages : (file : List ℕ) (index : ℕ) (bytes : List ℕ) → page_of file index core.shelf.pages ≡ Some bytes → IsKept h core.shelf.pages file index bytes
   pub pending : core.lost ≡ false → (f : List ℕ) (place : ℕ) → PlaceWritten terms.modes h core.shelf.back f place
+  pub held_back : core.lost ≡ false → NoneReady core → (f : List ℕ) (place byte : ℕ) → newest_at (of_file f core.shelf.back).segments place ≡ Some byte
+      → Pending terms.modes terms.origin h f place (length h) byte
   pub carried : core.lost ≡ false → (f : List ℕ) (xid : ℕ) (piece : Piece) → piece_under xid (of_file f core.shelf.back).pieces ≡ Some piece
       → IsCarried setup core f xid piece
   pub flying : core.lost ≡ false → (xid : ℕ) (call : Call) (f : List ℕ) → IsWaiting setup core xid call → written_file call ≡ Some f
@@ -208,12 +237,21 @@ NeverBack h = (i j a b : ℕ) → At h i (Clock a) → At h j (Clock b) → i �
 -- that had the attributes that the stat shows; each byte that a read answers is one that an operation gave to its place, or one that the file had, or
 -- past the end of that; what a kept name stands for, it stood for after the time that is kept with its directory; and a kept page is that page of the
 -- file at every moment at which the file has the known stamp. Where the clock doesn't go back, the attributes of a stat are as old at most as the
--- lifetimes allow, and an open or put found its file under its name. Where cookies rise too, a list shows what its directory held.
+-- lifetimes allow, and an open or put found its file under its name. Where cookies rise too, a list shows what its directory held. What is stable
+-- when an open begins, and stays, is in the answers of its reads, where this client gave its place no other byte. And each byte of a read is current, by
+-- `world_model`: one that may be pending at a moment of the read, one that the file had at a moment of which the read may show bytes, or a zero in a hole.
 pub record HonestShown (s : Settings) (root : List ℕ) (core : View) (t : History) : Type 0 where
   pub stats : (lane x y : ℕ) (path : List (List ℕ)) (attr : Attr) → Ended t.entries lane x (ops.Stat path) y (Done (Attrs attr))
       → HadWhereLed t (longest_of s.lives) x y root path attr
   pub reads : (lane x slot offset count y : ℕ) (bytes : List ℕ) → Ended t.entries lane x (ops.Read slot offset count) y (Done (Bytes bytes))
       → ReadFrom (modes_of s) t x y (ops.Read slot offset count) offset bytes
+  pub recent : (s.nocto ≡ true → NeverBack t.entries) → (x y o : ℕ) (f : List ℕ) (offset count : ℕ) (bytes : List ℕ)
+      → ReadsBytes (modes_of s) t.entries x y o f offset count bytes
+      → ReadRecent (modes_of s) t x y o f offset count bytes
+  pub read_true : (s.nocto ≡ true → NeverBack t.entries) → ReadCurrent (modes_of s) (origin_of s.export) t
+  pub read_back : s.nocto ≡ false → (x y o : ℕ) (f : List ℕ) (offset count : ℕ) (bytes : List ℕ)
+      → ReadsBytes (modes_of s) t.entries x y o f offset count bytes
+      → (e k b : ℕ) → e < o → k < count → IsStable (modes_of s) t e y f (offset + k) b → slice_get bytes k ≡ Some b
   pub stood : (dir name found : List ℕ) (kept : KeptAttr) → kept_of dir core.shelf.attrs ≡ Some kept
       → looked dir name (stamp_of kept.attr) core.shelf.names ≡ Some found → StoodAfter t kept.sent_at dir name found
   pub pages : (file : List ℕ) (stamp : Stamp) (index : ℕ) (bytes : List ℕ) → page_of file index core.shelf.pages ≡ Some bytes
@@ -222,6 +260,35 @@ pub record HonestShown (s : Settings) (root : List ℕ) (core : View) (t : Histo
   pub names : NeverBack t.entries → NamesTrue (modes_of s) (origin_of s.export) t
   pub lists : NeverBack t.entries → Rising t → ListTrue (modes_of s) (origin_of s.export) t
 
+-- ---- stable bytes
+
+-- Of an honest server that executes no late copies: each byte of a put that went well, as the only operation until then, is in its file from the answer
+-- on, and stable; and so is each byte of a write, fill or put from the answer on that settled it: of a sync, close or put that went well and began after the
+-- write was answered, or of the put itself: `world_model`'s `Settled`. (`synced` says it without the server's objects: as long as no other operation of this
+-- client, and no other client, changes its place; and before it was settled no last close left the file, with a refusal.) Past the size of a truncate that went
+-- well there is no byte but a zero, unless the place was touched. Where each change of an object gives it another stamp, too, reads are true, by `world_model`:
+-- each shows the bytes of the writes, fills and puts that went well before it, settled or not, and zeros past the sizes of truncates, unless these places were
+-- touched; and a short answer ends where the file did, and past all that this client wrote.
+pub record StableShown (s : Settings) (t : History) : Type 0 where
+  pub lone_puts : (lane x y : ℕ) (path : List (List ℕ)) (offset : ℕ) (bytes : List ℕ) (value : Value)
+      → Ended t.entries lane x (ops.Put path offset bytes) y (Done value) → IsAlone t.entries x y
+      → PutStays (modes_of s) (origin_of s.export) t path x y offset bytes
+  pub synced : (w y : ℕ) (f : List ℕ) (i byte j p : ℕ) → Wrote (modes_of s) t.entries w y f i byte → SettledBy (modes_of s) t.entries w y f j
+      → j < p → p ≤ length t.entries → (TouchedUntil (modes_of s) (origin_of s.export) t.entries w j p f i → ⊥) → NoForeign t w p f i
+      → HoldsStable (t.at p) f i byte
+  pub settled : Settled (modes_of s) (origin_of s.export) t
+  pub cuts_stay : CutsStay (modes_of s) (origin_of s.export) t
+  pub reads : Fresh t → (s.nocto ≡ true → NeverBack t.entries) → ReadTrue (modes_of s) (origin_of s.export) t
+  pub ends : Fresh t → (s.nocto ≡ true → NeverBack t.entries) → ReadShort (modes_of s) (origin_of s.export) t
+
+-- ---- complete sessions
+
+-- Where the server is honest and executes each call with status 0, RPC refuses none, and the session isn't lost: each operation goes well, or finds its slot
+-- taken or free, no right, no file, too many names, no calls left, or no memory. The same where operations go on from other statuses (`Completes`).
+pub record CompleteShown (terms : Terms) (t : History) : Type 0 where
+  pub served : IsServed t → (lane x y : ℕ) (op : Op) (answer : Answer) → Ended t.entries lane x op y answer → IsOwn answer
+  pub completes : Completes terms t
+
 -- ---- all
 
 -- A core goes with the history of a session that was set up so, with the history before, and this is what the history shows; and of the server, where
@@ -229,9 +296,14 @@ pub record HonestShown (s : Settings) (root : List ℕ) (core : View) (t : Histo
 pub record RunShows (s : Settings) (first : ℕ) (v : SetUp) (before h : List Entry) : Type 0 where
   pub has : HasCore (mounted_by s (setup_of s v)) (setup_of s v) before h
   pub calls : CallsShown (terms_by s first) (setup_of s v) before h
+  pub counts : CountsShown (terms_by s first) h
+  pub writes : WritesShown (mounted_by s (setup_of s v)) (setup_of s v) before h
+  pub oks : OksShown (terms_by s first) h
   pub slots : SlotsShown (terms_by s first) h
-  pub paths : PathsShown (terms_by s first) h
+  pub puts : PutsShown (terms_by s first) h
   pub faults : FaultsShown (terms_by s first) (setup_of s v) h has.core
   pub rest : RestShown has.core
   pub kept : KeptShown (terms_by s first) (setup_of s v) h has.core
+  pub complete : (t : History) → t.entries ≡ h → CompleteShown (terms_by s first) t
+  pub stable : (t : History) → t.entries ≡ h → Lawful t → Once t.entries → StableShown s t
   pub honest : (t : History) → t.entries ≡ h → Lawful t → Fresh t → HonestShown s v.root has.core t
