@@ -1,11 +1,13 @@
 //! A user-space client of NFS version 3. `nfs3 run HOST WORDS` runs the script on standard input with the server at HOST over
 //! TCP, `nfs3 run --udp HOST WORDS` over UDP, and `nfs3 replay SCHEDULE WORDS` over a simulated server, which the file SCHEDULE
-//! describes. `nfs3 export PORT CALLS`, with or without a SCHEDULE, serves a test export, over UDP with `--udp` before the port.
+//! describes. `nfs3 make N WORDS` runs a script that is made over such a server without a file. `nfs3 export PORT CALLS`, with or
+//! without a SCHEDULE, serves a test export, over UDP with `--udp` before the port.
 #![tactic(auto)]
 
 mod datagrams;
 mod ending;
 mod export;
+mod make;
 mod replay;
 mod run;
 mod schedule_file;
@@ -48,6 +50,10 @@ fn command(rt: &HostRuntime, mut words: Vec<String>) -> Ending {
         [name, _, ..] if name.as_str() == "replay" => {
             let path = words.remove(1);
             replay::replay(rt, path.as_str(), words.as_slice())
+        }
+        [name, _, ..] if name.as_str() == "make" => {
+            let size = words.remove(1);
+            make::make(rt, size.as_str(), words.as_slice())
         }
         [name, udp, _, ..] if name.as_str() == "run" && udp.as_str() == "--udp" => {
             words.remove(1);
