@@ -255,6 +255,26 @@ try_refusals() {
     server=
 }
 
+# What a session of a script that is made says, on both streams, and its status.
+makes() {
+    "$nfs3" make "${@:3}" >"$work/said" 2>&1 </dev/null
+    comes_to "$1" "$2" $? "make ${*:3}"
+}
+
+try_made_scripts() {
+    makes 0 'lines 33 ok 33 bytes 0' 1 /srv
+    makes 0 'lines 38 ok 38 bytes 39' 5 /srv
+    makes 0 'lines 1374 ok 1374 bytes 422060' 1000 /srv
+    makes 0 'lines 1374 ok 1374 bytes 422060' 1000 /srv
+    makes 2 'nfs3: usage' 0 /srv
+    makes 2 'nfs3: usage' 10001 /srv
+    makes 2 'nfs3: usage' +1 /srv
+    makes 2 'nfs3: usage' 1
+    makes 2 'nfs3: usage'
+    "$nfs3" make 1 /srv 2>"$work/said" >&-
+    comes_to 5 'nfs3: write fault' $? 'make without standard output'
+}
+
 trap end_all EXIT
 "$nfs3" >"$work/build.log" 2>&1
 [ $? -eq 2 ] || {
@@ -271,4 +291,5 @@ try_a_port_mapper
 try_other_ways
 try_datagrams
 try_refusals
+try_made_scripts
 sum_up
