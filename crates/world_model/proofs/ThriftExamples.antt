@@ -21,18 +21,17 @@ use Rattle.world_model.specs.Asks.{Placed, count_of}
 use Rattle.world_model.specs.CallCounts.{WriterAt}
 use Rattle.world_model.specs.Entries.{At}
 use Rattle.world_model.specs.Heard.{Heard}
-use Rattle.world_model.specs.Leads.{root}
 use Rattle.world_model.specs.Messages.{HasXid, SpellsCall, SpellsReply}
 use Rattle.world_model.specs.Mounts.{Given, Rooted, Sized, info_call}
-use Rattle.world_model.specs.Operations.{Ended, EndsAt, answered, unanswered, AnsweredBefore, LastReply}
+use Rattle.world_model.specs.Operations.{Ended, EndsAt, answered, AnsweredBefore, LastReply}
 use Rattle.world_model.specs.Pages.{page_from}
 use Rattle.world_model.specs.PageRules.{RefusesSo}
 use Rattle.world_model.specs.Shown.{ShowsAttr, of_object, of_target, of_given, of_listed}
 use Rattle.world_model.specs.Slots.{Finds, asked, looked_up, made, Opens, InSlot}
 use Rattle.world_model.specs.Terms.{Terms}
-use Rattle.world_model.specs.Thrifty.{read_call, MeetsPage, CameWithin, ChangesFile, FilePage, IsMet, Unchanged, TookPage, KeptPages, NeverFull, Uncut, IsLatest, ShortWrite, LongWrites}
+use Rattle.world_model.specs.Thrifty.{read_call, MeetsPage, CameWithin, ChangesFile, FilePage, IsMet, Unchanged, TookPage, KeptPages, NeverFull, Uncut, WritesAt, IsLatest, ShortWrite, LongWrites}
 use Rattle.world_model.specs.Thrifty as thrift
-use Rattle.world_model.specs.Touched.{WritesByte, write, fill, put, Covers}
+use Rattle.world_model.specs.Touched.{Wrote, write, fill, put, Covers}
 use Rattle.world_model.specs.Waiting.{FirstSent, Waits}
 use Rattle.world_model.proofs.ServiceExamples.{attr}
 use Rattle.world_model.proofs.WrongBodies.{ok, path, get_attr}
@@ -389,10 +388,24 @@ takes_page terms w s = record {
   gives = thrift.last refl (omega arith) (omega arith) (omega arith) refl;
 }
 
+no_refusal : (r : Five) (y lane line : ℕ) → At (reads_twice r) y (Answered lane line (Refused faults.Memory)) → ⊥
+no_refusal r zero lane line is = absurd (cc is)
+no_refusal r (suc zero) lane line is = absurd (cc is)
+no_refusal r (suc (suc zero)) lane line is = absurd (cc is)
+no_refusal r (suc (suc (suc zero))) lane line is = absurd (cc is)
+no_refusal r (suc (suc (suc (suc zero)))) lane line is = absurd (cc is)
+no_refusal r (suc (suc (suc (suc (suc zero))))) lane line is = absurd (cc is)
+no_refusal r (suc (suc (suc (suc (suc (suc zero)))))) lane line is = absurd (cc is)
+no_refusal r (suc (suc (suc (suc (suc (suc (suc zero))))))) lane line is = absurd (cc is)
+no_refusal r (suc (suc (suc (suc (suc (suc (suc (suc zero)))))))) lane line is = absurd (cc is)
+no_refusal r (suc (suc (suc (suc (suc (suc (suc (suc (suc zero))))))))) lane line is = absurd (cc is)
+no_refusal r (suc (suc (suc (suc (suc (suc (suc (suc (suc (suc y)))))))))) lane line is = absurd (cc is)
+
 stays : (terms : Terms) (r : Five) → AreSpelled r → Unchanged terms (reads_twice r) 0 9 [] (stamp_of one_byte)
 stays terms r s = record {
   shown = shown_stamp r s 9;
   unwritten = λ call xid bytes changes heard after. no_change r s 9 call xid bytes changes heard;
+  room = λ lane x y op ended after before. no_refusal r y lane ended.line ended.answered;
   few = few_pages terms r s 9;
 }
 
@@ -453,21 +466,20 @@ not_cut terms info told part = record {
 rooted_here : (terms : Terms) (h : List Entry) (n : ℕ) → terms.origin ≡ Given [] → Rooted terms.origin h n []
 rooted_here terms h n given = subst (λ o. Rooted o h n []) (sym given) refl
 
-puts_it : (terms : Terms) (info told part : List ℕ) (i v : ℕ) → terms.origin ≡ Given [] → Covers 0 two_bytes i v → WritesByte terms.modes terms.origin (puts_one_by_one info told part) 2 [] i v
-puts_it terms info told part i v given covers =
-    put 1 1 0 4 [] two_bytes refl (unanswered (never_ends info told part 2 4) refl) (root [] [] refl (rooted_here terms (puts_one_by_one info told part) 4 given)) covers
+none_wrote : (terms : Terms) (info told part f : List ℕ) (w y i v : ℕ) → Wrote terms.modes (puts_one_by_one info told part) w y f i v → ⊥
+none_wrote terms info told part f w y i v (write lane slot offset bytes value of ended covers) = not_answered info told part y lane ended.line (Done value) ended.answered
+none_wrote terms info told part f w y i v (fill lane slot offset count value of ended low high) = not_answered info told part y lane ended.line (Done value) ended.answered
+none_wrote terms info told part f w y i v (put offset bytes puts covers) = not_answered info told part y puts.lane puts.ended.line (Done puts.value) puts.ended.answered
 
-writes_there : (terms : Terms) (info told part f : List ℕ) (i v x : ℕ) → WritesByte terms.modes terms.origin (puts_one_by_one info told part) x f i v → x ≡ 2
-writes_there terms info told part f i v x (write slot offset bytes of covers) = (only_put info told part x of.lane of.line (ops.Write slot offset bytes) of.began).0
-writes_there terms info told part f i v x (fill slot offset count of low high) = (only_put info told part x of.lane of.line (ops.Fill slot offset count v) of.began).0
-writes_there terms info told part f i v x (put lane line offset n p bytes began ends leads covers) = (only_put info told part x lane line (ops.Put p offset bytes) began).0
-
-latest_put : (terms : Terms) (info told part : List ℕ) (i v : ℕ) → terms.origin ≡ Given [] → Covers 0 two_bytes i v → IsLatest terms (puts_one_by_one info told part) 2 the_put [] i 2
-latest_put terms info told part i v given covers = record {
-  went = thrift.itself ([], 0, two_bytes, refl) refl;
-  writes = (v, puts_it terms info told part i v given covers);
-  latest = λ other went writes. let two = writes_there terms info told part [] i writes.0 other writes.1 in omega (arith, two);
+latest_put : (terms : Terms) (info told part : List ℕ) (i v : ℕ) → Covers 0 two_bytes i v → IsLatest terms (puts_one_by_one info told part) 2 the_put [] i 2
+latest_put terms info told part i v covers = record {
+  writes = thrift.itself [] 0 v two_bytes refl refl covers;
+  latest = only;
 }
+  where
+    only : (other : ℕ) → WritesAt terms (puts_one_by_one info told part) 2 the_put [] i other → other ≤ 2
+    only other (thrift.earlier y byte wrote before) = absurd (none_wrote terms info told part [] other y i byte wrote)
+    only other (thrift.itself path offset byte bytes is there its) = omega (arith, there)
 
 sends_first : (info told part : List ℕ) → HasXid info 7 → HasXid part 8 → FirstSent (puts_one_by_one info told part) 3 8 part
 sends_first info told part before under = record { sent = refl; under = under; first = first }
@@ -482,7 +494,7 @@ sends_first info told part before under = record { sent = refl; under = under; f
 may_not_write_one_by_one : (terms : Terms) (info told part : List ℕ) (how wsize : ℕ) → terms.origin ≡ Given [] → SpellsOnly 7 (info_call []) info → HasXid part 8 → SpellsCall 8 (write_first how) part
     → Sized (puts_one_by_one info told part) 3 [] terms.wsize wsize → 1 < wsize → LongWrites terms (puts_one_by_one info told part) → ⊥
 may_not_write_one_by_one terms info told part how wsize given informs under spells sized room long =
-    let covered = long (has_room info told part) 3 2 0 2 the_put [] short (not_cut terms info told part) (latest_put terms info told part 1 2 given second) (latest_put terms info told part 0 1 given first) in
+    let covered = long (has_room info told part) 3 2 0 2 the_put [] short (not_cut terms info told part) (latest_put terms info told part 1 2 second) (latest_put terms info told part 0 1 first) in
     not_covered covered.at covered.xid covered.bytes covered.call covered.sent covered.spells covered.covers.offset covered.covers.how covered.covers.bytes covered.covers.is covered.earlier
   where
     first : Covers 0 two_bytes 0 1

@@ -1,5 +1,5 @@
 -- READs and WRITEs are no smaller than they may be, and none is sent for a page that is kept.
-use Rattle.std.specs.Prelude.{◌≡◌, ◌≢◌, ◌<◌, ◌≤◌, ◌⊎◌, ◌+◌, ◌*◌, ℕ, Bool, true, List, length, All, AllPairs, sum_by, Option, Some}
+use Rattle.std.specs.Prelude.{◌≡◌, ◌≢◌, ◌<◌, ◌≤◌, ◌⊎◌, ◌+◌, ◌*◌, ℕ, Bool, true, false, List, length, All, AllPairs, sum_by, Option, Some}
 use Rattle.nfs_types.specs.declared.attr.Attr.{Attr}
 use Rattle.nfs_types.specs.declared.set_attr.SetAttr.{SetAttr}
 use Rattle.nfs_types.specs.declared.time.Time.{Time}
@@ -7,10 +7,9 @@ use Rattle.nfs_types.specs.declared.wcc.Stamp.{Stamp}
 use Rattle.nfs_file_calls.specs.declared.call.FileCall.TheVariants as files
 use Rattle.nfs_file_calls.specs.declared.owned.FileKept.TheVariants as kept
 use Rattle.world_model.specs.declared.answer.Answer.{Answer}
-use Rattle.world_model.specs.declared.answer.Answer.TheVariants.{Done, Refused}
+use Rattle.world_model.specs.declared.answer.Answer.TheVariants.{Refused}
 use Rattle.world_model.specs.declared.answer.Fault.{Fault}
 use Rattle.world_model.specs.declared.answer.Fault.TheVariants as faults
-use Rattle.world_model.specs.declared.answer.Value.{Value}
 use Rattle.world_model.specs.declared.entry.Entry.{Entry}
 use Rattle.world_model.specs.declared.entry.Entry.TheVariants.{Began, Sent}
 use Rattle.world_model.specs.declared.message.Call.{Call}
@@ -34,7 +33,7 @@ use Rattle.world_model.specs.Shown.{ShowsAttr}
 use Rattle.world_model.specs.Slots.{Opens, InSlot, IsOf}
 use Rattle.nfs_types.specs.Stamps.{stamp_of}
 use Rattle.world_model.specs.Terms.{Terms}
-use Rattle.world_model.specs.Touched.{WritesByte}
+use Rattle.world_model.specs.Touched.{Covers, Wrote}
 use Rattle.world_model.specs.Operations.{UnderWay, EndsWith}
 use Rattle.world_model.specs.Waiting.{FirstSent}
 
@@ -125,10 +124,12 @@ abbrev pub most_pages : ℕ
 most_pages = 1024
 
 -- From the place o to n each reply that shows attributes of the file shows this stamp, no reply answers a WRITE or SETATTR of
--- it, and the reads that began by then meet no more pages than are kept.
+-- it, no operation is refused for want of memory (which may have come to its WRITE or SETATTR), and the reads that began by then meet no more
+-- pages than are kept.
 pub record Unchanged (terms : Terms) (h : List Entry) (o n : ℕ) (f : List ℕ) (stamp : Stamp) : Type 0 where
   pub shown : (call : Call) (reply : Reply) (attr : Attr) → CameWithin h o n call reply → ShowsAttr call reply f attr → stamp_of attr ≡ stamp
   pub unwritten : (call : Call) (xid : ℕ) (bytes : List ℕ) → ChangesFile f call → (heard : Heard h 0 n call xid bytes) → o < heard.got_at → ⊥
+  pub room : (lane x y : ℕ) (op : Op) → Ended h lane x op y (Refused faults.Memory) → o < y → y < n → ⊥
   pub few : (pages : List FilePage) → AllPairs (λ (a b : FilePage). a ≢ b) pages → All (IsMet terms h n) pages → length pages ≤ most_pages
 
 -- A reply gives the page whole; or it says that the file ends, and gives the page up to the size.
@@ -198,20 +199,16 @@ pub record Uncut (terms : Terms) (h : List Entry) (i : ℕ) (f : List ℕ) : Typ
   pub put : (lane x offset y : ℕ) (path : List (List ℕ)) (bytes : List ℕ) (fault : Fault) → Ended h lane x (ops.Put path offset bytes) y (Refused fault)
       → Leads terms.origin h y path f → y < i → ⊥
 
--- an operation that went well before the place x, or the put at x itself
-pub data WentBefore (h : List Entry) (x : ℕ) (op : Op) (w : ℕ) : Type 0 where
-  earlier : (lane y : ℕ) (its_op : Op) (value : Value) → Ended h lane w its_op y (Done value) → y < x → WentBefore h x op w
-  itself : IsPut op → w ≡ x → WentBefore h x op w
+-- The operation at the place w, which went well before the place x, wrote the place of the file; or the put at x itself does.
+pub data WritesAt (terms : Terms) (h : List Entry) (x : ℕ) (op : Op) (f : List ℕ) (place w : ℕ) : Type 0 where
+  earlier : (y v : ℕ) → Wrote terms.modes h w y f place v → y < x → WritesAt terms h x op f place w
+  itself : (path : List (List ℕ)) (offset v : ℕ) (bytes : List ℕ) → op ≡ ops.Put path offset bytes → w ≡ x → Covers offset bytes place v
+      → WritesAt terms h x op f place w
 
--- the operation at the place w writes the place of the file
-abbrev pub WritesAt : Terms → List Entry → ℕ → List ℕ → ℕ → Type 0
-WritesAt terms h w f place = (v : ℕ) × WritesByte terms.modes terms.origin h w f place v
-
--- of the operations that went well before the place x, this one was the last to write the place of the file
+-- of these operations this one was the last to write the place of the file
 pub record IsLatest (terms : Terms) (h : List Entry) (x : ℕ) (op : Op) (f : List ℕ) (place w : ℕ) : Type 0 where
-  pub went : WentBefore h x op w
-  pub writes : WritesAt terms h w f place
-  pub latest : (other : ℕ) → WentBefore h x op other → WritesAt terms h other f place → other ≤ w
+  pub writes : WritesAt terms h x op f place w
+  pub latest : (other : ℕ) → WritesAt terms h x op f place other → other ≤ w
 
 -- a WRITE of the file that was sent before the place i covers the place
 pub record CoveredEarlier (h : List Entry) (i : ℕ) (f : List ℕ) (place : ℕ) : Type 0 where
@@ -254,5 +251,5 @@ LongWrites terms h = NeverFull h → (i x end w : ℕ) (op : Op) (f : List ℕ) 
 
 pub record Thrifty (terms : Terms) (h : List Entry) : Type 0 where
   pub reads : LongReads terms h
-  pub pages : OneLane h → KeptPages terms h
+  pub pages : terms.modes.nocto ≡ false → OneLane h → KeptPages terms h
   pub writes : OneLane h → LongWrites terms h
