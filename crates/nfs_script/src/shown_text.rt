@@ -4,7 +4,7 @@ ghost use Rattle.std.specs.Prelude.{◌≡◌, ◌++◌, codes, OnOk, OnErr};
 ghost use Rattle.xdr_codec.specs.Spelling.{BeginsWith};
 ghost use Rattle.world_model.specs.Transcript.{is_shown, shown_byte, shown, spaced, names_text};
 
-use crate::hex_text::write_piece;
+use crate::hex_text::write_pair;
 use nfs_types::Name;
 use xdr_codec::{Memory, Writer};
 
@@ -71,7 +71,7 @@ fn write_byte(out: &mut Writer, byte: u8) -> Result<(), Memory>
         return out.raw(&[byte]);
     }
     out.raw(b"%")?;
-    write_piece(out, &[byte])?;
+    write_pair(out, byte)?;
     Ok(())
 }
 

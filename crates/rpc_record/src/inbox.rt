@@ -16,7 +16,7 @@ use std::marker::Model;
 use xdr_codec::Memory;
 
 /// The bytes that are asked for at once.
-const ROOM: usize = 65_536;
+const ROOM: usize = 131_072;
 
 /// Bytes that came, and the record that is put together from them. A byte goes from the wire into the buffer and from
 /// there into the record, and no further.

@@ -5,7 +5,7 @@ use Rattle.nfs_script.proofs.hex_text.encode.Goals as goal
 
 pub loop-at-preserved : goal.loop-at-preserved
 loop-at-preserved c =
-    encode_step lower_digits c.args.bytes.now c.loop-at.digits c.loop-at.at _ _ (omega arith) (omega arith) c.digit.ensures c.digit-in-loop-at.ensures c.loop-at.invariant
+    encode_step lower_digits c.args.bytes.now c.loop-at.digits c.loop-at.at _ _ (omega arith) (omega arith) c.pair-word.ensures.first c.pair-word.ensures.last c.loop-at.invariant
 
 pub returns : goal.returns
 returns c = encode_done lower_digits c.args.bytes.now c.loop-at.digits c.loop-at.at (omega arith) (omega arith) c.loop-at.invariant
