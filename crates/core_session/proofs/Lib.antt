@@ -13,8 +13,5 @@ pub mod asked
 pub mod endings
 pub mod current
 pub mod shown
-pub mod coarse
-pub mod thrift
-pub mod counts
 pub mod kept
 pub mod own

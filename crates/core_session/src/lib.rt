@@ -30,19 +30,9 @@ ghost use Rattle.core_session.specs.current.Recent.{ReadsRecent};
 ghost use Rattle.core_session.specs.current.Seen.{KnownSeen};
 ghost use Rattle.core_session.specs.current.Steady.{StableRead, SteadyRead};
 ghost use Rattle.core_session.specs.shown.Shown.{ReadsCurrent};
-ghost use Rattle.core_session.specs.coarse.Runs.{CoreIsCoarse, StatesReached};
-ghost use Rattle.core_session.specs.coarse.WereLong.{WritesWereLong};
-ghost use Rattle.core_session.specs.thrift.KeptReads.{GivenOnce};
-ghost use Rattle.core_session.specs.thrift.Reads.{ReadsLong};
-ghost use Rattle.core_session.specs.thrift.Unkept.{UnkeptAsked};
 ghost use Rattle.core_session.specs.kept.Kept.{WrittenKept};
 ghost use Rattle.core_session.specs.kept.OwnRead.{OwnBytesRead, ReadsEndRightly};
 ghost use Rattle.core_session.specs.own.Cuts.{CutsStayBare, CutsRead};
-ghost use Rattle.core_session.specs.counts.Commits.{FewCommitsWithRoom};
-ghost use Rattle.core_session.specs.counts.Equal.{FewEqualMade};
-ghost use Rattle.core_session.specs.counts.Hidden.{FewHiddenMade};
-ghost use Rattle.core_session.specs.counts.Pages.{FewPagesMade};
-ghost use Rattle.core_session.specs.counts.Reads.{FewReadsMade};
 
 // What becomes of the bytes of a put.
 
@@ -325,44 +315,6 @@ pub fn reads_are_current()
     ensures { ReadsCurrent }
 {}
 
-// The machine of written bytes beside the core.
-
-/// With each history that the core goes with, the machine of `bond_writes` goes too, as far as it speaks of bytes and calls. At each step of a lane's
-/// operation, with the call that it makes, it makes moves, or none, and shows afterwards at each place what is pending there and in flight. Once the
-/// session is lost both stop.
-pub fn steps_are_coarse()
-    ensures { CoreIsCoarse }
-{}
-
-/// So what the core keeps of each place of each file, the byte that is pending and the one in flight, is what the machine comes to.
-pub fn kept_states_are_coarse()
-    ensures { StatesReached }
-{}
-
-/// Each WRITE that is sent had as many bytes as a WRITE may have, as it was made; or its bytes didn't go on where it ends.
-pub fn writes_were_long()
-    ensures { WritesWereLong }
-{}
-
-// Calls that aren't shorter, or more, than they need be.
-
-/// Each READ of a session asks for as many bytes as the session's READ size is; or its range ends where the last page ends that the range of a read under way
-/// meets; or where a page begins that an earlier READ of the file met (RFC 1813, sections 3.3.6 and 3.3.19).
-pub fn reads_are_long()
-    ensures { ReadsLong }
-{}
-
-/// Where all operations are of one lane, no READ is sent for a page of its file that is kept then.
-pub fn kept_pages_arent_asked_for()
-    ensures { UnkeptAsked }
-{}
-
-/// Where all operations are of one lane and opens ask for attributes: no READ is sent for a page that a READ gave under the stamp which its open was told, as
-/// long as operations only read, each reply shows that stamp of the file, and READs met no more pages than are kept.
-pub fn given_pages_are_asked_for_once()
-    ensures { GivenOnce }
-{}
-
 // What becomes of bytes that this client wrote, and that its reads show them.
 
 /// As long as the session isn't lost, and where each answer that is ready was noted: each byte of a write, fill or put that went well is pending; or it was
@@ -395,33 +347,4 @@ pub fn cut_places_stay()
 /// (RFC 1813, sections 2.6 and 3.3.6).
 pub fn cut_places_read()
     ensures { CutsRead }
-{}
-
-// How often each call is made.
-
-/// Equal READDIRPLUS calls: one for each page that they follow; and from cookie 0 one for each list that asks for them (RFC 1813, section 3.3.17).
-pub fn pages_are_few()
-    ensures { FewPagesMade }
-{}
-
-/// READs of one file: so many as the pages that meet the ranges of its reads take, and one more for each short reply (RFC 1813, section 3.3.6).
-pub fn reads_are_few()
-    ensures { FewReadsMade }
-{}
-
-/// COMMITs of one file, where all writes, fills and puts together have no more bytes than a session holds back: two for each sync, close and put of the
-/// file (RFC 1813, section 3.3.21).
-pub fn commits_are_few_with_room()
-    ensures { FewCommitsWithRoom }
-{}
-
-/// LOOKUPs of hidden names that no path of the script has: one for each remove, and for each such name that was found.
-pub fn hidden_names_are_few()
-    ensures { FewHiddenMade }
-{}
-
-/// Equal calls, of all plain ones that an operation may ask for but READ, and LOOKUP of a hidden name: for each operation that asks for them, 3 and one for each
-/// name of its paths.
-pub fn equal_calls_are_few()
-    ensures { FewEqualMade }
 {}

@@ -1,0 +1,9 @@
+pub mod commits
+pub mod engine
+pub mod listed
+pub mod hidden
+pub mod equal
+pub mod reads
+pub mod sought
+pub mod writes
+pub mod rooms

@@ -1,0 +1,15 @@
+pub mod Costs
+pub mod Names
+pub mod Pairs
+pub mod Removes
+pub mod Tables
+pub mod Closes
+pub mod Files
+pub mod Puts
+pub mod Paths
+pub mod Reads
+pub mod Deeds
+pub mod Shapes
+pub mod Unasked
+pub mod Laws
+pub mod Counted

@@ -1,0 +1,16 @@
+pub mod Base
+pub mod Calls
+pub mod Clears
+pub mod Counted
+pub mod Hears
+pub mod Leads
+pub mod Numbers
+pub mod OwnFiles
+pub mod Owns
+pub mod Posts
+pub mod Purses
+pub mod Quiets
+pub mod Roles
+pub mod Steps
+pub mod Whole
+pub mod Writes

@@ -1,0 +1,14 @@
+pub mod Weights
+pub mod Landing
+pub mod Saved
+pub mod Once
+pub mod Stepped
+pub mod Poor
+pub mod Tally
+pub mod Before
+pub mod Goes
+pub mod Begins
+pub mod Hears
+pub mod Along
+pub mod Giving
+pub mod Counted

@@ -1,0 +1,11 @@
+pub mod Ends
+pub mod Holding
+pub mod Lone
+pub mod Putting
+pub mod PutsLong
+pub mod SavedLong
+pub mod SyncTracks
+pub mod Syncing
+pub mod Tracking
+pub mod Written
+pub mod WrittenLong

@@ -1,0 +1,10 @@
+pub mod Long
+pub mod WereLong
+pub mod Moves
+pub mod Runs
+pub mod Fed
+pub mod FedNames
+pub mod FedPages
+pub mod FedAttrs
+pub mod FedWalks
+pub mod FedFiles

@@ -1,0 +1,17 @@
+-- How many equal calls a session asks for, of any plain call.
+use Rattle.std.specs.Prelude.{List}
+use Rattle.world_model.specs.declared.entry.Entry.{Entry}
+use Rattle.world_model.specs.declared.message.Call.{Call}
+use Rattle.world_model.specs.CallCounts.{IsPlain, FewEqual}
+use Rattle.world_model.specs.Terms.{Terms}
+use Rattle.op_machines.specs.declared.begun.Mounted.{Mounted}
+use Rattle.op_machines.specs.Begun.{machine_of}
+use Rattle.client_core.specs.declared.setup.Setup.{Setup}
+use Rattle.client_core.specs.View.{View}
+use Rattle.core_facts.specs.Notes.{Notes}
+use Rattle.core_session.specs.calls.Whole.{GoesFrom}
+
+-- Of a session that was set up, in which no record is sent or received while an answer is ready that wasn't noted.
+abbrev pub FewEqualMade : Type 0
+FewEqualMade = (m : Mounted) (terms : Terms) (setup : Setup) (before h : List Entry) (v : View) → GoesFrom m terms setup before h v
+    → Notes (machine_of m) setup h v → (call : Call) → IsPlain call → FewEqual terms h call

@@ -1,0 +1,4 @@
+pub mod KeptReads
+pub mod Reads
+pub mod Unkept
+pub mod Writes

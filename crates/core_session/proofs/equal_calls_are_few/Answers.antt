@@ -1,5 +1,0 @@
-use Rattle.core_session.proofs.counts.equal.Counted.{equal-few}
-use Rattle.core_session.proofs.equal_calls_are_few.Goals as goal
-
-pub returns : goal.returns
-returns c = equal-few

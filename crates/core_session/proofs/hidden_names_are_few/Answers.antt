@@ -1,5 +1,0 @@
-use Rattle.core_session.proofs.counts.hidden.Counted.{hidden-few}
-use Rattle.core_session.proofs.hidden_names_are_few.Goals as goal
-
-pub returns : goal.returns
-returns c = hidden-few

@@ -1,5 +1,0 @@
-use Rattle.core_session.proofs.coarse.States.{states-reached}
-use Rattle.core_session.proofs.kept_states_are_coarse.Goals as goal
-
-pub returns : goal.returns
-returns c = states-reached

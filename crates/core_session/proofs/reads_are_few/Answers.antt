@@ -1,5 +1,0 @@
-use Rattle.core_session.proofs.counts.reads.Counted.{few-reads-made}
-use Rattle.core_session.proofs.reads_are_few.Goals as goal
-
-pub returns : goal.returns
-returns c = few-reads-made

@@ -1,5 +1,0 @@
-use Rattle.core_session.proofs.coarse.Along.{writes-were-long}
-use Rattle.core_session.proofs.writes_were_long.Goals as goal
-
-pub returns : goal.returns
-returns c = writes-were-long

@@ -1,4 +1,0 @@
-pub mod Long
-pub mod WereLong
-pub mod Moves
-pub mod Runs

@@ -1,5 +1,0 @@
-pub mod Commits
-pub mod Equal
-pub mod Hidden
-pub mod Pages
-pub mod Reads

@@ -1,4 +1,0 @@
-pub mod KeptReads
-pub mod OnlyReads
-pub mod Reads
-pub mod Unkept
