@@ -38,6 +38,7 @@ use Rattle.core_facts.proofs.Walks.{Stays, begins-stay, hears-for-stay}
 use Rattle.core_facts.specs.Notes.{NoneReady, ComesAfter, notes_step, notes_lost}
 use Rattle.core_facts.proofs.Noting.{notes-reach}
 use Rattle.lane_session.specs.Bonds.{IsAwaited, Bond, SentSince}
+use Rattle.lane_session.proofs.LostOnce.{MayLose, lost-only, only-step, stays-step}
 
 -- ---- a call that waits goes on waiting
 
@@ -233,20 +234,29 @@ module _ (m : Mounted) (setup : Setup) (from : List Entry) where
   pub reached : (h : List Entry) (v : View) (n : ℕ) → Bond m setup from h v n → Reaches (machine_of m) setup h v
   reached h v n b = notes-reach (machine_of m) setup h v b.notes
 
-  pub bond-step : (h : List Entry) (old : View) (e : Entry) (new : View) (n : ℕ) → (ComesAfter e → NoneReady old) → StepsTo (machine_of m) h old e new
+  pub bond-step : (h : List Entry) (old : View) (e : Entry) (new : View) (n : ℕ) → (ComesAfter e → NoneReady old) → MayLose e old new → StepsTo (machine_of m) h old e new
       → ((bytes : List ℕ) → e ≡ Delivered bytes → ⊥) → Bond m setup from h old n → Bond m setup from (h ++ e ∷ []) new n
-  bond-step h old e new n none t other b =
+  bond-step h old e new n none may t other b =
       let r = reached h old n b in
       record {
         notes = notes_step (h ++ e ∷ []) h new old e b.notes refl none t;
         since = since-step m setup from h old e new r t b.since;
         known = known-step (machine_of m) setup h old e new t (reached-sound (machine_of m) setup h old r) b.known;
         run = run-stays h e n other b.run;
+        only = only-step m setup h old e new r t may b.only;
+        stays = stays-step m setup h old e new r t b.only b.stays;
       }
 
   -- the session is given up
-  pub bond-loses : (h : List Entry) (v : View) (n : ℕ) → Loses h (length h) → Bond m setup from h v n → Bond m setup from h (lost v) n
-  bond-loses h v n shown b = record { notes = notes_lost h (lost v) v b.notes shown refl; since = b.since; known = b.known; run = b.run }
+  pub bond-loses : (h : List Entry) (v : View) (n : ℕ) → NoneReady v → Loses h (length h) → Bond m setup from h v n → Bond m setup from h (lost v) n
+  bond-loses h v n none shown b = record {
+    notes = notes_lost h (lost v) v b.notes shown refl;
+    since = b.since;
+    known = b.known;
+    run = b.run;
+    only = lost-only v none;
+    stays = b.stays;
+  }
 
   -- a record that no call waits for
   drop-of : (h : List Entry) (old : View) (rec : List ℕ) (n : ℕ) → awaited (xid_at rec) old.calls.calls ≡ None → Bond m setup from h old n → Drops (h ++ Delivered rec ∷ []) (length h) rec
@@ -269,6 +279,8 @@ module _ (m : Mounted) (setup : Setup) (from : List Entry) where
         since = since-step m setup from h old (Delivered rec) new r t b.since;
         known = known-step (machine_of m) setup h old (Delivered rec) new t (reached-sound (machine_of m) setup h old r) b.known;
         run = no_drop 0 (length (h ++ Delivered rec ∷ [])) refl;
+        only = only-step m setup h old (Delivered rec) new r t tt b.only;
+        stays = stays-step m setup h old (Delivered rec) new r t b.only b.stays;
       }
 
   pub bond-dropped : (h : List Entry) (old : View) (rec : List ℕ) (result : Bool) (new : View) (n : ℕ) → MayHear old → Hears old rec result new → result ≡ false → Bond m setup from h old n
@@ -281,6 +293,8 @@ module _ (m : Mounted) (setup : Setup) (from : List Entry) where
         since = since-step m setup from h old (Delivered rec) new r t b.since;
         known = known-step (machine_of m) setup h old (Delivered rec) new t (reached-sound (machine_of m) setup h old r) b.known;
         run = run-more h rec n (drop-of h old rec n (none-waits (awaited (xid_at rec) old.calls.calls) refl hears) b) b.run;
+        only = only-step m setup h old (Delivered rec) new r t tt b.only;
+        stays = stays-step m setup h old (Delivered rec) new r t b.only b.stays;
       }
     where
       none-waits : (o : Option (Waiting Purpose)) → awaited (xid_at rec) old.calls.calls ≡ o

@@ -23,9 +23,12 @@ pub mod Ending
 pub mod Closing
 pub mod Redialing
 pub mod LaneNumbers
+pub mod Faultless
+pub mod LostOnce
 pub mod Bonding
 pub mod Reaching
 pub mod CoreEnds
+pub mod LostAnswers
 pub mod Telling
 pub mod Starting
 pub mod Counted

@@ -56,7 +56,7 @@ never-began lane [] n line op at q = absurd (cc)
 never-began lane (e ∷ es) zero line op at q = not-began lane e (apart lane e es q).0 line op cc
 never-began lane (e ∷ es) (suc n) line op at q = never-began lane es n line op at (apart lane e es q).1
 
-never-answered : (lane : ℕ) (h : List Entry) (n line : ℕ) (a : Answer) → At h n (Answered lane line a) → marks_of lane h ≡ [] → ⊥
+pub never-answered : (lane : ℕ) (h : List Entry) (n line : ℕ) (a : Answer) → At h n (Answered lane line a) → marks_of lane h ≡ [] → ⊥
 never-answered lane [] n line a at q = absurd (cc)
 never-answered lane (e ∷ es) zero line a at q = not-answered lane e (apart lane e es q).0 line a cc
 never-answered lane (e ∷ es) (suc n) line a at q = never-answered lane es n line a at (apart lane e es q).1

@@ -1,5 +1,5 @@
 -- The core of a session goes on with the history, at each part of the session's work.
-use Rattle.std.proofs.Common.{◌≡◌, ◌<◌, ◌+◌, ◌^◌, ◌⊎◌, inl, inr, ℕ, List, [], ◌∷◌, ◌++◌, length, Bool, true, false, Option, Some, None, option_map, Result, Ok, Err, refl, sym, ap, subst, ◌∙◌, append_assoc}
+use Rattle.std.proofs.Common.{◌≡◌, ◌<◌, ◌+◌, ◌^◌, ◌⊎◌, inl, inr, ℕ, suc, List, [], ◌∷◌, ◌++◌, length, position, Bool, true, false, Option, Some, None, option_map, Result, Ok, Err, refl, sym, ap, subst, ◌∙◌, append_assoc}
 use Rattle.rpc_message.specs.Call.{call_at}
 use Rattle.rpc_retry.specs.Waiting.{first_due, sent, sent_call}
 use Rattle.rpc_retry.specs.declared.waiting.Waiting.{Waiting}
@@ -20,8 +20,10 @@ use Rattle.op_machines.specs.Begun.{machine_of}
 use Rattle.op_machines.specs.Fits.{Fits}
 use Rattle.op_machines.specs.declared.begun.Mounted.{Mounted}
 use Rattle.op_machines.specs.declared.machine.Machine.{Machine}
+use Rattle.client_core.specs.declared.lane.Lane.{Lane}
 use Rattle.client_core.specs.declared.lane.Purpose.{Purpose}
 use Rattle.client_core.specs.declared.setup.Setup.{Setup}
+use Rattle.client_core.specs.Lanes.{is_over}
 use Rattle.client_core.specs.Numbers.{IsIdle}
 use Rattle.client_core.specs.Steps.{Begins, SendsIf, SendsBy, AnswersBy, WereSent, lost}
 use Rattle.client_core.specs.View.{View}
@@ -35,6 +37,8 @@ use Rattle.lane_session.specs.Bonds.{Start, SentSince, Bond, Bonded, HasCore, Co
 use Rattle.lane_session.specs.LaneMarks.{IsRunning}
 use Rattle.lane_session.specs.Running.{IsFreshFor, NoneOver, Fails, Takes, TakesBy, given_up, mounted_by}
 use Rattle.lane_session.proofs.Bonding.{since-none, reached, bond-step, bond-loses, bond-taken, bond-dropped}
+use Rattle.lane_session.proofs.Cores.{HeardSo, heard_none, heard_one, heard-so, sends-so}
+use Rattle.lane_session.proofs.LostOnce.{may-stay, fresh-only, unmarked-stays}
 use Rattle.lane_session.specs.Tallies.{CountsBy, Tallied}
 use Rattle.lane_session.proofs.LaneNumbers.{none-ready, may-hear}
 use Rattle.lane_session.proofs.Redialing.{still_by, still-ours, redials-call}
@@ -78,7 +82,7 @@ module _ (m : Mounted) (setup : Setup) (start : Start) where
   -- one entry that leaves the core as it is
   bond-one : (h : List Entry) (e : Entry) (v : View) (n : ℕ) → steps (e ∷ []) ≡ [] → Bond m setup start.from h v n → Bond m setup start.from (h ++ e ∷ []) v n
   bond-one h e v n still b =
-      bond-step m setup start.from h v e v n (λ comes. absurd (still-before e still comes)) (still-step (machine_of m) h v e still) (λ bytes is. still-record e bytes still is) b
+      bond-step m setup start.from h v e v n (λ comes. absurd (still-before e still comes)) (may-stay e v) (still-step (machine_of m) h v e still) (λ bytes is. still-record e bytes still is) b
 
   bond-still : (h more : List Entry) (v : View) (n : ℕ) → steps more ≡ [] → Bond m setup start.from h v n → Bond m setup start.from (h ++ more) v n
   bond-still h more v n q b =
@@ -110,7 +114,7 @@ module _ (m : Mounted) (setup : Setup) (start : Start) where
   bonded-redials h k s r b = subst (λ (t : List Entry). Bonded m setup start t s) (sym r.is) (bonded-still h r.more s r.still b)
 
   pub core-of : (h : List Entry) (s : Session) → Bonded m setup start h s → HasCore m setup start.from h
-  core-of h s b = record { core = s.core; notes = b.bond.notes; since = b.bond.since }
+  core-of h s b = record { core = s.core; notes = b.bond.notes; since = b.bond.since; stays = b.bond.stays }
 
   -- the session's other fields don't count
   bonded-like : (h : List Entry) (s t : Session) → t.mounted ≡ s.mounted → t.core ≡ s.core → t.dropped ≡ s.dropped → t.counts ≡ s.counts → Bonded m setup start h s → Bonded m setup start h t
@@ -120,8 +124,12 @@ module _ (m : Mounted) (setup : Setup) (start : Start) where
     tallied = λ is. subst (λ (v : View). Tallied h v t.counts) (sym core) (subst (Tallied h s.core) (sym tally) (b.tallied is));
   }
 
-  pub bonded-given-up : (h : List Entry) (s : Session) → Loses h (length h) → Bonded m setup start h s → Bonded m setup start h (given_up s)
-  bonded-given-up h s shown b = record { mounted = b.mounted; bond = bond-loses m setup start.from h s.core s.dropped shown b.bond; tallied = λ is. tallied-like h s.core (lost s.core) s.counts refl (b.tallied is) }
+  pub bonded-given-up : (h : List Entry) (s : Session) → NoneReady s.core → Loses h (length h) → Bonded m setup start h s → Bonded m setup start h (given_up s)
+  bonded-given-up h s none shown b = record {
+    mounted = b.mounted;
+    bond = bond-loses m setup start.from h s.core s.dropped none shown b.bond;
+    tallied = λ is. tallied-like h s.core (lost s.core) s.counts refl (b.tallied is);
+  }
 
   -- where each lane has told its answer, none is ready
   bonded-none : (h : List Entry) (s : Session) → NoneOver s.core → Bonded m setup start h s → NoneReady s.core
@@ -130,11 +138,11 @@ module _ (m : Mounted) (setup : Setup) (start : Start) where
   -- ---- one call of the link
 
   -- the attempts that run have ended
-  pub bonded-fails : (h : List Entry) (old new : Session) → Fails old new → Bonded m setup start h old → Bonded m setup start (h ++ Failed ∷ []) new
-  bonded-fails h old new f b =
+  pub bonded-fails : (h : List Entry) (old new : Session) → NoneOver old.core → Fails old new → Bonded m setup start h old → Bonded m setup start (h ++ Failed ∷ []) new
+  bonded-fails h old new told f b =
       subst (Bonded m setup start (h ++ Failed ∷ [])) (sym f.is) (record {
         mounted = b.mounted;
-        bond = bond-step m setup start.from h old.core Failed new.core old.dropped (λ comes. absurd comes) (inl (f.result, f.core)) (λ bytes e. absurd cc) b.bond;
+        bond = bond-step m setup start.from h old.core Failed new.core old.dropped (λ comes. absurd comes) (inr (bonded-none h old told b)) (inl (f.result, f.core)) (λ bytes e. absurd cc) b.bond;
         tallied = λ is. tallied-on h old.core Failed new.core old.dropped old.counts (inl (f.result, f.core)) (λ bytes e. absurd cc) b.bond (b.tallied is);
       })
 
@@ -149,6 +157,14 @@ module _ (m : Mounted) (setup : Setup) (start : Start) where
       may : MayHear old.core
       may = may-hear (machine_of m) setup h old.core (reached m setup start.from h old.core old.dropped b.bond) all_sent told
 
+      -- a record that is dropped leaves the core as it is
+      none_so : t.result ≡ false → NoneReady t.core
+      none_so is = by_heard is (heard-so old.core rec t.result t.core (reached-sound (machine_of m) setup h old.core (reached m setup start.from h old.core old.dropped b.bond)).calls.within t.hears)
+        where
+          by_heard : t.result ≡ false → HeardSo old.core t.result t.core → NoneReady t.core
+          by_heard is (heard_none not same) = subst NoneReady (sym same) (bonded-none h old told b)
+          by_heard is (heard_one took k one) = absurd (let no_way : true ≡ false = sym took ∙ is in cc)
+
       dropped_so : t.result ≡ false → Bond m setup start.from k t.core (old.dropped + 1)
       dropped_so is = bond-dropped m setup start.from h old.core rec t.result t.core old.dropped may t.hears is b.bond
 
@@ -162,7 +178,7 @@ module _ (m : Mounted) (setup : Setup) (start : Start) where
       by false not (inr p) =
           let run : DropRun k most_dropped (length k) = subst (λ (n : ℕ). DropRun k n (length k)) p.0 (dropped_so not).run in
           subst (Bonded m setup start k) (sym p.1)
-          (bonded-given-up k (record old { core = t.core; dropped = old.dropped + 1 }) (dropped_run run) (record { mounted = b.mounted; bond = dropped_so not; tallied = tallied_so }))
+          (bonded-given-up k (record old { core = t.core; dropped = old.dropped + 1 }) (none_so not) (dropped_run run) (record { mounted = b.mounted; bond = dropped_so not; tallied = tallied_so }))
 
   -- a record was sent
   pub bonded-sends : (h : List Entry) (old new : Session) (rec : List ℕ) → NoneOver old.core → SendsBy old.core (Some rec) new.core → CountsBy (call_at rec) old.counts new.counts → new.mounted ≡ old.mounted
@@ -170,7 +186,7 @@ module _ (m : Mounted) (setup : Setup) (start : Start) where
   bonded-sends h old new rec told t counts mounted count b = record {
     mounted = mounted ∙ b.mounted;
     bond = subst (λ (n : ℕ). Bond m setup start.from (h ++ Sent rec ∷ []) new.core n) (sym count)
-        (bond-step m setup start.from h old.core (Sent rec) new.core old.dropped (λ comes. bonded-none h old told b) t (λ bytes e. absurd cc) b.bond);
+        (bond-step m setup start.from h old.core (Sent rec) new.core old.dropped (λ comes. bonded-none h old told b) tt t (λ bytes e. absurd cc) b.bond);
     tallied = λ is.
         tallied-sends setup h old.core rec new.core old.counts new.counts (reached-rows (machine_of m) setup h old.core (reached m setup start.from h old.core old.dropped b.bond)) t counts (b.tallied is);
   }
@@ -190,17 +206,17 @@ pub core-redials-cut : (old : Session) (h k : List Entry) → Redials h k → Co
 core-redials-cut old h k r m setup start b = core-of m setup start k old (bonded-redials m setup start h k old r b)
 
 -- four dials failed
-pub core-undialed : (old : Session) (h k : List Entry) → RedialsBy (Ok false) h k → CoreGoes old (given_up old) h k
-core-undialed old h k r m setup start b = bonded-given-up m setup start k old r.1 (bonded-redials m setup start h k old r.0 b)
+pub core-undialed : (old : Session) (h k : List Entry) → NoneOver old.core → RedialsBy (Ok false) h k → CoreGoes old (given_up old) h k
+core-undialed old h k told r m setup start b = bonded-given-up m setup start k old (bonded-none m setup start h old told b) r.1 (bonded-redials m setup start h k old r.0 b)
 
 -- the link had no memory
 pub core-unmade : (old : Session) (a b : History) → Adds a b [] → CoreWent old a.entries b.entries
 core-unmade old a b p = core-redials-cut old a.entries b.entries (redials-call a b [] refl p)
 
-pub core-fails : (old new : Session) (a b : History) → Fails old new → Adds a b (Failed ∷ []) → CoreGoes old new a.entries b.entries
-core-fails old new a b f p m setup start c =
+pub core-fails : (old new : Session) (a b : History) → NoneOver old.core → Fails old new → Adds a b (Failed ∷ []) → CoreGoes old new a.entries b.entries
+core-fails old new a b told f p m setup start c =
     steps_on (λ (h : List Entry). Bonded m setup start h old) (λ (h : List Entry). Bonded m setup start h new) a b Failed (bonded-quiet m setup start old) (bonded-quiet m setup start new)
-    (λ h x. bonded-fails m setup start h old new f x) p c
+    (λ h x. bonded-fails m setup start h old new told f x) p c
 
 pub core-takes : (old new : Session) (rec : List ℕ) (a b : History) → WereSent old.core.calls.calls → NoneOver old.core → Takes old rec new → Adds a b (Delivered rec ∷ []) → CoreGoes old new a.entries b.entries
 core-takes old new rec a b all_sent told t p m setup start c =
@@ -213,13 +229,17 @@ core-sends old new rec a b told t counts mounted count p m setup start c =
     steps_on (λ (h : List Entry). Bonded m setup start h old) (λ (h : List Entry). Bonded m setup start h new) a b (Sent rec) (bonded-quiet m setup start old) (bonded-quiet m setup start new)
     (λ h x. bonded-sends m setup start h old new rec told t counts mounted count x) p c
 
+-- a call that is sent leaves each lane as it is
+pub sent-told : (old mid : Session) (result : Option (List ℕ)) → SendsBy old.core result mid.core → NoneOver old.core → NoneOver mid.core
+sent-told old mid result t told n lt = subst (λ (ls : List Lane). position (is_over (suc n)) ls ≡ None) (sym (sends-so old.core result mid.core t).lanes) (told n lt)
+
 -- the record went out, and the link failed
 pub core-sends-fails : (old mid new : Session) (rec : List ℕ) (a b : History) → NoneOver old.core → SendsBy old.core (Some rec) mid.core → CountsBy (call_at rec) old.counts mid.counts → mid.mounted ≡ old.mounted → mid.dropped ≡ old.dropped
     → Fails mid new → Adds a b (Sent rec ∷ Failed ∷ []) → CoreGoes old new a.entries b.entries
 core-sends-fails old mid new rec a b told t counts mounted count f p m setup start c =
     steps_on_twice (λ (h : List Entry). Bonded m setup start h old) (λ (h : List Entry). Bonded m setup start h mid) (λ (h : List Entry). Bonded m setup start h new) a b (Sent rec) Failed
     (bonded-quiet m setup start old) (bonded-quiet m setup start mid) (bonded-quiet m setup start new)
-    (λ h x. bonded-sends m setup start h old mid rec told t counts mounted count x) (λ h x. bonded-fails m setup start h mid new f x) p c
+    (λ h x. bonded-sends m setup start h old mid rec told t counts mounted count x) (λ h x. bonded-fails m setup start h mid new (sent-told old mid (Some rec) t told) f x) p c
 
 -- none was due
 none-due : (o : Option (ℕ × Waiting Purpose)) → None ≡ option_map (λ (e : ℕ × Waiting Purpose). e.1.bytes) o → o ≡ None
@@ -280,7 +300,7 @@ now-read (Clock now ∷ h) first ms = now-read h now ms
 bonded-clock : (m : Mounted) (setup : Setup) (start : Start) (h : List Entry) (s : Session) (ms : ℕ) → Bonded m setup start h s → Bonded m setup start (h ++ Clock ms ∷ []) s
 bonded-clock m setup start h s ms b = record {
   mounted = b.mounted;
-  bond = bond-step m setup start.from h s.core (Clock ms) s.core s.dropped (λ comes. absurd comes) refl (λ bytes e. absurd cc) b.bond;
+  bond = bond-step m setup start.from h s.core (Clock ms) s.core s.dropped (λ comes. absurd comes) tt refl (λ bytes e. absurd cc) b.bond;
   tallied = λ is. tallied-on m setup start h s.core (Clock ms) s.core s.dropped s.counts refl (λ bytes e. absurd cc) b.bond (b.tallied is);
 }
 
@@ -295,7 +315,7 @@ core-begins s t h ms lane line op idle few fits step mounted count tally m setup
     subst (λ (k : List Entry). Bonded m setup start k t) (append_assoc h (Clock ms ∷ []) (Began lane line op ∷ [])) (record {
       mounted = mounted ∙ b.mounted;
       bond = subst (λ (n : ℕ). Bond m setup start.from (h1 ++ Began lane line op ∷ []) t.core n) (sym count)
-          (bond-step m setup start.from h1 s.core (Began lane line op) t.core s.dropped (λ comes. absurd comes) begun (λ bytes e. absurd cc) c.bond);
+          (bond-step m setup start.from h1 s.core (Began lane line op) t.core s.dropped (λ comes. absurd comes) tt begun (λ bytes e. absurd cc) c.bond);
       tallied = λ is. subst (Tallied (h1 ++ Began lane line op ∷ []) t.core) (sym tally)
           (tallied-on m setup start h1 s.core (Began lane line op) t.core s.dropped s.counts begun (λ bytes e. absurd cc) c.bond (c.tallied is));
     })
@@ -315,7 +335,7 @@ pub core-answers : (s t : Session) (h : List Entry) (lane line : ℕ) (answer : 
 core-answers s t h lane line answer running answers mounted count tally m setup start b = record {
   mounted = mounted ∙ b.mounted;
   bond = subst (λ (n : ℕ). Bond m setup start.from (h ++ Answered lane line answer ∷ []) t.core n) (sym count)
-      (bond-step m setup start.from h s.core (Answered lane line answer) t.core s.dropped (λ comes. absurd comes) (record { line_is = open-line h lane line running; answers = answers }) (λ bytes e. absurd cc) b.bond);
+      (bond-step m setup start.from h s.core (Answered lane line answer) t.core s.dropped (λ comes. absurd comes) tt (record { line_is = open-line h lane line running; answers = answers }) (λ bytes e. absurd cc) b.bond);
   tallied = λ is. subst (Tallied (h ++ Answered lane line answer ∷ []) t.core) (sym tally)
       (tallied-on m setup start h s.core (Answered lane line answer) t.core s.dropped s.counts (record { line_is = open-line h lane line running; answers = answers }) (λ bytes e. absurd cc) b.bond (b.tallied is));
 }
@@ -335,6 +355,8 @@ fresh-bonded settings setup start s h may f is tallied o = record {
     since = subst (λ (k : List Entry). SentSince k h) (sym is) (since-none h);
     known = λ xid w. absurd (o.1 xid w);
     run = no_drop s.dropped (length h) f.dropped;
+    only = fresh-only setup s.core f.core;
+    stays = unmarked-stays h o.0.unmarked;
   };
   tallied = tallied;
 }

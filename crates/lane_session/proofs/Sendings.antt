@@ -6,9 +6,9 @@ use Rattle.core_facts.proofs.Cases.{sent_now}
 use Rattle.lane_session.specs.declared.counts.Counts.{Counts}
 use Rattle.lane_session.specs.declared.running.Session.{Session}
 use Rattle.lane_session.specs.Holding.{HeadSent, IsLive}
-use Rattle.lane_session.specs.Running.{Exchanges, Sends, Fails}
+use Rattle.lane_session.specs.Running.{Exchanges, Breaks, Sends, Fails, NoneOver}
 use Rattle.lane_session.proofs.Alive.{head-of-sent}
-use Rattle.lane_session.proofs.Trying.{fails-on, sends-on, sends-exchange}
+use Rattle.lane_session.proofs.Trying.{fails-on, fails-told, sends-on, sends-exchange, sends-told}
 
 pub sends-core : (old : Session) (result : Option (List ℕ)) (core : View) (counts : Counts) → IsLive old → SendsBy old.core result core → Sends old (record old { core = core; counts = counts })
 sends-core old result core counts live t = sends-on old result core (record old { core = core; counts = counts }) live t refl refl refl refl refl refl
@@ -19,6 +19,14 @@ pub sends-fails : (old : Session) (result : Option (List ℕ)) (core : View) (co
 sends-fails old result core counts new some live t head f =
     let s = sends-core old result core counts live t in
     sends-exchange old (record old { core = core; counts = counts }) new s (fails-on (record old { core = core; counts = counts }) new some s.live head f)
+
+pub sends-breaks : (old : Session) (result : Option (List ℕ)) (core : View) (counts : Counts) (new : Session) → 1 ≤ old.attempts → IsLive old → NoneOver old.core → SendsBy old.core result core
+    → HeadSent core.calls.calls → Fails (record old { core = core; counts = counts }) new → Breaks old new
+sends-breaks old result core counts new some live told t head f = record {
+  exchanges = sends-fails old result core counts new some live t head f;
+  told = fails-told (record old { core = core; counts = counts }) new f
+      (sends-told old (record old { core = core; counts = counts }) (sends-core old result core counts live t) told);
+}
 
 -- the oldest call that waits was sent, or another after it
 pub sent-head : (old : View) (rec : List ℕ) (new : View) → SendsBy old (Some rec) new → HeadSent new.calls.calls

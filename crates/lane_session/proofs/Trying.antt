@@ -1,23 +1,32 @@
 -- What is left to be tried after each part of the exchange with the server.
 use Rattle.std.proofs.Common.{◌≡◌, ◌≢◌, ◌≤◌, ◌<◌, ◌+◌, ◌-◌, ◌*◌, inl, inr, ℕ, suc, List, [], length, position, slice_get, Bool, true, false, Option, Some, None, refl, sym, ap, subst, ◌∙◌, arith}
 use Rattle.rpc_retry.specs.Sound.{IsSound}
+use Rattle.rpc_retry.specs.Waiting.{first_given_up}
 use Rattle.nfs_script.specs.declared.script.ScriptLine.{ScriptLine}
 use Rattle.client_core.specs.declared.lane.Lane.{Lane}
 use Rattle.client_core.specs.Lanes.{is_over}
 use Rattle.client_core.specs.Numbers.{IsOther, numbers_of}
-use Rattle.client_core.specs.Steps.{SendsBy, WereSent}
+use Rattle.client_core.specs.Steps.{SendsBy, FailsBy, FailsAs, WereSent}
 use Rattle.client_core.specs.View.{View}
+use Rattle.core_facts.proofs.Cases.{FailedNow, goes_on, gives_up, failed_now}
 use Rattle.lane_session.specs.declared.lanes.Place.{Place}
 use Rattle.lane_session.specs.declared.running.Session.{Session}
 use Rattle.lane_session.specs.Holding.{HeadSent, IsAlive, IsHeld, IsLive, AreQuiet, calls_left}
 use Rattle.lane_session.specs.Places.{passed}
-use Rattle.lane_session.specs.Running.{Exchanges, Sends, Fails, Takes, TakesBy, Redialed, given_up, attempts_after, NoneOver}
+use Rattle.lane_session.specs.Running.{Exchanges, Breaks, Sends, Fails, Takes, TakesBy, Redialed, given_up, attempts_after, NoneOver}
 use Rattle.lane_session.specs.Statuses.{IsSessionStatus}
 use Rattle.lane_session.proofs.Alive.{alive-fails, alive-given-up, alive-sends, alive-takes, sends-wait}
 use Rattle.lane_session.proofs.Cores.{HeardSo, heard_none, heard_one, heard-so, SentSo, sends-so, FailedSo, lost-so, fails-so}
 use Rattle.lane_session.proofs.Sounds.{sound-hears, sound-sends, sound-fails}
 
 -- ---- the attempts have ended
+
+-- where a call is given up the session is lost
+up-fails : (old : View) (b : Bool) (new : View) (xid : ℕ) → first_given_up old.calls.calls ≡ Some xid → FailsBy old b new → b ≡ true → ⊥
+up-fails old b new xid up f is =
+    let lost_now : FailsAs (Some xid) old b new = subst (λ (o : Option ℕ). FailsAs o old b new) up f in
+    let no_way : true ≡ false = sym is ∙ lost_now.0 in
+    cc
 
 pub fails-on : (old new : Session) → 1 ≤ old.attempts → IsLive old → HeadSent old.core.calls.calls → Fails old new → Exchanges old new
 fails-on old new some live head f = subst (Exchanges old) (sym f.is) (by f.result refl (fails-so old.core f.result new.core f.core))
@@ -47,6 +56,24 @@ fails-on old new some live head f = subst (Exchanges old) (sym f.is) (by f.resul
         less : (b : Bool) → calls_left new.core ≡ calls_left old.core → 65541 * calls_left new.core + attempts_after b old.attempts + (65536 - old.dropped) < 65541 * calls_left old.core + old.attempts + (65536 - old.dropped)
         less true e = omega (arith, e, some)
         less false e = omega (arith, e, some)
+
+-- where attempts are left each lane has told its answer still
+pub fails-told : (old new : Session) → Fails old new → NoneOver old.core → 1 ≤ new.attempts → NoneOver new.core
+fails-told old new f told left = by f.result refl (failed_now old.core f.result new.core f.core)
+  where
+    alike : new.core.lanes ≡ old.core.lanes → NoneOver new.core
+    alike is n lt = subst (λ (ls : List Lane). position (is_over (suc n)) ls ≡ None) (sym is) (told n lt)
+
+    none_left : f.result ≡ false → ⊥
+    none_left is =
+        let off : new.attempts ≡ attempts_after f.result old.attempts = ap (λ (s : Session). s.attempts) f.is in
+        let zero_left : attempts_after f.result old.attempts ≡ 0 = ap (λ (b : Bool). attempts_after b old.attempts) is in
+        omega (arith, off, zero_left, left)
+
+    by : (b : Bool) → f.result ≡ b → FailedNow old.core new.core → NoneOver new.core
+    by b is (goes_on none same) = alike (ap (λ (v : View). v.lanes) same)
+    by true is (gives_up xid up same) = absurd (up-fails old.core f.result new.core xid up f.core is)
+    by false is (gives_up xid up same) = absurd (none_left is)
 
 -- the session is given up
 pub given-up-on : (old mid : Session) → Exchanges old mid → Exchanges old (given_up mid)
@@ -191,6 +218,9 @@ sends-exchange old mid new p x = record {
   less = let l = x.less in let c = p.calls in let a = p.tries.attempts in let d = p.tries.dropped in omega (arith, l, c, a, d);
   alive = λ a. x.alive (p.alive a);
 }
+
+pub sends-breaks-off : (old mid new : Session) → Sends old mid → Breaks mid new → Breaks old new
+sends-breaks-off old mid new p b = record { exchanges = sends-exchange old mid new p b.exchanges; told = b.told }
 
 -- ---- what is held
 

@@ -1,8 +1,11 @@
 -- How the core goes with the history, so that all that holds of such a core holds of a session.
-use Rattle.std.specs.Prelude.{◌≡◌, ◌<◌, ◌⊎◌, ℕ, List, [], ◌∷◌, ◌++◌, length, Bool, true, false, Option, Some, None, Result, Ok, Err}
+use Rattle.std.specs.Prelude.{◌≡◌, ◌<◌, ◌⊎◌, ℕ, List, [], ◌∷◌, ◌++◌, length, Bool, true, false, slice_get, Option, Some, None, Result, Ok, Err}
 use Rattle.rpc_retry.specs.declared.waiting.Waiting.{Waiting}
 use Rattle.rpc_retry.specs.Waiting.{waiting_at}
 use Rattle.xdr_codec.specs.declared.blob.Memory.{Memory}
+use Rattle.world_model.specs.declared.answer.Answer.{Answer}
+use Rattle.world_model.specs.declared.answer.Answer.TheVariants.{Refused}
+use Rattle.world_model.specs.declared.answer.Fault.TheVariants as faults
 use Rattle.world_model.specs.declared.entry.Entry.{Entry}
 use Rattle.world_model.specs.declared.entry.Entry.TheVariants.{Began, Answered, Sent, Delivered, Clock}
 use Rattle.world_model.specs.Counts.{tally_of}
@@ -15,6 +18,7 @@ use Rattle.session_words.specs.declared.settings.Settings.{Settings}
 use Rattle.op_machines.specs.Begun.{machine_of}
 use Rattle.op_machines.specs.declared.begun.Mounted.{Mounted}
 use Rattle.client_core.specs.declared.lane.Purpose.{Purpose}
+use Rattle.client_core.specs.declared.lane.State.TheVariants.{Over}
 use Rattle.client_core.specs.declared.setup.Setup.{Setup}
 use Rattle.client_core.specs.View.{View}
 use Rattle.core_facts.specs.Reaches.{IsSetUp}
@@ -33,13 +37,25 @@ IsAwaited xid v = (call : Waiting Purpose) × (waiting_at xid v.calls.calls ≡ 
 abbrev pub SentSince : List Entry → List Entry → Type 0
 SentSince from h = (i : ℕ) (bytes : List ℕ) → At h i (Sent bytes) → (i < length from) ⊎ HasBegun h i
 
+-- After an answer that the session is lost there is no other answer.
+abbrev pub StaysLost : List Entry → Type 0
+StaysLost h = (i j lane line other later : ℕ) (answer : Answer) → At h i (Answered lane line (Refused faults.Lost)) → At h j (Answered other later answer)
+    → i < j → answer ≡ Refused faults.Lost
+
+-- in a lost session each answer that is ready is that it is lost
+abbrev pub OnlyLost : View → Type 0
+OnlyLost v = v.lost ≡ true → (at number : ℕ) (answer : Answer) → slice_get v.lanes at ≡ Some (record { number = number; state = Over answer })
+    → answer ≡ Refused faults.Lost
+
 -- The core goes with the history, in which each answer is noted first, and sends nothing before an operation begins; each xid that waits is that of one of
--- its calls; and so many records were dropped last.
+-- its calls; so many records were dropped last; and a session that is lost stays so.
 pub record Bond (m : Mounted) (setup : Setup) (from h : List Entry) (v : View) (dropped : ℕ) : Type 0 where
   pub notes : Notes (machine_of m) setup h v
   pub since : SentSince from h
   pub known : (xid : ℕ) → Waits h xid (length h) → IsAwaited xid v
   pub run : DropRun h dropped (length h)
+  pub only : OnlyLost v
+  pub stays : StaysLost h
 
 -- the history from which a session goes on, and whether the calls of its set-up were counted
 pub record Start : Type 0 where
@@ -52,11 +68,13 @@ pub record Bonded (m : Mounted) (setup : Setup) (start : Start) (h : List Entry)
   pub bond : Bond m setup start.from h s.core s.dropped
   pub tallied : start.counted ≡ true → Tallied h s.core s.counts
 
--- a core goes with the history, in which each answer is noted first, and sent nothing since the first one before an operation began
+-- A core goes with the history, in which each answer is noted first, and sent nothing since the first one before an operation began; and a session that
+-- is lost stays so.
 pub record HasCore (m : Mounted) (setup : Setup) (from h : List Entry) : Type 0 where
   pub core : View
   pub notes : Notes (machine_of m) setup h core
   pub since : SentSince from h
+  pub stays : StaysLost h
 
 -- the core goes on with the history
 abbrev pub CoreGoes : Session → Session → List Entry → List Entry → Type 0

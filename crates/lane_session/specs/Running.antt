@@ -133,14 +133,19 @@ abbrev pub dues : List (ℕ × Waiting Purpose) → ℕ
 dues [] = 0
 dues (e ∷ es) = one_where e.1.due + dues es
 
+-- the link failed; where attempts are left each lane has told its answer still
+pub record Breaks (old new : Session) : Type 0 where
+  pub exchanges : Exchanges old new
+  pub told : 1 ≤ new.attempts → NoneOver new.core
+
 abbrev pub SendsAll : Session → Bool → Session → Type 0
 SendsAll old true new = Sends old new × WereSent new.core.calls.calls × (first_due new.core.calls.calls ≡ None)
-SendsAll old false new = Exchanges old new
+SendsAll old false new = Breaks old new
 
 abbrev pub SendsOne : Session → Sending → Session → Type 0
 SendsOne old sendings.Nothing new = Sends old new × WereSent new.core.calls.calls × (first_due new.core.calls.calls ≡ None)
 SendsOne old sendings.Went new = Sends old new × (dues new.core.calls.calls < dues old.core.calls.calls)
-SendsOne old sendings.Failed new = Exchanges old new
+SendsOne old sendings.Failed new = Breaks old new
 
 -- the attempts that run have ended; where a call is given up none is left
 abbrev pub attempts_after : Bool → ℕ → ℕ

@@ -514,6 +514,7 @@ impl Session {
 
     /// Dials again after the link failed, unless the session is lost; where that doesn't work it is lost.
     fn reconnect<L: Link>(&mut self, link: &mut L) -> Result<(), Halt>
+        requires told { 1 ≤ self.old.attempts → NoneOver self.old.core }
         ensures redials { OnOk result (Redialed self.old self.new) }
         ensures goes { Relates (L.told link.old) (L.told link.new) Quietly }
         ensures core { Relates (L.told link.old) (L.told link.new) (CoreBy self.old self.new result) }

@@ -1,6 +1,7 @@
 use Rattle.std.proofs.Common.{Ok, Err, refl}
 use Rattle.lane_session.specs.declared.top.End.{End}
 use Rattle.lane_session.proofs.CoreEnds.{told-lost, told-lost-counted}
+use Rattle.lane_session.proofs.LostAnswers.{told-lost-stays}
 use Rattle.lane_session.proofs.LostLaws.{lost-ends, lost-breaks, status-ends}
 use Rattle.lane_session.proofs.Passing.{passes_less}
 use Rattle.lane_session.proofs.Ports.{dials_loses}
@@ -21,6 +22,12 @@ returns-in-Ok-clause-core g c = let p = c.in-Ok.ensures.goes in told-lost _ _ c.
 
 pub returns-in-Err-clause-core : goal.returns-in-Err-clause-core
 returns-in-Err-clause-core g c = let p = c.in-Err.ensures.goes in told-lost _ _ c.args.script.now p.given p.text (Err c.in-Err.halt) p.told
+
+pub returns-in-Ok-clause-stays : goal.returns-in-Ok-clause-stays
+returns-in-Ok-clause-stays g c = let p = c.in-Ok.ensures.goes in told-lost-stays _ _ c.args.script.now (Ok tt) p.given p.text p.told
+
+pub returns-in-Err-clause-stays : goal.returns-in-Err-clause-stays
+returns-in-Err-clause-stays g c = let p = c.in-Err.ensures.goes in told-lost-stays _ _ c.args.script.now (Err c.in-Err.halt) p.given p.text p.told
 
 pub returns-in-Ok-clause-counted : goal.returns-in-Ok-clause-counted
 returns-in-Ok-clause-counted g c =

@@ -15,6 +15,12 @@ pub returns-in-Err-clause-shown : goal.returns-in-Err-clause-shown
 returns-in-Err-clause-shown g c =
     passes_less _ _ _ _ _ _ _ _ (λ given text h k b u. broken-counts _ c.args.tally c.args.settings.now.count c.args.script.now c.in-Err.halt c.of_halt.result given text h k c.of_halt.ensures (b u)) c.in-Err.ensures.goes
 
+pub returns-in-Ok-clause-stays : goal.returns-in-Ok-clause-stays
+returns-in-Ok-clause-stays g c = c.in-Ok.ensures.stays
+
+pub returns-in-Err-clause-stays : goal.returns-in-Err-clause-stays
+returns-in-Err-clause-stays g c = c.in-Err.ensures.stays
+
 pub returns-in-Err-clause-ending : goal.returns-in-Err-clause-ending
 returns-in-Err-clause-ending g c = halted c.in-Err.halt c.of_halt.result c.of_halt.ensures
 

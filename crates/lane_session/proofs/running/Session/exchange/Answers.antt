@@ -14,7 +14,7 @@ returns-then-went-clause-goes g c = quiet_then _ _ _ c.in-Ok.ensures.goes c.hear
 pub returns-else-went-clause-exchanges : goal.returns-else-went-clause-exchanges
 returns-else-went-clause-exchanges g c =
     let ended = rw c.if-went.false at c.in-Ok.ensures.sends in
-    ok-map c.reconnect.result _ _ (λ r. redialed-on c.args.self.now c.send_all.new.self c.reconnect.new.self ended r) c.reconnect.ensures.redials
+    ok-map c.reconnect.result _ _ (λ r. redialed-on c.args.self.now c.send_all.new.self c.reconnect.new.self ended.exchanges r) c.reconnect.ensures.redials
 
 pub returns-else-went-clause-goes : goal.returns-else-went-clause-goes
 returns-else-went-clause-goes g c = quiet_then _ _ _ c.in-Ok.ensures.goes c.reconnect.ensures.goes
@@ -32,6 +32,11 @@ returns-then-went-clause-dials g c = keeps_then _ _ _ _ _ _ c.in-Ok.ensures.dial
 
 pub returns-else-went-clause-dials : goal.returns-else-went-clause-dials
 returns-else-went-clause-dials g c = keeps_then _ _ _ _ _ _ c.in-Ok.ensures.dials c.reconnect.ensures.dials
+
+pub reconnect-requires : goal.reconnect-requires
+reconnect-requires g c =
+    let ended = rw c.if-went.false at c.in-Ok.ensures.sends in
+    record { told = ended.told }
 
 pub hear-requires : goal.hear-requires
 hear-requires g c =

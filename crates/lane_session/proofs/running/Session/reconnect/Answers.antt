@@ -1,4 +1,4 @@
-use Rattle.std.proofs.Common.{refl, ap}
+use Rattle.std.proofs.Common.{refl, ap, arith}
 use Rattle.lane_session.specs.Bonds.{CoreGoes}
 use Rattle.lane_session.specs.declared.running.Session.{Session}
 use Rattle.lane_session.proofs.Passing.{relates_less, relates_same}
@@ -24,7 +24,9 @@ returns-in-Ok-false-clause-goes g c = relates_less _ _ _ _ (λ h k r. by-quietly
 pub returns-in-Ok-false-clause-core : goal.returns-in-Ok-false-clause-core
 returns-in-Ok-false-clause-core g c =
     let dialed = rw c.in-Ok-false.field-0-test at c.in-Ok-false.ensures in
-    rw c.lose.ensures (relates_less _ _ _ _ (λ h k r. core-undialed c.args.self.now h k r) dialed.goes)
+    let left = c.if-self-eq0.false in
+    let told = c.requires.told (omega (arith, left)) in
+    rw c.lose.ensures (relates_less _ _ _ _ (λ h k r. core-undialed c.args.self.now h k told r) dialed.goes)
 
 pub returns-in-Err-clause-goes : goal.returns-in-Err-clause-goes
 returns-in-Err-clause-goes g c = relates_less _ _ _ _ (λ h k r. by-quietly c.redial.result h k r) c.redial.ensures.goes

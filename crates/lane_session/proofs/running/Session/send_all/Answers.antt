@@ -2,7 +2,7 @@ use Rattle.lane_session.specs.Bonds.{CoreGoes}
 use Rattle.lane_session.proofs.Passing.{relates_same, relates_then}
 use Rattle.lane_session.proofs.Quiets.{quiet_same, quiet_then}
 use Rattle.lane_session.proofs.Reaching.{core-same, core-then, core-then-cut}
-use Rattle.lane_session.proofs.Trying.{sends-none, sends-then, sends-told}
+use Rattle.lane_session.proofs.Trying.{sends-none, sends-then, sends-told, sends-breaks-off}
 use Rattle.lane_session.proofs.Ports.{keeps_none, keeps_then}
 use Rattle.lane_session.proofs.running.Session.send_all.Goals as goal
 
@@ -19,6 +19,11 @@ sending-preserved g c =
       dials = keeps_then _ _ _ _ _ _ c.sending.invariant.dials c.in-Ok.ensures.dials;
       honest = λ h. c.in-Ok.ensures.honest (c.sending.invariant.honest h);
     }
+
+pub returns-in-Failed-clause-sends : goal.returns-in-Failed-clause-sends
+returns-in-Failed-clause-sends g c =
+    let broken = rw c.in-Failed.is at c.in-Ok.ensures.sends in
+    sends-breaks-off c.args.self.now c.sending.self c.send_next.new.self c.sending.invariant.sends broken
 
 pub returns-in-Failed-clause-goes : goal.returns-in-Failed-clause-goes
 returns-in-Failed-clause-goes g c = quiet_then _ _ _ c.sending.invariant.goes c.in-Ok.ensures.goes

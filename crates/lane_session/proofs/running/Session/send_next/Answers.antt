@@ -6,7 +6,7 @@ use Rattle.lane_session.proofs.Passing.{relates_call, relates_same}
 use Rattle.lane_session.proofs.Quiets.{quiet_tells}
 use Rattle.lane_session.proofs.Reaching.{core-sends-none, core-sends, core-sends-fails, core-unmade}
 use Rattle.lane_session.proofs.Sounds.{all-sent, fewer-due}
-use Rattle.lane_session.proofs.Sendings.{sends-core, sends-fails, sent-head}
+use Rattle.lane_session.proofs.Sendings.{sends-core, sends-breaks, sent-head}
 use Rattle.link_dials.proofs.Dialing.{dials_sent}
 use Rattle.lane_session.proofs.Ports.{keeps_none, fails_port}
 use Rattle.lane_session.proofs.running.Session.send_next.Goals as goal
@@ -31,7 +31,7 @@ returns-in-Ok-clause-goes g c = quiet_tells _ _ (Sent c.in-Some.rec.now ∷ []) 
 pub returns-in-Err-Failed-clause-sends : goal.returns-in-Err-Failed-clause-sends
 returns-in-Err-Failed-clause-sends g c =
     let sent = rw c.in-Some.is at c.next_send.follows.holds-at-none in
-    sends-fails c.args.self.now (Some c.in-Some.rec.now) c.next_send.follows.lender-at-none c.count.new.self c.fail.new.self c.requires.some c.requires.live sent
+    sends-breaks c.args.self.now (Some c.in-Some.rec.now) c.next_send.follows.lender-at-none c.count.new.self c.fail.new.self c.requires.some c.requires.live c.requires.told sent
     (sent-head c.args.self.now.core c.in-Some.rec.now c.next_send.follows.lender-at-none sent) c.fail.ensures
 
 pub returns-in-Err-Failed-clause-goes : goal.returns-in-Err-Failed-clause-goes
