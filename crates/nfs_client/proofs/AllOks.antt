@@ -1,5 +1,5 @@
--- Each operation that goes well has its row: an open unless the session keeps no attributes but opens files by those.
-use Rattle.std.proofs.Common.{ℕ, List}
+-- Each operation that goes well has its row: an open where the settings are those of a command.
+use Rattle.std.proofs.Common.{◌≡◌, ℕ, Bool, true, false, List, Option, refl, sym, ◌∙◌}
 use Rattle.world_model.specs.declared.answer.Answer.TheVariants.{Done}
 use Rattle.world_model.specs.declared.answer.Value.{Value}
 use Rattle.world_model.specs.declared.entry.Entry.{Entry}
@@ -23,8 +23,19 @@ use Rattle.core_answers.proofs.answers.StatStory.{stats-ok}
 use Rattle.core_session.specs.calls.Sessions.{AreAsked}
 use Rattle.core_session.proofs.outcomes.OpenRows.{opens-well}
 use Rattle.core_session.proofs.outcomes.RemoveRows.{removes-well}
-use Rattle.nfs_client.specs.Shown.{IsOpen, OksShown}
+use Rattle.session_words.specs.declared.settings.Settings.{Settings}
+use Rattle.session_words.specs.Words.{IsNocto}
+use Rattle.nfs_client.specs.Shown.{AreGiven, by_words, by_modes, IsOpen, OksShown, terms_by}
 use Rattle.core_session.specs.outcomes.Opened.{KeepsThem}
+
+-- words never give both (nfs(5), noac)
+never-both : (noac : Bool) (text : Option (List ℕ)) (nocto : Bool) → IsNocto noac text nocto → nocto ≡ true → noac ≡ false
+never-both true text nocto is may = absurd (let no_way : true ≡ false = sym may ∙ is in cc)
+never-both false text nocto is may = refl
+
+pub keeps-them : (s : Settings) (first : ℕ) → AreGiven s → KeepsThem (terms_by s first)
+keeps-them s first (by_words words command) may = never-both s.noac _ s.nocto command.gives.nocto may
+keeps-them s first (by_modes either) may = either may
 
 module _ (m : Mounted) (terms : Terms) (setup : Setup) (h : List Entry) (v : View) (g : GoesWith m terms setup h v) (known : KnowsRoot terms.origin h m.root) where
   by-op : (lane x y : ℕ) (op : Op) (value : Value) → (IsOpen op → KeepsThem terms) → IsAsked op → Ended h lane x op y (Done value) → OkRow terms h lane x y op value
@@ -47,5 +58,5 @@ module _ (m : Mounted) (terms : Terms) (setup : Setup) (h : List Entry) (v : Vie
   by-op lane x y (ops.ReadLink path) value keeps may d = one-calls-done m setup h v g.reaches terms known lane x (ops.ReadLink path) y value tt may d
   by-op lane x y (ops.List path) value keeps may d = lists-shown m setup h v g.reaches terms known lane x path y value d
 
-  pub all-oks : AreAsked h → OksShown terms h
-  all-oks asked lane x y op value keeps ended = by-op lane x y op value keeps (asked x lane ended.line op ended.began) ended
+  pub all-oks : (s : Settings) → AreAsked h → (AreGiven s → KeepsThem terms) → OksShown s terms h
+  all-oks s asked so lane x y op value open_ ended = by-op lane x y op value (λ o. so (open_ o)) (asked x lane ended.line op ended.began) ended

@@ -4,6 +4,9 @@ pub mod ScriptLines
 pub mod ScriptAsked
 pub mod AllAsked
 pub mod AllOks
+pub mod Spent
+pub mod Causes
+pub mod OwnWrites
 pub mod Showing
 pub mod LaneRuns
 pub mod Runs

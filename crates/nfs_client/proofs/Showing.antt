@@ -9,13 +9,17 @@ use Rattle.world_model.specs.declared.entry.Entry.{Entry}
 use Rattle.world_model.specs.declared.entry.Entry.TheVariants.{Began, Sent}
 use Rattle.world_model.specs.declared.op.Op.{Op}
 use Rattle.world_model.specs.declared.op.Op.TheVariants as ops
+use Rattle.world_model.specs.declared.answer.Answer.TheVariants.{Refused}
+use Rattle.world_model.specs.declared.answer.Fault.TheVariants.{Spent}
 use Rattle.world_model.specs.CallsAsked.{CallsAsked, NoneBegan}
+use Rattle.world_model.specs.Caused.{calls_in}
 use Rattle.world_model.specs.Entries.{At}
 use Rattle.world_model.specs.Fresh.{Fresh}
 use Rattle.world_model.specs.History.{History}
 use Rattle.world_model.specs.Lawful.{Lawful}
 use Rattle.world_model.specs.Mounts.{Rooted}
 use Rattle.world_model.specs.Once.{Once}
+use Rattle.world_model.specs.Operations.{Ended}
 use Rattle.world_model.specs.Rows.{WasSent}
 use Rattle.world_model.specs.Terms.{Terms}
 use Rattle.world_model.proofs.Growth.{Rooted-grow, Rooted-wide}
@@ -64,13 +68,16 @@ use Rattle.core_answers.proofs.paths.ListsWhole.{lists-whole}
 use Rattle.core_answers.proofs.paths.PutNames.{names-held}
 use Rattle.core_session.proofs.pending.Unsettled.{pending-held}
 use Rattle.core_answers.proofs.reads.ReadsFrom.{reads-from, reads-given}
-use Rattle.core_session.proofs.counts.commits.Counted.{few-commits-with-room}
-use Rattle.core_session.proofs.counts.equal.Counted.{equal-few}
-use Rattle.core_session.proofs.counts.hidden.Counted.{hidden-few}
-use Rattle.core_session.proofs.counts.listed.Counted.{pages-few}
-use Rattle.core_session.proofs.counts.reads.Counted.{few-reads-made}
-use Rattle.core_session.proofs.thrift.Once.{given-once}
-use Rattle.core_session.proofs.thrift.ReadsLong.{reads-long}
+use Rattle.core_counts.proofs.counts.rooms.Counted.{few-commits}
+use Rattle.core_counts.proofs.counts.equal.Counted.{equal-few}
+use Rattle.core_counts.proofs.counts.hidden.Counted.{hidden-few}
+use Rattle.core_counts.proofs.counts.listed.Counted.{pages-few}
+use Rattle.core_counts.proofs.counts.reads.Counted.{few-reads-made}
+use Rattle.core_counts.proofs.counts.writes.Counted.{few-writes-made}
+use Rattle.core_counts.proofs.thrift.Once.{kept-once}
+use Rattle.core_counts.proofs.thrift.ReadsLong.{reads-long}
+use Rattle.core_counts.proofs.thrift.short.SavedLong.{saved-long}
+use Rattle.core_counts.proofs.thrift.short.WrittenLong.{written-long}
 use Rattle.core_session.proofs.asked.Whole.{all-asked}
 use Rattle.core_facts.specs.Notes.{Notes}
 use Rattle.core_facts.proofs.Noting.{notes-reach}
@@ -98,13 +105,17 @@ use Rattle.session_setup.specs.declared.opening.SetUp.{SetUp}
 use Rattle.session_setup.specs.Outcomes.{FitsSession, SetsUp, origin_of}
 use Rattle.lane_session.specs.Bonds.{HasCore, SentSince}
 use Rattle.lane_session.specs.Going.{AllTimed, Grows}
+use Rattle.lane_session.specs.Places.{entries_of}
 use Rattle.lane_session.specs.Running.{mounted_by}
-use Rattle.core_session.proofs.coarse.Along.{writes-were-long}
+use Rattle.core_counts.proofs.coarse.Along.{writes-were-long}
 use Rattle.bond_calls.proofs.CallsWait.{xid_of_call}
-use Rattle.core_session.specs.coarse.WereLong.{write_call}
-use Rattle.nfs_client.specs.Shown.{AllRowed, CallsShown, SlotsShown, PutsShown, CompleteShown, FaultsShown, KeptShown, RestShown, StableShown, HonestShown, RunShows, NeverBack, NoneUnderWay, longest_of, modes_of, setup_of, terms_by}
+use Rattle.core_counts.specs.coarse.WereLong.{write_call}
+use Rattle.nfs_client.specs.Shown.{AllRowed, CallsShown, CountsShown, OksShown, SlotsShown, PutsShown, CompleteShown, FaultsShown, KeptShown, RestShown, StableShown, HonestShown, RunShows, NeverBack, NoneUnderWay, longest_of, modes_of, setup_of, terms_by}
 use Rattle.nfs_client.proofs.AllAsked.{goes-from, only-sets-up}
-use Rattle.nfs_client.proofs.AllOks.{all-oks}
+use Rattle.nfs_client.proofs.AllOks.{all-oks, keeps-them}
+use Rattle.nfs_client.proofs.Causes.{all-caused}
+use Rattle.nfs_client.proofs.OwnWrites.{own-writes}
+use Rattle.nfs_client.proofs.Spent.{ended-sent}
 
 -- ---- the root
 
@@ -199,6 +210,16 @@ module _ (m : Mounted) (setup : Setup) (h : List Entry) (core : View) (r : Reach
         let own = (reached-owned (machine_of m) (begins-unbegun m) setup h core r found).owned xid w waits in
         none w.purpose.lane own.x own.op own.under_way
 
+    -- as many calls as may be, once each that waits was sent
+    calls-sent : (terms : Terms) → CallsShown terms setup before h → ((xid : ℕ) → terms.first ≤ xid → xid < setup.first_xid → WasSent h xid (length h))
+        → setup.first_xid + setup.limit ≡ terms.first + terms.calls
+        → (lane x : ℕ) (op : Op) (y : ℕ) → Ended h lane x op y (Refused Spent) → WereSent core.calls.calls → calls_in h ≡ terms.calls
+    calls-sent terms shown early total lane x op y ended were =
+        calls-are-all h terms.first terms.calls shown.asked.among (λ xid low high. elim (cases_lt xid setup.first_xid) [
+          | inl set_up ↦ early xid low set_up
+          | inr own ↦ all-sent m setup h core r lane x op y ended were xid own (omega (arith, high, total))
+        ])
+
     faults-shown : (terms : Terms) → CallsShown terms setup before h → ((xid : ℕ) → terms.first ≤ xid → xid < setup.first_xid → WasSent h xid (length h))
         → setup.first_xid + setup.limit ≡ terms.first + terms.calls → AreAsked h → GoesSo m terms setup h core
         → AllRowed terms h → FaultsShown terms setup h core
@@ -215,10 +236,7 @@ module _ (m : Mounted) (setup : Setup) (h : List Entry) (core : View) (r : Reach
             | true ↦ λ is. absurd (never (reached-shown (machine_of m) setup h core r is))
             | false ↦ λ is. is
           ] refl in
-          calls-are-all h terms.first terms.calls shown.asked.among (λ xid low high. elim (cases_lt xid setup.first_xid) [
-            | inl set_up ↦ early xid low set_up
-            | inr own ↦ all-sent m setup h core r lane x op y ended (no-calls core.calls.calls (none-wait none found)) xid own (omega (arith, high, total))
-          ]);
+          calls-sent terms shown early total lane x op y ended (no-calls core.calls.calls (none-wait none found));
     }
 
 -- ---- an honest server
@@ -318,30 +336,46 @@ module _ (s : Settings) (first : ℕ) (v : SetUp) (before h : List Entry) (so : 
       let from : GoesFrom mounted terms (setup_of s v) before h has.core = goes-from s first v before so fits h grown.0 grown.1 asked has in
       let calls : CallsShown terms (setup_of s v) before h =
       calls-shown mounted (setup_of s v) h has.core reaches before has.since terms refl root (all-asked mounted terms (setup_of s v) before h has.core from has.notes) in
+      let counts : CountsShown terms h =
+      λ script follows. record {
+        equal = equal-few mounted terms (setup_of s v) before h has.core from has.notes;
+        reads = few-reads-made mounted terms (setup_of s v) before h has.core from has.notes;
+        writes = few-writes-made mounted terms (setup_of s v) before h has.core from has.notes;
+        commits = few-commits mounted terms (setup_of s v) before h has.core from has.notes;
+        pages = pages-few mounted terms (setup_of s v) before h has.core from has.notes;
+        hidden = hidden-few mounted terms (setup_of s v) before h has.core from has.notes script follows;
+      } in
+      let oks : OksShown s terms h = all-oks mounted terms (setup_of s v) h has.core (record { nocto = refl; reaches = reaches }) root s asked (keeps-them s first) in
+      let slots : SlotsShown terms h = slots-shown mounted (setup_of s v) h has.core reaches terms refl in
+      let rows : AllRowed terms h = refusals-all-rowed mounted terms (setup_of s v) before h has.core from has.notes in
       record {
         has = has;
         calls = calls;
-        counts = record {
-          reads = few-reads-made mounted terms (setup_of s v) before h has.core from has.notes;
-          equal = equal-few mounted terms (setup_of s v) before h has.core from has.notes;
-          commits = few-commits-with-room mounted terms (setup_of s v) before h has.core from has.notes;
-          pages = pages-few mounted terms (setup_of s v) before h has.core from has.notes;
-          hidden = hidden-few mounted terms (setup_of s v) before h has.core from has.notes;
-          long = reads-long mounted terms (setup_of s v) before h has.core from;
-          once = given-once mounted terms (setup_of s v) before h has.core from;
+        counts = counts;
+        thrift = record {
+          reads = reads-long mounted terms (setup_of s v) before h has.core from;
+          pages = kept-once mounted terms (setup_of s v) before h has.core from;
+          puts = own-writes mounted terms (setup_of s v) before h has.core from has.notes;
+          written = written-long mounted (setup_of s v) h has.core has.notes;
+          syncs = saved-long mounted (setup_of s v) h has.core has.notes;
         };
         writes = λ i xid offset how file bytes rec at spells late.
             writes-were-long mounted (setup_of s v) h has.core reaches i xid offset how file bytes rec at spells (elim (calls.among i xid rec at (xid_of_call xid (write_call file offset how bytes) rec spells)) [
               | inl early ↦ absurd (omega (arith, early, late))
               | inr among ↦ among.low
             ]);
-        oks = all-oks mounted terms (setup_of s v) h has.core (record { nocto = refl; reaches = reaches }) root asked;
-        slots = slots-shown mounted (setup_of s v) h has.core reaches terms refl;
+        oks = oks;
+        slots = slots;
         puts = puts-refused mounted (setup_of s v) h has.core reaches terms root asked;
         faults = faults-shown mounted (setup_of s v) h has.core reaches before has.since terms calls sent-early fits.total asked
             (record { goes = record { nocto = refl; reaches = reaches }; noac = refl; some = (reached-may (machine_of mounted) (setup_of s v) h has.core reaches).sizes.read; known = root })
-            (refusals-all-rowed mounted terms (setup_of s v) before h has.core from has.notes);
+            rows;
         rest = rest-shown mounted (setup_of s v) h has.core reaches;
+        caused = λ are lines status follows ends.
+            all-caused s terms (entries_of lines) status h calls.asked (counts (entries_of lines) follows) are oks rows slots has.stays
+            (λ lane x y op by_itself ended.
+            calls-sent mounted (setup_of s v) h has.core reaches before has.since terms calls sent-early fits.total lane x op y ended
+            (ended-sent mounted (setup_of s v) h has.core reaches lines status ends by_itself));
         kept = kept-shown mounted (setup_of s v) h has.core reaches terms refl root (puts-named h asked);
         complete = λ t is. complete-shown mounted terms (setup_of s v) before t has.core (subst (λ (k : List Entry). GoesFrom mounted terms (setup_of s v) before k has.core) (sym is) from)
             (subst (λ (k : List Entry). Notes (machine_of mounted) (setup_of s v) k has.core) (sym is) has.notes);

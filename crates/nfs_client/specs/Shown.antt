@@ -5,7 +5,6 @@ use Rattle.attr_cache.specs.declared.kept.KeptAttr.{KeptAttr}
 use Rattle.attr_cache.specs.declared.lives.Lives.{Lives}
 use Rattle.name_cache.specs.Names.{looked}
 use Rattle.nfs_types.specs.declared.attr.Attr.{Attr}
-use Rattle.nfs_types.specs.declared.verf.Verf.{Verf}
 use Rattle.nfs_types.specs.declared.wcc.Stamp.{Stamp}
 use Rattle.nfs_types.specs.Stamps.{stamp_of}
 use Rattle.page_cache.specs.Bytes.{page_at}
@@ -25,10 +24,10 @@ use Rattle.world_model.specs.declared.entry.Entry.TheVariants.{Clock, Sent}
 use Rattle.world_model.specs.declared.message.Call.{Call}
 use Rattle.world_model.specs.declared.op.Op.{Op}
 use Rattle.world_model.specs.declared.op.Op.TheVariants as ops
-use Rattle.world_model.specs.Caused.{IsTried, calls_in}
+use Rattle.world_model.specs.Caused.{Caused, IsTried, calls_in}
 use Rattle.world_model.specs.Complete.{IsOwn, Completes}
 use Rattle.world_model.specs.CallsAsked.{CallsAsked}
-use Rattle.world_model.specs.CallCounts.{FewCommits, FewEqual, FewHidden, FewPages, FewReads}
+use Rattle.world_model.specs.CallCounts.{CallCounts}
 use Rattle.world_model.specs.Entries.{At}
 use Rattle.world_model.specs.Follows.{Follows}
 use Rattle.world_model.specs.Fresh.{Fresh}
@@ -37,21 +36,18 @@ use Rattle.world_model.specs.Lawful.{Lawful}
 use Rattle.world_model.specs.Lost.{IsLost}
 use Rattle.world_model.specs.Messages.{HasXid, SpellsCall}
 use Rattle.world_model.specs.Modes.{Modes}
-use Rattle.world_model.specs.Mounts.{Rooted}
 use Rattle.world_model.specs.OkRows.{OkRow}
 use Rattle.world_model.specs.Once.{Once}
 use Rattle.world_model.specs.Operations.{Ended, UnderWay}
 use Rattle.world_model.specs.Pending.{Pending}
-use Rattle.world_model.specs.ReadSize.{ReadSized}
 use Rattle.world_model.specs.ReadTrue.{ReadCurrent, ReadShort, ReadsBytes, ReadTrue}
 use Rattle.world_model.specs.Recent.{AttrAge, ListTrue, NamesTrue}
 use Rattle.world_model.specs.RefusalRows.{RefusalRow}
 use Rattle.world_model.specs.Rising.{Rising}
 use Rattle.world_model.specs.Settled.{HoldsStable, SettledBy, Settled}
 use Rattle.world_model.specs.Terms.{Terms, jukebox}
-use Rattle.world_model.specs.Thrifty.{read_call, LongReads, MeetsPage, OneLane, TookPage}
+use Rattle.world_model.specs.Thrifty.{CoveredEarlier, KeptPages, LongReads, NeverFull, OneLane, ShortWrite, WritesAt}
 use Rattle.world_model.specs.Touched.{Wrote}
-use Rattle.world_model.specs.Waiting.{FirstSent}
 use Rattle.bond_calls.specs.Calls.{Numbered}
 use Rattle.bond_own.specs.Own.{CutsStay}
 use Rattle.bond_reads.specs.Kept.{HasStamp}
@@ -70,17 +66,14 @@ use Rattle.core_answers.specs.asks.Xids.{IsAmong}
 use Rattle.core_answers.specs.bonds.Led.{HadWhereLed}
 use Rattle.core_answers.specs.bonds.Named.{StoodAfter}
 use Rattle.op_machines.specs.declared.begun.Mounted.{Mounted}
-use Rattle.core_session.specs.coarse.WereLong.{write_call, WasLong}
-use Rattle.core_session.specs.counts.Commits.{HasRoom}
-use Rattle.core_session.specs.counts.Equal.{DoesIt}
-use Rattle.core_session.specs.thrift.KeptReads.{IsFirstReply, StaysSo}
+use Rattle.core_counts.specs.coarse.WereLong.{write_call, WasLong}
+use Rattle.core_counts.specs.thrift.Writes.{BeganOtherwise, ShortSavedWrite, ShortWrittenWrite}
 use Rattle.core_session.specs.current.Recent.{ReadRecent}
 use Rattle.core_session.specs.current.Steady.{IsStable}
 use Rattle.core_answers.specs.pages.Kept.{IsKept}
 use Rattle.core_answers.specs.reads.From.{ReadFrom, ReadGiven}
 use Rattle.core_facts.specs.Notes.{NoneReady}
 use Rattle.core_session.specs.outcomes.Complete.{IsServed}
-use Rattle.core_session.specs.outcomes.Opened.{KeepsThem}
 use Rattle.core_session.specs.outcomes.Refusals.{IsItsOwn}
 use Rattle.core_answers.specs.refusals.Rowed.{IsFinal, RefusedFor}
 use Rattle.core_session.specs.saves.PutsWritten.{AllMadeStable}
@@ -90,11 +83,15 @@ use Rattle.core_answers.specs.writes.Alone.{IsWaiting, IsQuiet, committed_file, 
 use Rattle.core_answers.specs.writes.Carried.{IsCarried}
 use Rattle.core_answers.specs.writes.Flights.{IsInFlight}
 use Rattle.core_answers.specs.writes.Written.{PlaceWritten}
+use Rattle.nfs_script.specs.declared.script.ScriptLine.{ScriptLine}
 use Rattle.session_words.specs.declared.settings.Settings.{Settings}
+use Rattle.session_words.specs.Words.{IsCommand}
 use Rattle.session_setup.specs.declared.opening.SetUp.{SetUp}
 use Rattle.session_setup.specs.Outcomes.{origin_of}
 use Rattle.lane_session.specs.Bonds.{HasCore}
+use Rattle.lane_session.specs.Places.{entries_of}
 use Rattle.lane_session.specs.Running.{mounted_by}
+use Rattle.lane_session.specs.Sessions.{EndsAs}
 
 -- ---- what a session is given
 
@@ -114,6 +111,11 @@ abbrev pub terms_by : Settings → ℕ → Terms
 terms_by s first =
     record { origin = origin_of s.export; cred = s.cred; first = first; calls = s.calls; rsize = s.rsize; wsize = s.wsize; modes = modes_of s }
 
+-- The settings of a command; or others by which opens go by kept attributes only where attributes are kept (nfs(5), nocto and noac).
+pub data AreGiven (s : Settings) : Type 0 where
+  by_words : (words : List (List ℕ)) → IsCommand words s → AreGiven s
+  by_modes : (s.nocto ≡ true → s.noac ≡ false) → AreGiven s
+
 -- ---- calls
 
 -- Each record was sent by the set-up, as MNT or FSINFO, or is a call of an operation that is under way and asks for it, with the session's credential. Each
@@ -126,22 +128,27 @@ pub record CallsShown (terms : Terms) (setup : Setup) (before h : List Entry) : 
   pub among : (i xid : ℕ) (bytes : List ℕ) → At h i (Sent bytes) → HasXid bytes xid → (i < length before) ⊎ IsAmong setup.first_xid setup.limit xid
   pub lone_puts : (i : ℕ) (bytes : List ℕ) → At h i (Sent bytes) → (i < length before) ⊎ IsMadeAlone terms terms.cred h i bytes
 
--- How many calls are made at most, not counting those that are made again since the server was busy: of a file as many READs as the pages take that its
--- reads ask for, and one more for each short reply; of equal calls that do what an operation is for, as many as its paths have names and three more; two
--- COMMITs for each sync and close of a file and each put, where all writes, fills and puts of the session together leave room; of a directory, from a
--- cookie on, as many READDIRPLUS as replies lead there, and from its beginning one for each list; and LOOKUPs of hidden names as removes began, and as
--- such names were found taken. Each READ asks for as many bytes as it may; and in a session of one lane a page that a READ gave isn't asked for again as
--- long as operations only read, and the file stays as it was.
-pub record CountsShown (terms : Terms) (h : List Entry) : Type 0 where
-  pub reads : (f root : List ℕ) (rsize : ℕ) → Rooted terms.origin h (length h) root → ReadSized h (length h) root terms.rsize rsize → FewReads terms h f rsize
-  pub equal : (call : Call) → DoesIt call → FewEqual terms h call
-  pub commits : HasRoom h → (f : List ℕ) → FewCommits terms h f
-  pub pages : (d : List ℕ) (cookie : ℕ) (verf : Verf) → FewPages terms h d cookie verf
-  pub hidden : (script : List Entry) → Follows script h → FewHidden script h
-  pub long : LongReads terms h
-  pub once : terms.modes.nocto ≡ false → OneLane h → (o at page n xid offset count : ℕ) (f bytes : List ℕ) (stamp : Stamp)
-      → (took : TookPage terms h o f stamp at page) → IsFirstReply h took.xid at → FirstSent h n xid bytes → SpellsCall xid (read_call f offset count) bytes
-      → at < n → MeetsPage offset count page → StaysSo h o n f stamp → ⊥
+-- Of a session that follows a script no more calls are made than its operations need, by `CallCounts` of `world_model`, each at most four times where a busy
+-- server puts it off: of equal plain calls, for each operation that asks, as many as its paths have names and three more; of a file as many READs as the pages
+-- take that its reads ask for, and one more for each short reply; of WRITEs that cover a place of it, one for each operation that writes it, for each reply
+-- that leaves it unwritten, and for each COMMIT of the file; two COMMITs for each sync, close and put of it, and 32 for each writer where these may have no
+-- room; of a directory, from a cookie on, as many READDIRPLUS as replies lead there, and from its beginning one for each list; and LOOKUPs of hidden names as
+-- removes began, and as such names were found taken.
+abbrev pub CountsShown : Terms → List Entry → Type 0
+CountsShown terms h = (script : List Entry) → Follows script h → CallCounts terms script h
+
+-- Each READ asks for as many bytes as it may, or up to where a page is kept or the last one ends that a read needs; and in a session of one lane whose opens
+-- ask for attributes a page that a READ gave isn't asked for again while nothing shows that the file changed. In one lane, too, a shorter WRITE than may be is
+-- followed, where it ends, by an earlier WRITE: one first sent within a put that itself writes its last byte and the next one (`Thrifty`, where the last to
+-- write both is the put); and one first sent within a sync or close, of a byte that a write or fill of its slot gave together with the next one, where only
+-- writes and fills began between, or where as the sync or close began bytes of both places waited to be sent as unstable.
+pub record ThriftShown (m : Mounted) (terms : Terms) (setup : Setup) (h : List Entry) : Type 0 where
+  pub reads : LongReads terms h
+  pub pages : terms.modes.nocto ≡ false → OneLane h → KeptPages terms h
+  pub puts : OneLane h → NeverFull h → (i x end : ℕ) (op : Op) (f : List ℕ) → ShortWrite terms h i x op f end → WritesAt terms h x op f (end + 1) x
+      → WritesAt terms h x op f end x → CoveredEarlier h i f (end + 1)
+  pub written : OneLane h → NeverFull h → (i x w end : ℕ) (f : List ℕ) → ShortWrittenWrite setup h i x w f end → CoveredEarlier h i f (end + 1)
+  pub syncs : OneLane h → (i x end : ℕ) (f : List ℕ) → ShortSavedWrite setup h i x f end → CoveredEarlier h i f (end + 1) ⊎ BeganOtherwise m setup h x f end
 
 -- Each WRITE that is sent after the set-up had as many bytes as the session's WRITE size, as it was made; or its bytes didn't go on where it ends.
 abbrev pub WritesShown : Mounted → Setup → List Entry → List Entry → Type 0
@@ -155,9 +162,9 @@ abbrev pub IsOpen : Op → Type 0
 IsOpen (ops.OpenFile slot mode path) = Unit {0}
 IsOpen op = ⊥
 
--- An operation goes well only where it has its row; of an open this is said unless the session keeps no attributes but opens files by those.
-abbrev pub OksShown : Terms → List Entry → Type 0
-OksShown terms h = (lane x y : ℕ) (op : Op) (value : Value) → (IsOpen op → KeepsThem terms) → Ended h lane x op y (Done value) → OkRow terms h lane x y op value
+-- An operation goes well only where it has its row; of an open this is said where the settings are those of a command.
+abbrev pub OksShown : Settings → Terms → List Entry → Type 0
+OksShown s terms h = (lane x y : ℕ) (op : Op) (value : Value) → (IsOpen op → AreGiven s) → Ended h lane x op y (Done value) → OkRow terms h lane x y op value
 
 -- An operation on a slot goes well only where the slot holds an open as it begins, for reading or writing as it needs. One that finds no such place is
 -- refused so, and no other is. Each byte that a read answers is one that an operation gave to its place, or that a kept page or the reply to a READ of its own
@@ -209,11 +216,11 @@ pub record RestShown (core : View) : Type 0 where
 
 -- ---- what is kept
 
--- Each page that the core keeps is one that a READ gave, with what the client wrote and cut since. As long as the session isn't lost, each byte that is
--- pending is one that an operation gave to its place, and the newest of each place is `Pending` by the history, where each answer that is ready was noted:
--- nothing that went well since has covered, cut or settled it, and no last close left it alone; what is in flight is what a WRITE carries that waits, and of each WRITE that waits it is in flight;
--- and a COMMIT waits while nothing of its file does. And each byte of a put that went well, as the only operation until then, was made stable within it: a
--- WRITE carried it, and was answered as stable or followed by a COMMIT of the whole file under the same verifier.
+-- Each page that the core keeps is one that a READ gave, with what the client wrote and cut since. As long as the session isn't lost, each byte that is pending
+-- is one that an operation gave to its place, and the newest of each place is `Pending` by the history, where each answer that is ready was noted: nothing that
+-- went well since has covered, cut or settled it, and no last close left it alone; what is in flight is what a WRITE carries that waits, and of each WRITE that
+-- waits it is in flight; and a COMMIT waits while nothing of its file does. And each byte of a put that went well, as the only operation until then, was made
+-- stable within it: a WRITE carried it, and was answered as stable or followed by a COMMIT of the whole file under the same verifier.
 pub record KeptShown (terms : Terms) (setup : Setup) (h : List Entry) (core : View) : Type 0 where
   pub pages : (file : List ℕ) (index : ℕ) (bytes : List ℕ) → page_of file index core.shelf.pages ≡ Some bytes → IsKept h core.shelf.pages file index bytes
   pub pending : core.lost ≡ false → (f : List ℕ) (place : ℕ) → PlaceWritten terms.modes h core.shelf.back f place
@@ -226,6 +233,15 @@ pub record KeptShown (terms : Terms) (setup : Setup) (h : List Entry) (core : Vi
   pub commits : core.lost ≡ false → (xid : ℕ) (call : Call) (f : List ℕ) → IsWaiting setup core xid call → committed_file call ≡ Some f → IsQuiet setup core f
   pub saved : core.lost ≡ false → (lane x y : ℕ) (path : List (List ℕ)) (offset : ℕ) (bytes : List ℕ) (value : Value)
       → Ended h lane x (ops.Put path offset bytes) y (Done value) → IsAlone h x y → AllMadeStable h x y offset bytes
+
+-- ---- in the words of the model
+
+-- The history of a session that follows a script and ends with a status is `Caused`, by `world_model`: each call was asked for, and not too many were made;
+-- each answer has its row; a missing place or right is answered so; a session that is lost stays lost; and where an operation was refused since all calls
+-- were made, at status 0 or 1, they were.
+abbrev pub CausedShown : Settings → Terms → List Entry → Type 0
+CausedShown s terms h = AreGiven s → (lines : List ScriptLine) (status : ℕ) → Follows (entries_of lines) h → EndsAs lines h status
+    → Caused terms (entries_of lines) status h
 
 -- ---- an honest server
 
@@ -297,12 +313,14 @@ pub record RunShows (s : Settings) (first : ℕ) (v : SetUp) (before h : List En
   pub has : HasCore (mounted_by s (setup_of s v)) (setup_of s v) before h
   pub calls : CallsShown (terms_by s first) (setup_of s v) before h
   pub counts : CountsShown (terms_by s first) h
+  pub thrift : ThriftShown (mounted_by s (setup_of s v)) (terms_by s first) (setup_of s v) h
   pub writes : WritesShown (mounted_by s (setup_of s v)) (setup_of s v) before h
-  pub oks : OksShown (terms_by s first) h
+  pub oks : OksShown s (terms_by s first) h
   pub slots : SlotsShown (terms_by s first) h
   pub puts : PutsShown (terms_by s first) h
   pub faults : FaultsShown (terms_by s first) (setup_of s v) h has.core
   pub rest : RestShown has.core
+  pub caused : CausedShown s (terms_by s first) h
   pub kept : KeptShown (terms_by s first) (setup_of s v) h has.core
   pub complete : (t : History) → t.entries ≡ h → CompleteShown (terms_by s first) t
   pub stable : (t : History) → t.entries ≡ h → Lawful t → Once t.entries → StableShown s t

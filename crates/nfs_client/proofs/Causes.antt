@@ -1,0 +1,32 @@
+-- What a session shows is that it is caused, in the words of the model.
+use Rattle.std.proofs.Common.{◌≡◌, ◌⊎◌, inl, ℕ, List}
+use Rattle.world_model.specs.declared.answer.Answer.TheVariants.{Refused}
+use Rattle.world_model.specs.declared.answer.Fault.TheVariants as faults
+use Rattle.world_model.specs.declared.entry.Entry.{Entry}
+use Rattle.world_model.specs.declared.op.Op.{Op}
+use Rattle.world_model.specs.CallCounts.{CallCounts}
+use Rattle.world_model.specs.CallsAsked.{CallsAsked}
+use Rattle.world_model.specs.Caused.{Caused, calls_in}
+use Rattle.world_model.specs.Operations.{Ended}
+use Rattle.world_model.specs.Terms.{Terms}
+use Rattle.lane_session.specs.Bonds.{StaysLost}
+use Rattle.session_words.specs.declared.settings.Settings.{Settings}
+use Rattle.nfs_client.specs.Shown.{AllRowed, AreGiven, OksShown, SlotsShown}
+
+-- at this status an operation is refused for want of calls only where all were made
+abbrev pub AllSpent : Terms → ℕ → List Entry → Type 0
+AllSpent terms status h = (lane x y : ℕ) (op : Op) → (status ≡ 0) ⊎ (status ≡ 1) → Ended h lane x op y (Refused faults.Spent) → calls_in h ≡ terms.calls
+
+module _ (s : Settings) (terms : Terms) (script : List Entry) (status : ℕ) (h : List Entry) where
+  pub all-caused : CallsAsked terms h → CallCounts terms script h → AreGiven s → OksShown s terms h → AllRowed terms h → SlotsShown terms h → StaysLost h → AllSpent terms status h
+      → Caused terms script status h
+  all-caused calls counts are oks rows slots stays spent = record {
+    calls = calls;
+    counts = counts;
+    ok = λ lane x y op value ended. oks lane x y op value (λ open_. are) ended;
+    refused = rows;
+    slot = λ lane x y op answer ended tried none. (slots.places lane x y op answer ended tried).slot none;
+    mode = λ lane x y op answer ended tried none. (slots.places lane x y op answer ended tried).mode none;
+    lost = λ lane x y other w z op later answer ended next after. inl (stays y z lane ended.line other next.line answer ended.answered next.answered after);
+    spent = spent;
+  }
