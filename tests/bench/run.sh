@@ -1,14 +1,19 @@
 #!/usr/bin/env bash
 # Takes the time of the same work through `nfs3 run` and through libnfs, on one nfs-ganesha on this machine whose files lie in
 # memory: alternating runs, each a process that mounts, works and ends. A line for each kind of work has the medians of seven
-# runs and their ratio, and what the two took of the processor, which tells more where other programs run beside. Run it as root on Debian 12: it installs what is missing. The program is the one that bin/nfs3 built,
-# or the one that NFS3 names; a build without a proof isn't optimised, and its times tell nothing. The status is 0 where all
+# runs, or of as many as RUNS says, and their ratio, and what the two took of the processor, which tells more where other
+# programs run beside. Run it as root on Debian 12: it installs what is missing. The program is the one that bin/nfs3 built,
+# or the one that NFS3 names; a build without a proof isn't optimised, and its times tell nothing. The words are the rows that
+# are wanted, of write, read, read16, show, show16, small, small16 and list; without words all are. The status is 0 where all
 # work was done.
+#
+# nfs3 writes what it read as hex digits on its answer lines. In the rows `read` libnfs throws the bytes away; in the rows
+# `show` libnfs_work writes the same lines.
 set -u
 
 here=$(dirname -- "$(readlink -f -- "${BASH_SOURCE[0]}")")
 nfs3=${NFS3:-$here/../../crates/nfs3/out/nfs3}
-runs=7
+runs=${RUNS:-7}
 work=$(mktemp -d -p /dev/shm nfs3-bench.XXXXXX)
 chmod 755 "$work"
 mkdir "$work/served" "$work/served/small" "$work/served/names"
@@ -46,6 +51,10 @@ script_of_read() {
     done
 }
 
+script_of_show() {
+    script_of_read "$@"
+}
+
 script_of_small() {
     local lane lanes=${2-1} file digits
     printf -v digits '61%.0s' {1..100}
@@ -62,7 +71,7 @@ script_of_list() {
 # With memory kept as bin/nfs3 keeps it.
 through_nfs3() (
     . "$here/../../bin/heap.sh"
-    exec "$nfs3" run 127.0.0.1 /srv --uid 0 --gid 0 --mount-port "$mount_port" --nfs-port "$nfs_port" <"$work/script" >/dev/null
+    exec "$nfs3" run 127.0.0.1 /srv --uid 0 --gid 0 --mount-port "$mount_port" --nfs-port "$nfs_port" <"$work/script"
 )
 
 through_libnfs() {
@@ -72,7 +81,7 @@ through_libnfs() {
 # Takes the seconds that a command takes, and those of the processor: whose they are, and the command.
 take_time() {
     local TIMEFORMAT='%R %U %S'
-    { time "${@:2}" 2>"$work/told"; } 2>>"$work/times_$1" || stop "${*:2} ended with the status $?: $(tail -1 "$work/told")"
+    { time "${@:2}" >/dev/null 2>"$work/told"; } 2>>"$work/times_$1" || stop "${*:2} ended with the status $?: $(tail -1 "$work/told")"
 }
 
 # The median of what was taken: whose, and an expression of awk over a line's fields.
@@ -88,7 +97,7 @@ compare() {
     for run in $(seq "$runs"); do
         "script_of_$2" "${path/%-/_nfs3_$run-}" "${@:5}" >"$work/script"
         take_time nfs3 through_nfs3
-        take_time libnfs through_libnfs "$2" "${path/%-/_libnfs_$run-}" "$4"
+        take_time libnfs through_libnfs "$2" "${path/%-/_libnfs_$run-}" "${@:4}"
         truncate -s 0 "$work/served"/written* 2>/dev/null
     done
     awk -v what="$1" -v ours="$(median nfs3 '$1')" -v theirs="$(median libnfs '$1')" \
@@ -97,11 +106,35 @@ compare() {
             printf "; of the processor %.3f s and %.3f s\n", our_work, their_work }'
 }
 
-trap end_all EXIT
-prepare
-compare 'write 64 MiB and sync' write /written- 1024
-compare 'read 64 MiB' read /read 1024
-compare 'read 64 MiB, nfs3 in 16 lanes' read /read 1024 16
-compare '1,000 small files' small "/small/lane$$-" 1000
-compare '1,000 small files, nfs3 in 16 lanes' small "/small/lanes$$-" 1000 16
-compare 'list of 1,000 names' list /names 1000
+# Makes sure that libnfs_work writes the lines that nfs3 does, where one lane reads.
+check_lines() {
+    script_of_show /read >"$work/script"
+    cmp <(through_nfs3) <(through_libnfs show /read 1024) || stop "the two don't write the same lines"
+}
+
+# The row of a name.
+row() {
+    case $1 in
+        write) compare 'write 64 MiB and sync' write /written- 1024 ;;
+        read) compare 'read 64 MiB, libnfs throws it away' read /read 1024 ;;
+        read16) compare 'read 64 MiB, nfs3 in 16 lanes, libnfs throws it away' read /read 1024 16 ;;
+        show) check_lines && compare 'read 64 MiB, libnfs writes the same lines' show /read 1024 ;;
+        show16) compare 'read 64 MiB, nfs3 in 16 lanes, libnfs writes the same lines' show /read 1024 16 ;;
+        small) compare '1,000 small files' small "/small/lane$$-" 1000 ;;
+        small16) compare '1,000 small files, nfs3 in 16 lanes' small "/small/lanes$$-" 1000 16 ;;
+        list) compare 'list of 1,000 names' list /names 1000 ;;
+        *) stop "there is no row $1" ;;
+    esac
+}
+
+main() {
+    local it rows=(write read read16 show show16 small small16 list)
+    [ $# -gt 0 ] && rows=("$@")
+    trap end_all EXIT
+    prepare
+    for it in "${rows[@]}"; do
+        row "$it"
+    done
+}
+
+main "$@"
