@@ -11,7 +11,7 @@ ghost use Rattle.core_counts.specs.coarse.WereLong.{WritesWereLong};
 ghost use Rattle.core_counts.specs.thrift.KeptReads.{KeptOnce};
 ghost use Rattle.core_counts.specs.thrift.Reads.{ReadsLong};
 ghost use Rattle.core_counts.specs.thrift.Unkept.{UnkeptAsked};
-ghost use Rattle.core_counts.specs.thrift.Writes.{PutWritesLong, SavedWritesLong, WrittenWritesLong};
+ghost use Rattle.core_counts.specs.thrift.Writes.{PutWritesLong, SavedWritesLong, WritesLong, WrittenWritesLong};
 ghost use Rattle.core_counts.specs.counts.Commits.{FewCommitsMade};
 ghost use Rattle.core_counts.specs.counts.Equal.{FewEqualMade};
 ghost use Rattle.core_counts.specs.counts.Hidden.{FewHiddenMade};
@@ -102,7 +102,8 @@ pub fn put_writes_are_long()
 {}
 
 /// Where all operations are of one lane: a WRITE that is first sent within a sync or close, with fewer bytes than the session's WRITE size, ends where an
-/// earlier WRITE went on; or as the operation began, bytes of its end and of the place behind it didn't both wait to be sent in the same way.
+/// earlier WRITE went on; or as the operation began, no byte of the place behind it waited to be sent UNSTABLE, or one of its end was to be sent as
+/// stable.
 pub fn saved_writes_are_long()
     ensures { SavedWritesLong }
 {}
@@ -112,6 +113,14 @@ pub fn saved_writes_are_long()
 /// behind it are of that write, ends where an earlier WRITE went on (RFC 1813, section 3.3.7).
 pub fn written_writes_are_long()
     ensures { WrittenWritesLong }
+{}
+
+/// Of a session that was set up, whose operations are all of one lane, and whose writers together write no more than a session holds back: where one operation
+/// was the last to write a place of a file and the one behind it, a WRITE of a later sync, close or put (or of that operation, where it is a put) that has
+/// fewer bytes than it may and ends between the two places ends where an earlier WRITE went on, if no truncate of the file was answered before, and no close or
+/// put of it refused (RFC 1813, section 3.3.7). This is `LongWrites` of `world_model`.
+pub fn writes_are_long()
+    ensures { WritesLong }
 {}
 
 /// Where all operations are of one lane, no READ is sent for a page of its file that is kept then.

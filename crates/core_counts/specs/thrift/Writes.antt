@@ -1,5 +1,5 @@
 -- WRITEs of puts, syncs and closes are long: a shorter one ends where an earlier WRITE went on (RFC 1813, section 3.3.7).
-use Rattle.std.specs.Prelude.{◌≡◌, ◌<◌, ◌≤◌, ◌+◌, ◌⊎◌, ◌++◌, ℕ, true, false, List, length, Some}
+use Rattle.std.specs.Prelude.{◌≡◌, ◌<◌, ◌≤◌, ◌+◌, ◌⊎◌, ◌++◌, ℕ, true, false, List, length, Some, slice_get}
 use Rattle.world_model.specs.declared.answer.Answer.TheVariants.{Done}
 use Rattle.world_model.specs.declared.answer.Value.{Value}
 use Rattle.world_model.specs.declared.entry.Entry.{Entry}
@@ -9,19 +9,22 @@ use Rattle.world_model.specs.declared.op.Op.TheVariants as ops
 use Rattle.world_model.specs.Entries.{At}
 use Rattle.world_model.specs.Messages.{SpellsCall}
 use Rattle.world_model.specs.Operations.{Ended, UnderWay}
-use Rattle.world_model.specs.Thrifty.{OneLane, NeverFull, IsSync, CoveredEarlier}
+use Rattle.world_model.specs.Terms.{Terms}
+use Rattle.world_model.specs.Thrifty.{OneLane, NeverFull, IsSync, CoveredEarlier, LongWrites}
 use Rattle.world_model.specs.Waiting.{FirstSent}
-use Rattle.write_back.specs.Files.{of_file}
+use Rattle.write_back.specs.Files.{of_file, HasNoPiece}
 use Rattle.write_back.specs.Pieces.{FilePending, rest_at}
 use Rattle.write_back.specs.Segments.{Cell}
 use Rattle.write_back.specs.States.{is_ready, how_of, ready_of}
 use Rattle.file_ops.specs.SlotFiles.{file_at}
 use Rattle.op_machines.specs.declared.begun.Mounted.{Mounted}
 use Rattle.op_machines.specs.Begun.{machine_of}
+use Rattle.client_core.specs.declared.lane.Lane.{Lane}
 use Rattle.client_core.specs.declared.setup.Setup.{Setup}
 use Rattle.client_core.specs.View.{View}
 use Rattle.core_facts.specs.Notes.{Notes}
 use Rattle.core_facts.specs.Reaches.{Reaches}
+use Rattle.core_session.specs.calls.Whole.{GoesFrom}
 use Rattle.core_counts.specs.coarse.WereLong.{write_call}
 
 -- Within the put at the place x a WRITE of the file is first sent, with fewer bytes than the session's WRITE size; `end` is the place of its last byte. The
@@ -76,11 +79,16 @@ pub record WaitsPlain (of : FilePending) (place : ℕ) : Type 0 where
   pub ready : is_ready cell.state ≡ true
   pub plain : how_of (ready_of cell.state) ≡ 0
 
+-- no byte of this place that isn't in flight is to be sent as stable
+abbrev pub NotAsStable : FilePending → ℕ → Type 0
+NotAsStable of place = (cell : Cell) → rest_at of place ≡ Some cell → how_of (ready_of cell.state) ≡ 0
+
 -- a sync or close of the slot
 abbrev pub OfSlot : Op → ℕ → Type 0
 OfSlot op slot = (op ≡ ops.Sync slot) ⊎ (op ≡ ops.Close slot)
 
--- As the operation at the place x began, which is of a slot of the file, the core didn't have bytes of both places that waited so.
+-- As the operation at the place x began, which is of a slot of the file, the core had no byte behind that place which waited so, or one of the place itself
+-- that was to be sent as stable.
 pub record BeganOtherwise (m : Mounted) (setup : Setup) (h : List Entry) (x : ℕ) (f : List ℕ) (end : ℕ) : Type 0 where
   pub before : List Entry
   pub after : List Entry
@@ -96,9 +104,12 @@ pub record BeganOtherwise (m : Mounted) (setup : Setup) (h : List Entry) (x : �
   pub reaches : Reaches (machine_of m) setup before view
   pub found : view.lost ≡ false
   pub holds : file_at lane slot view.shelf.opens ≡ Some f
-  pub other : WaitsPlain (of_file f view.shelf.back) end → WaitsPlain (of_file f view.shelf.back) (end + 1) → ⊥
+  pub quiet : HasNoPiece f view.shelf.back
+  pub idle : (n : ℕ) (l : Lane) → slice_get view.lanes n ≡ Some l → ⊥
+  pub other : NotAsStable (of_file f view.shelf.back) end → WaitsPlain (of_file f view.shelf.back) (end + 1) → ⊥
 
--- Where all operations are of one lane, a WRITE of the file that was sent earlier covers the place behind it; or bytes of both places didn't wait so.
+-- Where all operations are of one lane, a WRITE of the file that was sent earlier covers the place behind it; or as the operation began it was
+-- otherwise.
 abbrev pub SavedWritesLong : Type 0
 SavedWritesLong = (m : Mounted) (setup : Setup) (h : List Entry) (v : View) → Notes (machine_of m) setup h v → OneLane h
     → (i x end : ℕ) (f : List ℕ) → ShortSavedWrite setup h i x f end → CoveredEarlier h i f (end + 1) ⊎ BeganOtherwise m setup h x f end
@@ -133,3 +144,8 @@ pub record ShortWrittenWrite (setup : Setup) (h : List Entry) (i x w : ℕ) (f :
 abbrev pub WrittenWritesLong : Type 0
 WrittenWritesLong = (m : Mounted) (setup : Setup) (h : List Entry) (v : View) → Notes (machine_of m) setup h v → OneLane h → NeverFull h
     → (i x w end : ℕ) (f : List ℕ) → ShortWrittenWrite setup h i x w f end → CoveredEarlier h i f (end + 1)
+
+-- So `LongWrites` of `world_model` holds of each session that was set up and whose operations are all of one lane.
+abbrev pub WritesLong : Type 0
+WritesLong = (m : Mounted) (terms : Terms) (setup : Setup) (start h : List Entry) (v : View) → GoesFrom m terms setup start h v
+    → Notes (machine_of m) setup h v → OneLane h → LongWrites terms h

@@ -63,7 +63,7 @@ one-lane : (a b : Lane) → Some a ≡ Some b → a ≡ b
 one-lane a b e = cc
 
 module _ (f : List ℕ) (lanes : List Lane) (at number : ℕ) (answer : Answer) (there : slice_get lanes at ≡ Some (record { number = number; state = Over answer })) (apart : AreApart (remove lanes at)) where
-  owned-removed : (q : ℕ) (b : Pending) (o : List LaneFile) → Owned f lanes q b o → Owned f (remove lanes at) q b o
+  pub owned-removed : (q : ℕ) (b : Pending) (o : List LaneFile) → Owned f lanes q b o → Owned f (remove lanes at) q b o
   owned-removed q b o (free none rests) = free none (λ k l here. rests (skip at k) l (get-remove lanes at k l here))
   owned-removed q b o (taken k n m s here holds same way first low rests) = taken stays.0 n m s stays.1 holds same way first low others
     where

@@ -1,5 +1,5 @@
 -- In one lane each WRITE of a put is long, or ends where an earlier WRITE went on.
-use Rattle.std.proofs.Common.{◌≡◌, ◌<◌, ◌≤◌, ◌⊎◌, inl, inr, ◌+◌, ◌++◌, nat_eq, ℕ, Bool, true, false, List, [], ◌∷◌, length, get_or, Option, Some, None, position, slice_get, cond, refl, sym, ap, subst, ◌∙◌, arith}
+use Rattle.std.proofs.Common.{◌≡◌, ◌<◌, ◌≤◌, ◌⊎◌, inl, inr, ◌+◌, ◌++◌, nat_eq, ℕ, Bool, true, false, List, [], ◌∷◌, length, get_or, Option, Some, None, position, slice_get, cond, refl, sym, ap, subst, ◌∙◌, arith, append_assoc}
 use Rattle.std.proofs.lemmas.Bool.{eqb-true, cases_lt, le-leb, lt-ltb}
 use Rattle.std.proofs.lemmas.List.Quantifiers.{position-Some}
 use Rattle.std.proofs.lemmas.Option.{slice_get-get_or}
@@ -23,6 +23,7 @@ use Rattle.world_model.specs.Entries.{At}
 use Rattle.world_model.specs.Messages.{SpellsCall}
 use Rattle.world_model.specs.Operations.{AnsweredBefore, UnderWay}
 use Rattle.world_model.specs.Thrifty.{OneLane, NeverFull, CoveredEarlier}
+use Rattle.world_model.specs.Waiting.{FirstSent}
 use Rattle.world_model.proofs.Places.{At-grow, At-back}
 use Rattle.write_back.specs.Files.{of_file}
 use Rattle.write_back.specs.Pieces.{Flown, fly_at, piece_under}
@@ -49,7 +50,8 @@ use Rattle.client_core.specs.declared.lane.State.TheVariants.{Busy, Over}
 use Rattle.client_core.specs.declared.setup.Setup.{Setup}
 use Rattle.client_core.specs.Lanes.{is_busy}
 use Rattle.client_core.specs.Steps.{SendsIf}
-use Rattle.core_facts.specs.Notes.{IsAfterAnswers}
+use Rattle.client_core.specs.View.{View}
+use Rattle.core_facts.specs.Notes.{IsAfterAnswers, Notes}
 use Rattle.core_facts.specs.Reaches.{Reaches}
 use Rattle.core_facts.proofs.AllCounts.{begins-unbegun}
 use Rattle.core_facts.proofs.Cases.{SentNow, sent_now}
@@ -65,12 +67,12 @@ use Rattle.core_answers.proofs.bonds.OneCall.{one-call}
 use Rattle.core_answers.proofs.writes.PiecesCarried.{waits-late}
 use Rattle.core_session.proofs.saves.WholeSteps.{Whole}
 use Rattle.core_counts.specs.coarse.WereLong.{write_call}
-use Rattle.core_counts.specs.thrift.Writes.{ShortPutWrite, PutWritesLong}
+use Rattle.core_counts.specs.thrift.Writes.{PutWritesLong}
 use Rattle.core_counts.proofs.thrift.short.Ends.{each-under, EndsAfter, EndsLong, Second, waits, flies}
 use Rattle.core_counts.proofs.thrift.short.Holding.{Hold}
 use Rattle.core_counts.proofs.thrift.short.Lone.{covered-now, its-flight}
 use Rattle.core_counts.proofs.thrift.short.Putting.{AtState, OpenerRuns, SaveIs}
-use Rattle.core_counts.proofs.thrift.short.Tracking.{Running, Tracked, reached-tracked}
+use Rattle.core_counts.proofs.thrift.short.Tracking.{BeganSo, Cov, Running, Tracked, reached-tracked}
 
 -- ---- the oldest call that is due
 
@@ -128,7 +130,26 @@ answered-on before after x a = record {
 
 -- ---- as it is sent
 
-module _ (m : Mounted) (setup : Setup) (h : List Entry) (one : OneLane h) (full : NeverFull h) (i x end : ℕ) (f : List ℕ) (s : ShortPutWrite setup h i x f end)
+-- a WRITE of a put, as `ShortPutWrite` has it, whatever the put's own bytes are
+pub record PutWrite (setup : Setup) (h : List Entry) (i x : ℕ) (f : List ℕ) (end : ℕ) : Type 0 where
+  pub lane : ℕ
+  pub path : List (List ℕ)
+  pub from : ℕ
+  pub text : List ℕ
+  pub under_way : UnderWay h lane x i (ops.Put path from text)
+  pub xid : ℕ
+  pub bytes : List ℕ
+  pub offset : ℕ
+  pub how : ℕ
+  pub data_ : List ℕ
+  pub sent : FirstSent h i xid bytes
+  pub spells : SpellsCall xid (write_call f offset how data_) bytes
+  pub is : end + 1 ≡ offset + length data_
+  pub some : 1 ≤ length data_
+  pub short : length data_ < setup.wsize
+
+module _ (m : Mounted) (setup : Setup) (h : List Entry) (one : OneLane h) (full : NeverFull h) (i x end : ℕ) (f : List ℕ) (s : PutWrite setup h i x f end)
+    (side : Bool) (has_before : covers s.from (length s.text) end ≡ side) (has_next : covers s.from (length s.text) (end + 1) ≡ side)
     (a : IsAfterAnswers (machine_of m) setup h i (Sent s.bytes)) where
   abbrev rest : List Entry
   rest = Sent s.bytes ∷ a.after
@@ -161,14 +182,8 @@ module _ (m : Mounted) (setup : Setup) (h : List Entry) (one : OneLane h) (full 
   some : 1 ≤ setup.wsize
   some = let short = s.short in omega (arith, short)
 
-  has_before : covers s.from (length s.text) end ≡ true
-  has_before = let low = s.low in let high = s.high in rw (le-leb s.from end low, lt-ltb end (s.from + length s.text) (omega (arith, high))) refl
-
-  has_next : covers s.from (length s.text) (end + 1) ≡ true
-  has_next = let low = s.low in let high = s.high in rw (le-leb s.from (end + 1) (omega (arith, low)), lt-ltb (end + 1) (s.from + length s.text) high) refl
-
-  tracked : Tracked m setup f end (end + 1) refl some x s.path s.from s.text has_before has_next a.before a.old
-  tracked = reached-tracked m setup f end (end + 1) refl some x s.path s.from s.text has_before has_next a.before a.old reach found
+  tracked : Tracked m setup f end (end + 1) refl some x s.path s.from s.text side has_before has_next a.before a.old
+  tracked = reached-tracked m setup f end (end + 1) refl some x s.path s.from s.text side has_before has_next a.before a.old reach found
 
   before_one : OneLane a.before
   before_one = one-before a.before rest (subst OneLane a.is one)
@@ -267,10 +282,10 @@ module _ (m : Mounted) (setup : Setup) (h : List Entry) (one : OneLane h) (full 
   -- ---- its save
 
   abbrev Covered : Type 0
-  Covered = CoveredEarlier a.before (length a.before) f (end + 1)
+  Covered = Cov m setup f end (end + 1) refl some x s.path s.from s.text side has_before has_next a.before
 
   abbrev RunsNow : Machine → Type 0
-  RunsNow machine = Running m setup f end (end + 1) refl some x s.path s.from s.text has_before has_next a.before machine a.old.shelf.back
+  RunsNow machine = Running m setup f end (end + 1) refl some x s.path s.from s.text side has_before has_next a.before machine a.old.shelf.back
 
   unused-not : IsUnused now.xid a.old.shelf.back → Covered
   unused-not free = absurd (let no_way : None ≡ Some inside.piece = sym (free f) ∙ inside.there in cc)
@@ -278,11 +293,11 @@ module _ (m : Mounted) (setup : Setup) (h : List Entry) (one : OneLane h) (full 
   covered-by : (flown : Flown) (sv : Saving) → flies_of seat.machine ≡ flies_if (saves.is_sending sv.phase) sv.file → sv.file ≡ f → fly_at (of_file sv.file a.old.shelf.back) (end + 1) ≡ Some flown
       → flown.xid < now.xid → Covered
   covered-by flown sv sends here at less =
-      covered-now m setup f (end + 1) a.before a.old reach found known before_one tracked.basis tracked.wholly seat.at seat.number seat.machine seat.there sv sends here flown at
-      (λ w waiting. early-tried a.old.calls.cred a.old.calls.first_xid (next_xid a.old.calls) now.xid flown.xid a.old.calls.calls now.call w sound now.due waiting less)
+      inl (covered-now m setup f (end + 1) a.before a.old reach found known before_one tracked.basis tracked.wholly seat.at seat.number seat.machine seat.there sv sends here flown at
+      (λ w waiting. early-tried a.old.calls.cred a.old.calls.first_xid (next_xid a.old.calls) now.xid flown.xid a.old.calls.calls now.call w sound now.due waiting less))
 
   by-save : (sv : Saving) → flies_of seat.machine ≡ flies_if (saves.is_sending sv.phase) sv.file
-      → SaveIs end (end + 1) setup.wsize refl some f Covered s.from s.text has_before has_next sv a.old.shelf.back → sv.file ≡ f → Covered
+      → SaveIs end (end + 1) setup.wsize refl some f Covered s.from s.text side has_before has_next sv a.old.shelf.back → sv.file ≡ f → Covered
   by-save sv sends held here = which (held here)
     where
       own : piece_under now.xid (of_file sv.file a.old.shelf.back).pieces ≡ Some inside.piece
@@ -315,7 +330,7 @@ module _ (m : Mounted) (setup : Setup) (h : List Entry) (one : OneLane h) (full 
           ap flies_of is ∙ ap (λ (b : Bool). flies_path b c.opener) there ∙ ap (λ (o : Opener). flies_file (file_of o)) opener ∙ ap (λ (z : Putting). flies_put z p.write.state) at
 
       at-save : (p : PutFile) (sv : Saving) (b : Bool) → saves.is_sending sv.phase ≡ b → flies_of seat.machine ≡ flies_if (saves.is_sending sv.phase) sv.file
-          → SaveIs end (end + 1) setup.wsize refl some f Covered s.from s.text has_before has_next sv a.old.shelf.back → Flies now.xid (flies_if b sv.file) a.old.shelf.back → Covered
+          → SaveIs end (end + 1) setup.wsize refl some f Covered s.from s.text side has_before has_next sv a.old.shelf.back → Flies now.xid (flies_if b sv.file) a.old.shelf.back → Covered
       at-save p sv false sends_is goes held free = unused-not free
       at-save p sv true sends_is goes held in_file = elim (same-or sv.file f) [
         | inl here ↦ by-save sv goes held (sym here)
@@ -323,14 +338,14 @@ module _ (m : Mounted) (setup : Setup) (h : List Entry) (one : OneLane h) (full 
       ]
 
       at-state : (p : PutFile) (state : Putting) → c.arrived ≡ true → c.opener ≡ openers.Put p → p.state ≡ state
-          → AtState end (end + 1) setup.wsize refl some f Covered s.from s.text has_before has_next state a.old.shelf.back → Flies now.xid (flies_put state p.write.state) a.old.shelf.back → Covered
+          → AtState end (end + 1) setup.wsize refl some f Covered s.from s.text side has_before has_next state a.old.shelf.back → Flies now.xid (flies_put state p.write.state) a.old.shelf.back → Covered
       at-state p putting.Idle there opener at now_ free = unused-not free
       at-state p putting.Opens there opener at now_ free = unused-not free
       at-state p (putting.Adds file) there opener at now_ f_ = absurd now_
       at-state p (putting.Saves sv) there opener at now_ f_ =
           at-save p sv (saves.is_sending sv.phase) refl (flies-as p (putting.Saves sv) there opener at) now_ f_
 
-      by : (b : Bool) (o : Opener) → c.arrived ≡ b → c.opener ≡ o → OpenerRuns end (end + 1) setup.wsize refl some f Covered s.from s.text has_before has_next b o a.old.shelf.back
+      by : (b : Bool) (o : Opener) → c.arrived ≡ b → c.opener ≡ o → OpenerRuns end (end + 1) setup.wsize refl some f Covered s.from s.text side has_before has_next b o a.old.shelf.back
           → Flies now.xid (flies_path b o) a.old.shelf.back → Covered
       by false o there opener r free = unused-not free
       by true (openers.Open o) there opener r f_ = absurd r
@@ -345,21 +360,74 @@ module _ (m : Mounted) (setup : Setup) (h : List Entry) (one : OneLane h) (full 
       which (inr flies_) =
           by-machine seat.machine refl (tracked.run before_one before_room seat.at (record { number = seat.number; state = Busy seat.machine }) seat.there seat.mine) flies_
 
-  pub was-covered : CoveredEarlier h i f (end + 1)
-  was-covered = record {
-    at = covered.at;
-    xid = covered.xid;
-    bytes = covered.bytes;
-    call = covered.call;
-    sent = subst (λ (k : List Entry). At k covered.at (Sent covered.bytes)) (sym a.is) (At-grow a.before rest covered.at (Sent covered.bytes) covered.sent);
-    spells = covered.spells;
-    covers = covered.covers;
-    earlier = let early = covered.earlier in let there = a.there in omega (arith, early, there);
-  }
+  pub was-covered : CoveredEarlier h i f (end + 1) ⊎ ((side ≡ false) × BeganSo m setup h x f end (end + 1))
+  was-covered = by covered
+    where
+      by : Covered → CoveredEarlier h i f (end + 1) ⊎ ((side ≡ false) × BeganSo m setup h x f end (end + 1))
+      by (inl c) = inl (record {
+        at = c.at;
+        xid = c.xid;
+        bytes = c.bytes;
+        call = c.call;
+        sent = subst (λ (k : List Entry). At k c.at (Sent c.bytes)) (sym a.is) (At-grow a.before rest c.at (Sent c.bytes) c.sent);
+        spells = c.spells;
+        covers = c.covers;
+        earlier = let early = c.earlier in let there = a.there in omega (arith, early, there);
+      })
+      by (inr c) = inr (
+        c.0,
+        record {
+          before = c.1.before;
+          after = c.1.after ++ rest;
+          is = a.is ∙ ap (λ (k : List Entry). k ++ rest) c.1.is ∙ append_assoc c.1.before c.1.after rest;
+          there = c.1.there;
+          view = c.1.view;
+          reaches = c.1.reaches;
+          found = c.1.found;
+          quiet = c.1.quiet;
+          idle = c.1.idle;
+          other = c.1.other;
+        },
+      )
 
-pub puts-long : PutWritesLong
-puts-long m setup h v notes one full i x end f s = by (answers-first (machine_of m) setup h v notes i (Sent s.bytes) s.sent.sent tt)
+-- it ends where an earlier WRITE went on, or as the put began the second byte didn't wait so, or the first was to be sent as stable
+pub put-covered : (m : Mounted) (setup : Setup) (h : List Entry) (v : View) → Notes (machine_of m) setup h v → OneLane h → NeverFull h → (i x end : ℕ) (f : List ℕ) (s : PutWrite setup h i x f end)
+    → (side : Bool) → covers s.from (length s.text) end ≡ side → covers s.from (length s.text) (end + 1) ≡ side → CoveredEarlier h i f (end + 1) ⊎ ((side ≡ false) × BeganSo m setup h x f end (end + 1))
+put-covered m setup h v notes one full i x end f s side has_before has_next = by (answers-first (machine_of m) setup h v notes i (Sent s.bytes) s.sent.sent tt)
   where
-    by : NoneBegan h i ⊎ IsAfterAnswers (machine_of m) setup h i (Sent s.bytes) → CoveredEarlier h i f (end + 1)
+    by : NoneBegan h i ⊎ IsAfterAnswers (machine_of m) setup h i (Sent s.bytes) → CoveredEarlier h i f (end + 1) ⊎ ((side ≡ false) × BeganSo m setup h x f end (end + 1))
     by (inl none) = absurd (none x s.lane s.under_way.line (ops.Put s.path s.from s.text) s.under_way.began s.under_way.before)
-    by (inr a) = was-covered m setup h one full i x end f s a
+    by (inr a) = was-covered m setup h one full i x end f s side has_before has_next a
+
+-- where both are its own, no other way is left
+pub puts-long : PutWritesLong
+puts-long m setup h v notes one full i x end f s = by (put-covered m setup h v notes one full i x end f write true has_before has_next)
+  where
+    has_before : covers s.from (length s.text) end ≡ true
+    has_before = let low = s.low in let high = s.high in rw (le-leb s.from end low, lt-ltb end (s.from + length s.text) (omega (arith, high))) refl
+
+    has_next : covers s.from (length s.text) (end + 1) ≡ true
+    has_next = let low = s.low in let high = s.high in rw (le-leb s.from (end + 1) (omega (arith, low)), lt-ltb (end + 1) (s.from + length s.text) high) refl
+
+    write : PutWrite setup h i x f end
+    write = record {
+      lane = s.lane;
+      path = s.path;
+      from = s.from;
+      text = s.text;
+      under_way = s.under_way;
+      xid = s.xid;
+      bytes = s.bytes;
+      offset = s.offset;
+      how = s.how;
+      data_ = s.data_;
+      sent = s.sent;
+      spells = s.spells;
+      is = s.is;
+      some = s.some;
+      short = s.short;
+    }
+
+    by : CoveredEarlier h i f (end + 1) ⊎ ((true ≡ false) × BeganSo m setup h x f end (end + 1)) → CoveredEarlier h i f (end + 1)
+    by (inl c) = c
+    by (inr off) = absurd (let no_way : true ≡ false = off.0 in cc)

@@ -1,4 +1,4 @@
--- A put whose bytes have both places: so through each of its steps, its path among them.
+-- A put whose bytes have both places, or neither: so through each of its steps, its path among them.
 use Rattle.std.proofs.Common.{◌≡◌, ◌<◌, ◌≤◌, ◌^◌, ◌⊎◌, inl, inr, ◌+◌, ◌-◌, ℕ, Bool, true, false, List, [], ◌∷◌, length, Some, None, Result, Ok, Err, refl, sym, ap, subst, ◌∙◌, arith}
 use Rattle.std.specs.Prelude.{slice_index}
 use Rattle.std.proofs.lemmas.Bool.{ltb-false}
@@ -49,12 +49,14 @@ use Rattle.op_machines.specs.PathSteps as paths
 use Rattle.op_machines.specs.Steps.{Starts, Resumes, Takes}
 use Rattle.bond_pending.specs.Cells.{EachSound}
 use Rattle.bond_pending.proofs.ComingIn.{sound-in}
-use Rattle.bond_pending.proofs.Leading.{if-true}
+use Rattle.bond_pending.proofs.Leading.{if-true, if-false}
 use Rattle.bond_saves.specs.Saves.{IsAwaited}
 use Rattle.bond_saves.proofs.Going.{begins}
 use Rattle.core_facts.proofs.Expecting.{some-put, no-open}
 use Rattle.core_session.proofs.drops.SaveFiles.{goes-save, takes-save}
 use Rattle.core_session.proofs.order.Adds.{TakesHas, PathHas, FileHas, PutHas}
+use Rattle.core_counts.specs.thrift.Writes.{WaitsPlain, NotAsStable}
+use Rattle.core_counts.proofs.counts.writes.Weights.{newest-below}
 use Rattle.core_counts.proofs.thrift.short.Ends.{Each, Second, waits, flies, EndsLong}
 use Rattle.core_counts.proofs.thrift.short.Holding.{Hold, Early, HoldsOn, hold-goes, hold-takes, hold-unmade}
 
@@ -62,8 +64,8 @@ same-pieces : (offset : ℕ) (bytes : List ℕ) (number : ℕ) (of : FilePending
 same-pieces offset [] number of = refl
 same-pieces offset (b ∷ bs) number of = refl
 
-module _ (before next wsize : ℕ) (is_next : next ≡ before + 1) (some : 1 ≤ wsize) (f : List ℕ) (Cov : Type 0) (offset : ℕ) (bytes : List ℕ) (has_before : covers offset (length bytes) before ≡ true)
-    (has_next : covers offset (length bytes) next ≡ true) where
+module _ (before next wsize : ℕ) (is_next : next ≡ before + 1) (some : 1 ≤ wsize) (f : List ℕ) (Cov : Type 0) (offset : ℕ) (bytes : List ℕ) (side : Bool) (has_before : covers offset (length bytes) before ≡ side)
+    (has_next : covers offset (length bytes) next ≡ side) where
   abbrev pub Holding : Saving → Pending → Type 0
   Holding s b = Hold before next wsize is_next some s b
 
@@ -74,9 +76,14 @@ module _ (before next wsize : ℕ) (is_next : next ≡ before + 1) (some : 1 ≤
   abbrev pub SaveIs : Saving → Pending → Type 0
   SaveIs s b = s.file ≡ f → Cov ⊎ Holding s b
 
+  -- until its bytes come in, where they don't have both: the second byte waits, and the first isn't to be sent as stable
+  abbrev pub Awaits : Bool → Pending → Type 0
+  Awaits true b = Unit {0}
+  Awaits false b = Cov ⊎ (NotAsStable (of_file f b) before × WaitsPlain (of_file f b) next)
+
   abbrev pub AtState : Putting → Pending → Type 0
-  AtState putting.Idle b = Unit {0}
-  AtState putting.Opens b = Unit {0}
+  AtState putting.Idle b = Awaits side b
+  AtState putting.Opens b = Awaits side b
   AtState (putting.Adds file) b = ⊥
   AtState (putting.Saves s) b = SaveIs s b
 
@@ -156,16 +163,8 @@ module _ (before next wsize : ℕ) (is_next : next ≡ before + 1) (some : 1 ≤
   -- ---- its bytes come in
 
   module _ (turn : Turn) (old : Shelf) (sound : EachSound old.back) (may : MayAdd old) (file : List ℕ) where
-    held-begun : (mid : Pending) → OnFile old.back mid file (with_bytes offset bytes (old.seq + 1) (of_file file old.back)) → file ≡ f → Holding (saves.begun file (old.seq + 1)) mid
-    held-begun mid on same = record {
-      way = begins file (old.seq + 1) mid none;
-      open_ = record {
-        second = waits (written next) (here next has_next) refl refl (omega arith) (subst (Each (EndsLong before next wsize)) (sym none) tt);
-        rest = λ cell at. plain cell (one (written before) cell (sym (here before has_before) ∙ at));
-        fly = λ flown at. absurd (no-fly before flown at);
-        apart = λ place flown at. absurd (no-fly place flown at);
-      };
-    }
+    held-begun : (mid : Pending) → OnFile old.back mid file (with_bytes offset bytes (old.seq + 1) (of_file file old.back)) → file ≡ f → Awaits side old.back → Cov ⊎ Holding (saves.begun file (old.seq + 1)) mid
+    held-begun mid on same = by side refl
       where
         none : (of_file file mid).pieces ≡ []
         none =
@@ -181,6 +180,11 @@ module _ (before next wsize : ℕ) (is_next : next ≡ before + 1) (some : 1 ≤
         here : (place : ℕ) → covers offset (length bytes) place ≡ true → rest_at (of_file file mid) place ≡ Some (written place)
         here place inside = comes.rest place ∙ if-true (covers offset (length bytes) place) (Some (written place)) (rest_at (of_file file old.back) place) inside
 
+        stays : (place : ℕ) → covers offset (length bytes) place ≡ false → rest_at (of_file file mid) place ≡ rest_at (of_file f old.back) place
+        stays place outside =
+            comes.rest place ∙ if-false (covers offset (length bytes) place) (Some (written place)) (rest_at (of_file file old.back) place) outside
+            ∙ ap (λ (g : List ℕ). rest_at (of_file g old.back) place) same
+
         one : (a b : Cell) → Some a ≡ Some b → a ≡ b
         one a b e = cc
 
@@ -190,18 +194,41 @@ module _ (before next wsize : ℕ) (is_next : next ≡ before + 1) (some : 1 ≤
         no-fly : (place : ℕ) (flown : Flown) → fly_at (of_file file mid) place ≡ Some flown → ⊥
         no-fly place flown at = let no_way : None ≡ Some flown = sym (ap (λ (qs : List Sent). fly_in qs place) none) ∙ at in absurd cc
 
+        by : (c : Bool) → side ≡ c → Awaits c old.back → Cov ⊎ Holding (saves.begun file (old.seq + 1)) mid
+        by true is awaits = inr (record {
+          way = begins file (old.seq + 1) mid none;
+          open_ = record {
+            second = waits (written next) (here next (has_next ∙ is)) refl refl (omega arith) (subst (Each (EndsLong before next wsize)) (sym none) tt);
+            rest = λ cell at. plain cell (one (written before) cell (sym (here before (has_before ∙ is)) ∙ at));
+            fly = λ flown at. absurd (no-fly before flown at);
+            apart = λ place flown at. absurd (no-fly place flown at);
+          };
+        })
+        by false is (inl c) = inl c
+        by false is (inr both) =
+            let low = (newest-below old.seq f old.back may.newest next).rest both.1.cell both.1.at in
+            inr (record {
+              way = begins file (old.seq + 1) mid none;
+              open_ = record {
+                second = waits both.1.cell (stays next (has_next ∙ is) ∙ both.1.at) both.1.ready both.1.plain (omega (arith, low)) (subst (Each (EndsLong before next wsize)) (sym none) tt);
+                rest = λ cell at. both.0 cell (sym (stays before (has_before ∙ is)) ∙ at);
+                fly = λ flown at. absurd (no-fly before flown at);
+                apart = λ place flown at. absurd (no-fly place flown at);
+              };
+            })
+
     refused-on : (told : Next) (fault : Fault) (lane : ℕ) (mid : Shelf) (nx : Next) (new : PutFile) (after : Shelf) → told ≡ nexts.Done (answers.Refused fault)
         → puts.AfterWrite told wsize lane file turn mid nx new.state after → PutOn nx new after.back
     refused-on told fault lane mid nx new after is f =
         let ends = subst (λ (z : Next). puts.AfterWrite z wsize lane file turn mid nx new.state after) is f in
         subst (λ (z : Next). PutOn z new after.back) (sym ends.next_is) tt
 
-    comes-in : (b : Bool) (lane : ℕ) (told : Next) (written : Writing) (mid : Shelf) (p new : PutFile) (nx : Next) (after : Shelf) → is_full bytes old.back ≡ b → HasText p
+    comes-in : (b : Bool) (lane : ℕ) (told : Next) (written : Writing) (mid : Shelf) (p new : PutFile) (nx : Next) (after : Shelf) → is_full bytes old.back ≡ b → Awaits side old.back → HasText p
         → new ≡ record p { write = record p.write { state = written }; state = new.state }
         → writes.WritesIf b wsize lane file offset bytes turn (puts.put_at lane file old) told written mid → puts.AfterWrite told wsize lane file turn mid nx new.state after → PutOn nx new after.back
-    comes-in true lane told written mid p new nx after full text is w f = absurd (let full_ = may.full in let no_way : true ≡ false = sym full ∙ full_ in cc)
-    comes-in false lane told written mid p new nx after full text is (inr refused) f = refused-on told _ lane mid nx new after refused.gives_next f
-    comes-in false lane told written mid p new nx after full text is (inl adds) wrote =
+    comes-in true lane told written mid p new nx after full awaits text is w f = absurd (let full_ = may.full in let no_way : true ≡ false = sym full ∙ full_ in cc)
+    comes-in false lane told written mid p new nx after full awaits text is (inr refused) f = refused-on told _ lane mid nx new after refused.gives_next f
+    comes-in false lane told written mid p new nx after full awaits text is (inl adds) wrote =
         let follows = subst (λ (z : Next). puts.AfterWrite z wsize lane file turn mid nx new.state after) adds.leads.gives_next wrote in
         let seq : mid.seq ≡ old.seq + 1 = ap (λ (z : Shelf). z.seq) adds.leads.shelf_is in
         let room : all_pending old.back + length bytes ≤ most_pending = ltb-false most_pending (all_pending old.back + length bytes) full in
@@ -209,7 +236,7 @@ module _ (before next wsize : ℕ) (is_next : next ≡ before + 1) (some : 1 ≤
         queues-on turn (joined lane file mid) fine (is_first lane (joined lane file mid).order) lane (saves.begun file mid.seq) (record p { write = record p.write { state = written } }) new nx after
         (λ same. subst (Each (λ q. q.xid < turn.xid)) (sym (pieces mid.back adds.adds same)) tt)
         (record { offset_is = text.offset_is; text_is = text.text_is }) is follows
-        (λ same. inr (subst (λ (n : ℕ). Holding (saves.begun file n) mid.back) (sym seq) (held-begun mid.back adds.adds same)))
+        (λ same. subst (λ (n : ℕ). Cov ⊎ Holding (saves.begun file n) mid.back) (sym seq) (held-begun mid.back adds.adds same awaits))
       where
         pieces : (mid : Pending) → OnFile old.back mid file (with_bytes offset bytes (old.seq + 1) (of_file file old.back)) → file ≡ f → (of_file file mid).pieces ≡ []
         pieces mid on same =
@@ -227,13 +254,13 @@ module _ (before next wsize : ℕ) (is_next : next ≡ before + 1) (some : 1 ≤
       IsAwaited s sent.xid b
       × (Soon turn.xid s.file b × ((flown : Flown) → s.file ≡ f → fly_at (of_file s.file b) next ≡ Some flown → Cov) ⊎ ((fault : Fault) × (came ≡ Err fault) × (s.file ≡ f → Each (λ q. q.xid ≤ sent.xid) (of_file s.file b).pieces)))
 
-  opened-on : (turn : Turn) (old : Shelf) (sound : EachSound old.back) (step : OpeningNext) (p new : PutFile) (nx : Next) (after : Shelf) → HasText p → p.state ≡ putting.Opens
+  opened-on : (turn : Turn) (old : Shelf) (sound : EachSound old.back) (step : OpeningNext) (p new : PutFile) (nx : Next) (after : Shelf) → HasText p → p.state ≡ putting.Opens → Awaits side old.back
       → puts.AfterOpening step wsize p turn old nx new after → ((file : List ℕ) → step ≡ openings.Ended (Ok file) → MayAdd old) → PutOn nx new after.back
-  opened-on turn old sound (openings.Send call) p new nx after text opens f may = put-on nx (nexts.Send call) new p after old f.0 f.1 f.2 (record { text = text; at = rw opens tt })
-  opened-on turn old sound openings.Wait p new nx after text opens f may = put-on nx nexts.Wait new p after old f.next_is f.machine_is f.shelf_is (record { text = text; at = rw opens tt })
-  opened-on turn old sound (openings.Ended (Err fault)) p new nx after text opens f may = subst (λ (z : Next). PutOn z new after.back) (sym f.0) tt
-  opened-on turn old sound (openings.Ended (Ok file)) p new nx after text opens f may =
-      comes-in turn old sound (may file refl) file (is_full bytes old.back) p.write.lane f.told f.written f.mid p new nx after refl text f.goes.machine_is
+  opened-on turn old sound (openings.Send call) p new nx after text opens awaits f may = put-on nx (nexts.Send call) new p after old f.0 f.1 f.2 (record { text = text; at = rw opens awaits })
+  opened-on turn old sound openings.Wait p new nx after text opens awaits f may = put-on nx nexts.Wait new p after old f.next_is f.machine_is f.shelf_is (record { text = text; at = rw opens awaits })
+  opened-on turn old sound (openings.Ended (Err fault)) p new nx after text opens awaits f may = subst (λ (z : Next). PutOn z new after.back) (sym f.0) tt
+  opened-on turn old sound (openings.Ended (Ok file)) p new nx after text opens awaits f may =
+      comes-in turn old sound (may file refl) file (is_full bytes old.back) p.write.lane f.told f.written f.mid p new nx after refl awaits text f.goes.machine_is
       (subst (λ (bs : List ℕ). writes.Writes wsize p.write.lane file offset bs turn (puts.put_at p.write.lane file old) f.told f.written f.mid) text.text_is
       (subst (λ (o : ℕ). writes.Writes wsize p.write.lane file o (writes.made_bytes p.write.text) turn (puts.put_at p.write.lane file old) f.told f.written f.mid) text.offset_is f.writes)) f.goes.follows
 
@@ -247,13 +274,13 @@ module _ (before next wsize : ℕ) (is_next : next ≡ before + 1) (some : 1 ≤
 
   module _ (turn : Turn) (old : Shelf) (sound : EachSound old.back) where
     put-resumes : (state : Putting) (p new : PutFile) (nx : Next) (after : Shelf) → p.state ≡ state → HasText p → AtState state old.back → ((s : Saving) → state ≡ putting.Saves s → Soon turn.xid s.file old.back) → puts.Resumes state wsize p turn old nx new after → PutOn nx new after.back
-    put-resumes putting.Idle p new nx after is text at early r = put-on nx nexts.Wait new p after old r.next_is r.machine_is r.shelf_is (record { text = text; at = rw is tt })
+    put-resumes putting.Idle p new nx after is text at early r = put-on nx nexts.Wait new p after old r.next_is r.machine_is r.shelf_is (record { text = text; at = rw is at })
     put-resumes putting.Opens p new nx after is text at early r = by nx
       where
         own : PutIs new after.back
         own = record {
           text = record { offset_is = ap (λ (z : PutFile). z.write.offset) r.1 ∙ text.offset_is; text_is = ap (λ (z : PutFile). writes.made_bytes z.write.text) r.1 ∙ text.text_is };
-          at = subst (λ (s : Putting). AtState s after.back) (sym (ap (λ (z : PutFile). z.state) r.1 ∙ is)) tt;
+          at = subst (λ (s : Putting). AtState s after.back) (sym (ap (λ (z : PutFile). z.state) r.1 ∙ is)) (subst (λ (z : Shelf). Awaits side z.back) (sym r.2) at);
         }
 
         by : (n : Next) → PutOn n new after.back
@@ -266,11 +293,11 @@ module _ (before next wsize : ℕ) (is_next : next ≡ before + 1) (some : 1 ≤
 
     put-takes : (state : Putting) (sent : Turn) (came : Result Reply Fault) (p new : PutFile) (nx : Next) (after : Shelf) → p.state ≡ state → HasText p → AtState state old.back → HeardBy sent turn came state old.back
         → (t : puts.Takes state wsize p sent turn came old nx new after) → PutHas (λ file. MayAdd old) state wsize p sent turn came old nx new after t → PutOn nx new after.back
-    put-takes putting.Idle sent came p new nx after is text at heard t has = put-on nx nexts.Wait new p after old t.next_is t.machine_is t.shelf_is (record { text = text; at = rw is tt })
+    put-takes putting.Idle sent came p new nx after is text at heard t has = put-on nx nexts.Wait new p after old t.next_is t.machine_is t.shelf_is (record { text = text; at = rw is at })
     put-takes putting.Opens sent came p new nx after is text at heard t has =
         let back : t.took.back ≡ old.back = ap (λ (z : Shelf). z.back) t.others in
         let seq : t.took.seq ≡ old.seq = ap (λ (z : Shelf). z.seq) t.others in
-        opened-on turn t.took (subst EachSound (sym back) sound) t.step _ new nx after (record { offset_is = text.offset_is; text_is = text.text_is }) is t.follows (λ file same. may-as old t.took back seq (has file same))
+        opened-on turn t.took (subst EachSound (sym back) sound) t.step _ new nx after (record { offset_is = text.offset_is; text_is = text.text_is }) is (subst (Awaits side) (sym back) at) t.follows (λ file same. may-as old t.took back seq (has file same))
     put-takes (putting.Adds file) sent came p new nx after is text at heard t has = absurd at
     put-takes (putting.Saves s) sent came p new nx after is text at heard t has =
         let one = t.0 in
@@ -295,9 +322,9 @@ module _ (before next wsize : ℕ) (is_next : next ≡ before + 1) (some : 1 ≤
 
   -- ---- and its path
 
-  abbrev pub WayRuns : Opener → Type 0
-  WayRuns (openers.Put p) = HasText p
-  WayRuns (openers.Open o) = ⊥
+  abbrev pub WayRuns : Opener → Pending → Type 0
+  WayRuns (openers.Put p) b = HasText p × Awaits side b
+  WayRuns (openers.Open o) b = ⊥
 
   abbrev pub ThereRuns : Opener → Pending → Type 0
   ThereRuns (openers.Put p) b = PutIs p b
@@ -305,7 +332,7 @@ module _ (before next wsize : ℕ) (is_next : next ≡ before + 1) (some : 1 ≤
 
   abbrev pub OpenerRuns : Bool → Opener → Pending → Type 0
   OpenerRuns true o b = ThereRuns o b
-  OpenerRuns false o b = WayRuns o
+  OpenerRuns false o b = WayRuns o b
 
   abbrev pub Runs : Machine → Pending → Type 0
   Runs (machines.Path m) b = OpenerRuns m.arrived m.opener b
@@ -335,13 +362,13 @@ module _ (before next wsize : ℕ) (is_next : next ≡ before + 1) (some : 1 ≤
   machine-of : (n : Next) (to new : Machine) (b : Pending) → new ≡ to → RunsOn n to b → RunsOn n new b
   machine-of n to new b is h = subst (λ (z : Machine). RunsOn n z b) (sym is) h
 
-  placed-runs : (dir : List ℕ) (o : Opener) (b : Pending) → WayRuns o → ThereRuns (placed dir o) b
+  placed-runs : (dir : List ℕ) (o : Opener) (b : Pending) → WayRuns o b → ThereRuns (placed dir o) b
   placed-runs dir (openers.Open o) b h = h
-  placed-runs dir (openers.Put p) b h = record { text = record { offset_is = h.offset_is; text_is = h.text_is }; at = tt }
+  placed-runs dir (openers.Put p) b h = record { text = record { offset_is = h.0.offset_is; text_is = h.0.text_is }; at = h.1 }
 
-  begun-runs : (moment : ℕ) (o : Opener) → WayRuns o → WayRuns (begun_at moment o)
-  begun-runs moment (openers.Open o) h = h
-  begun-runs moment (openers.Put p) h = record { offset_is = h.offset_is; text_is = h.text_is }
+  begun-runs : (moment : ℕ) (o : Opener) (b : Pending) → WayRuns o b → WayRuns (begun_at moment o) b
+  begun-runs moment (openers.Open o) b h = h
+  begun-runs moment (openers.Put p) b h = (record { offset_is = h.0.offset_is; text_is = h.0.text_is }, h.1)
 
   abbrev EarlyOf : ℕ → Opener → Pending → Type 0
   EarlyOf to (openers.Put p) b = (s : Saving) → p.state ≡ putting.Saves s → Soon to s.file b
@@ -363,13 +390,13 @@ module _ (before next wsize : ℕ) (is_next : next ≡ before + 1) (some : 1 ≤
         there-of nx q after.back (subst (λ (z : PutFile). PutOn nx z after.back) (some-put q r.machine r.machine_is)
         (put-resumes turn old sound p.state p r.machine nx after refl runs.text runs.at early r.step))
 
-    follows-way : (step : WalkNext) (m new : PathMachine) → m.arrived ≡ false → WayRuns m.opener → paths.Follows step wsize m turn old nx new after → RunsOn nx (machines.Path new) after.back
+    follows-way : (step : WalkNext) (m new : PathMachine) → m.arrived ≡ false → WayRuns m.opener old.back → paths.Follows step wsize m turn old nx new after → RunsOn nx (machines.Path new) after.back
     follows-way (walks.Send call) m new way runs f =
         subst (λ (n : Next). RunsOn n (machines.Path new) after.back) (sym f.0)
-        (subst (λ (z : PathMachine). OpenerRuns z.arrived z.opener after.back) (sym f.1) (subst (λ (c : Bool). OpenerRuns c m.opener after.back) (sym way) runs))
+        (subst (λ (z : PathMachine). OpenerRuns z.arrived z.opener after.back) (sym f.1) (subst (λ (c : Bool). OpenerRuns c m.opener after.back) (sym way) (subst (λ (z : Shelf). WayRuns m.opener z.back) (sym f.2) runs)))
     follows-way walks.Wait m new way runs f =
         subst (λ (n : Next). RunsOn n (machines.Path new) after.back) (sym f.0)
-        (subst (λ (z : PathMachine). OpenerRuns z.arrived z.opener after.back) (sym f.1) (subst (λ (c : Bool). OpenerRuns c m.opener after.back) (sym way) runs))
+        (subst (λ (z : PathMachine). OpenerRuns z.arrived z.opener after.back) (sym f.1) (subst (λ (c : Bool). OpenerRuns c m.opener after.back) (sym way) (subst (λ (z : Shelf). WayRuns m.opener z.back) (sym f.2) runs)))
     follows-way (walks.Refused fault) m new way runs f = subst (λ (n : Next). RunsOn n (machines.Path new) after.back) (sym f.0) tt
     follows-way (walks.At dir) m new way runs f =
         path-of nx (record m { opener = placed dir m.opener; arrived = true }) new f.opener after.back refl f.machine_is
@@ -388,7 +415,7 @@ module _ (before next wsize : ℕ) (is_next : next ≡ before + 1) (some : 1 ≤
   runs-resumes turn old sound early nx after (machines.Path m) new runs r =
       machine-of nx (machines.Path r.machine) new after.back r.machine_is (path-resumes m.arrived turn old sound early nx after m r.machine refl runs r.step)
 
-  pub runs-starts : (turn : Turn) (old : Shelf) → EachSound old.back → ((file : List ℕ) → Soon turn.xid file old.back) → (nx : Next) (after : Shelf) (m : PathMachine) (new : Machine) → m.arrived ≡ false → WayRuns m.opener
+  pub runs-starts : (turn : Turn) (old : Shelf) → EachSound old.back → ((file : List ℕ) → Soon turn.xid file old.back) → (nx : Next) (after : Shelf) (m : PathMachine) (new : Machine) → m.arrived ≡ false → WayRuns m.opener old.back
       → Starts wsize (machines.Path m) turn old nx new after → RunsOn nx new after.back
   runs-starts turn old sound early nx after m new way runs s =
       machine-of nx (machines.Path s.machine) new after.back s.machine_is (by (slot_taken m.opener old.opens) s.step)
@@ -397,7 +424,7 @@ module _ (before next wsize : ℕ) (is_next : next ≡ before + 1) (some : 1 ≤
       by true k = subst (λ (n : Next). RunsOn n (machines.Path s.machine) after.back) (sym k.0) tt
       by false k =
           path-resumes m.arrived turn old sound early nx after (record m { opener = begun_at (turn.moment - 1) m.opener }) s.machine refl
-          (subst (λ (c : Bool). OpenerRuns c (begun_at (turn.moment - 1) m.opener) old.back) (sym way) (begun-runs (turn.moment - 1) m.opener runs)) k
+          (subst (λ (c : Bool). OpenerRuns c (begun_at (turn.moment - 1) m.opener) old.back) (sym way) (begun-runs (turn.moment - 1) m.opener old.back runs)) k
 
   -- what is known of what came, of a machine
   abbrev pub OpenerHears : Turn → Turn → Result Reply Fault → Bool → Opener → Pending → Type 0
@@ -428,7 +455,7 @@ module _ (before next wsize : ℕ) (is_next : next ≡ before + 1) (some : 1 ≤
     path-takes false m new is runs heard t has =
         let kept = walk-takes-kept (walking.waiting_name m.walk) m.walk sent turn came old t.step t.walked.walk t.heard t.takes in
         follows-way turn t.heard (subst EachSound (sym kept.back) sound) nx after t.step t.walked new
-        (ap (λ (w : PathMachine). w.arrived) t.walked_is ∙ is) (subst WayRuns (sym (ap (λ (w : PathMachine). w.opener) t.walked_is)) runs) t.follows
+        (ap (λ (w : PathMachine). w.arrived) t.walked_is ∙ is) (subst (λ (o : Opener). WayRuns o t.heard.back) (sym (ap (λ (w : PathMachine). w.opener) t.walked_is)) (subst (WayRuns m.opener) (sym kept.back) runs)) t.follows
 
     pub runs-takes : (m new : Machine) → Runs m old.back → Hears sent turn came m old.back → (t : Takes wsize m sent turn came old nx new after) → TakesHas Has_ wsize m sent turn came old nx new after t
         → RunsOn nx new after.back
@@ -437,21 +464,26 @@ module _ (before next wsize : ℕ) (is_next : next ≡ before + 1) (some : 1 ≤
     runs-takes (machines.Path m) new runs heard t has = machine-of nx (machines.Path t.machine) new after.back t.machine_is (path-takes m.arrived m t.machine refl runs heard t.step has)
 
 -- by another fact, where the second byte was covered
-pub runs-map : (before next wsize : ℕ) (is_next : next ≡ before + 1) (some : 1 ≤ wsize) (f : List ℕ) (Cov Cov' : Type 0) (offset : ℕ) (bytes : List ℕ) (has_before : covers offset (length bytes) before ≡ true)
-    (has_next : covers offset (length bytes) next ≡ true) → (Cov → Cov') → (m : Machine) (b : Pending) → Runs before next wsize is_next some f Cov offset bytes has_before has_next m b
-    → Runs before next wsize is_next some f Cov' offset bytes has_before has_next m b
-runs-map before next wsize is_next some f Cov Cov' offset bytes has_before has_next conv (machines.File m) b r = r
-runs-map before next wsize is_next some f Cov Cov' offset bytes has_before has_next conv (machines.Name m) b r = r
-runs-map before next wsize is_next some f Cov Cov' offset bytes has_before has_next conv (machines.Path m) b r = by m.arrived m.opener r
+pub runs-map : (before next wsize : ℕ) (is_next : next ≡ before + 1) (some : 1 ≤ wsize) (f : List ℕ) (Cov Cov' : Type 0) (offset : ℕ) (bytes : List ℕ) (side : Bool) (has_before : covers offset (length bytes) before ≡ side)
+    (has_next : covers offset (length bytes) next ≡ side) → (Cov → Cov') → (m : Machine) (b : Pending) → Runs before next wsize is_next some f Cov offset bytes side has_before has_next m b
+    → Runs before next wsize is_next some f Cov' offset bytes side has_before has_next m b
+runs-map before next wsize is_next some f Cov Cov' offset bytes side has_before has_next conv (machines.File m) b r = r
+runs-map before next wsize is_next some f Cov Cov' offset bytes side has_before has_next conv (machines.Name m) b r = r
+runs-map before next wsize is_next some f Cov Cov' offset bytes side has_before has_next conv (machines.Path m) b r = by m.arrived m.opener r
   where
-    at-map : (state : Putting) → AtState before next wsize is_next some f Cov offset bytes has_before has_next state b → AtState before next wsize is_next some f Cov' offset bytes has_before has_next state b
-    at-map putting.Idle at = at
-    at-map putting.Opens at = at
+    awaits-map : (c : Bool) → Awaits before next wsize is_next some f Cov offset bytes side has_before has_next c b → Awaits before next wsize is_next some f Cov' offset bytes side has_before has_next c b
+    awaits-map true at = at
+    awaits-map false (inl c) = inl (conv c)
+    awaits-map false (inr both) = inr both
+
+    at-map : (state : Putting) → AtState before next wsize is_next some f Cov offset bytes side has_before has_next state b → AtState before next wsize is_next some f Cov' offset bytes side has_before has_next state b
+    at-map putting.Idle at = awaits-map side at
+    at-map putting.Opens at = awaits-map side at
     at-map (putting.Adds file) at = at
     at-map (putting.Saves s) at = λ same. elim (at same) [ inl c ↦ inl (conv c) | inr k ↦ inr k ]
 
-    by : (c : Bool) (o : Opener) → OpenerRuns before next wsize is_next some f Cov offset bytes has_before has_next c o b → OpenerRuns before next wsize is_next some f Cov' offset bytes has_before has_next c o b
+    by : (c : Bool) (o : Opener) → OpenerRuns before next wsize is_next some f Cov offset bytes side has_before has_next c o b → OpenerRuns before next wsize is_next some f Cov' offset bytes side has_before has_next c o b
     by true (openers.Open o) k = k
     by true (openers.Put p) k = record { text = record { offset_is = k.text.offset_is; text_is = k.text.text_is }; at = at-map p.state k.at }
     by false (openers.Open o) k = k
-    by false (openers.Put p) k = record { offset_is = k.offset_is; text_is = k.text_is }
+    by false (openers.Put p) k = (record { offset_is = k.0.offset_is; text_is = k.0.text_is }, awaits-map side k.1)

@@ -269,6 +269,8 @@ module _ (m : Mounted) (setup : Setup) (h : List Entry) (one : OneLane h) (i x e
         began = subst (λ (k : List Entry). At k x (Began c.lane c.line c.op)) (sym a.is) (At-grow a.before rest x (Began c.lane c.line c.op) c.began);
         of = c.of;
         holds = c.holds;
+        quiet = c.quiet;
+        idle = c.idle;
         view = c.view;
         reaches = c.reaches;
         found = c.found;

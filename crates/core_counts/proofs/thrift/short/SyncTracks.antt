@@ -70,7 +70,7 @@ use Rattle.world_model.specs.declared.answer.Answer.TheVariants as answers
 use Rattle.world_model.specs.declared.answer.Fault.TheVariants as faults
 use Rattle.write_back.specs.States.{is_ready, how_of, ready_of}
 use Rattle.bond_saves.proofs.Going.{begins}
-use Rattle.core_counts.specs.thrift.Writes.{WaitsPlain, OfSlot, BeganOtherwise}
+use Rattle.core_counts.specs.thrift.Writes.{WaitsPlain, NotAsStable, OfSlot, BeganOtherwise}
 use Rattle.core_counts.proofs.counts.writes.Weights.{newest-below}
 use Rattle.core_counts.proofs.thrift.short.Holding.{Hold}
 use Rattle.core_counts.proofs.thrift.short.Lone.{early-unused, none-unused, each-least, same-lane, one-before, only-one, covered-now}
@@ -78,7 +78,7 @@ use Rattle.core_counts.proofs.thrift.short.Syncing.{SaveIs, Hears, Runs, RunsOn,
 
 -- ---- whether it waits
 
-waits-plain : (of : FilePending) (place : ℕ) → WaitsPlain of place ⊎ (WaitsPlain of place → ⊥)
+pub waits-plain : (of : FilePending) (place : ℕ) → WaitsPlain of place ⊎ (WaitsPlain of place → ⊥)
 waits-plain of place = by (rest_at of place) refl
   where
     one : (a b : Cell) → Some a ≡ Some b → a ≡ b
@@ -96,22 +96,33 @@ waits-plain of place = by (rest_at of place) refl
         which false not p plain = inr (λ w. let no_way : true ≡ false = sym w.ready ∙ ap (λ (c : Cell). is_ready c.state) (same w) ∙ not in absurd cc)
         which true ready false not = inr (λ w. eqb-false (how_of (ready_of cell.state)) 0 not (subst (λ (c : Cell). how_of (ready_of c.state) ≡ 0) (same w) w.plain))
 
--- a save that begins while both wait
-held-begun : (before next wsize : ℕ) (is_next : next ≡ before + 1) (some : 1 ≤ wsize) (f : List ℕ) (seq : ℕ) (b : Pending) → IsNewest (seq + 1) b → (of_file f b).pieces ≡ [] → WaitsPlain (of_file f b) before
+pub not-stable : (of : FilePending) (place : ℕ) → NotAsStable of place ⊎ (NotAsStable of place → ⊥)
+not-stable of place = by (rest_at of place) refl
+  where
+    one : (a b : Cell) → Some a ≡ Some b → a ≡ b
+    one a b e = cc
+
+    by : (o : Option Cell) → rest_at of place ≡ o → NotAsStable of place ⊎ (NotAsStable of place → ⊥)
+    by None none = inl (λ cell at. absurd (let no_way : None ≡ Some cell = sym none ∙ at in cc))
+    by (Some cell) at = which (nat_eq (how_of (ready_of cell.state)) 0) refl
+      where
+        which : (p : Bool) → nat_eq (how_of (ready_of cell.state)) 0 ≡ p → NotAsStable of place ⊎ (NotAsStable of place → ⊥)
+        which true plain = inl (λ other here. subst (λ (c : Cell). how_of (ready_of c.state) ≡ 0) (one cell other (sym at ∙ here)) (eqb-true (how_of (ready_of cell.state)) 0 plain))
+        which false not = inr (λ so. eqb-false (how_of (ready_of cell.state)) 0 not (so cell at))
+
+-- a save that begins while the second waits
+pub held-begun : (before next wsize : ℕ) (is_next : next ≡ before + 1) (some : 1 ≤ wsize) (f : List ℕ) (seq : ℕ) (b : Pending) → IsNewest (seq + 1) b → (of_file f b).pieces ≡ [] → NotAsStable (of_file f b) before
     → WaitsPlain (of_file f b) next → Hold before next wsize is_next some (saves.begun f seq) b
 held-begun before next wsize is_next some f seq b newest none first second = record {
   way = begins f seq b none;
   open_ = record {
     second = waits_so second.cell second.at second.ready second.plain ((newest-below seq f b newest next).rest second.cell second.at) (subst (Each (EndsLong before next wsize)) (sym none) tt);
-    rest = λ cell at. subst (λ (c : Cell). how_of (ready_of c.state) ≡ 0) (one first.cell cell (sym first.at ∙ at)) first.plain;
+    rest = first;
     fly = λ flown at. absurd (no-fly before flown at);
     apart = λ place flown at. absurd (no-fly place flown at);
   };
 }
   where
-    one : (a b : Cell) → Some a ≡ Some b → a ≡ b
-    one a b e = cc
-
     no-fly : (place : ℕ) (flown : InAir) → fly_at (of_file f b) place ≡ Some flown → ⊥
     no-fly place flown at = let no_way : None ≡ Some flown = sym (ap (λ (qs : List Piece). fly_in qs place) none) ∙ at in absurd cc
 
@@ -163,6 +174,8 @@ module _ (m : Mounted) (setup : Setup) (f : List ℕ) (before next : ℕ) (is_ne
     began = At-grow h (e ∷ []) x (Began c.lane c.line c.op) c.began;
     of = c.of;
     holds = c.holds;
+    quiet = c.quiet;
+    idle = c.idle;
     view = c.view;
     reaches = c.reaches;
     found = c.found;
@@ -336,13 +349,13 @@ module _ (m : Mounted) (setup : Setup) (f : List ℕ) (before next : ℕ) (is_ne
                       let busy = position-Some (is_busy w.purpose.lane) old.lanes j any is in
                       absurd (none-else j (get_or old.lanes j any) (slice_get-get_or old.lanes j any busy.0))
 
-          held : WaitsPlain (of_file f old.shelf.back) before → WaitsPlain (of_file f old.shelf.back) next → Hold before next setup.wsize is_next some (saves.begun f old.shelf.seq) old.shelf.back
+          held : NotAsStable (of_file f old.shelf.back) before → WaitsPlain (of_file f old.shelf.back) next → Hold before next setup.wsize is_next some (saves.begun f old.shelf.seq) old.shelf.back
           held a c = held-begun before next setup.wsize is_next some f old.shelf.seq old.shelf.back i.basis.newest none a c
 
           begins : (slot : ℕ) → OfSlot saver slot → (file : List ℕ) → file_at lane slot old.shelf.opens ≡ Some file → SaveIs before next setup.wsize is_next some f (Cov later) (saves.begun file old.shelf.seq) old.shelf.back
-          begins slot of file found_ same = by (waits-plain (of_file f old.shelf.back) before) (waits-plain (of_file f old.shelf.back) next)
+          begins slot of file found_ same = by (not-stable (of_file f old.shelf.back) before) (waits-plain (of_file f old.shelf.back) next)
             where
-              otherwise : (WaitsPlain (of_file f old.shelf.back) before → WaitsPlain (of_file f old.shelf.back) next → ⊥) → Cov later
+              otherwise : (NotAsStable (of_file f old.shelf.back) before → WaitsPlain (of_file f old.shelf.back) next → ⊥) → Cov later
               otherwise not = inr (record {
                 before = h;
                 after = Began lane line op ∷ [];
@@ -355,13 +368,15 @@ module _ (m : Mounted) (setup : Setup) (f : List ℕ) (before next : ℕ) (is_ne
                 began = subst (λ (n : ℕ). At later n (Began lane line op)) (sym now-op.1) (At-last h (Began lane line op));
                 of = subst (λ (o : Op). OfSlot o slot) (sym now-op.0) of;
                 holds = found_ ∙ ap Some same;
+                quiet = none;
+                idle = none-else;
                 view = old;
                 reaches = r;
                 found = found;
                 other = λ a c. not a (subst (λ (n : ℕ). WaitsPlain (of_file f old.shelf.back) n) (sym is_next) c);
               })
 
-              by : WaitsPlain (of_file f old.shelf.back) before ⊎ (WaitsPlain (of_file f old.shelf.back) before → ⊥) → WaitsPlain (of_file f old.shelf.back) next ⊎ (WaitsPlain (of_file f old.shelf.back) next → ⊥)
+              by : NotAsStable (of_file f old.shelf.back) before ⊎ (NotAsStable (of_file f old.shelf.back) before → ⊥) → WaitsPlain (of_file f old.shelf.back) next ⊎ (WaitsPlain (of_file f old.shelf.back) next → ⊥)
                   → Cov later ⊎ Hold before next setup.wsize is_next some (saves.begun file old.shelf.seq) old.shelf.back
               by (inl a) (inl c) = inr (subst (λ (g : List ℕ). Hold before next setup.wsize is_next some (saves.begun g old.shelf.seq) old.shelf.back) (sym same) (held a c))
               by (inl a) (inr not) = inl (otherwise (λ z c. not c))

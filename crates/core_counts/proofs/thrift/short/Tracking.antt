@@ -1,5 +1,5 @@
 -- Where all operations are of one lane and find room: a put whose bytes have two places next to each other, along a history.
-use Rattle.std.proofs.Common.{◌≡◌, ◌<◌, ◌≤◌, ◌⊎◌, inl, inr, ◌+◌, ◌-◌, ◌^◌, ◌++◌, nat_eq, ℕ, Bool, true, false, List, [], ◌∷◌, length, Option, Some, None, Result, Err, position, slice_get, slice_set, refl, sym, ap, subst, ◌∙◌, arith}
+use Rattle.std.proofs.Common.{◌≡◌, ◌<◌, ◌≤◌, ◌⊎◌, inl, inr, ◌+◌, ◌-◌, ◌^◌, ◌++◌, nat_eq, ℕ, Bool, true, false, List, [], ◌∷◌, length, Option, Some, None, Result, Err, position, slice_get, slice_set, refl, sym, ap, subst, ◌∙◌, arith, append_assoc, option_map, get_or}
 use Rattle.std.proofs.lemmas.Bool.{eqb-true, eqb-false, ltb-true}
 use Rattle.rpc_message.specs.Call.{xid_at}
 use Rattle.rpc_retry.specs.declared.waiting.Waiting.{Waiting}
@@ -19,7 +19,7 @@ use Rattle.world_model.specs.Entries.{At}
 use Rattle.world_model.specs.Operations.{UnderWay}
 use Rattle.world_model.specs.Thrifty.{OneLane, CoveredEarlier}
 use Rattle.world_model.proofs.Places.{At-grow, At-cases, At-last, length_last}
-use Rattle.write_back.specs.Files.{Pending, of_file, all_pending}
+use Rattle.write_back.specs.Files.{Pending, of_file, all_pending, HasNoPiece}
 use Rattle.write_back.specs.Pieces.{Sent as Piece}
 use Rattle.write_back.specs.Segments.{covers}
 use Rattle.write_back.specs.Sound as backs
@@ -67,7 +67,7 @@ use Rattle.core_facts.specs.InFlight.{in_flight}
 use Rattle.core_facts.specs.Reaches.{HearsRecord, Reaches}
 use Rattle.core_facts.proofs.AllCounts.{begins-unbegun}
 use Rattle.core_facts.proofs.Cases.{taken_one}
-use Rattle.core_facts.proofs.Flights.{flies_of, flies_path, flies_file, flies_put, flies_if}
+use Rattle.core_facts.proofs.Flights.{flies_of, flies_path, flies_file, flies_put, flies_if, Flies}
 use Rattle.core_facts.proofs.Hearing.{was-sent}
 use Rattle.core_facts.proofs.Keeping.{Known, taker-is, taker-one}
 use Rattle.core_facts.proofs.LaneMarks.{lanes-under-way, idle-numbers, number_of}
@@ -93,8 +93,16 @@ use Rattle.core_session.proofs.saves.WholeSteps.{IsSent, Wholly, keeps-wholly, s
 use Rattle.core_session.proofs.syncs.LaneSteps.{asked-piece}
 use Rattle.world_model.specs.Thrifty.{NeverFull}
 use Rattle.core_counts.proofs.thrift.short.Ends.{Each}
-use Rattle.core_counts.proofs.thrift.short.Lone.{early-unused, each-least, same-lane, one-before, room-before, only-one, none-flying, covered-now}
-use Rattle.core_counts.proofs.thrift.short.Putting.{MayAdd, AtState, HeardBy, OpenerHears, OpenerRuns, Hears, Runs, RunsOn, runs-starts, runs-resumes, runs-takes, runs-map}
+use Rattle.core_counts.proofs.thrift.short.Lone.{early-unused, each-least, same-lane, one-before, room-before, only-one, none-flying, covered-now, none-unused}
+use Rattle.core_facts.proofs.Counting.{none-busy}
+use Rattle.core_facts.proofs.Flown.{sender, look_at}
+use Rattle.std.proofs.lemmas.Option.{slice_get-get_or}
+use Rattle.std.proofs.lemmas.List.Quantifiers.{position-Some}
+use Rattle.world_model.specs.declared.answer.Answer.TheVariants as answers
+use Rattle.world_model.specs.declared.answer.Fault.TheVariants as faults
+use Rattle.core_counts.specs.thrift.Writes.{WaitsPlain, NotAsStable}
+use Rattle.core_counts.proofs.thrift.short.SyncTracks.{waits-plain, not-stable}
+use Rattle.core_counts.proofs.thrift.short.Putting.{MayAdd, Awaits, AtState, HeardBy, OpenerHears, OpenerRuns, Hears, Runs, RunsOn, runs-starts, runs-resumes, runs-takes, runs-map}
 
 -- ---- room
 
@@ -113,19 +121,32 @@ not-full bytes b few = by (is_full bytes b) refl
     by true full = let more = full-most bytes b full in absurd (omega (arith, more, few))
     by false full = refl
 
+-- As the operation at the place x began, no byte of the second place waited so, or one of the first was to be sent as stable.
+pub record BeganSo (m : Mounted) (setup : Setup) (h : List Entry) (x : ℕ) (f : List ℕ) (first second : ℕ) : Type 0 where
+  pub before : List Entry
+  pub after : List Entry
+  pub is : h ≡ before ++ after
+  pub there : length before ≡ x
+  pub view : View
+  pub reaches : Reaches (machine_of m) setup before view
+  pub found : view.lost ≡ false
+  pub quiet : HasNoPiece f view.shelf.back
+  pub idle : (n : ℕ) (l : Lane) → slice_get view.lanes n ≡ Some l → ⊥
+  pub other : NotAsStable (of_file f view.shelf.back) first → WaitsPlain (of_file f view.shelf.back) second → ⊥
+
 module _ (m : Mounted) (setup : Setup) (f : List ℕ) (before next : ℕ) (is_next : next ≡ before + 1) (some : 1 ≤ setup.wsize) (x : ℕ) (path : List (List ℕ)) (offset : ℕ) (bytes : List ℕ)
-    (has_before : covers offset (length bytes) before ≡ true) (has_next : covers offset (length bytes) next ≡ true) where
+    (side : Bool) (has_before : covers offset (length bytes) before ≡ side) (has_next : covers offset (length bytes) next ≡ side) where
   abbrev pub Cov : List Entry → Type 0
-  Cov h = CoveredEarlier h (length h) f next
+  Cov h = CoveredEarlier h (length h) f next ⊎ ((side ≡ false) × BeganSo m setup h x f before next)
 
   abbrev pub Running : List Entry → Machine → Pending → Type 0
-  Running h machine b = Runs before next setup.wsize is_next some f (Cov h) offset bytes has_before has_next machine b
+  Running h machine b = Runs before next setup.wsize is_next some f (Cov h) offset bytes side has_before has_next machine b
 
   abbrev RunningOn : List Entry → Next → Machine → Pending → Type 0
-  RunningOn h nx machine b = RunsOn before next setup.wsize is_next some f (Cov h) offset bytes has_before has_next nx machine b
+  RunningOn h nx machine b = RunsOn before next setup.wsize is_next some f (Cov h) offset bytes side has_before has_next nx machine b
 
   abbrev May : List Entry → Shelf → Type 0
-  May h old = MayAdd before next setup.wsize is_next some f (Cov h) offset bytes has_before has_next old
+  May h old = MayAdd before next setup.wsize is_next some f (Cov h) offset bytes side has_before has_next old
 
   abbrev pub ThisPut : Op
   ThisPut = ops.Put path offset bytes
@@ -146,7 +167,7 @@ module _ (m : Mounted) (setup : Setup) (f : List ℕ) (before next : ℕ) (is_ne
   -- ---- one entry more
 
   covered-later : (h : List Entry) (e : Entry) → Cov h → Cov (h ++ e ∷ [])
-  covered-later h e c = record {
+  covered-later h e (inl c) = inl (record {
     at = c.at;
     xid = c.xid;
     bytes = c.bytes;
@@ -155,11 +176,26 @@ module _ (m : Mounted) (setup : Setup) (f : List ℕ) (before next : ℕ) (is_ne
     spells = c.spells;
     covers = c.covers;
     earlier = let early = c.earlier in let more = length_last h e in omega (arith, early, more);
-  }
+  })
+  covered-later h e (inr c) = inr (
+    c.0,
+    record {
+      before = c.1.before;
+      after = c.1.after ++ e ∷ [];
+      is = ap (λ (k : List Entry). k ++ e ∷ []) c.1.is ∙ append_assoc c.1.before c.1.after (e ∷ []);
+      there = c.1.there;
+      view = c.1.view;
+      reaches = c.1.reaches;
+      found = c.1.found;
+      quiet = c.1.quiet;
+      idle = c.1.idle;
+      other = c.1.other;
+    },
+  )
 
   state-later : (h : List Entry) (e : Entry) (b : Pending) (state : State) → StateRuns h b state → StateRuns (h ++ e ∷ []) b state
   state-later h e b (Busy machine) r =
-      runs-map before next setup.wsize is_next some f (Cov h) (Cov (h ++ e ∷ [])) offset bytes has_before has_next (covered-later h e) machine b r
+      runs-map before next setup.wsize is_next some f (Cov h) (Cov (h ++ e ∷ [])) offset bytes side has_before has_next (covered-later h e) machine b r
   state-later h e b (Over answer) r = tt
 
   -- ---- what a step leads to
@@ -167,7 +203,7 @@ module _ (m : Mounted) (setup : Setup) (f : List ℕ) (before next : ℕ) (is_ne
   -- the call that can't be made was the last
   unmade-hears : (v : View) (fault : Fault) (machine : Machine) (h : List Entry) → ((g : List ℕ) → flies_of machine ≡ Some g → IsSent (next_xid v.calls) g v.shelf.back)
       → ((file : List ℕ) → Each (λ q. q.xid ≤ next_xid v.calls) (of_file file v.shelf.back).pieces)
-      → Hears before next setup.wsize is_next some f (Cov h) offset bytes has_before has_next (turn_at v) (unmade_turn v) (Err fault) machine v.shelf.back
+      → Hears before next setup.wsize is_next some f (Cov h) offset bytes side has_before has_next (turn_at v) (unmade_turn v) (Err fault) machine v.shelf.back
   unmade-hears v fault (machines.File k) h it last = tt
   unmade-hears v fault (machines.Name k) h it last = tt
   unmade-hears v fault (machines.Path k) h it last = by k.arrived k.opener refl refl
@@ -184,14 +220,14 @@ module _ (m : Mounted) (setup : Setup) (f : List ℕ) (before next : ℕ) (is_ne
           is-some (Some q) = true
 
       of : (p : PutFile) → k.arrived ≡ true → k.opener ≡ openers.Put p → (state : Putting) → p.state ≡ state
-          → HeardBy before next setup.wsize is_next some f (Cov h) offset bytes has_before has_next (turn_at v) (unmade_turn v) (Err fault) state v.shelf.back
+          → HeardBy before next setup.wsize is_next some f (Cov h) offset bytes side has_before has_next (turn_at v) (unmade_turn v) (Err fault) state v.shelf.back
       of p there at putting.Idle is = tt
       of p there at putting.Opens is = tt
       of p there at (putting.Adds file) is = tt
       of p there at (putting.Saves s) is = (at-save p there at s is, inr (fault, refl, λ same. last s.file))
 
       by : (b : Bool) (o : Opener) → k.arrived ≡ b → k.opener ≡ o
-          → OpenerHears before next setup.wsize is_next some f (Cov h) offset bytes has_before has_next (turn_at v) (unmade_turn v) (Err fault) b o v.shelf.back
+          → OpenerHears before next setup.wsize is_next some f (Cov h) offset bytes side has_before has_next (turn_at v) (unmade_turn v) (Err fault) b o v.shelf.back
       by true (openers.Put p) there at = of p there at p.state refl
       by true (openers.Open o) there at = tt
       by false o there at = tt
@@ -234,7 +270,7 @@ module _ (m : Mounted) (setup : Setup) (f : List ℕ) (before next : ℕ) (is_ne
 
         left : UnderWay h number x (length h) ThisPut → RunningOn h r.next r.after r.left.back
         left u =
-            runs-takes before next setup.wsize is_next some f (Cov h) offset bytes has_before has_next (turn_at v) (unmade_turn v) (Err r.fault) v.shelf sound r.next r.left machine r.after
+            runs-takes before next setup.wsize is_next some f (Cov h) offset bytes side has_before has_next (turn_at v) (unmade_turn v) (Err r.fault) v.shelf sound r.next r.left machine r.after
             (subst (λ (z : Next). RunningOn h z machine v.shelf.back) is (on u)) (unmade-hears v r.fault machine h (it call is) last) takes
             (unmade-has (λ g o bs. May h v.shelf) setup.wsize (turn_at v) (unmade_turn v) r.fault machine v.shelf r.next r.after r.left takes)
 
@@ -261,7 +297,7 @@ module _ (m : Mounted) (setup : Setup) (f : List ℕ) (before next : ℕ) (is_ne
       (λ y late. (laws.resumes-ready old.wsize t.machine (turn_at old) old.shelf t.next t.after t.shelf t.resumes (basis-ready setup h old k.rows i.basis)).xids y (inr late) file)))
       (asked-piece (next_xid old.calls) t.next t.after t.shelf.back (resumes-has old.wsize (turn_at old) t.machine old.shelf t.next t.after t.shelf t.resumes unused)
       (fitting.all-resumes old.wsize (turn_at old) t.machine old.shelf t.next t.after t.shelf t.resumes))
-      (λ u. runs-resumes before next setup.wsize is_next some f (Cov h) offset bytes has_before has_next (turn_at old) old.shelf i.basis.sound (early-of h old k i.basis) t.next t.shelf t.machine t.after
+      (λ u. runs-resumes before next setup.wsize is_next some f (Cov h) offset bytes side has_before has_next (turn_at old) old.shelf i.basis.sound (early-of h old k i.basis) t.next t.shelf t.machine t.after
       (i.run one room at (record { number = t.number; state = Busy t.machine }) t.there u)
       (subst (λ (n : ℕ). Resumes n t.machine (turn_at old) old.shelf t.next t.after t.shelf) i.size t.resumes)) t.leads
     where
@@ -320,18 +356,49 @@ module _ (m : Mounted) (setup : Setup) (f : List ℕ) (before next : ℕ) (is_ne
 
       begun : UnderWay later lane x (length later) ThisPut → RunningOn later t.next t.after t.shelf.back
       begun u =
-          runs-starts before next setup.wsize is_next some f (Cov later) offset bytes has_before has_next (turn_at (counted old now)) old.shelf i.basis.sound (early-of h old k i.basis) t.next t.shelf
-          (record { walk = walk_of m.root (front_of path); opener = put_of m lane (last_of path) offset bytes; arrived = false }) t.after refl (record { offset_is = refl; text_is = refl })
+          runs-starts before next setup.wsize is_next some f (Cov later) offset bytes side has_before has_next (turn_at (counted old now)) old.shelf i.basis.sound (early-of h old k i.basis) t.next t.shelf
+          (record { walk = walk_of m.root (front_of path); opener = put_of m lane (last_of path) offset bytes; arrived = false }) t.after refl (record { offset_is = refl; text_is = refl }, awaits side refl)
           (subst (λ (n : ℕ). Starts n (machine_of m lane ThisPut) (turn_at (counted old now)) old.shelf t.next t.after t.shelf) i.size
-          (subst (λ (o : Op). Starts old.wsize (machine_of m lane o) (turn_at (counted old now)) old.shelf t.next t.after t.shelf) (now-op u) t.starts))
+          (subst (λ (o : Op). Starts old.wsize (machine_of m lane o) (turn_at (counted old now)) old.shelf t.next t.after t.shelf) (now-op u).0 t.starts))
         where
-          now-op : UnderWay later lane x (length later) ThisPut → op ≡ ThisPut
+          now-op : UnderWay later lane x (length later) ThisPut → (op ≡ ThisPut) × (x ≡ length h)
           now-op u = by (At-cases h (Began lane line op) x (Began lane u.line ThisPut) u.began)
             where
-              by : At h x (Began lane u.line ThisPut) ⊎ ((x ≡ length h) × (Began lane line op ≡ Began lane u.line ThisPut)) → op ≡ ThisPut
-              by (inr now) = began-op lane line lane u.line op ThisPut now.1
+              by : At h x (Began lane u.line ThisPut) ⊎ ((x ≡ length h) × (Began lane line op ≡ Began lane u.line ThisPut)) → (op ≡ ThisPut) × (x ≡ length h)
+              by (inr now) = (began-op lane line lane u.line op ThisPut now.1, now.0)
               by (inl was) = absurd (u.unanswered (answered-grow h (Began lane line op) x (length h) (length later) (let more = length_last h (Began lane line op) in omega (arith, more))
                   ((k.lanes.rest lane (λ at there. idle-numbers lane (numbers_of old.lanes) idle.other at there)).answered x u.line ThisPut was)))
+
+          none : (of_file f old.shelf.back).pieces ≡ []
+          none = none-unused (of_file f old.shelf.back).pieces (λ y. unflown y (waiting_at y old.calls.calls) refl f)
+            where
+              any : Lane
+              any = record { number = lane; state = Over (answers.Refused faults.Memory) }
+
+              unflown : (y : ℕ) (o : Option (Waiting Purpose)) → waiting_at y old.calls.calls ≡ o → IsUnused y old.shelf.back
+              unflown y None waits =
+                  subst (λ (p : Option Purpose). Flies y (sender (look_at old.lanes) p) old.shelf.back) (ap (option_map (λ (w : Waiting Purpose). w.purpose)) waits) (i.basis.flying.flown.flies y)
+              unflown y (Some w) waits = of (position (is_busy w.purpose.lane) old.lanes) refl
+                where
+                  of : (o : Option ℕ) → position (is_busy w.purpose.lane) old.lanes ≡ o → IsUnused y old.shelf.back
+                  of None is = absurd (none-busy old y w waits is k.known.counted)
+                  of (Some j) is =
+                      let busy = position-Some (is_busy w.purpose.lane) old.lanes j any is in
+                      absurd (none-else j (get_or old.lanes j any) (slice_get-get_or old.lanes j any busy.0))
+
+          awaits : (c : Bool) → side ≡ c → Awaits before next setup.wsize is_next some f (Cov later) offset bytes side has_before has_next c old.shelf.back
+          awaits true side_is = tt
+          awaits false side_is = both (not-stable (of_file f old.shelf.back) before) (waits-plain (of_file f old.shelf.back) next)
+            where
+              otherwise : (NotAsStable (of_file f old.shelf.back) before → WaitsPlain (of_file f old.shelf.back) next → ⊥) → Cov later
+              otherwise not = inr (side_is, record { before = h; after = Began lane line op ∷ []; is = refl; there = sym (now-op u).1; view = old; reaches = r; found = found; quiet = none; idle = none-else; other = not })
+
+              both : NotAsStable (of_file f old.shelf.back) before ⊎ (NotAsStable (of_file f old.shelf.back) before → ⊥)
+                  → WaitsPlain (of_file f old.shelf.back) next ⊎ (WaitsPlain (of_file f old.shelf.back) next → ⊥)
+                  → Cov later ⊎ (NotAsStable (of_file f old.shelf.back) before × WaitsPlain (of_file f old.shelf.back) next)
+              both (inl a) (inl b) = inr (a, b)
+              both (inl a) (inr not) = inl (otherwise (λ z b. not b))
+              both (inr not) b = inl (otherwise (λ a z. not a))
 
   -- ---- what came
 
@@ -344,11 +411,11 @@ module _ (m : Mounted) (setup : Setup) (f : List ℕ) (before next : ℕ) (is_ne
       -- what is known of the reply
       heard-now : (sent turn : Turn) (came : Result Reply Fault) → ((g : List ℕ) → flies_of machine ≡ Some g → IsSent sent.xid g old.shelf.back)
           → ((file : List ℕ) → Each (λ q. q.xid < turn.xid) (of_file file old.shelf.back).pieces)
-          → Hears before next setup.wsize is_next some f (Cov later) offset bytes has_before has_next sent turn came machine old.shelf.back
+          → Hears before next setup.wsize is_next some f (Cov later) offset bytes side has_before has_next sent turn came machine old.shelf.back
       heard-now sent turn came it early = by machine refl
         where
           at-path : (c : PathMachine) → machine ≡ machines.Path c → (b : Bool) (o : Opener) → c.arrived ≡ b → c.opener ≡ o
-              → OpenerHears before next setup.wsize is_next some f (Cov later) offset bytes has_before has_next sent turn came b o old.shelf.back
+              → OpenerHears before next setup.wsize is_next some f (Cov later) offset bytes side has_before has_next sent turn came b o old.shelf.back
           at-path c is true (openers.Open o) arrived at_ = tt
           at-path c is false o arrived at_ = tt
           at-path c is true (openers.Put p) arrived at_ = of p.state refl
@@ -364,13 +431,13 @@ module _ (m : Mounted) (setup : Setup) (f : List ℕ) (before next : ℕ) (is_ne
               awaited : (s : Saving) → p.state ≡ putting.Saves s → IsAwaited s sent.xid old.shelf.back
               awaited s state sends = let k = it s.file (flies s state ∙ ap (λ (b : Bool). flies_if b s.file) sends) in ap is-some k.there
 
-              of : (state : Putting) → p.state ≡ state → HeardBy before next setup.wsize is_next some f (Cov later) offset bytes has_before has_next sent turn came state old.shelf.back
+              of : (state : Putting) → p.state ≡ state → HeardBy before next setup.wsize is_next some f (Cov later) offset bytes side has_before has_next sent turn came state old.shelf.back
               of putting.Idle state = tt
               of putting.Opens state = tt
               of (putting.Adds file) state = tt
-              of (putting.Saves s) state = (awaited s state, inl (early s.file, λ flown same at__. covered-later h (Delivered rec) (covered-now m setup f next h old r found k one i.basis i.wholly at number machine there s (flies s state) same flown at__ (λ w waits. was-sent flown.xid old.calls.calls w hears.may.sent waits))))
+              of (putting.Saves s) state = (awaited s state, inl (early s.file, λ flown same at__. covered-later h (Delivered rec) (inl (covered-now m setup f next h old r found k one i.basis i.wholly at number machine there s (flies s state) same flown at__ (λ w waits. was-sent flown.xid old.calls.calls w hears.may.sent waits)))))
 
-          by : (c : Machine) → machine ≡ c → Hears before next setup.wsize is_next some f (Cov later) offset bytes has_before has_next sent turn came c old.shelf.back
+          by : (c : Machine) → machine ≡ c → Hears before next setup.wsize is_next some f (Cov later) offset bytes side has_before has_next sent turn came c old.shelf.back
           by (machines.File c) is = tt
           by (machines.Name c) is = tt
           by (machines.Path c) is = at-path c is c.arrived c.opener refl refl
@@ -418,20 +485,20 @@ module _ (m : Mounted) (setup : Setup) (f : List ℕ) (before next : ℕ) (is_ne
 
   -- what it adds, it has room for
   module _ (g : List Entry) (old after : Shelf) (sent turn : Turn) (came : Result Reply Fault) (nx : Next) where
-    put-has : (state : Putting) (p new : PutFile) → AtState before next setup.wsize is_next some f (Cov g) offset bytes has_before has_next state old.back → (state ≡ putting.Opens → May g old)
+    put-has : (state : Putting) (p new : PutFile) → AtState before next setup.wsize is_next some f (Cov g) offset bytes side has_before has_next state old.back → (state ≡ putting.Opens → May g old)
         → (t : puts.Takes state setup.wsize p sent turn came old nx new after) → PutHas (λ file. May g old) state setup.wsize p sent turn came old nx new after t
     put-has putting.Idle p new at may t = tt
     put-has putting.Opens p new at may t = λ file is. may refl
     put-has (putting.Adds file) p new at may t = absurd at
     put-has (putting.Saves s) p new at may t = tt
 
-    file-has : (o k : Opener) → OpenerRuns before next setup.wsize is_next some f (Cov g) offset bytes has_before has_next true o old.back
+    file-has : (o k : Opener) → OpenerRuns before next setup.wsize is_next some f (Cov g) offset bytes side has_before has_next true o old.back
         → ((p : PutFile) → o ≡ openers.Put p → p.write.offset ≡ offset → writes.made_bytes p.write.text ≡ bytes → p.state ≡ putting.Opens → May g old)
         → (t : steps.Takes setup.wsize (file_of o) sent turn came old nx (file_of k) after) → FileHas (λ a b c. May g old) setup.wsize (file_of o) sent turn came old nx (file_of k) after t
     file-has (openers.Open o) k runs_ may t = absurd runs_
     file-has (openers.Put p) k runs_ may t = put-has p.state p t.machine runs_.at (may p refl runs_.text.offset_is runs_.text.text_is) t.step
 
-    path-has : (b : Bool) (c new : PathMachine) → OpenerRuns before next setup.wsize is_next some f (Cov g) offset bytes has_before has_next b c.opener old.back
+    path-has : (b : Bool) (c new : PathMachine) → OpenerRuns before next setup.wsize is_next some f (Cov g) offset bytes side has_before has_next b c.opener old.back
         → (b ≡ true → (p : PutFile) → c.opener ≡ openers.Put p → p.write.offset ≡ offset → writes.made_bytes p.write.text ≡ bytes → p.state ≡ putting.Opens → May g old)
         → (t : paths.PathTakes b setup.wsize c sent turn came old nx new after) → PathHas (λ a b c. May g old) b setup.wsize c sent turn came old nx new after t
     path-has true c new runs_ may t = file-has c.opener t.opener runs_ (may refl) t.step
@@ -492,7 +559,7 @@ module _ (m : Mounted) (setup : Setup) (f : List ℕ) (before next : ℕ) (is_ne
 
       on : UnderWay later_ t.number x (length later_) ThisPut → RunningOn later_ t.next t.after t.shelf.back
       on late =
-          runs-takes before next setup.wsize is_next some f (Cov later_) offset bytes has_before has_next call.purpose.sent turn came old.shelf i.basis.sound t.next t.shelf t.machine t.after runs_
+          runs-takes before next setup.wsize is_next some f (Cov later_) offset bytes side has_before has_next call.purpose.sent turn came old.shelf i.basis.sound t.next t.shelf t.machine t.after runs_
           (heard-now h old r found k one i at t.number t.machine t.there rec fin hears call.purpose.sent turn came pieces (early-of h old k i.basis)) takes_
           (machine-has later_ old.shelf t.shelf call.purpose.sent turn came t.next t.machine t.after runs_
           (λ c is arrived p opener offset_is text_is opens. may-add h old r found k one i at t.number t.machine t.there room u c is p arrived opener opens offset_is text_is later_) takes_)

@@ -1,5 +1,5 @@
 -- In one lane WRITEs of a sync or close that follows writes and fills are long.
-use Rattle.std.proofs.Common.{◌≡◌, ◌<◌, ◌⊎◌, inl, inr, ◌+◌, ℕ, List, length, sym, ap, subst, ◌∙◌, arith}
+use Rattle.std.proofs.Common.{◌≡◌, ◌<◌, ◌⊎◌, inl, inr, ◌+◌, ℕ, List, length, Some, sym, ap, subst, ◌∙◌, arith}
 use Rattle.world_model.specs.declared.answer.Answer.TheVariants as answers
 use Rattle.world_model.specs.declared.entry.Entry.{Entry}
 use Rattle.world_model.specs.declared.entry.Entry.TheVariants.{Began}
@@ -10,10 +10,13 @@ use Rattle.world_model.specs.Operations.{Ended}
 use Rattle.world_model.specs.Thrifty.{OneLane, NeverFull, CoveredEarlier}
 use Rattle.world_model.proofs.Places.{At-grow, At-back, At-below, At-one}
 use Rattle.file_ops.specs.SlotFiles.{file_at}
+use Rattle.write_back.specs.Files.{of_file}
+use Rattle.write_back.specs.Segments.{Cell}
+use Rattle.write_back.specs.States.{how_of, ready_of}
 use Rattle.op_machines.specs.declared.begun.Mounted.{Mounted}
 use Rattle.client_core.specs.declared.setup.Setup.{Setup}
 use Rattle.core_session.proofs.syncs.Ends.{ended-back}
-use Rattle.core_counts.specs.thrift.Writes.{OfSlot, BeganOtherwise, ShortWrittenWrite, WrittenWritesLong}
+use Rattle.core_counts.specs.thrift.Writes.{WaitsPlain, NotAsStable, OfSlot, BeganOtherwise, ShortWrittenWrite, WrittenWritesLong}
 use Rattle.core_counts.proofs.thrift.short.PutsLong.{one-before, room-before}
 use Rattle.core_counts.proofs.thrift.short.SavedLong.{saved-long}
 use Rattle.core_counts.proofs.thrift.short.Written.{Good, reached-tracked}
@@ -54,7 +57,13 @@ module _ (m : Mounted) (setup : Setup) (h : List Entry) (one : OneLane h) (room 
   not-so =
       let held = good.noted s.saved.lane s.y s.value ended f
       (ap (λ (n : ℕ). file_at n s.slot b.view.shelf.opens) (sym its.0) ∙ ap (λ (n : ℕ). file_at b.lane n b.view.shelf.opens) (sym slot_is) ∙ b.holds) in
-      b.other held.0 held.1
+      b.other (plain held.0) held.1
+    where
+      one-cell : (a c : Cell) → Some a ≡ Some c → a ≡ c
+      one-cell a c e = cc
+
+      plain : (w : WaitsPlain (of_file f b.view.shelf.back) end) → NotAsStable (of_file f b.view.shelf.back) end
+      plain w cell at = subst (λ (c : Cell). how_of (ready_of c.state) ≡ 0) (one-cell w.cell cell (sym w.at ∙ at)) w.plain
 
 pub written-long : WrittenWritesLong
 written-long m setup h v notes one room i x w end f s = by (saved-long m setup h v notes one i x end f s.saved)
