@@ -6,7 +6,6 @@ pub mod AllAsked
 pub mod AllOks
 pub mod Spent
 pub mod Causes
-pub mod OwnWrites
 pub mod Showing
 pub mod LaneRuns
 pub mod Runs

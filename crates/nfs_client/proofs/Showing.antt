@@ -76,8 +76,7 @@ use Rattle.core_counts.proofs.counts.reads.Counted.{few-reads-made}
 use Rattle.core_counts.proofs.counts.writes.Counted.{few-writes-made}
 use Rattle.core_counts.proofs.thrift.Once.{kept-once}
 use Rattle.core_counts.proofs.thrift.ReadsLong.{reads-long}
-use Rattle.core_counts.proofs.thrift.short.SavedLong.{saved-long}
-use Rattle.core_counts.proofs.thrift.short.WrittenLong.{written-long}
+use Rattle.core_counts.proofs.thrift.short.LongWrites.{long-writes}
 use Rattle.core_session.proofs.asked.Whole.{all-asked}
 use Rattle.core_facts.specs.Notes.{Notes}
 use Rattle.core_facts.proofs.Noting.{notes-reach}
@@ -114,7 +113,6 @@ use Rattle.nfs_client.specs.Shown.{AllRowed, CallsShown, CountsShown, OksShown, 
 use Rattle.nfs_client.proofs.AllAsked.{goes-from, only-sets-up}
 use Rattle.nfs_client.proofs.AllOks.{all-oks, keeps-them}
 use Rattle.nfs_client.proofs.Causes.{all-caused}
-use Rattle.nfs_client.proofs.OwnWrites.{own-writes}
 use Rattle.nfs_client.proofs.Spent.{ended-sent}
 
 -- ---- the root
@@ -355,9 +353,7 @@ module _ (s : Settings) (first : ℕ) (v : SetUp) (before h : List Entry) (so : 
         thrift = record {
           reads = reads-long mounted terms (setup_of s v) before h has.core from;
           pages = kept-once mounted terms (setup_of s v) before h has.core from;
-          puts = own-writes mounted terms (setup_of s v) before h has.core from has.notes;
-          written = written-long mounted (setup_of s v) h has.core has.notes;
-          syncs = saved-long mounted (setup_of s v) h has.core has.notes;
+          writes = long-writes mounted terms (setup_of s v) before h has.core from has.notes;
         };
         writes = λ i xid offset how file bytes rec at spells late.
             writes-were-long mounted (setup_of s v) h has.core reaches i xid offset how file bytes rec at spells (elim (calls.among i xid rec at (xid_of_call xid (write_call file offset how bytes) rec spells)) [

@@ -46,7 +46,7 @@ use Rattle.world_model.specs.RefusalRows.{RefusalRow}
 use Rattle.world_model.specs.Rising.{Rising}
 use Rattle.world_model.specs.Settled.{HoldsStable, SettledBy, Settled}
 use Rattle.world_model.specs.Terms.{Terms, jukebox}
-use Rattle.world_model.specs.Thrifty.{CoveredEarlier, KeptPages, LongReads, NeverFull, OneLane, ShortWrite, WritesAt}
+use Rattle.world_model.specs.Thrifty.{Thrifty}
 use Rattle.world_model.specs.Touched.{Wrote}
 use Rattle.bond_calls.specs.Calls.{Numbered}
 use Rattle.bond_own.specs.Own.{CutsStay}
@@ -67,7 +67,6 @@ use Rattle.core_answers.specs.bonds.Led.{HadWhereLed}
 use Rattle.core_answers.specs.bonds.Named.{StoodAfter}
 use Rattle.op_machines.specs.declared.begun.Mounted.{Mounted}
 use Rattle.core_counts.specs.coarse.WereLong.{write_call, WasLong}
-use Rattle.core_counts.specs.thrift.Writes.{BeganOtherwise, ShortSavedWrite, ShortWrittenWrite}
 use Rattle.core_session.specs.current.Recent.{ReadRecent}
 use Rattle.core_session.specs.current.Steady.{IsStable}
 use Rattle.core_answers.specs.pages.Kept.{IsKept}
@@ -136,19 +135,6 @@ pub record CallsShown (terms : Terms) (setup : Setup) (before h : List Entry) : 
 -- removes began, and as such names were found taken.
 abbrev pub CountsShown : Terms → List Entry → Type 0
 CountsShown terms h = (script : List Entry) → Follows script h → CallCounts terms script h
-
--- Each READ asks for as many bytes as it may, or up to where a page is kept or the last one ends that a read needs; and in a session of one lane whose opens
--- ask for attributes a page that a READ gave isn't asked for again while nothing shows that the file changed. In one lane, too, a shorter WRITE than may be is
--- followed, where it ends, by an earlier WRITE: one first sent within a put that itself writes its last byte and the next one (`Thrifty`, where the last to
--- write both is the put); and one first sent within a sync or close, of a byte that a write or fill of its slot gave together with the next one, where only
--- writes and fills began between, or where as the sync or close began bytes of both places waited to be sent as unstable.
-pub record ThriftShown (m : Mounted) (terms : Terms) (setup : Setup) (h : List Entry) : Type 0 where
-  pub reads : LongReads terms h
-  pub pages : terms.modes.nocto ≡ false → OneLane h → KeptPages terms h
-  pub puts : OneLane h → NeverFull h → (i x end : ℕ) (op : Op) (f : List ℕ) → ShortWrite terms h i x op f end → WritesAt terms h x op f (end + 1) x
-      → WritesAt terms h x op f end x → CoveredEarlier h i f (end + 1)
-  pub written : OneLane h → NeverFull h → (i x w end : ℕ) (f : List ℕ) → ShortWrittenWrite setup h i x w f end → CoveredEarlier h i f (end + 1)
-  pub syncs : OneLane h → (i x end : ℕ) (f : List ℕ) → ShortSavedWrite setup h i x f end → CoveredEarlier h i f (end + 1) ⊎ BeganOtherwise m setup h x f end
 
 -- Each WRITE that is sent after the set-up had as many bytes as the session's WRITE size, as it was made; or its bytes didn't go on where it ends.
 abbrev pub WritesShown : Mounted → Setup → List Entry → List Entry → Type 0
@@ -307,13 +293,14 @@ pub record CompleteShown (terms : Terms) (t : History) : Type 0 where
 
 -- ---- all
 
--- A core goes with the history of a session that was set up so, with the history before, and this is what the history shows; and of the server, where
+-- A core goes with the history of a session that was set up so, with the history before, and this is what the history shows: among it that it is `Thrifty`, by
+-- `world_model`: READs are long, and in one lane kept pages aren't asked for again, and WRITEs end only where they must; and of the server, where
 -- it is honest and gives each change another stamp.
 pub record RunShows (s : Settings) (first : ℕ) (v : SetUp) (before h : List Entry) : Type 0 where
   pub has : HasCore (mounted_by s (setup_of s v)) (setup_of s v) before h
   pub calls : CallsShown (terms_by s first) (setup_of s v) before h
   pub counts : CountsShown (terms_by s first) h
-  pub thrift : ThriftShown (mounted_by s (setup_of s v)) (terms_by s first) (setup_of s v) h
+  pub thrift : Thrifty (terms_by s first) h
   pub writes : WritesShown (mounted_by s (setup_of s v)) (setup_of s v) before h
   pub oks : OksShown s (terms_by s first) h
   pub slots : SlotsShown (terms_by s first) h
