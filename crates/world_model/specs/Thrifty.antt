@@ -1,5 +1,5 @@
 -- READs and WRITEs are no smaller than they may be, and none is sent for a page that is kept.
-use Rattle.std.specs.Prelude.{◌≡◌, ◌≢◌, ◌<◌, ◌≤◌, ◌⊎◌, ◌+◌, ◌*◌, ℕ, Bool, true, false, List, length, All, AllPairs, sum_by, Option, Some}
+use Rattle.std.specs.Prelude.{◌≡◌, ◌≢◌, ◌<◌, ◌≤◌, ◌⊎◌, ◌+◌, ◌*◌, ℕ, Bool, true, List, length, All, AllPairs, sum_by, Option, Some}
 use Rattle.nfs_types.specs.declared.attr.Attr.{Attr}
 use Rattle.nfs_types.specs.declared.set_attr.SetAttr.{SetAttr}
 use Rattle.nfs_types.specs.declared.time.Time.{Time}
@@ -251,5 +251,5 @@ LongWrites terms h = NeverFull h → (i x end w : ℕ) (op : Op) (f : List ℕ) 
 
 pub record Thrifty (terms : Terms) (h : List Entry) : Type 0 where
   pub reads : LongReads terms h
-  pub pages : terms.modes.nocto ≡ false → OneLane h → KeptPages terms h
+  pub pages : OneLane h → KeptPages terms h
   pub writes : OneLane h → LongWrites terms h
