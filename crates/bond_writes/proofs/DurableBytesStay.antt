@@ -1,11 +1,11 @@
 -- Bytes that were answered for stay.
 use Rattle.std.proofs.Common.{inl, inr, ◌⊎◌, ◌≡◌, ◌≢◌, ◌<◌, ◌≤◌, ℕ, zero, suc, List, [], ◌∷◌, ◌++◌, length, Some, true, refl, sym, ap, ◌∙◌, append_assoc, arith}
-use Rattle.bond_writes.specs.Story.{File, Spot, Op, write_op, put_op, sync_op, close_op, cut_op, open_op, plain_op, Answer, done, refused, Entry, Began, Answered, At, Told, Begins, Both, means}
+use Rattle.bond_writes.specs.Story.{File, Spot, Op, write_op, put_op, sync_op, close_op, cut_op, open_op, plain_op, Answer, done, refused, Entry, Began, Answered, Sent, At, Told, Begins, Both, means}
 use Rattle.bond_writes.specs.Settled.{Ends, Counts, itself, later, Reason, Unrefused, Wrote, Settled}
 use Rattle.bond_writes.specs.Lawful.{Lawful, Once}
 use Rattle.bond_writes.specs.Machine.{View, ready, HasBytes}
-use Rattle.bond_writes.specs.Reaches.{Reaches, begins, enters, moves}
-use Rattle.bond_writes.proofs.AtLemmas.{At-told, At-past, length_last, same_or_not}
+use Rattle.bond_writes.specs.Reaches.{SetsUp, Reaches, begins, enters, moves}
+use Rattle.bond_writes.proofs.AtLemmas.{At-grow, At-told, At-past, length_last, same_or_not}
 use Rattle.bond_writes.proofs.OperationsOfLanes.{under_way, ended, HasAdd, lanes_fact, keeps_add, entry_adds, began_is}
 use Rattle.bond_writes.proofs.TouchedGrows.{grow, more}
 use Rattle.bond_writes.proofs.Excuses.{now, before, Excused, touched, gone, owed, failed_put}
@@ -27,8 +27,31 @@ append_nil : (h : List Entry) → h ≡ h ++ []
 append_nil [] = refl
 append_nil (x ∷ h) = ap (λ t. x ∷ t) (append_nil h)
 
+-- a list is its first entries and the rest
+record Split (h : List Entry) (p : ℕ) : Type 0 where
+  pub first : List Entry
+  pub rest : List Entry
+  pub is : h ≡ first ++ rest
+  pub long : length first ≡ p
+
+split_at : (p : ℕ) (h : List Entry) → p ≤ length h → Split h p
+split_at zero h le = record { first = []; rest = h; is = refl; long = refl }
+split_at (suc p) [] le = absurd (omega (arith, le))
+split_at (suc p) (x ∷ h) le =
+    let o = split_at p h (omega (arith, le)) in
+    record { first = x ∷ o.first; rest = o.rest; is = ap (λ t. x ∷ t) o.is; long = ap suc o.long }
+
+-- the first entries of a set-up are one
+set_up_before : (first rest : List Entry) (x : ℕ) → SetsUp (first ++ rest) x → SetsUp first x
+set_up_before first rest x s = record {
+  unbegun = λ i lane op at. s.unbegun i lane op (At-grow first rest i (Began lane op) at);
+  sent = λ i y call at. s.sent i y call (At-grow first rest i (Sent y call) at);
+}
+
 pub reached_at : (h : List Entry) (c : View) (p : ℕ) → p ≤ length h → Reaches h c → Reached h c p
-reached_at _ _ p le (begins h c e i) = record { first = h; rest = []; client = c; is = append_nil h; long = let l : length h ≡ 0 = rw e refl in omega (arith, l, le); reached = begins h c e i; adds = λ w a. a }
+reached_at _ _ p le (begins h c e i) =
+    let o = split_at p h le in
+    record { first = o.first; rest = o.rest; client = c; is = o.is; long = o.long; reached = begins o.first c (set_up_before o.first o.rest c.next_xid (rw o.is at e)) i; adds = λ w a. a }
 reached_at _ _ p le (enters h c front b e r g t) = elim (same_or_not p (length h)) [
   | inl same ↦ record { first = h; rest = []; client = c; is = append_nil h; long = sym same; reached = enters h c front b e r g t; adds = λ w a. a }
   | inr ne ↦

@@ -1,6 +1,6 @@
--- Numbers are fresh; what was sent waits or was answered; what is executed waits.
+-- Numbers are fresh; what was sent waits, was answered, or is a set-up's; what is executed waits, or is a set-up's.
 use Rattle.std.proofs.Common.{inl, inr, ◌⊎◌, ◌≡◌, ◌<◌, ℕ, List, [], ◌∷◌, ◌++◌, length, Option, Some, sym, ◌∙◌, arith}
-use Rattle.bond_writes.specs.Story.{Call, Reply, denied, Entry, Sent, Executed, Delivered, At, Told, Begins}
+use Rattle.bond_writes.specs.Story.{Call, plain, Reply, denied, Entry, Sent, Executed, Delivered, At, Told, Begins}
 use Rattle.bond_writes.specs.Lawful.{Lawful, Once}
 use Rattle.bond_writes.specs.Machine.{View, Move}
 use Rattle.bond_writes.specs.Reaches.{Reaches, begins, enters, moves}
@@ -68,7 +68,7 @@ numbered_move h b c m f = elim (made b c m) [
 ]
 
 pub numbered_fact : (h : List Entry) (c : View) → Reaches h c → Numbered h c
-numbered_fact _ _ (begins h c e i) = rw e (record { sents = λ j x call at. absurd (cc at); waits = λ x call w. absurd (cc (i.wait x, w)) })
+numbered_fact _ _ (begins h c e i) = record { sents = λ j x call at. (e.sent j x call at).0; waits = λ x call w. absurd (cc (i.wait x, w)) }
 numbered_fact _ _ (enters h c before b e r g t) = rw g (numbered_step before b c e (turn (length before) b c e t) (numbered_fact before b r))
 numbered_fact _ _ (moves h c b r m) = numbered_move h b c m (numbered_fact h b r)
 
@@ -80,20 +80,30 @@ pub record HasReply (h : List Entry) (x : ℕ) : Type 0 where
 grow : (h : List Entry) (e : Entry) (x : ℕ) → HasReply h x → HasReply (h ++ e ∷ []) x
 grow h e x r = record { at = r.at; reply = r.reply; got = At-grow h (e ∷ []) r.at (Delivered x r.reply) r.got }
 
+-- the call is none of bytes, files or sizes
+abbrev pub IsPlain : Call → Type 0
+IsPlain call = (what : ℕ) × (call ≡ plain what)
+
 abbrev pub Waits : List Entry → View → Type 0
-Waits h c = (i x : ℕ) (call : Call) → At h i (Sent x call) → HasReply h x ⊎ (c.wait x ≡ Some call)
+Waits h c = (i x : ℕ) (call : Call) → At h i (Sent x call) → HasReply h x ⊎ ((c.wait x ≡ Some call) ⊎ IsPlain call)
 
 waits_step : (before : List Entry) (b c : View) (e : Entry) → Reaches before b → Turn b e c → Waits before b → Waits (before ++ e ∷ []) c
 waits_step before _ _ _ reached (stays b e c t) f i x call at = elim (At-cases before e i (Sent x call) at) [
-  | inl a ↦ elim (f i x call a) [ inl r ↦ inl (grow before e x r) | inr w ↦ inr (t.calls.wait x ∙ w) ]
-  | inr k ↦ inr (t.calls.wait x ∙ t.sent x call k.1)
+  | inl a ↦ elim (f i x call a) [
+    | inl r ↦ inl (grow before e x r)
+    | inr o ↦ elim o [ inl w ↦ inr (inl (t.calls.wait x ∙ w)) | inr p ↦ inr (inr p) ]
+  ]
+  | inr k ↦ inr (inl (t.calls.wait x ∙ t.sent x call k.1))
 ]
 waits_step before _ _ _ reached (closes b e c y r t) f i x call at = elim (At-cases before e i (Sent x call) at) [
   | inl a ↦ elim (f i x call a) [
     | inl q ↦ inl (grow before e x q)
-    | inr w ↦ elim (same_or_not x y) [
-      | inl same ↦ inl (record { at = length before; reply = r; got = rw (same, t.is) (At-last before (Delivered y r)) })
-      | inr other ↦ inr (t.others x other ∙ w)
+    | inr o ↦ elim o [
+      | inr p ↦ inr (inr p)
+      | inl w ↦ elim (same_or_not x y) [
+        | inl same ↦ inl (record { at = length before; reply = r; got = rw (same, t.is) (At-last before (Delivered y r)) })
+        | inr other ↦ inr (inl (t.others x other ∙ w))
+      ]
     ]
   ]
   | inr m ↦ absurd (cc (t.is, m.1))
@@ -101,9 +111,12 @@ waits_step before _ _ _ reached (closes b e c y r t) f i x call at = elim (At-ca
 waits_step before _ _ _ reached (renews b e c y r is t) f i x call at = elim (At-cases before e i (Sent x call) at) [
   | inl a ↦ elim (f i x call a) [
     | inl q ↦ inl (grow before e x q)
-    | inr w ↦ elim (same_or_not x y) [
-      | inl same ↦ inl (record { at = length before; reply = r; got = rw (same, is) (At-last before (Delivered y r)) })
-      | inr ne ↦ let l = (numbered_fact before b reached).waits x call w in let u = t.numbered in inr (t.others x ne (λ same. absurd (omega (arith, l, u, same))) ∙ w)
+    | inr o ↦ elim o [
+      | inr p ↦ inr (inr p)
+      | inl w ↦ elim (same_or_not x y) [
+        | inl same ↦ inl (record { at = length before; reply = r; got = rw (same, is) (At-last before (Delivered y r)) })
+        | inr ne ↦ let l = (numbered_fact before b reached).waits x call w in let u = t.numbered in inr (inl (t.others x ne (λ same. absurd (omega (arith, l, u, same))) ∙ w))
+      ]
     ]
   ]
   | inr m ↦ absurd (cc (is, m.1))
@@ -112,16 +125,57 @@ waits_step before _ _ _ reached (renews b e c y r is t) f i x call at = elim (At
 waits_move : (h : List Entry) (b c : View) → Reaches h b → Move b c → Waits h b → Waits h c
 waits_move h b c reached m f i x call at = elim (f i x call at) [
   | inl q ↦ inl q
-  | inr w ↦ elim (made b c m) [
-    | inl s ↦ inr (s.wait x ∙ w)
-    | inr k ↦ let l = (numbered_fact h b reached).waits x call w in let u = k.2.numbered in inr (k.2.others x (λ same. absurd (omega (arith, l, u, same))) ∙ w)
+  | inr o ↦ elim o [
+    | inr p ↦ inr (inr p)
+    | inl w ↦ elim (made b c m) [
+      | inl s ↦ inr (inl (s.wait x ∙ w))
+      | inr k ↦ let l = (numbered_fact h b reached).waits x call w in let u = k.2.numbered in inr (inl (k.2.others x (λ same. absurd (omega (arith, l, u, same))) ∙ w))
+    ]
   ]
 ]
 
 pub waits_fact : (h : List Entry) (c : View) → Reaches h c → Waits h c
-waits_fact _ _ (begins h c e i) = λ j x call at. absurd (cc (e, at))
+waits_fact _ _ (begins h c e i) = λ j x call at. let o = e.sent j x call at in inr (inr (o.1, o.2))
 waits_fact _ _ (enters h c before b e r g t) = rw g (waits_step before b c e r (turn (length before) b c e t) (waits_fact before b r))
 waits_fact _ _ (moves h c b r m) = waits_move h b c r m (waits_fact h b r)
+
+-- the call that waits under an xid is the one that was sent under it
+abbrev pub Agree : List Entry → View → Type 0
+Agree h c = (i x : ℕ) (k call : Call) → At h i (Sent x k) → c.wait x ≡ Some call → k ≡ call
+
+agree_step : (before : List Entry) (b c : View) (e : Entry) → Reaches before b → Turn b e c → Agree before b → Agree (before ++ e ∷ []) c
+agree_step before _ _ _ reached (stays b e c t) f i x k call at w = elim (At-cases before e i (Sent x k) at) [
+  | inl a ↦ f i x k call a (sym (t.calls.wait x) ∙ w)
+  | inr m ↦ some_call k call (sym (t.sent x k m.1) ∙ sym (t.calls.wait x) ∙ w)
+]
+agree_step before _ _ _ reached (closes b e c y r t) f i x k call at w = elim (At-cases before e i (Sent x k) at) [
+  | inl a ↦ elim (same_or_not x y) [ inl same ↦ absurd (cc (t.gone, w, same)) | inr other ↦ f i x k call a (sym (t.others x other) ∙ w) ]
+  | inr m ↦ absurd (cc (t.is, m.1))
+]
+agree_step before _ _ _ reached (renews b e c y r is t) f i x k call at w = elim (At-cases before e i (Sent x k) at) [
+  | inl a ↦ elim (same_or_not x y) [
+    | inl same ↦ absurd (cc (t.gone, w, same))
+    | inr ne ↦
+        let l = (numbered_fact before b reached).sents i x k a in
+        let u = t.numbered in
+        f i x k call a (sym (t.others x ne (λ same. absurd (omega (arith, l, u, same)))) ∙ w)
+  ]
+  | inr m ↦ absurd (cc (is, m.1))
+]
+
+agree_move : (h : List Entry) (b c : View) → Reaches h b → Move b c → Agree h b → Agree h c
+agree_move h b c reached m f i x k call at w = elim (made b c m) [
+  | inl s ↦ f i x k call at (sym (s.wait x) ∙ w)
+  | inr z ↦
+      let l = (numbered_fact h b reached).sents i x k at in
+      let u = z.2.numbered in
+      f i x k call at (sym (z.2.others x (λ same. absurd (omega (arith, l, u, same)))) ∙ w)
+]
+
+pub agree_fact : (h : List Entry) (c : View) → Reaches h c → Agree h c
+agree_fact _ _ (begins h c e i) = λ j x k call at w. absurd (cc (i.wait x, w))
+agree_fact _ _ (enters h c before b e r g t) = rw g (agree_step before b c e r (turn (length before) b c e t) (agree_fact before b r))
+agree_fact _ _ (moves h c b r m) = agree_move h b c r m (agree_fact h b r)
 
 -- what was executed was sent
 pub executed_below : (t : Told) → Lawful t → (h : List Entry) (c : View) → Begins t h → Reaches h c → (n x : ℕ) (call : Call) (r : Reply) → At h n (Executed x call r) → x < c.next_xid
@@ -130,62 +184,9 @@ executed_below t lawful h c begun reached n x call r at =
     let below = At-below h n (Executed x call r) at in
     (numbered_fact h c reached).sents s.sent_at x call (At-past t h s.sent_at (Sent x call) begun (let e = s.earlier in omega (arith, below, e)) s.sent)
 
-delivered_below : (t : Told) → Lawful t → (h : List Entry) (c : View) → Begins t h → Reaches h c → (n x : ℕ) (r : Reply) → At h n (Delivered x r) → x < c.next_xid
-delivered_below t lawful h c begun reached n x r at =
-    let d = lawful.step n (Delivered x r) (At-told t h n (Delivered x r) begun at) in
-    let below = At-below h n (Delivered x r) at in
-    (numbered_fact h c reached).sents d.sent_at x d.call (At-past t h d.sent_at (Sent x d.call) begun (let e = d.earlier in omega (arith, below, e)) d.sent)
-
-abbrev Fresh1 : List Entry → View → Type 0
-Fresh1 h c = (x : ℕ) (call : Call) → c.wait x ≡ Some call → HasReply h x → ⊥
-
-fresh_step : (t : Told) → Lawful t → (before : List Entry) (b c : View) (e : Entry) → Begins t before → Reaches before b → Turn b e c → Fresh1 before b → Fresh1 (before ++ e ∷ []) c
-fresh_step t lawful before _ _ _ begun reached (stays b e c s) f x call w r = elim (At-cases before e r.at (Delivered x r.reply) r.got) [
-  | inl a ↦ f x call (sym (s.calls.wait x) ∙ w) (record { at = r.at; reply = r.reply; got = a })
-  | inr m ↦ absurd (cc (s.drops x r.reply m.1, s.calls.wait x, w))
-]
-fresh_step t lawful before _ _ _ begun reached (renews b e c y q is s) f x call w r = elim (same_or_not x y) [
-  | inl same ↦ absurd (cc (s.gone, w, same))
-  | inr ne ↦ elim (At-cases before e r.at (Delivered x r.reply) r.got) [
-    | inl a ↦ elim (same_or_not x s.y) [
-      | inl same ↦ let l = delivered_below t lawful before b begun reached r.at x r.reply a in let u = s.numbered in absurd (omega (arith, l, u, same))
-      | inr nf ↦ f x call (sym (s.others x ne nf) ∙ w) (record { at = r.at; reply = r.reply; got = a })
-    ]
-    | inr m ↦ absurd (ne (number_is x y r.reply q (sym m.1 ∙ is)))
-  ]
-]
-  where
-    number_is : (x y : ℕ) (r s : Reply) → Delivered x r ≡ Delivered y s → x ≡ y
-    number_is x y r s e = cc
-fresh_step t lawful before _ _ _ begun reached (closes b e c y q s) f x call w r = elim (same_or_not x y) [
-  | inl same ↦ absurd (cc (s.gone, w, same))
-  | inr other ↦ elim (At-cases before e r.at (Delivered x r.reply) r.got) [
-    | inl a ↦ f x call (sym (s.others x other) ∙ w) (record { at = r.at; reply = r.reply; got = a })
-    | inr m ↦ absurd (other (number_is x y r.reply q (sym m.1 ∙ s.is)))
-  ]
-]
-  where
-    number_is : (x y : ℕ) (r s : Reply) → Delivered x r ≡ Delivered y s → x ≡ y
-    number_is x y r s e = cc
-
-fresh_move : (t : Told) → Lawful t → (h : List Entry) (b c : View) → Begins t h → Reaches h b → Move b c → Fresh1 h b → Fresh1 h c
-fresh_move t lawful h b c begun reached m f x call w r = elim (made b c m) [
-  | inl s ↦ f x call (sym (s.wait x) ∙ w) r
-  | inr k ↦ elim (same_or_not x k.0) [
-    | inl same ↦ let l = delivered_below t lawful h b begun reached r.at x r.reply r.got in let u = k.2.numbered in absurd (omega (arith, l, u, same))
-    | inr ne ↦ f x call (sym (k.2.others x ne) ∙ w) r
-  ]
-]
-
-pub fresh_fact : (t : Told) → Lawful t → (h : List Entry) (c : View) → Begins t h → Reaches h c → (x : ℕ) (call : Call) → c.wait x ≡ Some call → HasReply h x → ⊥
-fresh_fact t lawful _ _ begun (begins h c e i) = λ x call w r. absurd (cc (i.wait x, w))
-fresh_fact t lawful _ _ begun (enters h c before b e r g s) =
-    let told : Begins t before = before_begins t before e (rw g at begun) in
-    rw g (fresh_step t lawful before b c e told r (turn (length before) b c e s) (fresh_fact t lawful before b told r))
-fresh_fact t lawful _ _ begun (moves h c b r m) = fresh_move t lawful h b c begun r m (fresh_fact t lawful h b begun r)
-
--- E: a call is executed while it waits, and as it was sent
-pub executed_waits : (t : Told) → Lawful t → Once t → (before : List Entry) (b : View) → Begins t before → Reaches before b → (x : ℕ) (call : Call) (r : Reply) → At t.entries (length before) (Executed x call r) → b.wait x ≡ Some call
+-- A call is executed while it waits, and as it was sent; one of the set-up at any time.
+pub executed_waits : (t : Told) → Lawful t → Once t → (before : List Entry) (b : View) → Begins t before → Reaches before b → (x : ℕ) (call : Call) (r : Reply) → At t.entries (length before) (Executed x call r)
+    → (b.wait x ≡ Some call) ⊎ IsPlain call
 executed_waits t lawful once before b begun reached x call r at =
     let s = lawful.step (length before) (Executed x call r) at in
     elim (waits_fact before b reached s.sent_at x call (At-past t before s.sent_at (Sent x call) begun s.earlier s.sent)) [
@@ -200,13 +201,12 @@ pub record Replied (h : List Entry) (x : ℕ) (call : Call) (r : Reply) : Type 0
   pub at : ℕ
   pub done : At h at (Executed x call r)
 
-pub reply_is : (t : Told) → Lawful t → Once t → (before : List Entry) (b : View) → Begins t before → Reaches before b → (x : ℕ) (call : Call) (r : Reply) → At t.entries (length before) (Delivered x r) → b.wait x ≡ Some call → Replied before x call r ⊎ (r ≡ denied)
-reply_is t lawful once before b begun reached x call r at w =
+pub reply_is : (t : Told) → Lawful t → (before : List Entry) (b : View) → Begins t before → Reaches before b → (x : ℕ) (call : Call) (r : Reply) → At t.entries (length before) (Delivered x r) → b.wait x ≡ Some call → Replied before x call r ⊎ (r ≡ denied)
+reply_is t lawful before b begun reached x call r at w =
     let d = lawful.step (length before) (Delivered x r) at in
     elim d.shown [
       | inr no_ ↦ inr no_
-      | inl k ↦ elim (waits_fact before b reached d.sent_at x d.call (At-past t before d.sent_at (Sent x d.call) begun d.earlier d.sent)) [
-        | inl g ↦ absurd (fresh_fact t lawful before b begun reached x call w g)
-        | inr v ↦ inl (record { at = k.0; done = rw (some_call call d.call (sym w ∙ v)) (At-past t before k.0 (Executed x d.call r) begun k.1 k.2) })
-      ]
+      | inl k ↦
+          let same = agree_fact before b reached d.sent_at x d.call call (At-past t before d.sent_at (Sent x d.call) begun d.earlier d.sent) w in
+          inl (record { at = k.0; done = rw same at (At-past t before k.0 (Executed x d.call r) begun k.1 k.2) })
     ]

@@ -93,9 +93,9 @@ put_or_not true = inl refl
 put_or_not false = inr refl
 
 -- what an operation's own state says of its bytes, after it goes on
-goes_adds : (b c : View) (from : ℕ) (op : Op) (before after : Work) → Goes b op before after → AddsBy c from op before → AddsBy c from op after
-goes_adds b c from _ _ _ (queues op file f p) a = (λ q. absurd (cc (p, q)), λ q. a)
-goes_adds b c from _ _ _ (firms op file upto f k g) a = λ has. firm op file f has a
+goes_adds : (b c : View) (l from : ℕ) (op : Op) (before after : Work) → Goes b l op before after → AddsBy c from op before → AddsBy c from op after
+goes_adds b c l from _ _ _ (queues op file f p) a = (λ q. absurd (cc (p, q)), λ q. a)
+goes_adds b c l from _ _ _ (firms op file upto f k g) a = λ has. firm op file f has a
   where
     firm : (op : Op) (file : File) → Firms op file → HasBytes op → AddsBy c from op (joins upto) → HasAdd c from
     firm (put_op d o y) file f has a = let z = a.0 refl in record { a = z.0; is = z.1 }
@@ -105,10 +105,10 @@ goes_adds b c from _ _ _ (firms op file upto f k g) a = λ has. firm op file f h
     firm (cut_op d z) file f has a = absurd has
     firm (open_op d s) file f has a = absurd has
     firm plain_op file f has a = absurd has
-goes_adds b c from _ _ _ (refuses op asks) a = λ p. a
-goes_adds b c from _ _ _ (stops op upto) a = λ p. a.1 p
-goes_adds b c from _ _ _ ends a = λ has. absurd has
-goes_adds b c from _ _ _ (cuts_none file size asks) a = λ has. absurd has
+goes_adds b c l from _ _ _ (refuses op asks) a = λ p. a
+goes_adds b c l from _ _ _ (stops op upto) a = λ p. a.1 p
+goes_adds b c l from _ _ _ ends a = λ has. absurd has
+goes_adds b c l from _ _ _ (cuts_none file size asks) a = λ has. absurd has
 
 adds_by_now : (b c : View) (m : Adds b c) → (op : Op) → HasBytes op → m.op ≡ op → AddsBy c m.from op (after_add op (b.seq + 1))
 adds_by_now b c m (write_op d o y) has is = λ p. record { a = record { number = b.seq + 1; put = is_put m.op }; is = m.added }
@@ -144,7 +144,7 @@ steady h b c f (makes_write m) = kept b c m.lanes.lane m.adds
 steady h b c f (makes_commit m) = kept b c m.lanes.lane m.adds
 steady h b c f (makes_call m) = kept b c m.lanes.lane m.adds
 steady h b c f (adds m) = adds_steady h b c f m
-steady h b c f (proceeds m) = turns b c m.l m.from m.op m.before m.after m.lanes m.adds (goes_adds b c m.from m.op m.before m.after m.goes)
+steady h b c f (proceeds m) = turns b c m.l m.from m.op m.before m.after m.lanes m.adds (goes_adds b c m.l m.from m.op m.before m.after m.goes)
 steady h b c f (opens m) = turns b c m.l m.from (open_op m.file m.slot) starts (ready done) m.lanes m.adds (λ a has. absurd has)
 steady h b c f (frees m) = kept b c m.lanes.lane m.adds
 steady h b c f (cuts m) = kept b c m.lanes.lane m.adds
@@ -321,7 +321,7 @@ entry h b c e k (noting l0 from0 op0 a0 is0 t) f = record {
 }
 
 pub lanes_fact : (h : List Entry) (c : View) → Reaches h c → Fact h c
-lanes_fact _ _ (begins h c e i) = rw e (record { busy_is = λ l s op work is. absurd (cc (i.lane l, is)); status = λ l s op at. absurd (cc at); filled = λ w a is. absurd (cc (i.added w, is)) })
+lanes_fact _ _ (begins h c e i) = record { busy_is = λ l s op work is. absurd (cc (i.lane l, is)); status = λ l s op at. absurd (e.unbegun s l op at); filled = λ w a is. absurd (cc (i.added w, is)) }
 lanes_fact _ _ (enters h c before b e r g t) = rw g (entry before b c e (entry_adds (length before) b c e t) (shift (length before) b c e t) (lanes_fact before b r))
 lanes_fact _ _ (moves h c b r m) = move h b c m (lanes_fact h b r)
 
@@ -332,20 +332,20 @@ turns_ready b c l from o before after t none k s op a e = elim (same_or_not k l)
   | inr ne ↦ t.others k ne ∙ e
 ]
 
-not_ready : (b : View) (op : Op) (before after : Work) → Goes b op before after → (a : Answer) → before ≡ ready a → ⊥
-not_ready b _ _ _ (queues op f k p) a e = absurd (cc e)
-not_ready b _ _ _ (firms op f upto k q g) a e = absurd (cc e)
-not_ready b _ _ _ (refuses op asks) a e = absurd (cc e)
-not_ready b _ _ _ (stops op upto) a e = absurd (cc e)
-not_ready b _ _ _ ends a e = absurd (cc e)
-not_ready b _ _ _ (cuts_none f z asks) a e = absurd (cc e)
+not_ready : (b : View) (l : ℕ) (op : Op) (before after : Work) → Goes b l op before after → (a : Answer) → before ≡ ready a → ⊥
+not_ready b l _ _ _ (queues op f k p) a e = absurd (cc e)
+not_ready b l _ _ _ (firms op f upto k q g) a e = absurd (cc e)
+not_ready b l _ _ _ (refuses op asks) a e = absurd (cc e)
+not_ready b l _ _ _ (stops op upto) a e = absurd (cc e)
+not_ready b l _ _ _ ends a e = absurd (cc e)
+not_ready b l _ _ _ (cuts_none f z asks) a e = absurd (cc e)
 
 pub ready_stays : (b c : View) → Move b c → (k s : ℕ) (op : Op) (a : Answer) → b.lane k ≡ busy s op (ready a) → c.lane k ≡ busy s op (ready a)
 ready_stays b c (makes_write m) k s op a e = m.lanes.lane k ∙ e
 ready_stays b c (makes_commit m) k s op a e = m.lanes.lane k ∙ e
 ready_stays b c (makes_call m) k s op a e = m.lanes.lane k ∙ e
 ready_stays b c (adds m) k s op a e = turns_ready b c m.l m.from m.op starts (after_add m.op (b.seq + 1)) m.lanes (λ d i. absurd (cc i)) k s op a e
-ready_stays b c (proceeds m) k s op a e = turns_ready b c m.l m.from m.op m.before m.after m.lanes (not_ready b m.op m.before m.after m.goes) k s op a e
+ready_stays b c (proceeds m) k s op a e = turns_ready b c m.l m.from m.op m.before m.after m.lanes (not_ready b m.l m.op m.before m.after m.goes) k s op a e
 ready_stays b c (opens m) k s op a e = turns_ready b c m.l m.from (open_op m.file m.slot) starts (ready done) m.lanes (λ d i. absurd (cc i)) k s op a e
 ready_stays b c (frees m) k s op a e = m.lanes.lane k ∙ e
 ready_stays b c (cuts m) k s op a e = m.lanes.lane k ∙ e
@@ -377,13 +377,13 @@ came_turn b c l from o before after t k s op f work g e = elim (same_or_not k l)
   | inr ne ↦ stood work (sym (t.others k ne) ∙ e)
 ]
 
-came_goes : (b c : View) (k s : ℕ) (op : Op) (f : File) (before after work : Work) → SamePlaces b c → Firms op f → Goes b op before after → b.lane k ≡ busy s op before → work ≡ after → Came b c k s op f work
-came_goes b c k s _ f _ _ work same fi (queues op g q p) was is = queued work is p
-came_goes b c k s _ f _ _ work same fi (firms op g upto q cl gv) was is = let e = firms_one op g f q fi in firmed work upto is was (rw (← e) cl) (rw (← e) gv) same
-came_goes b c k s _ f _ _ work same fi (refuses op asks) was is = failed work is
-came_goes b c k s _ f _ _ work same fi (stops op upto) was is = failed work is
-came_goes b c k s _ f _ _ work same fi ends was is = absurd fi
-came_goes b c k s _ f _ _ work same fi (cuts_none g z asks) was is = absurd fi
+came_goes : (b c : View) (l k s : ℕ) (op : Op) (f : File) (before after work : Work) → SamePlaces b c → Firms op f → Goes b l op before after → b.lane k ≡ busy s op before → work ≡ after → Came b c k s op f work
+came_goes b c l k s _ f _ _ work same fi (queues op g q p) was is = queued work is p
+came_goes b c l k s _ f _ _ work same fi (firms op g upto q cl gv) was is = let e = firms_one op g f q fi in firmed work upto is was (rw (← e) cl) (rw (← e) gv) same
+came_goes b c l k s _ f _ _ work same fi (refuses op asks) was is = failed work is
+came_goes b c l k s _ f _ _ work same fi (stops op upto) was is = failed work is
+came_goes b c l k s _ f _ _ work same fi ends was is = absurd fi
+came_goes b c l k s _ f _ _ work same fi (cuts_none g z asks) was is = absurd fi
 
 came_add : (b c : View) (m : Adds b c) (k s : ℕ) (op : Op) (f : File) (work : Work) → Firms op f → s ≡ m.from → work ≡ after_add op (b.seq + 1) → HasBytes op → Came b c k s op f work
 came_add b c m k s (put_op d o y) f work fi is w has = added work (b.seq + 1) w refl (record { number = b.seq + 1; put = is_put m.op }) (ap (λ n. c.added n) is ∙ m.added) (omega arith) (omega arith)
@@ -399,7 +399,7 @@ came_to b c (makes_write m) k s op f work fi e = stood work (sym (m.lanes.lane k
 came_to b c (makes_commit m) k s op f work fi e = stood work (sym (m.lanes.lane k) ∙ e)
 came_to b c (makes_call m) k s op f work fi e = stood work (sym (m.lanes.lane k) ∙ e)
 came_to b c (adds m) k s op f work fi e = came_turn b c m.l m.from m.op starts (after_add m.op (b.seq + 1)) m.lanes k s op f work (λ was i o w. came_add b c m k s op f work fi i (w ∙ ap (λ z. after_add z (b.seq + 1)) (sym o)) (rw o m.has)) e
-came_to b c (proceeds m) k s op f work fi e = came_turn b c m.l m.from m.op m.before m.after m.lanes k s op f work (λ was i o w. came_goes b c k s op f m.before m.after work m.places fi (rw o m.goes) was w) e
+came_to b c (proceeds m) k s op f work fi e = came_turn b c m.l m.from m.op m.before m.after m.lanes k s op f work (λ was i o w. came_goes b c m.l k s op f m.before m.after work m.places fi (rw o m.goes) was w) e
 came_to b c (opens m) k s op f work fi e = came_turn b c m.l m.from (open_op m.file m.slot) starts (ready done) m.lanes k s op f work (λ was i o w. absurd (rw o at fi)) e
 came_to b c (frees m) k s op f work fi e = stood work (sym (m.lanes.lane k) ∙ e)
 came_to b c (cuts m) k s op f work fi e = stood work (sym (m.lanes.lane k) ∙ e)

@@ -1,5 +1,5 @@
 -- For each write whose bytes are in: it is excused, or its byte is where the client has it.
-use Rattle.std.proofs.Common.{inl, inr, ◌≡◌, ◌<◌, ◌≤◌, ◌+◌, ℕ, zero, suc, List, [], ◌∷◌, ◌++◌, length, Option, Some, None, true, refl, sym, ap, ◌∙◌, arith}
+use Rattle.std.proofs.Common.{inl, inr, ◌⊎◌, ◌≡◌, ◌<◌, ◌≤◌, ◌+◌, ℕ, zero, suc, List, [], ◌∷◌, ◌++◌, length, Option, Some, None, true, refl, sym, ap, ◌∙◌, arith}
 use Rattle.bond_writes.specs.Story.{Verifier, File, Spot, Op, put_op, close_op, cut_op, Call, write, commit, resize, plain, Reply, wrote, committed, told, denied, Answer, done, refused, Entry, Began, Answered, Sent, Executed, Foreign, Reboot, Delivered, Failed, At, covers, gives, means, is_put, Firms, Reach, Told, Begins, Both}
 use Rattle.bond_writes.specs.Settled.{Ends, Counts, itself, Unanswered, foreign, cut, Wrote}
 use Rattle.bond_writes.specs.Lawful.{Keeps, Stands, Puts, Commits, Serves, LawfulAt, Lawful, Once}
@@ -7,7 +7,7 @@ use Rattle.bond_writes.specs.Machine.{View, Mark, unsent, again, acked, Cell, Fl
 use Rattle.bond_writes.specs.Reaches.{Reaches, begins, enters, moves}
 use Rattle.bond_writes.proofs.AtLemmas.{At-cases, At-grow, At-last, At-below, At-shorten, length_last, last_told, before_begins, same_or_not, same_file_or_not}
 use Rattle.bond_writes.proofs.CallSteps.{same_calls}
-use Rattle.bond_writes.proofs.ExecutedCallsWait.{some_call, executed_below, executed_waits, reply_is}
+use Rattle.bond_writes.proofs.ExecutedCallsWait.{some_call, IsPlain, executed_below, executed_waits, reply_is}
 use Rattle.bond_writes.proofs.FlyingBytes.{one_or_none, waits_on, renewed_wait, layers_fact}
 use Rattle.bond_writes.proofs.OperationsOfLanes.{under_way, ended, lanes_fact, entry_adds, add_turn, same_in, one_in, began_is, busy_same, ready_stays, stood, queued, added, firmed, failed, came_to}
 use Rattle.bond_writes.proofs.Excuses.{by_itself, now, before, Excused, touched, gone, owed, failed_put, on_entry, on_move, means_firms}
@@ -67,7 +67,7 @@ hears t lawful once h b c begun reached x r at same k i y m q = elim k.how [
   | inl d ↦ quiet t h (Delivered x r) b c i y m (λ x call r e. absurd (cc e)) same (d.places.there i) d.calls q
   | inr u ↦ elim u [
     | inl g ↦
-        let s : Shows h x g.call r = elim (reply_is t lawful once h b begun reached x g.call r at g.waits) [ inl z ↦ inl (z.at, z.done) | inr z ↦ inr z ] in
+        let s : Shows h x g.call r = elim (reply_is t lawful h b begun reached x g.call r at g.waits) [ inl z ↦ inl (z.at, z.done) | inr z ↦ inr z ] in
         still t h (Delivered x r) c c i y m (λ x call r e. absurd (cc e)) same refl (after t lawful h b c begun reached x r g.call g s g.waits g.places i y m q)
     | inr g ↦ still t h (Delivered x r) c c i y m (λ x call r e. absurd (cc e)) same refl (again_ t lawful h b c begun reached x r g i y m q)
   ]
@@ -127,6 +127,21 @@ pub data Fate (t : Told) (h : List Entry) (e : Entry) (b : View) (i : Spot) (y m
   taken : (t.at (suc (length h))).gone i.file ≡ true → Fate t h e b i y m
   altered : (f : File) (z x : ℕ) → b.wait x ≡ Some (resize f z) → i.file ≡ f → z ≤ i.at → Fate t h e b i y m
 
+-- a call that isn't of bytes, files or sizes is executed, whether it waits or not
+executes_plain : (t : Told) (h : List Entry) (b : View) (x d : ℕ) (r : Reply) → Serves (t.at (length h)) (plain d) r (t.at (suc (length h))) → (i : Spot) (y m : ℕ) → HoldsNow t h b i y m → Fate t h (Executed x (plain d) r) b i y m
+executes_plain t h b x d (told j) s i y m q = elim (s i) [
+  | inl a ↦ absurd a
+  | inr k ↦ elim k [
+    | inl g ↦ taken g
+    | inr e ↦ holds_on (leaves t h b (Executed x (plain d) (told j)) i y m
+        (λ x2 n c k u l at. elim (At-cases h (Executed x (plain d) (told j)) n (Executed x2 l (wrote 0 c k u)) at) [ inl a ↦ a | inr z ↦ absurd (cc z.1) ])
+        (λ x2 n u f at is. elim (At-cases h (Executed x (plain d) (told j)) n (Executed x2 (commit f) (committed 0 u)) at) [ inl a ↦ a | inr z ↦ absurd (cc z.1) ]) e q)
+  ]
+]
+executes_plain t h b x d (wrote j n k v) s i y m q = absurd s
+executes_plain t h b x d (committed j v) s i y m q = absurd s
+executes_plain t h b x d denied s i y m q = absurd s
+
 executes : (t : Told) (h : List Entry) (b : View) → Reaches h b → (x : ℕ) (call : Call) (r : Reply) → b.wait x ≡ Some call → Serves (t.at (length h)) call r (t.at (suc (length h))) → (i : Spot) (y m : ℕ) → HoldsNow t h b i y m → Fate t h (Executed x call r) b i y m
 executes t h b reached x (write d o bytes how) (wrote zero count k v) wait s i y m q =
     holds_on (puts t h b reached x (write d o bytes how) (wrote zero count k v) wait (λ f e. absurd (cc e)) s.puts (λ i y n j u at is reach. let z = s.there i y at (rw (← count_is n j u is) at reach) in (z.0, λ le. z.1 (let e = k_is n j u is in omega (arith, e, le)))) i y m q)
@@ -162,15 +177,7 @@ executes t h b reached x (resize d z) (told j) wait s i y m q = elim (s i) [
         (λ x2 n u f at is. elim (At-cases h (Executed x (resize d z) (told j)) n (Executed x2 (commit f) (committed 0 u)) at) [ inl a ↦ a | inr z ↦ absurd (cc z.1) ]) e q)
   ]
 ]
-executes t h b reached x (plain d) (told j) wait s i y m q = elim (s i) [
-  | inl a ↦ absurd a
-  | inr k ↦ elim k [
-    | inl g ↦ taken g
-    | inr e ↦ holds_on (leaves t h b (Executed x (plain d) (told j)) i y m
-        (λ x2 n c k u l at. elim (At-cases h (Executed x (plain d) (told j)) n (Executed x2 l (wrote 0 c k u)) at) [ inl a ↦ a | inr z ↦ absurd (cc z.1) ])
-        (λ x2 n u f at is. elim (At-cases h (Executed x (plain d) (told j)) n (Executed x2 (commit f) (committed 0 u)) at) [ inl a ↦ a | inr z ↦ absurd (cc z.1) ]) e q)
-  ]
-]
+executes t h b reached x (plain d) r wait s i y m q = executes_plain t h b x d r s i y m q
 executes t h b reached x (write d o bytes how) (committed j v) wait s i y m q = absurd s
 executes t h b reached x (write d o bytes how) (told j) wait s i y m q = absurd s
 executes t h b reached x (write d o bytes how) denied wait s i y m q = absurd s
@@ -180,9 +187,6 @@ executes t h b reached x (commit d) denied wait s i y m q = absurd s
 executes t h b reached x (resize d z) (wrote j n k v) wait s i y m q = absurd s
 executes t h b reached x (resize d z) (committed j v) wait s i y m q = absurd s
 executes t h b reached x (resize d z) denied wait s i y m q = absurd s
-executes t h b reached x (plain d) (wrote j n k v) wait s i y m q = absurd s
-executes t h b reached x (plain d) (committed j v) wait s i y m q = absurd s
-executes t h b reached x (plain d) denied wait s i y m q = absurd s
 
 no_means : (f : File) (z : ℕ) (op : Op) (i : Spot) (y : ℕ) → op ≡ cut_op f z → means op i ≡ Some y → ⊥
 no_means f z op i y e m = absurd (cc (ap (λ o. means o i) e, m))
@@ -213,7 +217,7 @@ at_entry t lawful once h b c (Sent x call) begun r at law g w i y a wr ad n q = 
 at_entry t lawful once h b c (Delivered x z) begun r at law g w i y a wr ad n q = hears t lawful once h b c begun r x z at law.same g i y a.number q
 at_entry t lawful once h b c Failed begun r at law g w i y a wr ad n q = still t h Failed b c i y a.number (λ x k z e. absurd (cc e)) law g q
 at_entry t lawful once h b c (Executed x call z) begun r at law g w i y a wr ad n q =
-    rw g (elim (executes t h b r x call z (executed_waits t lawful once h b begun r x call z at) law.step i y a.number q) [
+    rw g (elim (fate (executed_waits t lawful once h b begun r x call z at)) [
       | holds_on k ↦ k
       | taken k ↦ absurd (n2 (gone (record { at = suc (length h); early = omega arith; is = k })))
       | altered f size x2 wait is le ↦ absurd (n2 (resized t h b (Executed x call z) w i y f size a r wr ad is le (truncates_fact h b r x2 f size wait)))
@@ -221,6 +225,12 @@ at_entry t lawful once h b c (Executed x call z) begun r at law g w i y a wr ad 
   where
     n2 : Excused t (h ++ Executed x call z ∷ []) (suc (length h)) b w i → ⊥
     n2 = rw g at n
+
+    fate : (b.wait x ≡ Some call) ⊎ IsPlain call → Fate t h (Executed x call z) b i y a.number
+    fate o = elim o [
+      | inl wait ↦ executes t h b r x call z wait law.step i y a.number q
+      | inr p ↦ rw p.1 (executes_plain t h b x p.0 z (rw p.1 at law.step) i y a.number q)
+    ]
 at_entry t lawful once h b c (Foreign event) begun r at law g w i y a wr ad n q = rw g (elim (law i) [
   | inl k ↦ absurd (n2 (touched (foreign (length h) event (At-below h w (Began wr.lane wr.op) wr.began) (omega arith) (At-last h (Foreign event)) k)))
   | inr k ↦ elim k [

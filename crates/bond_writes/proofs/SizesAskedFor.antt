@@ -2,7 +2,7 @@
 use Rattle.std.proofs.Common.{inl, inr, ◌⊎◌, ◌≡◌, ◌+◌, ℕ, List, [], ◌∷◌, ◌++◌, length, Some, true, sym, ap, ◌∙◌, arith}
 use Rattle.bond_writes.specs.Story.{File, Op, put_op, close_op, cut_op, open_op, Call, write, commit, resize, done, refused, Entry, Began, Answered, At}
 use Rattle.bond_writes.specs.Settled.{Unanswered}
-use Rattle.bond_writes.specs.Machine.{View, busy, Work, starts, joins, ready, Added, SameAdds, Turns, after_add, Goes, queues, firms, refuses, stops, ends, cuts_none, Unasked, Asked, Move, makes_write, makes_commit, makes_call, adds, proceeds, opens, frees, cuts, gives_up, gives_up_put, loses}
+use Rattle.bond_writes.specs.Machine.{View, Lane, busy, Work, starts, joins, ready, Added, SameAdds, Turns, after_add, Beside, Goes, queues, firms, refuses, stops, ends, cuts_none, Unasked, Asked, Move, makes_write, makes_commit, makes_call, adds, proceeds, opens, frees, cuts, gives_up, gives_up_put, loses}
 use Rattle.bond_writes.specs.Reaches.{Reaches, begins, enters, moves}
 use Rattle.bond_writes.proofs.AtLemmas.{At-grow, At-below, At-shorten, same_or_not}
 use Rattle.bond_writes.proofs.CallSteps.{Turn, stays, closes, renews, turn}
@@ -17,33 +17,44 @@ pub data Asks (h : List Entry) (c : View) (f : File) (z : ℕ) : Type 0 where
 abbrev pub Fact : List Entry → View → Type 0
 Fact h c = (y : ℕ) (f : File) (z : ℕ) → c.wait y ≡ Some (resize f z) → Asks h c f z
 
--- the lane of a truncate under way stays, or the session is lost if its SETATTR waits
+-- the lane of a truncate under way stays; or if its SETATTR waits, the session is lost, or another lane's truncate asks for the same
 abbrev Stay : View → View → ℕ → ℕ → File → ℕ → Type 0
-Stay b c l x f z = (c.lane l ≡ busy x (cut_op f z) starts) ⊎ ((y : ℕ) → b.wait y ≡ Some (resize f z) → b.lost ≡ true)
+Stay b c l x f z = (c.lane l ≡ busy x (cut_op f z) starts) ⊎ ((y : ℕ) → b.wait y ≡ Some (resize f z) → (b.lost ≡ true) ⊎ Beside c l f z)
 
-turned : (b c : View) (k from : ℕ) (op : Op) (before after : Work) → Turns b c k (busy from op before) (busy from op after) → (l x : ℕ) (f : File) (z : ℕ) → (op ≡ cut_op f z → before ≡ starts → (y : ℕ) → b.wait y ≡ Some (resize f z) → b.lost ≡ true) → b.lane l ≡ busy x (cut_op f z) starts → Stay b c l x f z
+-- the truncate that is beside a lane stays as that lane turns
+beside_on : (b c : View) (k l : ℕ) (before after : Lane) (f : File) (z : ℕ) → Turns b c k before after → l ≡ k → Beside b k f z → Beside c l f z
+beside_on b c k l before after f z t is o = record { k = o.k; from = o.from; other = λ same. o.other (same ∙ is); is = t.others o.k o.other ∙ o.is }
+
+turned : (b c : View) (k from : ℕ) (op : Op) (before after : Work) → Turns b c k (busy from op before) (busy from op after) → (l x : ℕ) (f : File) (z : ℕ)
+    → (op ≡ cut_op f z → before ≡ starts → (y : ℕ) → b.wait y ≡ Some (resize f z) → (b.lost ≡ true) ⊎ Beside b k f z) → b.lane l ≡ busy x (cut_op f z) starts → Stay b c l x f z
 turned b c k from op before after t l x f z g e = elim (same_or_not l k) [
-  | inl is ↦ let q = busy_same from x op (cut_op f z) before starts (sym t.was ∙ ap (λ n. b.lane n) (sym is) ∙ e) in inr (g q.1 q.2)
+  | inl is ↦
+      let q = busy_same from x op (cut_op f z) before starts (sym t.was ∙ ap (λ n. b.lane n) (sym is) ∙ e) in
+      inr (λ y w. elim (g q.1 q.2 y w) [ inl d ↦ inl d | inr o ↦ inr (beside_on b c k l (busy from op before) (busy from op after) f z t is o) ])
   | inr ne ↦ inl (t.others l ne ∙ e)
 ]
 
-goes_lost : (b : View) (op : Op) (before after : Work) → Goes b op before after → (f : File) (z : ℕ) → op ≡ cut_op f z → before ≡ starts → (y : ℕ) → b.wait y ≡ Some (resize f z) → b.lost ≡ true
-goes_lost b _ _ _ (queues op d k p) f z e s y w = absurd (rw e at k)
-goes_lost b _ _ _ (firms op d upto k q g) f z e s y w = absurd (cc s)
-goes_lost b _ _ _ (refuses op asks) f z e s y w = let q : Unasked b (cut_op f z) = rw e at asks in q y w
-goes_lost b _ _ _ (stops op upto) f z e s y w = absurd (cc s)
-goes_lost b _ _ _ ends f z e s y w = absurd (cc e)
-goes_lost b _ _ _ (cuts_none d n asks) f z e s y w = asks y (rw (cut_is d n f z e) w)
+goes_lost : (b : View) (l : ℕ) (op : Op) (before after : Work) → Goes b l op before after → (f : File) (z : ℕ) → op ≡ cut_op f z → before ≡ starts → (y : ℕ) → b.wait y ≡ Some (resize f z)
+    → (b.lost ≡ true) ⊎ Beside b l f z
+goes_lost b l _ _ _ (queues op d k p) f z e s y w = absurd (rw e at k)
+goes_lost b l _ _ _ (firms op d upto k q g) f z e s y w = absurd (cc s)
+goes_lost b l _ _ _ (refuses op asks) f z e s y w = let q : Unasked b l (cut_op f z) = rw e at asks in q y w
+goes_lost b l _ _ _ (stops op upto) f z e s y w = absurd (cc s)
+goes_lost b l _ _ _ ends f z e s y w = absurd (cc e)
+goes_lost b l _ _ _ (cuts_none d n asks) f z e s y w =
+    let same = cut_is d n f z e in
+    let q : Unasked b l (cut_op f z) = rw (same.0, same.1) at asks in
+    q y w
   where
-    cut_is : (d : File) (n : ℕ) (f : File) (z : ℕ) → cut_op d n ≡ cut_op f z → resize d n ≡ resize f z
-    cut_is d n f z e = cc
+    cut_is : (d : File) (n : ℕ) (f : File) (z : ℕ) → cut_op d n ≡ cut_op f z → (d ≡ f) × (n ≡ z)
+    cut_is d n f z e = (cc, cc)
 
 stay : (b c : View) → Move b c → (l x : ℕ) (f : File) (z : ℕ) → b.lane l ≡ busy x (cut_op f z) starts → Stay b c l x f z
 stay b c (makes_write m) l x f z e = inl (m.lanes.lane l ∙ e)
 stay b c (makes_commit m) l x f z e = inl (m.lanes.lane l ∙ e)
 stay b c (makes_call m) l x f z e = inl (m.lanes.lane l ∙ e)
 stay b c (adds m) l x f z e = turned b c m.l m.from m.op starts (after_add m.op (b.seq + 1)) m.lanes l x f z (λ is s y w. absurd (rw is at m.has)) e
-stay b c (proceeds m) l x f z e = turned b c m.l m.from m.op m.before m.after m.lanes l x f z (goes_lost b m.op m.before m.after m.goes f z) e
+stay b c (proceeds m) l x f z e = turned b c m.l m.from m.op m.before m.after m.lanes l x f z (goes_lost b m.l m.op m.before m.after m.goes f z) e
 stay b c (opens m) l x f z e = turned b c m.l m.from (open_op m.file m.slot) starts (ready done) m.lanes l x f z (λ is s y w. absurd (cc is)) e
 stay b c (frees m) l x f z e = inl (m.lanes.lane l ∙ e)
 stay b c (cuts m) l x f z e = inl (m.lanes.lane l ∙ e)
@@ -54,9 +65,12 @@ stay b c (loses m) l x f z e = inl (m.lanes.lane l ∙ e)
 asks_move : (h : List Entry) (b c : View) → Reaches h b → Move b c → (y : ℕ) (f : File) (z : ℕ) → b.wait y ≡ Some (resize f z) → Asks h b f z → Asks h c f z
 asks_move h b c r m y f z w (under_way l x is) = elim (stay b c m l x f z is) [
   | inl k ↦ under_way l x k
-  | inr k ↦
-      let o = (lanes_fact h b r).busy_is l x (cut_op f z) starts is in
-      lost l x (lost_on (k y w)) o.began (λ v a ad n d lo hi got. o.unanswered n d lo got)
+  | inr k ↦ elim (k y w) [
+    | inl d ↦
+        let o = (lanes_fact h b r).busy_is l x (cut_op f z) starts is in
+        lost l x (lost_on d) o.began (λ v a ad n d lo hi got. o.unanswered n d lo got)
+    | inr o ↦ under_way o.k o.from o.is
+  ]
 ]
   where
     lost_on : b.lost ≡ true → c.lost ≡ true

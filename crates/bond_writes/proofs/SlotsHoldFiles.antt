@@ -39,9 +39,9 @@ turned b c l from op before after t none s = record {
   ];
 }
 
-not_open : (b : View) (op : Op) (before after : Work) → Goes b op before after → (file : File) (slot : ℕ) → op ≡ open_op file slot → after ≡ ready done → ⊥
-not_open b _ _ _ (queues op f k p) file slot e a = absurd (cc a)
-not_open b _ _ _ (firms op f upto k q g) file slot e a = go op e k
+not_open : (b : View) (l : ℕ) (op : Op) (before after : Work) → Goes b l op before after → (file : File) (slot : ℕ) → op ≡ open_op file slot → after ≡ ready done → ⊥
+not_open b l _ _ _ (queues op f k p) file slot e a = absurd (cc a)
+not_open b l _ _ _ (firms op f upto k q g) file slot e a = go op e k
   where
     go : (op : Op) → op ≡ open_op file slot → Firms op f → ⊥
     go (open_op d s) e k = k
@@ -51,10 +51,10 @@ not_open b _ _ _ (firms op f upto k q g) file slot e a = go op e k
     go (close_op d s) e k = absurd (cc e)
     go (cut_op d z) e k = k
     go plain_op e k = k
-not_open b _ _ _ (refuses op asks) file slot e a = absurd (cc a)
-not_open b _ _ _ (stops op upto) file slot e a = absurd (cc a)
-not_open b _ _ _ ends file slot e a = absurd (cc e)
-not_open b _ _ _ (cuts_none f z asks) file slot e a = absurd (cc e)
+not_open b l _ _ _ (refuses op asks) file slot e a = absurd (cc a)
+not_open b l _ _ _ (stops op upto) file slot e a = absurd (cc a)
+not_open b l _ _ _ ends file slot e a = absurd (cc e)
+not_open b l _ _ _ (cuts_none f z asks) file slot e a = absurd (cc e)
 
 open_is : (f : File) (s : ℕ) (g : File) (t : ℕ) → open_op f s ≡ open_op g t → (f ≡ g) × (s ≡ t)
 open_is f s g t e = (cc, cc)
@@ -100,7 +100,7 @@ stay h b c q (makes_write m) = kept b c m.lanes.lane m.slots.opens
 stay h b c q (makes_commit m) = kept b c m.lanes.lane m.slots.opens
 stay h b c q (makes_call m) = kept b c m.lanes.lane m.slots.opens
 stay h b c q (adds m) = turned b c m.l m.from m.op starts (after_add m.op (b.seq + 1)) m.lanes (λ file slot e a. absurd (cc (ap (λ o. after_add o (b.seq + 1)) e, a))) m.slots.opens
-stay h b c q (proceeds m) = turned b c m.l m.from m.op m.before m.after m.lanes (not_open b m.op m.before m.after m.goes) m.slots.opens
+stay h b c q (proceeds m) = turned b c m.l m.from m.op m.before m.after m.lanes (not_open b m.l m.op m.before m.after m.goes) m.slots.opens
 stay h b c q (opens m) = opened_slot h b c q m
 stay h b c q (frees m) = freed b c m
 stay h b c q (cuts m) = kept b c m.lanes.lane m.slots.opens
@@ -214,6 +214,6 @@ entry h b c e q same (noting l0 from0 op0 a0 is0 t) f = record {
         ]
 
 pub slots_fact : (h : List Entry) (c : View) → Reaches h c → Fact h c
-slots_fact _ _ (begins h c e i) = rw e (record { held = λ l slot file i. absurd (cc (i.began)); opened = λ l from slot file is. absurd (cc (i.lane l, is)) })
+slots_fact _ _ (begins h c e i) = record { held = λ l slot file o. absurd (e.unbegun o.from l (open_op file slot) o.began); opened = λ l from slot file is. absurd (cc (i.lane l, is)) }
 slots_fact _ _ (enters h c before b e r g t) = rw g (entry before b c e (lanes_fact before b r) (entry_opens (length before) b c e t) (shift (length before) b c e t) (slots_fact before b r))
 slots_fact _ _ (moves h c b r m) = move h b c (lanes_fact h b r) m (slots_fact h b r)

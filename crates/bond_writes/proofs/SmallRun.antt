@@ -191,7 +191,7 @@ abbrev h0 : List Entry
 h0 = []
 
 abbrev r0 : Reaches h0 start
-r0 = begins h0 start refl (record { rest = λ i. refl; fly = λ i. refl; wait = λ x. refl; lane = all_idle; added = λ w. refl })
+r0 = begins h0 start (record { unbegun = λ i lane op at. absurd (cc at); sent = λ i x call at. absurd (cc at) }) (record { rest = λ i. refl; fly = λ i. refl; wait = λ x. refl; lane = all_idle; added = λ w. refl })
 
 abbrev v1 : View
 v1 = record start { lane = in_lane (busy 0 (open_op the_file 0) starts) }

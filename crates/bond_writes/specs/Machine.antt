@@ -186,26 +186,33 @@ pub record Clear (file : File) (upto : ℕ) (c : View) : Type 0 where
   pub rest : (i : Spot) (cell : Cell) → i.file ≡ file → c.rest i ≡ Some cell → upto < cell.number
   pub fly : (i : Spot) (f : Flight) → i.file ≡ file → c.fly i ≡ Some f → upto < f.number
 
--- While its SETATTR waits a truncate ends only where the session is lost. Shown by file_ops and client_core.
-abbrev pub Unasked : View → Op → Type 0
-Unasked c (write_op file offset bytes) = Unit {0}
-Unasked c (put_op file offset bytes) = Unit {0}
-Unasked c (sync_op file) = Unit {0}
-Unasked c (close_op file slot) = Unit {0}
-Unasked c (cut_op file size) = (y : ℕ) → c.wait y ≡ Some (resize file size) → c.lost ≡ true
-Unasked c (open_op file slot) = Unit {0}
-Unasked c plain_op = Unit {0}
+-- another lane cuts the file to the same size
+pub record Beside (c : View) (l : ℕ) (file : File) (size : ℕ) : Type 0 where
+  pub k : ℕ
+  pub from : ℕ
+  pub other : k ≢ l
+  pub is : c.lane k ≡ busy from (cut_op file size) starts
+
+-- While its SETATTR waits a truncate ends only where the session is lost: an equal one that waits is another truncate's. Shown by file_ops and client_core.
+abbrev pub Unasked : View → ℕ → Op → Type 0
+Unasked c l (write_op file offset bytes) = Unit {0}
+Unasked c l (put_op file offset bytes) = Unit {0}
+Unasked c l (sync_op file) = Unit {0}
+Unasked c l (close_op file slot) = Unit {0}
+Unasked c l (cut_op file size) = (y : ℕ) → c.wait y ≡ Some (resize file size) → (c.lost ≡ true) ⊎ Beside c l file size
+Unasked c l (open_op file slot) = Unit {0}
+Unasked c l plain_op = Unit {0}
 
 -- How an operation goes on where nothing else changes. It joins the queue of its file with all numbers that were given by then
 -- (`queues`: file_ops). It ends ok only where nothing up to its number is pending, and not between a give-up and the next record
 -- (`firms`: file_ops). What is ready stays (client_core).
-pub data Goes (c : View) : Op → Work → Work → Type 0 where
-  queues : (op : Op) (file : File) → Firms op file → is_put op ≡ false → Goes c op starts (joins c.seq)
-  firms : (op : Op) (file : File) (upto : ℕ) → Firms op file → Clear file upto c → c.gave file ≡ false → Goes c op (joins upto) (ready done)
-  refuses : (op : Op) → Unasked c op → Goes c op starts (ready refused)
-  stops : (op : Op) (upto : ℕ) → Goes c op (joins upto) (ready refused)
-  ends : Goes c plain_op starts (ready done)
-  cuts_none : (file : File) (size : ℕ) → Unasked c (cut_op file size) → Goes c (cut_op file size) starts (ready done)
+pub data Goes (c : View) (l : ℕ) : Op → Work → Work → Type 0 where
+  queues : (op : Op) (file : File) → Firms op file → is_put op ≡ false → Goes c l op starts (joins c.seq)
+  firms : (op : Op) (file : File) (upto : ℕ) → Firms op file → Clear file upto c → c.gave file ≡ false → Goes c l op (joins upto) (ready done)
+  refuses : (op : Op) → Unasked c l op → Goes c l op starts (ready refused)
+  stops : (op : Op) (upto : ℕ) → Goes c l op (joins upto) (ready refused)
+  ends : Goes c l plain_op starts (ready done)
+  cuts_none : (file : File) (size : ℕ) → Unasked c l (cut_op file size) → Goes c l (cut_op file size) starts (ready done)
 
 -- an operation goes on so
 pub record Proceeds (old new : View) : Type 0 where
@@ -214,7 +221,7 @@ pub record Proceeds (old new : View) : Type 0 where
   pub op : Op
   pub before : Work
   pub after : Work
-  pub goes : Goes old op before after
+  pub goes : Goes old l op before after
   pub lanes : Turns old new l (busy from op before) (busy from op after)
   pub calls : SameCalls old new
   pub adds : SameAdds old new
@@ -423,9 +430,9 @@ pub record Renews (old new : View) (x : ℕ) (r : Reply) : Type 0 where
   pub rest : (i : Spot) → new.rest i ≡ old.rest i
   pub fly : (i : Spot) → Renamed x y (old.fly i) (new.fly i)
 
--- a record under an xid that doesn't wait changes nothing: rpc_retry
+-- A record under an xid that doesn't wait changes nothing (rpc_retry), nor does any in a lost session (client_core).
 pub record Ignores (old new : View) (x : ℕ) : Type 0 where
-  pub none : old.wait x ≡ None
+  pub idle_or_lost : (old.wait x ≡ None) ⊎ (old.lost ≡ true)
   pub calls : SameCalls old new
   pub places : SamePlaces old new
 
