@@ -1,13 +1,13 @@
 -- What excuses a byte: it was touched, its file is gone, it is owed by a close that gave up, or it is a put's that was refused.
 use Rattle.std.proofs.Common.{inl, inr, ◌⊎◌, ◌≡◌, ◌<◌, ◌≤◌, ℕ, suc, List, [], ◌∷◌, ◌++◌, length, Some, Bool, true, false, refl, sym, ap, ◌∙◌, arith}
 use Rattle.bond_writes.specs.Story.{File, Spot, Op, write_op, put_op, sync_op, close_op, cut_op, open_op, plain_op, Reply, Answer, done, refused, Entry, Began, Answered, Sent, Executed, Foreign, Reboot, Delivered, Failed, At, Told, means, is_put, Firms}
-use Rattle.bond_writes.specs.Settled.{Ends, Counts, itself, RefusedClose, Reason, left, Wrote}
-use Rattle.bond_writes.specs.Machine.{View, busy, Work, starts, ready, Starts, Answers, Hears, Enters, Move, makes_write, makes_commit, makes_call, adds, proceeds, opens, frees, cuts, gives_up, gives_up_put, loses, Slotted}
+use Rattle.bond_writes.specs.Settled.{Ends, Counts, itself, InSlot, RefusedClose, Reason, left, Wrote}
+use Rattle.bond_writes.specs.Machine.{View, busy, Work, starts, ready, Answers, Hears, Enters, Move, makes_write, makes_commit, makes_call, adds, proceeds, opens, frees, cuts, gives_up, gives_up_put, loses}
 use Rattle.bond_writes.specs.Reaches.{Reaches, enters}
 use Rattle.bond_writes.proofs.AtLemmas.{At-cases, At-grow, At-last, At-below, At-shorten, length_last, same_or_not, same_file_or_not}
 use Rattle.bond_writes.proofs.FlyingBytes.{covers_file}
-use Rattle.bond_writes.proofs.OperationsOfLanes.{under_way, ended, HasAdd, steady, lanes_fact, keeps_add, entry_adds, began_is, busy_same, Shift, quiet, starting, noting, shift, grow_ends, ready_stays, stood, queued, added, firmed, failed, came_to}
-use Rattle.bond_writes.proofs.SlotsHoldFiles.{Held, slots_fact, entry_opens, less_ends}
+use Rattle.bond_writes.proofs.OperationsOfLanes.{under_way, ended, HasAdd, steady, lanes_fact, keeps_add, entry_adds, began_is, busy_same, Shift, quiet, starting, noting, shift, grow_ends, answer_at, ready_stays, stood, queued, added, firmed, failed, came_to}
+use Rattle.bond_writes.proofs.SlotsHoldFiles.{Held, slots_fact, entry_opens, less_ends, less_slot}
 use Rattle.bond_writes.proofs.TouchedGrows.{less_counts, grow_refused, grow, more}
 
 -- a close of the file was refused, and no record came since
@@ -20,11 +20,15 @@ pub data Owing (h : List Entry) (c : View) (f : File) : Type 0 where
   by_itself : (l from slot : ℕ) → c.lane l ≡ busy from (close_op f slot) (ready refused) → Owing h c f
   beside : (l from slot : ℕ) (a : Answer) → c.lane l ≡ busy from (close_op f slot) (ready a) → Late h f → Owing h c f
 
+-- a close that is under way has its answer, or its slot holds no file by the answers
+abbrev pub Leaving : List Entry → ℕ → ℕ → File → Work → Type 0
+Leaving h k s f work = ((a : Answer) × (work ≡ ready a)) ⊎ (InSlot h (length h) k s f → ⊥)
+
 pub record Owed (h : List Entry) (c : View) (w : ℕ) (f : File) : Type 0 where
   pub gave : c.gave f ≡ true
   pub owing : Owing h c f
   pub shut : (l s : ℕ) → c.opens l s ≡ Some f → ⊥
-  pub closed_all : (k from s : ℕ) (work : Work) → c.lane k ≡ busy from (close_op f s) work → (a : Answer) × (work ≡ ready a)
+  pub closed_all : (k from s : ℕ) (work : Work) → c.lane k ≡ busy from (close_op f s) work → Leaving h k s f work
   pub spared : (l s j : ℕ) (op : Op) → Counts h w s → At h s (Began l op) → Firms op f → Ends h l s j done → ⊥
   pub pending : (l s : ℕ) (op : Op) → Counts h w s → Firms op f → c.lane l ≡ busy s op (ready done) → ⊥
   pub unput : (l : ℕ) (op : Op) → At h w (Began l op) → is_put op ≡ true → (k : ℕ) (a : Answer) → w < k → At h k (Answered l a) → ⊥
@@ -101,20 +105,29 @@ entry_gave n b c (Executed x k r) t none = view_gave b c t
 entry_gave n b c (Foreign o) t none = view_gave b c t
 entry_gave n b c Reboot t none = view_gave b c t
 
-closed_on : (n : ℕ) (b c : View) (e : Entry) (f : File) → Enters n b e c → Shift n b e c → ((l s : ℕ) → b.opens l s ≡ Some f → ⊥) → ((k from s : ℕ) (work : Work) → b.lane k ≡ busy from (close_op f s) work → (a : Answer) × (work ≡ ready a))
-    → (k from s : ℕ) (work : Work) → c.lane k ≡ busy from (close_op f s) work → (a : Answer) × (work ≡ ready a)
-closed_on n b c e f t (quiet lanes x y) shut all k from s work is = all k from s work (sym (lanes k) ∙ is)
-closed_on n b c e f t (noting l0 from0 op0 a0 is0 u) shut all k from s work is = elim (same_or_not k l0) [
-  | inl here ↦ absurd (cc (u.is, ap (λ z. c.lane z) here, is))
-  | inr ne ↦ all k from s work (sym (u.others k ne) ∙ is)
+-- a slot of a lane whose answer isn't noted held its file before
+slot_before : (h : List Entry) (e : Entry) (k s : ℕ) (f : File) → ((a : Answer) → e ≡ Answered k a → ⊥) → InSlot (h ++ e ∷ []) (length (h ++ e ∷ [])) k s f → InSlot h (length h) k s f
+slot_before h e k s f none i = elim (At-cases h e i.at (Answered k done) i.ends.answered) [
+  | inr m ↦ absurd (none done m.1)
+  | inl a ↦ let low = At-below h i.at (Answered k done) a in less_slot h e k s f (length h) (length (h ++ e ∷ [])) (let n = length_last h e in omega (arith, n)) i low low
 ]
-closed_on n b c e f t (starting l0 op0 is0 u) shut all k from s work is = elim (same_or_not k l0) [
-  | inl here ↦
-      let z = busy_same n from op0 (close_op f s) starts work (sym u.is ∙ ap (λ z. c.lane z) (sym here) ∙ is) in
-      let st : Starts b c n l0 op0 = rw is0 at t in
-      let sl : Slotted b l0 (close_op f s) = rw z.1 at st.slotted in
-      absurd (shut l0 s sl)
-  | inr ne ↦ all k from s work (sym (u.others k ne) ∙ is)
+
+leaving_on : (h : List Entry) (e : Entry) (k s : ℕ) (f : File) (work : Work) → ((a : Answer) → e ≡ Answered k a → ⊥) → Leaving h k s f work → Leaving (h ++ e ∷ []) k s f work
+leaving_on h e k s f work none o = elim o [ inl a ↦ inl a | inr no_ ↦ inr (λ i. no_ (slot_before h e k s f none i)) ]
+
+closed_on : (h : List Entry) (b c : View) (e : Entry) (f : File) → Reaches h b → Shift (length h) b e c → ((l s : ℕ) → b.opens l s ≡ Some f → ⊥) → ((k from s : ℕ) (work : Work) → b.lane k ≡ busy from (close_op f s) work → Leaving h k s f work)
+    → (k from s : ℕ) (work : Work) → c.lane k ≡ busy from (close_op f s) work → Leaving (h ++ e ∷ []) k s f work
+closed_on h b c e f r (quiet lanes x y) shut all k from s work is = leaving_on h e k s f work (y k) (all k from s work (sym (lanes k) ∙ is))
+closed_on h b c e f r (noting l0 from0 op0 a0 is0 u) shut all k from s work is = elim (same_or_not k l0) [
+  | inl here ↦ absurd (cc (u.is, ap (λ z. c.lane z) here, is))
+  | inr ne ↦ leaving_on h e k s f work (λ a q. ne (sym (answer_at l0 k a0 a (sym is0 ∙ q)).0)) (all k from s work (sym (u.others k ne) ∙ is))
+]
+closed_on h b c e f r (starting l0 op0 is0 u) shut all k from s work is = elim (same_or_not k l0) [
+  | inl here ↦ inr (λ i. elim ((slots_fact h b r).held k s f (slot_before h e k s f (λ a q. absurd (cc (is0, q))) i)) [
+    | inl o ↦ shut k s o
+    | inr z ↦ absurd (cc (u.was, ap (λ q. b.lane q) here, z.is))
+  ])
+  | inr ne ↦ leaving_on h e k s f work (λ a q. absurd (cc (is0, q))) (all k from s work (sym (u.others k ne) ∙ is))
 ]
 
 pub means_firms : (op : Op) (i : Spot) (y : ℕ) → means op i ≡ Some y → is_put op ≡ true → Firms op i.file
@@ -152,7 +165,7 @@ owed_on t h b c e w i y r g none wr o n owing = record {
   gave = entry_gave (length h) b c e g none i.file ∙ o.gave;
   owing = owing;
   shut = λ l s is. o.shut l s (sym (entry_opens (length h) b c e g l s) ∙ is);
-  closed_all = closed_on (length h) b c e i.file g (shift (length h) b c e g) o.shut o.closed_all;
+  closed_all = closed_on h b c e i.file r (shift (length h) b c e g) o.shut o.closed_all;
   spared = spared_on h b c e w i.file r g o;
   pending = λ l s op k fi is.
       let was = ready_before (length h) b c e (shift (length h) b c e g) l s op done is in
@@ -193,7 +206,7 @@ answered t h b c w i y l from slot a r g wr o is late n =
       ans = a;
       began = At-grow h (Answered l a ∷ []) from (Began l (close_op i.file slot)) u.began;
       ends = record { after = At-below h from (Began l (close_op i.file slot)) u.began; answered = At-last h (Answered l a); first = λ k d lo hi got. u.unanswered k d lo (At-shorten h (Answered l a ∷ []) k (Answered l d) hi got) };
-      last = λ k s q. closed k s ((slots_fact (h ++ e ∷ []) c (enters (h ++ e ∷ []) c h b e r refl g)).held k s i.file (rw (length_last h e) q));
+      last = λ k s q. (let held_at : InSlot (h ++ e ∷ []) (length (h ++ e ∷ [])) k s i.file = rw (length_last h e) q in closed k s held_at ((slots_fact (h ++ e ∷ []) c (enters (h ++ e ∷ []) c h b e r refl g)).held k s i.file held_at));
       refusal = late.j;
       is_refused = late.close;
       late = let low = At-below (h ++ Answered l a ∷ []) late.j (Answered late.close.lane refused) late.close.ends.answered in let q = length_last h (Answered l a) in omega (arith, low, q);
@@ -208,12 +221,14 @@ answered t h b c w i y l from slot a r g wr o is late n =
     no_record : (x : ℕ) (z : Reply) → Answered l a ≡ Delivered x z → ⊥
     no_record x z k = absurd (cc k)
 
-    closed : (k s : ℕ) → Held c k s i.file → ⊥
-    closed k s q = elim q [
+    closed : (k s : ℕ) → InSlot (h ++ e ∷ []) (length (h ++ e ∷ [])) k s i.file → Held c k s i.file → ⊥
+    closed k s held_at q = elim q [
       | inl o2 ↦ o.shut k s (sym (entry_opens (length h) b c e g k s) ∙ o2)
       | inr z ↦
-          let d = closed_on (length h) b c e i.file g (shift (length h) b c e g) o.shut o.closed_all k z.from s z.work z.is in
-          n (owed (owed_on t h b c e w i y r g no_record wr o (λ v. n (failed_put v)) (beside k z.from s d.0 (rw (← d.1) z.is) late)))
+          elim (closed_on h b c e i.file r (shift (length h) b c e g) o.shut o.closed_all k z.from s z.work z.is) [
+            | inl d ↦ n (owed (owed_on t h b c e w i y r g no_record wr o (λ v. n (failed_put v)) (beside k z.from s d.0 (rw (← d.1) z.is) late)))
+            | inr no_ ↦ no_ held_at
+          ]
     ]
 
 owed_entry : (t : Told) (h : List Entry) (b c : View) (e : Entry) (w : ℕ) (i : Spot) (y : ℕ) → Reaches h b → Enters (length h) b e c → Wrote h w i y → Owed h b w i.file → (Excused t (h ++ e ∷ []) (suc (length h)) c w i → ⊥) → ⊥
@@ -325,9 +340,10 @@ owed_move h b c w f r m o = record {
   shut = move_shut b c m f o.gave o.shut;
   closed_all = λ k from s work is.
       let z = (steady h b c (lanes_fact h b r) m).steps k from (close_op f s) work is in
-      let q = o.closed_all k from s z.before z.was in
-      let stays = ready_stays b c m k from (close_op f s) q.0 (rw (← q.1) z.was) in
-      (q.0, (busy_same from from (close_op f s) (close_op f s) work (ready q.0) (sym is ∙ stays)).2);
+      elim (o.closed_all k from s z.before z.was) [
+        | inr no_ ↦ inr no_
+        | inl q ↦ let stays = ready_stays b c m k from (close_op f s) q.0 (rw (← q.1) z.was) in inl (q.0, (busy_same from from (close_op f s) (close_op f s) work (ready q.0) (sym is ∙ stays)).2)
+      ];
   spared = o.spared;
   pending = λ l s op k fi is. elim (came_to b c m l s op f (ready done) fi is) [
     | stood work was ↦ o.pending l s op k fi (pending_was l s op (ready done) is was)

@@ -277,8 +277,8 @@ close_owes t h b c w i y a cell r m is wr ad there sf n = n (owed (record {
   owing = by_itself m.l m.from m.slot (rw is m.lanes.is);
   shut = λ l s e. m.shut l s (sym (m.opens l s) ∙ e ∙ ap (λ f. Some f) is);
   closed_all = λ k from s work e. elim (same_or_not k m.l) [
-    | inl here ↦ let z = busy_same m.from from (close_op m.file m.slot) (close_op i.file s) (ready refused) work (sym m.lanes.is ∙ ap (λ q. c.lane q) (sym here) ∙ e) in (refused, sym z.2)
-    | inr ne ↦ m.ended k from s work ne (rw (← is) (sym (m.lanes.others k ne) ∙ e))
+    | inl here ↦ let z = busy_same m.from from (close_op m.file m.slot) (close_op i.file s) (ready refused) work (sym m.lanes.is ∙ ap (λ q. c.lane q) (sym here) ∙ e) in inl (refused, sym z.2)
+    | inr ne ↦ inl (m.ended k from s work ne (rw (← is) (sym (m.lanes.others k ne) ∙ e)))
   ];
   spared = λ l s j op k at fi d. some_there ((says l s op k at fi).at_end j d);
   pending = λ l s op k fi e. elim (came_to b c (gives_up m) l s op i.file (ready done) fi e) [

@@ -473,7 +473,7 @@ abbrev r30 : Reaches h19 v30
 r30 = enters h19 v30 h18 v29 (Answered 0 refused) r29 refl (record { from = 17; op = put_op the_file 0 (7 ∷ []); lanes = turns_at_0 (busy 17 (put_op the_file 0 (7 ∷ [])) (ready refused)) (idle) refl refl; calls = record { next = refl; wait = λ x. refl }; adds = record { seq = refl; added = λ w. refl; lost = λ e. e }; slots = record { opens = λ l s. refl; gave = λ f. refl }; places = record { there = λ i. (refl, refl) } })
 
 abbrev r31 : Reaches h20 v31
-r31 = enters h20 v31 h19 v30 (Began 0 (close_op the_file 0)) r30 refl (record { slotted = refl; lanes = turns_at_0 (idle) (busy 19 (close_op the_file 0) starts) refl refl; calls = record { next = refl; wait = λ x. refl }; adds = record { seq = refl; added = λ w. refl; lost = λ e. e }; slots = record { opens = λ l s. refl; gave = λ f. refl }; places = record { there = λ i. (refl, refl) } })
+r31 = enters h20 v31 h19 v30 (Began 0 (close_op the_file 0)) r30 refl (record { slotted = inl refl; lanes = turns_at_0 (idle) (busy 19 (close_op the_file 0) starts) refl refl; calls = record { next = refl; wait = λ x. refl }; adds = record { seq = refl; added = λ w. refl; lost = λ e. e }; slots = record { opens = λ l s. refl; gave = λ f. refl }; places = record { there = λ i. (refl, refl) } })
 
 abbrev r32 : Reaches h20 v32
 r32 = moves h20 v32 v31 r31 (proceeds (record { l = 0; from = 19; op = close_op the_file 0; before = starts; after = joins 2; goes = queues (close_op the_file 0) the_file refl refl; lanes = turns_at_0 (busy 19 (close_op the_file 0) (starts)) (busy 19 (close_op the_file 0) (joins 2)) refl refl; calls = record { next = refl; wait = λ x. refl }; adds = record { seq = refl; added = λ w. refl; lost = λ e. e }; slots = record { opens = λ l s. refl; gave = λ f. refl }; places = record { there = λ i. (refl, refl) } }))

@@ -337,12 +337,12 @@ pub data Move (old new : View) : Type 0 where
 
 -- ---- entries
 
--- A close that begins is that of a slot of its lane; else it is no close. Shown by client_core.
+-- A close that begins is that of a slot of its lane, unless the session is lost; else it is no close. Shown by client_core.
 abbrev pub Slotted : View → ℕ → Op → Type 0
 Slotted c l (write_op file offset bytes) = Unit {0}
 Slotted c l (put_op file offset bytes) = Unit {0}
 Slotted c l (sync_op file) = Unit {0}
-Slotted c l (close_op file slot) = c.opens l slot ≡ Some file
+Slotted c l (close_op file slot) = (c.opens l slot ≡ Some file) ⊎ (c.lost ≡ true)
 Slotted c l (cut_op file size) = Unit {0}
 Slotted c l (open_op file slot) = Unit {0}
 Slotted c l plain_op = Unit {0}
