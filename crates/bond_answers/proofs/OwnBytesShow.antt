@@ -52,7 +52,7 @@ reads_part m origin t _ _ _ _ (one_reads h c g w b r move over) = moves h c b (r
 reads_part m origin t _ _ _ _ (one_writes h c g w v r move) = reads_part m origin t h c g v r
 
 pub writes_part : (m : Modes) (origin : Origin) (t : History) (h : List Entry) (c : View) (g : List story.Entry) (w : writes.View) → Together m origin t h c g w → written.Reaches g w
-writes_part m origin t _ _ _ _ (both_begin h c g w a b new fresh) = written.begins g w b fresh
+writes_part m origin t _ _ _ _ (both_begin h c g w a b new fresh) = written.begins g w (rw b (record { unbegun = λ i lane op at. absurd (cc at); sent = λ i x call at. absurd (cc at) })) fresh
 writes_part m origin t _ _ _ _ (both_enter h c g w before b first v e d r is is2 step step2 same) = written.enters g w first v d (writes_part m origin t before b first v r) is2 step2
 writes_part m origin t _ _ _ _ (one_reads h c g w b r move over) = writes_part m origin t h b g w r
 writes_part m origin t _ _ _ _ (one_writes h c g w v r move) = written.moves g w v (writes_part m origin t h c g v r) move

@@ -248,7 +248,7 @@ module _ (t : Told) (lawful : Lawful t) (once : Once t) (steady : Steady t) wher
   ]
     where
       shown : b.wait x ≡ Some (commit i.file) → (v : Verifier) → r ≡ committed 0 v → (e : ℕ) × (e < length h) × At t.entries e (Executed x (commit i.file) (committed 0 v))
-      shown w2 v is = elim (reply_is t lawful once h b begun reached x (commit i.file) r at w2) [
+      shown w2 v is = elim (reply_is t lawful h b begun reached x (commit i.file) r at w2) [
         | inl z ↦ (z.at, At-below h z.at (Executed x (commit i.file) r) z.done, At-told t h z.at (Executed x (commit i.file) (committed 0 v)) begun (rw is at z.done))
         | inr no_ ↦ absurd (cc (no_, is))
       ]
