@@ -7,6 +7,7 @@ pub mod Showing
 pub mod Changed
 pub mod PageOrder
 pub mod SortedSlots
+pub mod Guesses
 pub mod Runs
 pub mod Dropping
 pub mod Changing

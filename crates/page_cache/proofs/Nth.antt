@@ -1,9 +1,9 @@
 -- The page in the n-th slot of the order is the n-th page, as free slots stand last; and each kept page is handed out.
-use Rattle.std.proofs.Common.{◌≡◌, ◌<◌, ℕ, zero, suc, Bool, true, false, List, [], ◌∷◌, length, get_or, slice_get, filter_map, All, Option, Some, None, is_some, IsSome, option_map, option_and_then, refl, sym, ap, ◌∙◌, subst}
+use Rattle.std.proofs.Common.{◌≡◌, ◌<◌, ℕ, zero, suc, List, [], ◌∷◌, get_or, slice_get, filter_map, All, Option, Some, None, is_some, IsSome, option_map, option_and_then, refl, sym, ap, ◌∙◌, subst}
 use Rattle.std.proofs.lemmas.List.Elements.{All-head, All-tail}
 use Rattle.nfs_types.specs.declared.wcc.Stamp.{Stamp}
 use Rattle.page_cache.specs.declared.place.PagePlace.{PagePlace}
-use Rattle.page_cache.specs.Pages.{Pages, known_of, Handed, handed, nth_handed}
+use Rattle.page_cache.specs.Pages.{Pages, known_of, handed, nth_handed}
 use Rattle.page_cache.specs.Sound.{AreKnown}
 use Rattle.page_cache.specs.Slots.{shown, shown_at, AreFree, FreeAfter, FreeLast, AreApart, IsSound}
 

@@ -36,7 +36,7 @@ module _ (held : List (Option PagePlace)) (sorted : List ℕ) (s : IsSorted held
       absurd (let yes_before = s.rises i j q.0 less within q.1 in let not_before = not-before-itself (held_at held sorted i) q.0 there in cc)
 
   module _ (file : List ℕ) (bound : Option ℕ) where
-    parted : (i j : ℕ) → i ≤ j → j < length sorted → is_before file bound (held_at held sorted j) ≡ true → is_before file bound (held_at held sorted i) ≡ true
+    pub parted : (i j : ℕ) → i ≤ j → j < length sorted → is_before file bound (held_at held sorted j) ≡ true → is_before file bound (held_at held sorted i) ≡ true
     parted i j le within later = elim (cases_eq i j) [
       | inl e ↦ rw e later
       | inr n ↦
@@ -93,12 +93,6 @@ module _ (held : List (Option PagePlace)) (sorted : List ℕ) (s : IsSorted held
 
 -- The same of lists that were read.
 module _ (held held_read : List (Option PagePlace)) (sorted sorted_read : List ℕ) (s : IsSorted held sorted) (is_held : held_read ≡ held) (is_sorted : sorted_read ≡ sorted) where
-  -- where the slot of a page stands
-  pub slot-found : (place : PagePlace) (at slot : ℕ) → IsGap held_read sorted_read place.file (Some place.index) at → slot < 1024
-      → (read : Option PagePlace) → read ≡ get_or held slot read → read ≡ Some place → (at < length sorted) × (get_or sorted at 0 ≡ slot)
-  slot-found place at slot gap low read was is = found held sorted s place at slot (rw (is_held, is_sorted) at gap) low
-      (get_or_default held slot None read (let all = s.slots in omega arith) ∙ sym was ∙ is)
-
   -- the slot at a place
   pub slot-read : (at slot : ℕ) → at < length sorted_read → slot ≡ get_or sorted_read at slot → (slot < 1024) × (at < length sorted) × (get_or sorted at 0 ≡ slot)
   slot-read at slot within was =

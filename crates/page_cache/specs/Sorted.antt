@@ -30,6 +30,10 @@ is_before file bound held = option_map_or (stands_before file bound) held false
 abbrev pub held_at : List (Option PagePlace) → List ℕ → ℕ → Option PagePlace
 held_at held sorted i = get_or held (get_or sorted i 0) None
 
+-- the same of the slot at a place of the order; false past the last one
+abbrev pub is_before_at : List ℕ → Option ℕ → List (Option PagePlace) → List ℕ → ℕ → Bool
+is_before_at file bound held sorted i = nat_lt i (length sorted) && is_before file bound (held_at held sorted i)
+
 -- The slots that hold pages, in the order of the pages, each once.
 pub record IsSorted (held : List (Option PagePlace)) (sorted : List ℕ) : Type 0 where
   pub slots : length held ≡ 1024

@@ -23,7 +23,8 @@ use xdr_codec::Memory;
 /// nothing else changes anything.
 ///
 /// `new` takes all memory but that of the table of files. Kept pages stand in the order of their files and numbers. A
-/// page is found there by halving, in about ten comparisons; to keep a new one moves up to 1,024 slot numbers beside.
+/// page is found there by halving, in about ten comparisons, or in two where it is the same page as before or the next
+/// one; to keep a new one moves up to 1,024 slot numbers beside.
 /// To drop a file's pages looks at these alone. `wrote` and `cut` look at the pages that may change, as they say.
 /// `stamp`, `mark` and `closed` look at no page.
 #[derive(Drop)]

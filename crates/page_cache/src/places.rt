@@ -1,11 +1,11 @@
 //! Which page of which file each slot holds.
 
 ghost use Rattle.std.specs.Prelude.{◌≡◌, ◌≢◌, ◌<◌, ◌≤◌, ℕ, IfOk, IfSome, None, Some, get_or, set, replicate, map};
-ghost use Rattle.page_cache.specs.Slots.{holds_page, index_in, FindsPage};
+ghost use Rattle.page_cache.specs.Slots.{index_in, FindsPage};
 ghost use Rattle.page_cache.specs.Sorted.{freed, IsRun};
 
 use crate::place::PagePlace;
-use crate::sorted::{count_before, free_run, free_slot, give_slot, run_of};
+use crate::sorted::{count_near, free_run, free_slot, give_slot, holder_at, run_of};
 use nfs_types::Handle;
 use std::alloc::Global;
 use std::marker::Model;
@@ -17,6 +17,10 @@ pub(crate) struct Places {
     by_slot: Vec<Option<PagePlace>>,
     // The slots that hold pages, in the order of the pages. It has room for all, so that it never takes memory.
     sorted: Vec<usize>,
+    // Guesses, which may be wrong, as pages come in order and go in order: where in `sorted` the page belongs that is
+    // looked for next, and where the slot stands that is freed next.
+    near: usize,
+    oldest: usize,
 }
 
 impl Model for Places {
@@ -45,30 +49,19 @@ impl Places {
         Ok(Places {
             by_slot,
             sorted: Vec::with_capacity(alloc, Places::SLOTS)?,
+            near: 0,
+            oldest: 0,
         })
     }
 
     /// The slot that holds a page; None exactly where none does.
-    pub(crate) fn find(&self, file: &Handle, index: u64) -> Option<usize>
-        ensures { FindsPage file.now index self.now result }
+    pub(crate) fn find(&mut self, file: &Handle, index: u64) -> Option<usize>
+        ensures found { FindsPage file.now index self.old result }
+        ensures same { self.new ≡ self.old }
     {
-        let at = count_before(&self.by_slot, &self.sorted, file, Some(index));
-        let slot = *self.sorted.get(at)?;
-        if self.holds(slot, file, index) {
-            Some(slot)
-        } else {
-            None
-        }
-    }
-
-    fn holds(&self, slot: usize, file: &Handle, index: u64) -> bool
-        requires { slot < 1024 }
-        ensures { result ≡ holds_page file.now index (get_or self.now slot None) }
-    {
-        match self.by_slot[slot] {
-            Some(place) => place.index == index && place.file == *file,
-            None => false,
-        }
+        let at = count_near(&self.by_slot, &self.sorted, file, Some(index), self.near);
+        self.near = at;
+        holder_at(&self.by_slot, &self.sorted, at, file, index)
     }
 
     /// The page that a slot holds.
@@ -108,8 +101,11 @@ impl Places {
         requires alone { (t : ℕ) → t < 1024 → get_or self.old t None ≡ Some place → t ≡ slot }
         ensures { self.new ≡ set self.old slot (Some place) }
     {
-        free_slot(&mut self.by_slot, &mut self.sorted, slot);
-        give_slot(&mut self.by_slot, &mut self.sorted, slot, place);
+        let left = free_slot(&mut self.by_slot, &mut self.sorted, slot, self.oldest);
+        let near = after_removal(self.near, left);
+        let at = give_slot(&mut self.by_slot, &mut self.sorted, slot, place, near);
+        self.near = after_insertion(at, at);
+        self.oldest = after_insertion(left, at);
     }
 
     /// Each slot that holds a page of a file is free from now on.
@@ -117,5 +113,19 @@ impl Places {
         ensures { self.new ≡ map (freed file.now) self.old }
     {
         free_run(&mut self.by_slot, &mut self.sorted, file);
+    }
+}
+
+/// Where a place of the order is once the entry at another one is gone.
+fn after_removal(place: usize, gone: usize) -> usize {
+    if gone < place { place - 1 } else { place }
+}
+
+/// Where a place of the order is once an entry came at another one.
+fn after_insertion(place: usize, come: usize) -> usize {
+    if come <= place {
+        place.saturating_add(1)
+    } else {
+        place
     }
 }

@@ -90,7 +90,7 @@ impl Slots {
         requires { length bytes.now ≤ 4096 }
         ensures { self.new ≡ fronted place bytes.now self.old }
     {
-        let slot = slot_for(&self.places, &self.order, &place);
+        let slot = slot_for(&mut self.places, &self.order, &place);
         self.places.hold(slot, place);
         self.pages[slot].put(bytes);
         self.order.promote(&slot);
@@ -138,9 +138,10 @@ impl Slots {
 }
 
 /// The slot that holds a page, or else the last one.
-fn slot_for(places: &Places, order: &LruCache<usize, ()>, place: &PagePlace) -> usize
+fn slot_for(places: &mut Places, order: &LruCache<usize, ()>, place: &PagePlace) -> usize
     requires { 0 < length order.now.entries }
-    ensures { IsSlotFor order.now.entries places.now place.now result }
+    ensures chosen { IsSlotFor order.now.entries places.old place.now result }
+    ensures same { places.new ≡ places.old }
 {
     match places.find(&place.file, place.index) {
         Some(slot) => slot,

@@ -1,9 +1,10 @@
 //! Slots in the order of the pages that they hold: by the bytes of the file, then by the page's number.
 
-ghost use Rattle.std.specs.Prelude.{◌≡◌, ◌≢◌, ◌<◌, ◌≤◌, ℕ, None, Some, get_or, length, set, map};
+ghost use Rattle.std.specs.Prelude.{◌≡◌, ◌≢◌, ◌<◌, ◌≤◌, ℕ, None, Some, IfSome, get_or, length, set, map, nat_eq, nat_lt, ◌&&◌};
 ghost use Rattle.std.specs.List.{remove_range};
 ghost use Rattle.std.specs.Vec.{vec_capacity};
-ghost use Rattle.page_cache.specs.Sorted.{is_below, stands_before, is_before, freed, freeing, IsSorted, IsGap, AreEnds};
+ghost use Rattle.page_cache.specs.Slots.{holds_page, FindsPage};
+ghost use Rattle.page_cache.specs.Sorted.{is_below, stands_before, is_before, is_before_at, freed, freeing, IsSorted, IsGap, AreEnds};
 
 use crate::place::PagePlace;
 use nfs_types::Handle;
@@ -58,6 +59,128 @@ pub(crate) fn count_before(
     sorted.partition_point(|slot| is_before(by_slot, *slot, file, bound))
 }
 
+/// The same of the slot at a place of the order; false past the last one.
+fn is_before_at(
+    by_slot: &[Option<PagePlace>],
+    sorted: &[usize],
+    at: usize,
+    file: &Handle,
+    bound: Option<u64>,
+) -> bool
+    ensures { result ≡ is_before_at file.now bound by_slot.now sorted.now at }
+{
+    match sorted.get(at) {
+        Some(slot) => is_before(by_slot, *slot, file, bound),
+        None => false,
+    }
+}
+
+/// How many of the slots stand before a page, if that is a guess or one more than it. It takes two comparisons at most.
+fn count_if_near(
+    by_slot: &[Option<PagePlace>],
+    sorted: &[usize],
+    file: &Handle,
+    bound: Option<u64>,
+    near: usize,
+) -> Option<usize>
+    requires { IsSorted by_slot.now sorted.now }
+    ensures { IfSome result (λ at. IsGap by_slot.now sorted.now file.now bound at) }
+{
+    if is_before_at(by_slot, sorted, near, file, bound) {
+        let next = near + 1;
+        if is_before_at(by_slot, sorted, next, file, bound) {
+            None
+        } else {
+            Some(next)
+        }
+    } else if near == 0 {
+        Some(0)
+    } else if is_before_at(by_slot, sorted, near - 1, file, bound) {
+        Some(near)
+    } else {
+        None
+    }
+}
+
+/// How many of the slots stand before a page of a file. A guess is tried first: pages mostly come in their order.
+pub(crate) fn count_near(
+    by_slot: &[Option<PagePlace>],
+    sorted: &[usize],
+    file: &Handle,
+    bound: Option<u64>,
+    near: usize,
+) -> usize
+    requires { IsSorted by_slot.now sorted.now }
+    ensures { IsGap by_slot.now sorted.now file.now bound result }
+{
+    match count_if_near(by_slot, sorted, file, bound, near) {
+        Some(at) => at,
+        None => count_before(by_slot, sorted, file, bound),
+    }
+}
+
+/// Whether a slot holds a page of a file.
+fn holds(by_slot: &[Option<PagePlace>], slot: usize, file: &Handle, index: u64) -> bool
+    requires { slot < length by_slot.now }
+    ensures { result ≡ holds_page file.now index (get_or by_slot.now slot None) }
+{
+    match by_slot[slot] {
+        Some(place) => place.index == index && place.file == *file,
+        None => false,
+    }
+}
+
+/// The slot that holds a page, which can only be the first one that doesn't stand before it.
+pub(crate) fn holder_at(
+    by_slot: &[Option<PagePlace>],
+    sorted: &[usize],
+    at: usize,
+    file: &Handle,
+    index: u64,
+) -> Option<usize>
+    requires sorted { IsSorted by_slot.now sorted.now }
+    requires gap { IsGap by_slot.now sorted.now file.now (Some index) at }
+    ensures { FindsPage file.now index by_slot.now result }
+{
+    let slot = *sorted.get(at)?;
+    if holds(by_slot, slot, file, index) {
+        Some(slot)
+    } else {
+        None
+    }
+}
+
+/// Whether a slot stands at a place of the order.
+fn is_at(sorted: &[usize], at: usize, slot: usize) -> bool
+    ensures { result ≡ (nat_lt at (length sorted.now) && nat_eq (get_or sorted.now at 0) slot) }
+{
+    match sorted.get(at) {
+        Some(there) => *there == slot,
+        None => false,
+    }
+}
+
+/// Where the slot of a page stands in the order. A guess is tried first.
+fn place_of(
+    by_slot: &[Option<PagePlace>],
+    sorted: &[usize],
+    slot: usize,
+    page: &PagePlace,
+    near: usize,
+) -> usize
+    requires sorted { IsSorted by_slot.now sorted.now }
+    requires low { slot < 1024 }
+    requires holds { get_or by_slot.now slot None ≡ Some page.now }
+    ensures within { result < length sorted.now }
+    ensures there { get_or sorted.now result 0 ≡ slot }
+{
+    if is_at(sorted, near, slot) {
+        near
+    } else {
+        count_before(by_slot, sorted, &page.file, Some(page.index))
+    }
+}
+
 /// Between which places the slots stand that hold pages of a file with numbers from `low` on and below `high`.
 pub(crate) fn run_of(
     by_slot: &[Option<PagePlace>],
@@ -74,8 +197,13 @@ pub(crate) fn run_of(
     (from, to)
 }
 
-/// Frees a slot.
-pub(crate) fn free_slot(by_slot: &mut Vec<Option<PagePlace>>, sorted: &mut Vec<usize>, slot: usize)
+/// Frees a slot. It answers where it stood in the order, or else its end; a guess of that is tried first.
+pub(crate) fn free_slot(
+    by_slot: &mut Vec<Option<PagePlace>>,
+    sorted: &mut Vec<usize>,
+    slot: usize,
+    near: usize,
+) -> usize
     requires sorted { IsSorted by_slot.old.items sorted.old.items }
     requires low { slot < 1024 }
     ensures held { by_slot.new.items ≡ set by_slot.old.items slot None }
@@ -83,20 +211,23 @@ pub(crate) fn free_slot(by_slot: &mut Vec<Option<PagePlace>>, sorted: &mut Vec<u
     ensures room { vec_capacity sorted.new ≡ vec_capacity sorted.old }
 {
     let Some(place) = by_slot[slot] else {
-        return;
+        return sorted.len();
     };
-    let at = count_before(by_slot, sorted, &place.file, Some(place.index));
+    let at = place_of(by_slot, sorted, slot, &place, near);
     sorted.remove(at);
     by_slot[slot] = None;
+    at
 }
 
-/// Gives a page, which no slot holds, to a free slot.
+/// Gives a page, which no slot holds, to a free slot. It answers where this stands in the order; a guess of that is
+/// tried first.
 pub(crate) fn give_slot(
     by_slot: &mut Vec<Option<PagePlace>>,
     sorted: &mut Vec<usize>,
     slot: usize,
     place: PagePlace,
-)
+    near: usize,
+) -> usize
     requires sorted { IsSorted by_slot.old.items sorted.old.items }
     requires low { slot < 1024 }
     requires free { get_or by_slot.old.items slot None ≡ None }
@@ -106,9 +237,10 @@ pub(crate) fn give_slot(
     ensures sorted { IsSorted by_slot.new.items sorted.new.items }
     ensures room { 1024 ≤ vec_capacity sorted.new }
 {
-    let at = count_before(by_slot, sorted, &place.file, Some(place.index));
+    let at = count_near(by_slot, sorted, &place.file, Some(place.index), near);
     let _ = sorted.insert(at, slot);
     by_slot[slot] = Some(place);
+    at
 }
 
 /// Frees the slots that hold pages of a file.

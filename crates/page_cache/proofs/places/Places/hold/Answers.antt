@@ -2,9 +2,9 @@ use Rattle.std.proofs.Common.{Some, None, arith}
 use Rattle.page_cache.proofs.SortedSlots.{alone-freed, set-twice}
 use Rattle.page_cache.proofs.places.Places.hold.Goals as goal
 
-pub give_slot-requires-clause-alone : goal.give_slot-requires-clause-alone
-give_slot-requires-clause-alone c = rw c.free_slot.ensures.held
+pub give_slot-at-requires-clause-alone : goal.give_slot-at-requires-clause-alone
+give_slot-at-requires-clause-alone c = rw c.free_slot-left.ensures.held
     (alone-freed c.self.inside.by_slot.items c.args.slot c.args.place (omega (arith, c.requires.low, c.self.invariant.0.slots)) (rw (← c.self.view_is) at c.requires.alone))
 
 pub returns : goal.returns
-returns c = rw (c.give_slot.ensures.held, c.free_slot.ensures.held, ← c.self.view_is) (set-twice c.self.inside.by_slot.items c.args.slot None (Some c.args.place))
+returns c = rw (c.give_slot-at.ensures.held, c.free_slot-left.ensures.held, ← c.self.view_is) (set-twice c.self.inside.by_slot.items c.args.slot None (Some c.args.place))
