@@ -18,6 +18,7 @@ pub mod Inserts
 pub mod Distinct
 pub mod Entries
 pub mod States
+pub mod Unchanged
 pub mod Known
 pub mod Believed
 pub mod Rows

@@ -156,22 +156,18 @@ impl PageCache {
         ensures answer { result ≡ keep_answer file.now stamp.now sent self.old }
         ensures after { self.new ≡ after_keep result stamp.now (record { file = file.now; index = index }) bytes.now self.old }
     {
-        let state = match self.files.state(file) {
-            Some(state) => state,
+        let kept = match self.files.look_up(file) {
+            Some(kept) => kept,
             None => return Keep::Stale,
         };
-        if sent <= state.mark {
+        if sent <= kept.state.mark {
             return Keep::Stale;
         }
-        if !state.takes(stamp) {
+        if !kept.state.takes(stamp) {
             return Keep::Differs;
         }
-        let full_below = full_with(self.files.full_below(file), index, bytes);
-        let known = FileState {
-            known: Some(*stamp),
-            mark: state.mark,
-        };
-        self.files.change(file, known, full_below);
+        let full_below = full_with(kept.full_below, index, bytes);
+        self.files.learn(file, &kept, stamp, full_below);
         let place = PagePlace { file: *file, index };
         self.slots.put_in_front(place, bytes);
         Keep::Kept

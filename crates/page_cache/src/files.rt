@@ -1,14 +1,14 @@
 //! What is kept of the files that were opened.
 
-ghost use Rattle.std.specs.Prelude.{◌≡◌, List, ℕ, [], None, IsSome, OnOk, OnErr, nat_eq, if◌then◌else◌};
+ghost use Rattle.std.specs.Prelude.{◌≡◌, List, ℕ, [], None, Some, IsSome, option_map, OnOk, OnErr, nat_eq, if◌then◌else◌};
 ghost use Rattle.std.specs.Cmp.Lexicographic.{pointwise};
 ghost use Rattle.std.specs.Map.{lookup};
 ghost use Rattle.indexmap.specs.IndexMap.{insert_entry};
 ghost use Rattle.page_cache.specs.Full.{states_of, full_below_of};
 
-use crate::state::FileState;
+use crate::state::{FileState, is_stamp};
 use indexmap::IndexMap;
-use nfs_types::Handle;
+use nfs_types::{Handle, Stamp};
 use std::alloc::Global;
 use std::marker::Model;
 use xdr_codec::Memory;
@@ -45,6 +45,15 @@ impl Files {
         Files {
             table: IndexMap::new(alloc),
         }
+    }
+
+    /// What is kept of a file; None exactly where it was never opened.
+    #[tactic(auto, using(crate::proofs::Bounds::states_lookup))]
+    pub(crate) fn look_up(&self, file: &Handle) -> Option<FileRecord>
+        ensures found { result ≡ lookup (pointwise nat_eq file.now) self.now }
+        ensures state { option_map (λ r. r.state) result ≡ lookup (pointwise nat_eq file.now) (states_of self.now) }
+    {
+        Some(*self.table.get(file)?)
     }
 
     /// What is known of a file; None exactly where it was never opened.
@@ -89,5 +98,22 @@ impl Files {
         ensures bound { (f : List ℕ) → full_below_of self.new f ≡ (if pointwise nat_eq f file.now then full_below else full_below_of self.old f) }
     {
         let _ = self.put(file, state, full_below);
+    }
+
+    /// This stamp is known of a file from now on, of which this record is kept. Where that says the same the file isn't
+    /// looked up.
+    pub(crate) fn learn(&mut self, file: &Handle, was: &FileRecord, stamp: &Stamp, full_below: u64)
+        requires { lookup (pointwise nat_eq file.now) self.old ≡ Some was.now }
+        ensures known { states_of self.new ≡ insert_entry (pointwise nat_eq) (states_of self.old) file.now (record { known = Some stamp.now; mark = was.now.state.mark }) }
+        ensures bound { (f : List ℕ) → full_below_of self.new f ≡ (if pointwise nat_eq f file.now then full_below else full_below_of self.old f) }
+    {
+        if is_stamp(stamp, was.state.known) && full_below == was.full_below {
+            return;
+        }
+        let state = FileState {
+            known: Some(*stamp),
+            mark: was.state.mark,
+        };
+        self.change(file, state, full_below);
     }
 }

@@ -15,8 +15,9 @@ use xdr_codec::Memory;
 #[derive(Drop)]
 pub(crate) struct Places {
     by_slot: Vec<Option<PagePlace>>,
-    // The slots that hold pages, in the order of the pages. It has room for all, so that it never takes memory.
-    sorted: Vec<usize>,
+    // The slots that hold pages, in the order of the pages. It has room for all, so that it never takes memory. A new page
+    // moves many of them, so they are small.
+    sorted: Vec<u16>,
     // Guesses, which may be wrong, as pages come in order and go in order: where in `sorted` the page belongs that is
     // looked for next, and where the slot stands that is freed next.
     near: usize,
@@ -74,7 +75,7 @@ impl Places {
 
     /// The slots that hold pages of a file with numbers from `low` on and below `high`, in the order of the pages. None is
     /// above all numbers.
-    pub(crate) fn slots_of(&self, file: &Handle, low: u64, high: Option<u64>) -> &[usize]
+    pub(crate) fn slots_of(&self, file: &Handle, low: u64, high: Option<u64>) -> &[u16]
         requires { IfSome high (λ h. low ≤ h) }
         ensures { IsRun file.now low high self.now result.now }
     {

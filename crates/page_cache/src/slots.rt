@@ -102,7 +102,7 @@ impl Slots {
     {
         let run = self.places.slots_of(file, 0, None);
         for slot in run {
-            self.order.demote(slot);
+            self.order.demote(&(*slot as usize));
         }
         self.places.free_file(file);
     }
@@ -117,8 +117,9 @@ impl Slots {
         let high = Page::after(offset, bytes);
         let run = self.places.slots_of(file, low, Some(high));
         for slot in run {
-            let index = self.places.index_in(*slot, file);
-            self.pages[*slot].write_at(index, offset, bytes);
+            let slot = *slot as usize;
+            let index = self.places.index_in(slot, file);
+            self.pages[slot].write_at(index, offset, bytes);
         }
     }
 
@@ -131,8 +132,9 @@ impl Slots {
         let low = full_below.min(Page::holding(size));
         let run = self.places.slots_of(file, low, None);
         for slot in run {
-            let index = self.places.index_in(*slot, file);
-            self.pages[*slot].cut_at(index, size);
+            let slot = *slot as usize;
+            let index = self.places.index_in(slot, file);
+            self.pages[slot].cut_at(index, size);
         }
     }
 }

@@ -49,20 +49,20 @@ fn is_before(by_slot: &[Option<PagePlace>], slot: usize, file: &Handle, bound: O
 /// How many of the slots stand before a page of a file; with no number, before the end of the file's pages.
 pub(crate) fn count_before(
     by_slot: &[Option<PagePlace>],
-    sorted: &[usize],
+    sorted: &[u16],
     file: &Handle,
     bound: Option<u64>,
 ) -> usize
     requires { IsSorted by_slot.now sorted.now }
     ensures { IsGap by_slot.now sorted.now file.now bound result }
 {
-    sorted.partition_point(|slot| is_before(by_slot, *slot, file, bound))
+    sorted.partition_point(|slot| is_before(by_slot, *slot as usize, file, bound))
 }
 
 /// The same of the slot at a place of the order; false past the last one.
 fn is_before_at(
     by_slot: &[Option<PagePlace>],
-    sorted: &[usize],
+    sorted: &[u16],
     at: usize,
     file: &Handle,
     bound: Option<u64>,
@@ -70,7 +70,7 @@ fn is_before_at(
     ensures { result ≡ is_before_at file.now bound by_slot.now sorted.now at }
 {
     match sorted.get(at) {
-        Some(slot) => is_before(by_slot, *slot, file, bound),
+        Some(slot) => is_before(by_slot, *slot as usize, file, bound),
         None => false,
     }
 }
@@ -78,7 +78,7 @@ fn is_before_at(
 /// How many of the slots stand before a page, if that is a guess or one more than it. It takes two comparisons at most.
 fn count_if_near(
     by_slot: &[Option<PagePlace>],
-    sorted: &[usize],
+    sorted: &[u16],
     file: &Handle,
     bound: Option<u64>,
     near: usize,
@@ -105,7 +105,7 @@ fn count_if_near(
 /// How many of the slots stand before a page of a file. A guess is tried first: pages mostly come in their order.
 pub(crate) fn count_near(
     by_slot: &[Option<PagePlace>],
-    sorted: &[usize],
+    sorted: &[u16],
     file: &Handle,
     bound: Option<u64>,
     near: usize,
@@ -133,7 +133,7 @@ fn holds(by_slot: &[Option<PagePlace>], slot: usize, file: &Handle, index: u64) 
 /// The slot that holds a page, which can only be the first one that doesn't stand before it.
 pub(crate) fn holder_at(
     by_slot: &[Option<PagePlace>],
-    sorted: &[usize],
+    sorted: &[u16],
     at: usize,
     file: &Handle,
     index: u64,
@@ -142,7 +142,7 @@ pub(crate) fn holder_at(
     requires gap { IsGap by_slot.now sorted.now file.now (Some index) at }
     ensures { FindsPage file.now index by_slot.now result }
 {
-    let slot = *sorted.get(at)?;
+    let slot = *sorted.get(at)? as usize;
     if holds(by_slot, slot, file, index) {
         Some(slot)
     } else {
@@ -151,11 +151,11 @@ pub(crate) fn holder_at(
 }
 
 /// Whether a slot stands at a place of the order.
-fn is_at(sorted: &[usize], at: usize, slot: usize) -> bool
+fn is_at(sorted: &[u16], at: usize, slot: usize) -> bool
     ensures { result ≡ (nat_lt at (length sorted.now) && nat_eq (get_or sorted.now at 0) slot) }
 {
     match sorted.get(at) {
-        Some(there) => *there == slot,
+        Some(there) => *there as usize == slot,
         None => false,
     }
 }
@@ -163,7 +163,7 @@ fn is_at(sorted: &[usize], at: usize, slot: usize) -> bool
 /// Where the slot of a page stands in the order. A guess is tried first.
 fn place_of(
     by_slot: &[Option<PagePlace>],
-    sorted: &[usize],
+    sorted: &[u16],
     slot: usize,
     page: &PagePlace,
     near: usize,
@@ -184,7 +184,7 @@ fn place_of(
 /// Between which places the slots stand that hold pages of a file with numbers from `low` on and below `high`.
 pub(crate) fn run_of(
     by_slot: &[Option<PagePlace>],
-    sorted: &[usize],
+    sorted: &[u16],
     file: &Handle,
     low: u64,
     high: Option<u64>,
@@ -200,7 +200,7 @@ pub(crate) fn run_of(
 /// Frees a slot. It answers where it stood in the order, or else its end; a guess of that is tried first.
 pub(crate) fn free_slot(
     by_slot: &mut Vec<Option<PagePlace>>,
-    sorted: &mut Vec<usize>,
+    sorted: &mut Vec<u16>,
     slot: usize,
     near: usize,
 ) -> usize
@@ -223,7 +223,7 @@ pub(crate) fn free_slot(
 /// tried first.
 pub(crate) fn give_slot(
     by_slot: &mut Vec<Option<PagePlace>>,
-    sorted: &mut Vec<usize>,
+    sorted: &mut Vec<u16>,
     slot: usize,
     place: PagePlace,
     near: usize,
@@ -238,13 +238,13 @@ pub(crate) fn give_slot(
     ensures room { 1024 ≤ vec_capacity sorted.new }
 {
     let at = count_near(by_slot, sorted, &place.file, Some(place.index), near);
-    let _ = sorted.insert(at, slot);
+    let _ = sorted.insert(at, slot as u16);
     by_slot[slot] = Some(place);
     at
 }
 
 /// Frees the slots that hold pages of a file.
-pub(crate) fn free_run(by_slot: &mut Vec<Option<PagePlace>>, sorted: &mut Vec<usize>, file: &Handle)
+pub(crate) fn free_run(by_slot: &mut Vec<Option<PagePlace>>, sorted: &mut Vec<u16>, file: &Handle)
     requires { IsSorted by_slot.old.items sorted.old.items }
     ensures held { by_slot.new.items ≡ map (freed file.now) by_slot.old.items }
     ensures sorted { IsSorted by_slot.new.items sorted.new.items }
@@ -256,7 +256,7 @@ pub(crate) fn free_run(by_slot: &mut Vec<Option<PagePlace>>, sorted: &mut Vec<us
 }
 
 /// Takes the entries between two places out.
-fn take_out(sorted: &mut Vec<usize>, from: usize, to: usize)
+fn take_out(sorted: &mut Vec<u16>, from: usize, to: usize)
     requires order { from ≤ to }
     requires inside { to ≤ length sorted.old.items }
     ensures items { sorted.new.items ≡ remove_range sorted.old.items from to }
@@ -266,12 +266,12 @@ fn take_out(sorted: &mut Vec<usize>, from: usize, to: usize)
 }
 
 /// Frees these slots.
-fn free_all(by_slot: &mut [Option<PagePlace>], run: &[usize])
+fn free_all(by_slot: &mut [Option<PagePlace>], run: &[u16])
     requires slots { length by_slot.old ≡ 1024 }
     requires low { (i : ℕ) → i < length run.now → get_or run.now i 0 < 1024 }
     ensures { by_slot.new ≡ freeing run.now by_slot.old }
 {
     for slot in run {
-        by_slot[*slot] = None;
+        by_slot[*slot as usize] = None;
     }
 }
