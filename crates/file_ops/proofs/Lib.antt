@@ -28,3 +28,4 @@ pub mod Refusals
 pub mod Endings
 pub mod SaveCounts
 pub mod Landed
+pub mod Bare

@@ -168,7 +168,7 @@ laid-is was base padded laid rest size count is counted same so =
 -- ---- what is kept when a read begins
 
 -- Nothing is pending from a place on, where the last byte ends at it or before it.
-clear-from : (of : FilePending) (offset place : ℕ) → IsSound of → size_to offset (last_end of.segments) ≡ 0 → offset ≤ place → newest_at of.segments place ≡ None
+pub clear-from : (of : FilePending) (offset place : ℕ) → IsSound of → size_to offset (last_end of.segments) ≡ 0 → offset ≤ place → newest_at of.segments place ≡ None
 clear-from of offset place sound none from = by (last_end of.segments) refl
   where
     clear : IsClear of place → newest_at of.segments place ≡ None

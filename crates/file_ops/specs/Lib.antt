@@ -24,3 +24,4 @@ pub mod PagesOpened
 pub mod Laws
 pub mod Ready
 pub mod Endings
+pub mod Shared

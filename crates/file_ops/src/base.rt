@@ -1,12 +1,16 @@
 //! The bytes of a file from the start of a page on.
 
-ghost use Rattle.std.specs.Prelude.{◌≡◌, ◌<◌, ◌+◌, ◌^◌, ◌/◌, IfOk};
+ghost use Rattle.std.specs.Prelude.{◌≡◌, ◌≤◌, ◌<◌, ◌+◌, ◌-◌, ◌++◌, ◌^◌, ◌/◌, length, take, IfOk, IfSome};
+ghost use Rattle.std.specs.Vec.{vec_capacity};
 ghost use Rattle.file_ops.specs.Gather.{most_asked};
 ghost use Rattle.file_ops.specs.Base.{nothing_of, pages_size, place_after, is_whole, with_more};
+ghost use Rattle.file_ops.specs.Overlaid.{bytes_from};
 
+use crate::shared::Shared;
 use std::alloc::Global;
 use std::marker::Model;
-use xdr_codec::Memory;
+use std::mem;
+use xdr_codec::{Blob, Memory};
 
 /// How many bytes a page has.
 pub(crate) const PAGE: u64 = 4096;
@@ -17,19 +21,24 @@ pub(crate) const PAGE: u64 = 4096;
 pub struct Base {
     start: u64,
     limit: u64,
-    bytes: Vec<u8>,
+    /// The bytes, as long as no answer shares them.
+    own: Vec<u8>,
+    /// The bytes once an answer shares them. All pages are there then.
+    shared: Option<Shared>,
 }
 
 impl Model for Base {
     ghost use Rattle.std.specs.Prelude.{◌≤◌, ◌<◌, ◌+◌, ◌^◌, length};
     ghost use Rattle.std.specs.Vec.{vec_capacity};
+    ghost use Rattle.xdr_codec.specs.Blobs.{shared_or};
     ghost use Rattle.file_ops.specs.Base.{Bytes};
+    ghost use Rattle.file_ops.specs.Shared.{Holds};
 
     ghost Value = { Bytes };
 
-    ghost view = { λ b. record { start = b.start; limit = b.limit; bytes = b.bytes.items } };
+    ghost view = { λ b. record { start = b.start; limit = b.limit; bytes = shared_or b.shared b.own.items } };
 
-    ghost invariant = { λ b. (length b.bytes.items ≤ b.limit) × (b.limit ≤ vec_capacity b.bytes) × (b.start + b.limit < 2 ^ 64) };
+    ghost invariant = { λ b. (length (shared_or b.shared b.own.items) ≤ b.limit) × Holds b.shared b.limit (vec_capacity b.own) × (b.start + b.limit < 2 ^ 64) };
 }
 
 impl Base {
@@ -46,7 +55,8 @@ impl Base {
         Ok(Base {
             start,
             limit,
-            bytes: Vec::with_capacity(alloc, limit as usize)?,
+            own: Vec::with_capacity(alloc, limit as usize)?,
+            shared: None,
         })
     }
 
@@ -61,14 +71,14 @@ impl Base {
     pub(crate) fn end(&self) -> u64
         ensures { result ≡ place_after self.now }
     {
-        self.start + self.bytes.len() as u64
+        self.start + self.bytes().len() as u64
     }
 
     /// Whether all pages are there.
     pub(crate) fn is_whole(&self) -> bool
         ensures { result ≡ is_whole self.now }
     {
-        self.bytes.len() as u64 >= self.limit
+        self.bytes().len() as u64 >= self.limit
     }
 
     /// How many pages there may be.
@@ -83,34 +93,83 @@ impl Base {
     pub(crate) fn most_asked(&self, rsize: u32) -> u32
         ensures { result ≡ most_asked rsize self.now }
     {
-        (self.limit - self.bytes.len() as u64).min(u64::from(rsize)) as u32
+        (self.limit - self.bytes().len() as u64).min(u64::from(rsize)) as u32
     }
 
     /// Where such a READ ends.
     pub(crate) fn end_of(&self, rsize: u32) -> u64
         ensures { result ≡ place_after self.now + most_asked rsize self.now }
     {
-        let most = (self.limit - self.bytes.len() as u64).min(u64::from(rsize));
-        self.start + (self.bytes.len() as u64 + most)
+        let most = (self.limit - self.bytes().len() as u64).min(u64::from(rsize));
+        self.start + (self.bytes().len() as u64 + most)
     }
 
     /// The bytes.
     pub(crate) fn bytes(&self) -> &[u8]
         ensures { result.now ≡ self.now.bytes }
     {
-        self.bytes.as_slice()
+        match &self.shared {
+            Some(shared) => shared.bytes(),
+            None => self.own.as_slice(),
+        }
     }
 
     /// Puts more bytes after them, as many as there may be.
     pub(crate) fn put(&mut self, more: &[u8])
         ensures { self.new ≡ with_more more.now self.old }
     {
-        let room = self.limit as usize - self.bytes.len();
-        let size = more.len().min(room);
-        let Ok(()) = self.bytes.extend_from_slice(&more[..size]) else {
-            unreachable!();
-        };
+        if self.shared.is_some() {
+            return;
+        }
+        extend(&mut self.own, self.limit, more);
     }
+
+    /// So many bytes from an offset of the file on, which aren't copied. None where pages are missing, or there are fewer
+    /// bytes or no memory.
+    pub(crate) fn share(&mut self, alloc: Global, offset: u64, size: usize) -> Option<Blob>
+        ensures bytes { IfSome result (λ b. b ≡ take size (bytes_from offset self.old)) }
+        ensures same { self.new ≡ self.old }
+    {
+        self.give(alloc);
+        self.part(alloc, offset, size)
+    }
+
+    /// Lets answers share the bytes, if all pages are there and there is memory.
+    fn give(&mut self, alloc: Global)
+        ensures { self.new ≡ self.old }
+    {
+        if self.shared.is_some() || !self.is_whole() {
+            return;
+        }
+        match Shared::of(alloc, mem::replace(&mut self.own, Vec::new(alloc))) {
+            Ok(shared) => self.shared = Some(shared),
+            Err(own) => self.own = own,
+        }
+    }
+
+    /// So many of the shared bytes from an offset of the file on.
+    fn part(&self, alloc: Global, offset: u64, size: usize) -> Option<Blob>
+        ensures { IfSome result (λ b. b ≡ take size (bytes_from offset self.now)) }
+    {
+        match &self.shared {
+            Some(shared) => shared.part(alloc, offset.saturating_sub(self.start), size),
+            None => None,
+        }
+    }
+}
+
+/// Puts more bytes after others, as many as there may be in all.
+fn extend(bytes: &mut Vec<u8>, limit: u64, more: &[u8])
+    requires fits { length bytes.old.items ≤ limit }
+    requires room { limit ≤ vec_capacity bytes.old }
+    ensures bytes { bytes.new.items ≡ bytes.old.items ++ take (limit - length bytes.old.items) more.now }
+    ensures room { limit ≤ vec_capacity bytes.new }
+{
+    let room = limit as usize - bytes.len();
+    let size = more.len().min(room);
+    let Ok(()) = bytes.extend_from_slice(&more[..size]) else {
+        unreachable!();
+    };
 }
 
 /// How many bytes the pages have that meet a range, which begins so far inside of a page.

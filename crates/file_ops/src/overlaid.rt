@@ -1,6 +1,6 @@
 //! What a read shows: what the server has, with what this client has pending over it.
 
-ghost use Rattle.std.specs.Prelude.{◌≡◌, ◌≤◌, ◌<◌, ℕ, [], IfOk, replicate, length, drop};
+ghost use Rattle.std.specs.Prelude.{◌≡◌, ◌≤◌, ◌<◌, ℕ, [], IfOk, IfSome, replicate, length, take, drop};
 ghost use Rattle.std.specs.Vec.{vec_capacity};
 ghost use Rattle.write_back.specs.Segments.{shown, last_end};
 ghost use Rattle.write_back.specs.Files.{of_file};
@@ -58,6 +58,27 @@ impl WasPending {
         let end = back.end(file);
         let bytes = pending_bytes(alloc, back, file, offset, count)?;
         Ok(WasPending { count, bytes, end })
+    }
+
+    /// How many of the server's bytes a read shows as they are. None where something was pending of its range or may be now,
+    /// or zeros are shown after them.
+    pub(crate) fn bare(
+        &self,
+        back: &WriteBack,
+        file: &Handle,
+        offset: u64,
+        count: u32,
+        base: &[u8],
+    ) -> Option<usize>
+        ensures { IfSome result (λ size. shown_over file.now offset count base.now self.now back.now ≡ take size base.now) }
+    {
+        back.is_sound();
+        let end = back.end(file);
+        if self.bytes.is_some() || size_to(offset, end) != 0 {
+            return None;
+        }
+        let size = size_shown(offset, count, base, self.end, end);
+        if size <= base.len() { Some(size) } else { None }
     }
 
     /// So many bytes with what was pending over what the server has, in room that was taken for them.

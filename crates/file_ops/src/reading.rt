@@ -1,7 +1,8 @@
 //! A read that has begun.
 
-ghost use Rattle.std.specs.Prelude.{◌≡◌, ◌&&◌};
+ghost use Rattle.std.specs.Prelude.{◌≡◌, ◌&&◌, take, IfSome};
 ghost use Rattle.file_ops.specs.Reading.{settled, wants, asks_attrs, attrs_call, asked_call, asked, read_call, asked_part, answer_of, answered, shown_next, Stays, gone, Goes, phase_of};
+ghost use Rattle.file_ops.specs.Overlaid.{bytes_from};
 
 use crate::base::Base;
 use crate::gather::{Found, gather, plan};
@@ -14,6 +15,7 @@ use page_cache::PageCache;
 use std::alloc::Global;
 use world_model::{Answer, Call, Value};
 use write_back::WriteBack;
+use xdr_codec::Blob;
 
 /// How far a read is.
 #[derive(Clone, Copy, Debug, PartialEq, Eq)]
@@ -186,16 +188,50 @@ impl Reading {
         ensures next { result ≡ shown_next (answer_of self.old back.now) }
         ensures state { self.new ≡ record self.old { space = 0 } }
     {
+        Next::Done(Answer::Done(Value::Bytes(self.shown(alloc, back))))
+    }
+
+    /// The bytes that it answers with. Its space is used up.
+    fn shown(&mut self, alloc: Global, back: &WriteBack) -> Blob
+        ensures bytes { result ≡ answer_of self.old back.now }
+        ensures state { self.new ≡ record self.old { space = 0 } }
+    {
+        match self.share(alloc, back) {
+            Some(shared) => {
+                let _room = self.space.give(alloc);
+                shared
+            }
+            None => self.lay(alloc, back),
+        }
+    }
+
+    /// The server's bytes where these are its answer, without a copy. None where others are shown, or there is no memory.
+    fn share(&mut self, alloc: Global, back: &WriteBack) -> Option<Blob>
+        ensures bytes { IfSome result (λ b. b ≡ answer_of self.old back.now) }
+        ensures state { self.new ≡ self.old }
+    {
+        match self.bare(back) {
+            Some(size) => self.base.share(alloc, self.offset, size),
+            None => None,
+        }
+    }
+
+    /// How many of the server's bytes it shows as they are.
+    fn bare(&self, back: &WriteBack) -> Option<usize>
+        ensures { IfSome result (λ size. answer_of self.now back.now ≡ take size (bytes_from self.now.offset self.now.base)) }
+    {
         let base = bytes_from(&self.base, self.offset);
-        let bytes = self.was.shown_over(
-            alloc,
-            back,
-            &self.file,
-            self.offset,
-            &mut self.space,
-            base,
-        );
-        Next::Done(Answer::Done(Value::Bytes(bytes)))
+        self.was
+            .bare(back, &self.file, self.offset, self.space.size(), base)
+    }
+
+    /// The server's bytes with what was and is pending over them, in its space.
+    fn lay(&mut self, alloc: Global, back: &WriteBack) -> Blob
+        ensures bytes { result ≡ answer_of self.old back.now }
+        ensures state { self.new ≡ record self.old { space = 0 } }
+    {
+        let base = bytes_from(&self.base, self.offset);
+        self.was.shown_over(alloc, back, &self.file, self.offset, &mut self.space, base)
     }
 }
 
