@@ -6,6 +6,7 @@ pub mod Given
 pub mod Growth
 pub mod Hears
 pub mod Holds
+pub mod KnownStates
 pub mod MetReads
 pub mod Noted
 pub mod Once

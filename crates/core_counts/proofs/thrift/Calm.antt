@@ -36,7 +36,7 @@ use Rattle.core_facts.proofs.Rows.{Rows}
 use Rattle.core_facts.proofs.Steps.{ThenOf}
 use Rattle.core_facts.proofs.Stories.{set-other}
 use Rattle.core_counts.proofs.thrift.Distinct.{Few}
-use Rattle.core_counts.proofs.thrift.Growth.{GoodPages, good-shown}
+use Rattle.core_counts.proofs.thrift.Growth.{GoodPages, good-shown, good-known}
 use Rattle.core_counts.proofs.thrift.OtherPages.{good-later}
 use Rattle.core_counts.proofs.thrift.PutOpenings.{IsPutting, putting-takes, putting-pages}
 use Rattle.core_counts.proofs.thrift.Quiet.{ThenQuiet, takes-quiet}
@@ -57,7 +57,7 @@ pub data Kind (b : ℕ) (v : View) (machine : Machine) : Type 0 where
 
 -- Those that read were never refused so.
 pub quiet-fails : (b : ℕ) (F : Fault) (machine : Machine) → IsQuiet b machine → Fails F machine → ⊥
-quiet-fails b F machine (quiet_open k low o) f = by o.m.arrived (subst (Fails F) o.is f)
+quiet-fails b F machine (quiet_open nocto k low o) f = by o.m.arrived (subst (Fails F) o.is f)
   where
     by : (a : Bool) → FailsPath F a o.m.opener → ⊥
     by true x = subst (λ (z : Opener). FailsFile F (file_of z)) o.opener x
@@ -74,7 +74,7 @@ putting-fails b F machine k f = by k.m.arrived refl (subst (Fails F) k.is f)
     by false there x = subst (λ (a : Bool). FailsPath F a k.m.opener) there x
 
 pub quiet-saver : (b : ℕ) (machine : Machine) → IsQuiet b machine → IsSaver machine → ⊥
-quiet-saver b machine (quiet_open k low o) s = by o.m.arrived (subst IsSaver o.is s)
+quiet-saver b machine (quiet_open nocto k low o) s = by o.m.arrived (subst IsSaver o.is s)
   where
     by : (a : Bool) → SavesPath a o.m.opener → ⊥
     by true x = subst (λ (z : Opener). SavesFile (file_of z)) o.opener x
@@ -182,7 +182,11 @@ module _ (M : List ℕ → ℕ → Type 0) (few : Few M) (f : List ℕ) (now : T
 
   module _ (v : View) (at number : ℕ) (machine : Machine) (call : Call) (s : CalmStep v at number machine (nexts.Send call)) (new : View) (r : Refuses v at number machine new) where
     no-laws : (failed : Bool) → TakeLaws (T failed s.b) s.b call (Err r.fault) (turn_at v) (unmade_turn v)
-    no-laws failed = record { opens = λ file attr mark c low is. absurd (no-reply r.fault _ is); notes = λ file attr counted eof given place count c is. absurd (no-reply r.fault _ is) }
+    no-laws failed = record {
+      opens = λ file attr mark c low is. absurd (no-reply r.fault _ is);
+      knows = λ file stamp mark c low known. good-known M (P failed) (λ g t j p. few) s.b file stamp mark c low known;
+      notes = λ file attr counted eof given place count c is. absurd (no-reply r.fault _ is);
+    }
 
     quiet-then : Young s.b v → (n : Next) (k : Machine) → ThenQuiet s.b n k → ThenOf (Kind s.b v) (λ answer. Unit {0}) n k
     quiet-then young (nexts.Send other) k q = quiet young q

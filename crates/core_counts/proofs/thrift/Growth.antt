@@ -9,7 +9,7 @@ use Rattle.nfs_types.specs.declared.wcc.Stamp.{Stamp}
 use Rattle.page_cache.specs.declared.state.FileState.{FileState}
 use Rattle.page_cache.specs.declared.state.Keep.{Keep}
 use Rattle.page_cache.specs.declared.state.Keep.TheVariants.{Kept, Stale, Differs}
-use Rattle.page_cache.specs.Pages.{Pages, state_of, mark_of, with_state, restarted, is_place, is_stamp, opened, opened_over, fronted, kept, keep_answer, after_keep, after_page, saw, saw_over}
+use Rattle.page_cache.specs.Pages.{Pages, state_of, known_of, mark_of, with_state, restarted, is_place, is_stamp, opened, opened_over, fronted, kept, keep_answer, after_keep, after_page, saw, saw_over}
 use Rattle.page_cache.proofs.Inserts.{same, same-self}
 use Rattle.page_cache.proofs.States.{state_opened, state_kept, state_saw, state-opened, state-kept, state-saw, mark-after}
 use Rattle.file_ops.specs.Kept.{kept_page}
@@ -27,6 +27,9 @@ Marks b c = (g : List ℕ) (k : ℕ) → mark_of g c ≡ Some k → k ≤ b
 
 pub some-mark : (a b : ℕ) → Some a ≡ Some b → a ≡ b
 some-mark a b e = cc
+
+some-stamp : (a b : Stamp) → Some a ≡ Some b → a ≡ b
+some-stamp a b e = cc
 
 module _ (b : ℕ) where
   pub marks-by : (file : List ℕ) (c d : Pages) (o : Option FileState)
@@ -143,6 +146,12 @@ module _ (M : List ℕ → ℕ → Type 0) (P : List ℕ → Stamp → ℕ → T
       distinct = distinct-opened file stamp mark c k.distinct;
       holds = λ f s i p. holds-opened f s i file stamp mark c (tells f s i p) (k.holds f s i p);
     }
+
+    -- where the known stamp is told
+    pub good-known : (file : List ℕ) (stamp : Stamp) (mark : ℕ) (c : Pages) → mark ≤ b → known_of file c ≡ Some stamp → GoodPages b c → GoodPages b (opened file stamp mark c)
+    good-known file stamp mark c low known k =
+        good-opened file stamp mark c low
+        (λ f s i p same. some-stamp stamp s (sym known ∙ ap (λ (g : List ℕ). known_of g c) (sym same) ∙ (k.holds f s i p).known)) k
 
     pub good-saw : (file : List ℕ) (stamp : Stamp) (sent : ℕ) (c : Pages) → Tells file stamp → GoodPages b c → GoodPages b (saw file stamp sent c)
     good-saw file stamp sent c tells k = record {

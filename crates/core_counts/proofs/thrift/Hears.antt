@@ -57,7 +57,7 @@ use Rattle.core_answers.proofs.bonds.Learnt.{IsOn}
 use Rattle.core_answers.proofs.writes.AllFits.{CallFits, fits-laws}
 use Rattle.core_counts.proofs.thrift.Calm.{Kind, quiet, putting, saver, Young, IsFailed, ThenFailed, quiet-fails, putting-fails, leads-calm}
 use Rattle.core_counts.proofs.thrift.Came.{CameNow, CameLate, OutNow, out-now, came-now, came-within, came-late, Mine, mine-of}
-use Rattle.core_counts.proofs.thrift.Growth.{Tells, good-opened}
+use Rattle.core_counts.proofs.thrift.Growth.{Tells, good-opened, good-known}
 use Rattle.core_counts.proofs.thrift.Holds.{HoldsPage}
 use Rattle.core_counts.proofs.thrift.Noted.{noted-good}
 use Rattle.core_counts.proofs.thrift.OtherPages.{good-later}
@@ -184,7 +184,11 @@ module _ (m : Mounted) (setup : Setup) (q : Case m setup) (h : List Entry) (old 
           (λ a some. tells file a (replies.File (kept.Read attr counted_ eof given)) said (λ g same. of_object (ap object_of asked_is ∙ ap Some (sym same)) some)) good
 
       take-laws : TakeLaws (GoodAt m setup q h c.failed c.b) c.b asked came call.purpose.sent (turn_at (taken_one old xid))
-      take-laws = record { opens = opens-so; notes = notes-so }
+      take-laws = record {
+        opens = opens-so;
+        knows = λ file stamp mark pages low is_known. good-known (Met m setup q) (Unfailed m setup q h c.failed) (λ g z j p. q.few) c.b file stamp mark pages low is_known;
+        notes = notes-so;
+      }
 
     left-waits : (y : ℕ) (w : Waiting Purpose) → waiting_at y (without xid old.calls.calls) ≡ Some w → waiting_at y old.calls.calls ≡ Some w
     left-waits y w left = by (nat_eq y xid) refl

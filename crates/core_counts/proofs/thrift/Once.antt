@@ -59,7 +59,7 @@ record-is a c e = cc
 path-read : (z : _) (r : _) → machines.Path z ≡ machines.File (files.Read r) → ⊥
 path-read z r e = cc
 
-module _ (m : Mounted) (terms : Terms) (setup : Setup) (nocto : m.nocto ≡ terms.modes.nocto) (some_size : 1 ≤ m.rsize) (noctos : terms.modes.nocto ≡ false) (q : Case m setup)
+module _ (m : Mounted) (terms : Terms) (setup : Setup) (nocto : m.nocto ≡ terms.modes.nocto) (some_size : 1 ≤ m.rsize) (q : Case m setup)
     (took : TookPage terms q.H q.o q.f q.s q.at q.i) where
   -- a record for which no call waits isn't this one
   not-dropped : (h : List Entry) (old : View) (rec : List ℕ) (rest : List Entry) → (h ++ Delivered rec ∷ []) ++ rest ≡ q.H → Reaches (machine_of m) setup h old → old.lost ≡ false
@@ -113,10 +113,10 @@ module _ (m : Mounted) (terms : Terms) (setup : Setup) (nocto : m.nocto ≡ term
   held h old new rec xid call k r found known fin hears named waits there t rest is within c now = by (c.lanes k t.number t.machine t.there)
     where
       of : (z : _) × (t.machine ≡ machines.File (files.Read z))
-      of = read-machine m terms setup nocto some_size noctos q took h old new rec xid call k r found known fin hears named waits there t rest is within now
+      of = read-machine m terms setup nocto some_size q took h old new rec xid call k r found known fin hears named waits there t rest is within now
 
       by : Kind c.b old t.machine → HoldsPage q.f q.s q.i t.shelf.pages
-      by (quiet young z) = held-now m terms setup nocto some_size noctos q took h old new rec xid call k r found known fin hears named waits there t rest is within now c.failed c.b c.pages young
+      by (quiet young z) = held-now m terms setup nocto some_size q took h old new rec xid call k r found known fin hears named waits there t rest is within now c.failed c.b c.pages young
       by (putting young z) = absurd (path-read z.m of.0 (sym z.is ∙ of.1))
       by (saver z) = absurd (subst IsSaver of.1 z)
 
@@ -139,7 +139,7 @@ module _ (m : Mounted) (terms : Terms) (setup : Setup) (nocto : m.nocto ≡ term
   pub calm-before : (h rest : List Entry) (v : View) → Reaches (machine_of m) setup h v → v.lost ≡ false → h ++ rest ≡ q.H → length h ≤ q.n → CalmHere m setup q h v
   calm-before h rest v r found is within = reached-moments (machine_of m) (begins-unbegun m) setup (CalmAt m setup q) calm-laws h v r found rest is within
 
-module _ (m : Mounted) (terms : Terms) (setup : Setup) (before h : List Entry) (v : View) (g : GoesFrom m terms setup before h v) (noctos : terms.modes.nocto ≡ false) (one : OneLane h)
+module _ (m : Mounted) (terms : Terms) (setup : Setup) (before h : List Entry) (v : View) (g : GoesFrom m terms setup before h v) (one : OneLane h)
     (o at page n xid offset count : ℕ) (f bytes : List ℕ) (stamp : Stamp) (took : TookPage terms h o f stamp at page) (sent : FirstSent h n xid bytes) (spells : SpellsCall xid (read_call f offset count) bytes)
     (late : at < n) (met : MeetsPage offset count page) (so : Unchanged terms h o n f stamp) (w : Outgoing (machine_of m) (begins-unbegun m) setup h n bytes) where
   its : IsSession m terms setup h v
@@ -161,7 +161,6 @@ module _ (m : Mounted) (terms : Terms) (setup : Setup) (before h : List Entry) (
 
   abbrev case : Case m setup
   case = record {
-    asks = its.goes.nocto ∙ noctos;
     H = h;
     one = one;
     o = o;
@@ -192,7 +191,7 @@ module _ (m : Mounted) (terms : Terms) (setup : Setup) (before h : List Entry) (
   within = let there = w.there in omega (arith, there)
 
   calm : CalmHere m setup case w.before w.old
-  calm = calm-before m terms setup its.goes.nocto its.some noctos case took w.before w.after w.old w.reached w.found (sym w.is) within
+  calm = calm-before m terms setup its.goes.nocto its.some case took w.before w.after w.old w.reached w.found (sym w.is) within
 
   -- it isn't a lane that was refused
   not-failed : calm.failed ≡ true → ⊥
@@ -213,7 +212,7 @@ module _ (m : Mounted) (terms : Terms) (setup : Setup) (before h : List Entry) (
   never-again = kept-still.there (none-at m terms setup h v its n bytes w xid offset count f spells one page met)
 
 pub kept-once : KeptOnce
-kept-once m terms setup before h v g noctos one o at page n xid offset count f bytes stamp took sent spells late met so = elim (early-or m terms setup before h v g n bytes sent.sent) [
+kept-once m terms setup before h v g one o at page n xid offset count f bytes stamp took sent spells late met so = elim (early-or m terms setup before h v g n bytes sent.sent) [
   | inl early ↦ none-early m terms setup before h v g n xid offset count f bytes early spells
-  | inr w ↦ never-again m terms setup before h v g noctos one o at page n xid offset count f bytes stamp took sent spells late met so w
+  | inr w ↦ never-again m terms setup before h v g one o at page n xid offset count f bytes stamp took sent spells late met so w
 ]

@@ -24,14 +24,14 @@ OnlyReads op = Unit {0}
 pub data OpKind (m : Mounted) (lane : ℕ) (op : Op) : Type 0 where
   reads : OnlyReads op → OpKind m lane op
   stores : (file : FileMachine) → machine_of m lane op ≡ machines.File file → Stores file → OpKind m lane op
-  puts : (path : PathMachine) (put : PutFile) → machine_of m lane op ≡ machines.Path path → path.opener ≡ openers.Put put → put.opening.nocto ≡ m.nocto → path.arrived ≡ false → OpKind m lane op
+  puts : (path : PathMachine) (put : PutFile) → machine_of m lane op ≡ machines.Path path → path.opener ≡ openers.Put put → path.arrived ≡ false → OpKind m lane op
 
 pub op-kind : (m : Mounted) (lane : ℕ) (op : Op) → OpKind m lane op
 op-kind m lane (ops.OpenFile slot mode path) = reads tt
 op-kind m lane (ops.Read slot offset count) = reads tt
 op-kind m lane (ops.Write slot offset bytes) = stores _ refl tt
 op-kind m lane (ops.Fill slot offset count byte) = stores _ refl tt
-op-kind m lane (ops.Put path offset bytes) = puts _ _ refl refl refl refl
+op-kind m lane (ops.Put path offset bytes) = puts _ _ refl refl refl
 op-kind m lane (ops.Sync slot) = stores _ refl tt
 op-kind m lane (ops.Close slot) = stores _ refl tt
 op-kind m lane (ops.Truncate slot size) = stores _ refl tt

@@ -85,10 +85,10 @@ module _ (b : ℕ) where
   any-then nexts.Wait new k = k
   any-then (nexts.Done answer) new k = tt
 
-  open-then : (k : ℕ) (next : Next) (new : Machine) → k ≤ b → marks.GoesOn false k next new → ThenQuiet b next new
-  open-then k (nexts.Send call) new low g = quiet_open k low g
-  open-then k nexts.Wait new low g = quiet_open k low g
-  open-then k (nexts.Done answer) new low g = tt
+  open-then : (nocto : Bool) (k : ℕ) (next : Next) (new : Machine) → k ≤ b → marks.GoesOn nocto k next new → ThenQuiet b next new
+  open-then nocto k (nexts.Send call) new low g = quiet_open nocto k low g
+  open-then nocto k nexts.Wait new low g = quiet_open nocto k low g
+  open-then nocto k (nexts.Done answer) new low g = tt
 
   abbrev Low : Reading → Type 0
   Low r = r.moment ≤ b
@@ -106,22 +106,23 @@ module _ (b : ℕ) where
 
   pub resumes-quiet : (machine : Machine) (wsize : ℕ) (turn : Turn) (old : Shelf) (next : Next) (new : Machine) (after : Shelf) → IsQuiet b machine → Resumes wsize machine turn old next new after
       → ThenQuiet b next new
-  resumes-quiet machine wsize turn old next new after (quiet_open k low o) r = open-then k next new low (opening-resumes false k machine wsize turn old next new after o r)
+  resumes-quiet machine wsize turn old next new after (quiet_open nocto k low o) r =
+      open-then nocto k next new low (opening-resumes nocto k machine wsize turn old next new after o r)
   resumes-quiet machine wsize turn old next new after (quiet_read k) r = read-then next new (reading-resumes Low Low low-same machine wsize turn old next new after k r)
   resumes-quiet machine wsize turn old next new after (quiet_name m same) r =
       let s : Resumes wsize (machines.Name m) turn old next new after = subst (λ (z : Machine). Resumes wsize z turn old next new after) same r in
       any-then next new (quiet_name s.machine s.machine_is)
 
   module _ (call : Call) (came : Result Reply Fault) (sent turn : Turn) where
-    took-quiet : (k : ℕ) (attrs : _) (old : Pages) (next : Next) (new : Machine) (later : Pages) → k ≤ b → Took false k call came sent turn attrs old next new later → ThenQuiet b next new
-    took-quiet k attrs old next new later low (took_on g) = open-then k next new low g
-    took-quiet k attrs old next new later low (took_well file attr well said on kind is) = done-then next _ new well tt
-    took-quiet k attrs old next new later low (took_known file stamp attr well may gives looked_is kind stamp_is is) = done-then next _ new well tt
+    took-quiet : (nocto : Bool) (k : ℕ) (attrs : _) (old : Pages) (next : Next) (new : Machine) (later : Pages) → k ≤ b → Took nocto k call came sent turn attrs old next new later → ThenQuiet b next new
+    took-quiet nocto k attrs old next new later low (took_on g) = open-then nocto k next new low g
+    took-quiet nocto k attrs old next new later low (took_well file attr well said on kind is) = done-then next _ new well tt
+    took-quiet nocto k attrs old next new later low (took_known file stamp attr well may gives looked_is kind stamp_is is) = done-then next _ new well tt
 
     pub takes-quiet : (machine : Machine) (wsize : ℕ) (old : Shelf) (next : Next) (new : Machine) (after : Shelf) → IsQuiet b machine → ((reply : Reply) → came ≡ Ok reply → Asks machine call)
         → Takes wsize machine sent turn came old next new after → ThenQuiet b next new
-    takes-quiet machine wsize old next new after (quiet_open k low o) on t =
-        took-quiet k after.attrs old.pages next new after.pages low (opening-takes false k call came sent turn machine wsize old next new after o on t)
+    takes-quiet machine wsize old next new after (quiet_open nocto k low o) on t =
+        took-quiet nocto k after.attrs old.pages next new after.pages low (opening-takes nocto k call came sent turn machine wsize old next new after o on t)
     takes-quiet machine wsize old next new after (quiet_read k) on t =
         read-then next new (reading-takes Low Low low-same came sent turn machine wsize old next new after
         (λ r n attr is moment file leaves low. subst (λ (z : ℕ). z ≤ b) (sym moment) low) k t)
@@ -175,24 +176,24 @@ module _ (b : ℕ) where
   name-starts : (m : NameMachine) (wsize : ℕ) (turn : Turn) (old : Shelf) (next : Next) (new : Machine) (after : Shelf) → Starts wsize (machines.Name m) turn old next new after → ThenQuiet b next new
   name-starts m wsize turn old next new after s = any-then next new (quiet_name s.machine s.machine_is)
 
-  pub starts-quiet : (m : Mounted) (lane : ℕ) (op : Op) (wsize : ℕ) (turn : Turn) (old : Shelf) (next : Next) (new : Machine) (after : Shelf) → m.nocto ≡ false → turn.moment - 1 ≤ b → OnlyReads op
+  pub starts-quiet : (m : Mounted) (lane : ℕ) (op : Op) (wsize : ℕ) (turn : Turn) (old : Shelf) (next : Next) (new : Machine) (after : Shelf) → turn.moment - 1 ≤ b → OnlyReads op
       → Starts wsize (machine_of m lane op) turn old next new after → ThenQuiet b next new
-  starts-quiet m lane (ops.OpenFile slot mode path) wsize turn old next new after asks low only s =
-      open-then (turn.moment - 1) next new low (opening-starts false (turn.moment - 1) _ _ wsize turn old next new after refl refl asks s)
-  starts-quiet m lane (ops.Read slot offset count) wsize turn old next new after asks low only s = read-starts m lane slot offset count wsize turn old next new after low s
-  starts-quiet m lane (ops.Write slot offset bytes) wsize turn old next new after asks low only s = absurd only
-  starts-quiet m lane (ops.Fill slot offset count byte) wsize turn old next new after asks low only s = absurd only
-  starts-quiet m lane (ops.Put path offset bytes) wsize turn old next new after asks low only s = absurd only
-  starts-quiet m lane (ops.Sync slot) wsize turn old next new after asks low only s = absurd only
-  starts-quiet m lane (ops.Close slot) wsize turn old next new after asks low only s = absurd only
-  starts-quiet m lane (ops.Truncate slot size) wsize turn old next new after asks low only s = absurd only
-  starts-quiet m lane (ops.Stat path) wsize turn old next new after asks low only s = name-starts _ wsize turn old next new after s
-  starts-quiet m lane (ops.Access path bits) wsize turn old next new after asks low only s = name-starts _ wsize turn old next new after s
-  starts-quiet m lane (ops.MakeDir path) wsize turn old next new after asks low only s = name-starts _ wsize turn old next new after s
-  starts-quiet m lane (ops.RemoveDir path) wsize turn old next new after asks low only s = name-starts _ wsize turn old next new after s
-  starts-quiet m lane (ops.Remove path) wsize turn old next new after asks low only s = name-starts _ wsize turn old next new after s
-  starts-quiet m lane (ops.Rename from to) wsize turn old next new after asks low only s = name-starts _ wsize turn old next new after s
-  starts-quiet m lane (ops.Link from to) wsize turn old next new after asks low only s = name-starts _ wsize turn old next new after s
-  starts-quiet m lane (ops.SymLink path target) wsize turn old next new after asks low only s = name-starts _ wsize turn old next new after s
-  starts-quiet m lane (ops.ReadLink path) wsize turn old next new after asks low only s = name-starts _ wsize turn old next new after s
-  starts-quiet m lane (ops.List path) wsize turn old next new after asks low only s = name-starts _ wsize turn old next new after s
+  starts-quiet m lane (ops.OpenFile slot mode path) wsize turn old next new after low only s =
+      open-then m.nocto (turn.moment - 1) next new low (opening-starts m.nocto (turn.moment - 1) _ _ wsize turn old next new after refl refl refl s)
+  starts-quiet m lane (ops.Read slot offset count) wsize turn old next new after low only s = read-starts m lane slot offset count wsize turn old next new after low s
+  starts-quiet m lane (ops.Write slot offset bytes) wsize turn old next new after low only s = absurd only
+  starts-quiet m lane (ops.Fill slot offset count byte) wsize turn old next new after low only s = absurd only
+  starts-quiet m lane (ops.Put path offset bytes) wsize turn old next new after low only s = absurd only
+  starts-quiet m lane (ops.Sync slot) wsize turn old next new after low only s = absurd only
+  starts-quiet m lane (ops.Close slot) wsize turn old next new after low only s = absurd only
+  starts-quiet m lane (ops.Truncate slot size) wsize turn old next new after low only s = absurd only
+  starts-quiet m lane (ops.Stat path) wsize turn old next new after low only s = name-starts _ wsize turn old next new after s
+  starts-quiet m lane (ops.Access path bits) wsize turn old next new after low only s = name-starts _ wsize turn old next new after s
+  starts-quiet m lane (ops.MakeDir path) wsize turn old next new after low only s = name-starts _ wsize turn old next new after s
+  starts-quiet m lane (ops.RemoveDir path) wsize turn old next new after low only s = name-starts _ wsize turn old next new after s
+  starts-quiet m lane (ops.Remove path) wsize turn old next new after low only s = name-starts _ wsize turn old next new after s
+  starts-quiet m lane (ops.Rename from to) wsize turn old next new after low only s = name-starts _ wsize turn old next new after s
+  starts-quiet m lane (ops.Link from to) wsize turn old next new after low only s = name-starts _ wsize turn old next new after s
+  starts-quiet m lane (ops.SymLink path target) wsize turn old next new after low only s = name-starts _ wsize turn old next new after s
+  starts-quiet m lane (ops.ReadLink path) wsize turn old next new after low only s = name-starts _ wsize turn old next new after s
+  starts-quiet m lane (ops.List path) wsize turn old next new after low only s = name-starts _ wsize turn old next new after s

@@ -68,7 +68,6 @@ use Rattle.core_counts.proofs.thrift.Savers.{IsSaver, Free, Fails, IsWant, saver
 -- A session of one lane, in which a page of a file was given at the place `at`, after the open at the place o. From o to n nothing shows a change, and at n a
 -- record is sent for the first time.
 pub record Case (m : Mounted) (setup : Setup) : Type 0 where
-  pub asks : m.nocto ≡ false
   pub H : List Entry
   pub one : OneLane H
   pub o : ℕ
@@ -361,7 +360,7 @@ module _ (m : Mounted) (setup : Setup) (q : Case m setup) where
 
     started : OpKind m lane op → Moved (old.moments + 1) begun_mid t.next t.after (IsFailed old)
     started (reads only) =
-        let then_ = starts-quiet (old.moments + 1) m lane op old.wsize (turn_at (counted old now)) old.shelf t.next t.after t.shelf q.asks (omega arith) only t.starts in
+        let then_ = starts-quiet (old.moments + 1) m lane op old.wsize (turn_at (counted old now)) old.shelf t.next t.after t.shelf (omega arith) only t.starts in
         record {
           own = quiet-then (old.moments + 1) begun_mid (none-young (old.moments + 1)) t.next t.after then_;
           free = quiet-free (old.moments + 1) t.next t.after then_;
@@ -375,9 +374,9 @@ module _ (m : Mounted) (setup : Setup) (q : Case m setup) where
           free = λ call e kind. then_.frees call e;
           fails = λ w. absurd (none-failed w);
         }
-    started (puts path put at_ opener asks way) =
+    started (puts path put at_ opener way) =
         let s = subst (λ (z : Machine). Starts old.wsize z (turn_at (counted old now)) old.shelf t.next t.after t.shelf) at_ t.starts in
-        let then_ = putting-starts (old.moments + 1) path put old.wsize (turn_at (counted old now)) old.shelf t.next t.after t.shelf opener (omega arith) (asks ∙ q.asks) way s in
+        let then_ = putting-starts (old.moments + 1) path put old.wsize (turn_at (counted old now)) old.shelf t.next t.after t.shelf opener (omega arith) way s in
         record {
           own = putting-then (old.moments + 1) begun_mid (none-young (old.moments + 1)) t.next t.after then_.stays;
           free = then_.frees;

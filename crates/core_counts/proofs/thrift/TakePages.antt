@@ -3,11 +3,12 @@ use Rattle.std.proofs.Common.{◌≡◌, ◌≤◌, ℕ, Bool, true, false, List
 use Rattle.std.specs.Prelude.{if◌then◌else◌}
 use Rattle.xdr_codec.specs.declared.blob.Memory as memory
 use Rattle.nfs_types.specs.declared.attr.Attr.{Attr}
+use Rattle.nfs_types.specs.declared.wcc.Stamp.{Stamp}
 use Rattle.attr_cache.specs.Attrs.{Attrs}
 use Rattle.nfs_file_calls.specs.declared.call.FileCall.TheVariants as file_calls
 use Rattle.nfs_file_calls.specs.declared.owned.FileKept.{FileKept}
 use Rattle.nfs_file_calls.specs.declared.owned.FileKept.TheVariants as kept
-use Rattle.page_cache.specs.Pages.{Pages, after_page}
+use Rattle.page_cache.specs.Pages.{Pages, known_of, opened, after_page}
 use Rattle.write_back.specs.Files.{Pending}
 use Rattle.world_model.specs.declared.answer.Fault.{Fault}
 use Rattle.world_model.specs.declared.answer.Fault.TheVariants as faults
@@ -58,20 +59,22 @@ use Rattle.core_answers.proofs.bonds.Learnt.{IsOn}
 use Rattle.core_answers.proofs.bonds.MachineCalls.{PathOn, Asks}
 use Rattle.core_answers.proofs.pages.NamePages.{kept-as, walk-takes-kept, name-takes-kept}
 use Rattle.core_answers.proofs.pages.PageCalls.{PhaseAwaits, ReadAwaits, Both}
-use Rattle.core_session.proofs.current.FedPages.{as-shelf, gone-pages, settled-pages, file-resumes, got-is, told-opens, told-knows, by-opens}
+use Rattle.core_session.proofs.current.FedPages.{as-shelf, gone-pages, settled-pages, file-resumes, got-is, told-opens, by-opens}
 use Rattle.core_session.proofs.current.OpenMarks.{IsOpening}
 use Rattle.core_session.proofs.current.ReadMarks.{ReadIn}
+use Rattle.core_counts.proofs.thrift.KnownStates.{led-stamp}
 
--- A fact of the kept pages that stays where a file is opened with what GETATTR shows, and where the part that a READ gave is noted.
+-- A fact of the kept pages that stays where a file is opened with what GETATTR shows, or in its known state, and where the part that a READ gave is noted.
 pub record TakeLaws (T : Pages → Type 0) (b : ℕ) (call : Call) (came : Result Reply Fault) (sent turn : Turn) : Type 0 where
   pub opens : (file : List ℕ) (attr : Attr) (mark : ℕ) (c : Pages) → mark ≤ b → came ≡ Ok (replies.File (kept.GetAttr attr)) → IsOn file call → T c → T (opened_pages file attr mark sent turn c)
+  pub knows : (file : List ℕ) (stamp : Stamp) (mark : ℕ) (c : Pages) → mark ≤ b → known_of file c ≡ Some stamp → T c → T (opened file stamp mark c)
   pub notes : (file : List ℕ) (attr : Option Attr) (counted : ℕ) (eof : Bool) (given : List ℕ) (place count : ℕ) (c : Pages)
       → came ≡ Ok (replies.File (kept.Read attr counted eof given)) → call ≡ calls.File (file_calls.Read file place count) → breaks_rule count counted eof given ≡ false
       → T c → T (reading.noted attr file sent.moment place given eof c)
 
 -- an open, a read or an operation on names, with a moment that isn't later
 pub data IsQuiet (b : ℕ) (machine : Machine) : Type 0 where
-  quiet_open : (k : ℕ) → k ≤ b → IsOpening false k machine → IsQuiet b machine
+  quiet_open : (nocto : Bool) (k : ℕ) → k ≤ b → IsOpening nocto k machine → IsQuiet b machine
   quiet_read : ReadIn (λ (r : Reading). r.moment ≤ b) machine → IsQuiet b machine
   quiet_name : (m : NameMachine) → machine ≡ machines.Name m → IsQuiet b machine
 
@@ -156,29 +159,28 @@ module _ (T : Pages → Type 0) (shows : (file : List ℕ) (index : ℕ) (c : Pa
   step-on : (o : Opening) (file : List ℕ) → OpeningOn o call → o.step ≡ opening_steps.Ask file → IsOn file call
   step-on o file on is = subst (λ (s : OpeningStep). StepOn s o.dir call) is on
 
-  none-known : (o : Opening) (attrs : Attrs) (old : Pages) (file : List ℕ) (stamp : _) → o.nocto ≡ false → opening.led_on o turn.now came attrs old ≡ leads.Knows file stamp → ⊥
-  none-known o attrs old file stamp asks is =
-      told-knows turn.now attrs old o.mode o.step came file stamp
-      (subst (λ (n : Bool). opening.known_by n (opening.told_led o came) turn.now attrs old ≡ leads.Knows file stamp) asks is)
-
-  pub led-pages : (again : Bool) (o : Opening) (attrs : Attrs) (led : Led) (step : OpeningNext) (old new : Pages) → o.moment ≤ b → o.nocto ≡ false → opening.led_on o turn.now came attrs old ≡ led
+  pub led-pages : (again : Bool) (o : Opening) (attrs : Attrs) (led : Led) (step : OpeningNext) (old new : Pages) → o.moment ≤ b → opening.led_on o turn.now came attrs old ≡ led
       → ((reply : Reply) → came ≡ Ok reply → OpeningOn o call) → opening.LedIf again o sent turn led step old new → T old → T new
-  led-pages true o attrs led step old new low asks is on l t = as-pages old new l.1 t
-  led-pages false o attrs (leads.Goes to) step old new low asks is on l t = as-pages old new l.1 t
-  led-pages false o attrs (leads.Opens file attr) (openings.Ended result) old new low asks is on l t =
+  led-pages true o attrs led step old new low is on l t = as-pages old new l.1 t
+  led-pages false o attrs (leads.Goes to) step old new low is on l t = as-pages old new l.1 t
+  led-pages false o attrs (leads.Opens file attr) (openings.Ended result) old new low is on l t =
       let k = told-opens o.mode o.step came file attr (by-opens turn.now attrs old o.nocto (opening.told_led o came) file attr is) in
       file-opened result file (opened_pages file attr o.moment sent turn old) old new l
       (laws.opens file attr o.moment old low k.got (step-on o file (on (replies.File (kept.GetAttr attr)) k.got) k.asks) t) t
-  led-pages false o attrs (leads.Opens file attr) (openings.Send again) old new low asks is on l t = absurd l
-  led-pages false o attrs (leads.Opens file attr) openings.Wait old new low asks is on l t = absurd l
-  led-pages false o attrs (leads.Knows file stamp) step old new low asks is on l t = absurd (none-known o attrs old file stamp asks is)
-  led-pages false o attrs (leads.Ends fault) step old new low asks is on l t = as-pages old new l.1 t
+  led-pages false o attrs (leads.Opens file attr) (openings.Send again) old new low is on l t = absurd l
+  led-pages false o attrs (leads.Opens file attr) openings.Wait old new low is on l t = absurd l
+  led-pages false o attrs (leads.Knows file stamp) (openings.Ended result) old new low is on l t =
+      file-opened result file (opened file stamp o.moment old) old new l
+      (laws.knows file stamp o.moment old low (led-stamp turn.now attrs old o.nocto o.mode o.step came file stamp is) t) t
+  led-pages false o attrs (leads.Knows file stamp) (openings.Send again) old new low is on l t = absurd l
+  led-pages false o attrs (leads.Knows file stamp) openings.Wait old new low is on l t = absurd l
+  led-pages false o attrs (leads.Ends fault) step old new low is on l t = as-pages old new l.1 t
 
-  open-takes : (q : OpenFile) (old : Shelf) (next : Next) (new : FileMachine) (after : Shelf) → q.opening.moment ≤ b → q.opening.nocto ≡ false → ((reply : Reply) → came ≡ Ok reply → OpeningOn q.opening call)
+  open-takes : (q : OpenFile) (old : Shelf) (next : Next) (new : FileMachine) (after : Shelf) → q.opening.moment ≤ b → ((reply : Reply) → came ≡ Ok reply → OpeningOn q.opening call)
       → steps.OpenTakes q sent turn came old next new after → T old.pages → T after.pages
-  open-takes q old next new after low asks on s t =
+  open-takes q old next new after low on s t =
       led-pages (opening.opening_again q.opening sent turn came old.repeats) q.opening after.attrs (opening.led_on q.opening turn.now came after.attrs old.pages) s.steps.step old.pages
-      after.pages low asks refl on s.steps.led t
+      after.pages low refl on s.steps.led t
 
   pub follows-pages : (step : WalkNext) (wsize : ℕ) (m : PathMachine) (old : Shelf) (next : Next) (new : PathMachine) (after : Shelf)
       → paths.Follows step wsize m turn old next new after → T old.pages → T after.pages
@@ -188,11 +190,11 @@ module _ (T : Pages → Type 0) (shows : (file : List ℕ) (index : ℕ) (c : Pa
   follows-pages (walks.Refused fault) wsize m old next new after f t = as-shelf T shows old after (kept-as old old after f.2 refl) t
 
   path-takes : (arrived : Bool) (wsize : ℕ) (m : PathMachine) (q : OpenFile) (old : Shelf) (next : Next) (new : PathMachine) (after : Shelf) → m.opener ≡ openers.Open q → q.opening.moment ≤ b
-      → q.opening.nocto ≡ false → ((reply : Reply) → came ≡ Ok reply → PathOn arrived m call) → paths.PathTakes arrived wsize m sent turn came old next new after → T old.pages → T after.pages
-  path-takes true wsize m q old next new after opener low asks on p t =
+      → ((reply : Reply) → came ≡ Ok reply → PathOn arrived m call) → paths.PathTakes arrived wsize m sent turn came old next new after → T old.pages → T after.pages
+  path-takes true wsize m q old next new after opener low on p t =
       let asked : (reply : Reply) → came ≡ Ok reply → OpeningOn q.opening call = λ reply is. subst (λ (o : Opener). FileAsks (file_of o) call) opener (on reply is) in
-      open-takes q old next (file_of p.opener) after low asks asked (subst (λ (o : Opener). steps.Takes wsize (file_of o) sent turn came old next (file_of p.opener) after) opener p.step) t
-  path-takes false wsize m q old next new after opener low asks on p t =
+      open-takes q old next (file_of p.opener) after low asked (subst (λ (o : Opener). steps.Takes wsize (file_of o) sent turn came old next (file_of p.opener) after) opener p.step) t
+  path-takes false wsize m q old next new after opener low on p t =
       follows-pages p.step wsize p.walked p.heard next new after p.follows
       (as-shelf T shows old p.heard (walk-takes-kept (walking.waiting_name m.walk) m.walk sent turn came old p.step p.walked.walk p.heard p.takes) t)
 
@@ -203,10 +205,10 @@ module _ (T : Pages → Type 0) (shows : (file : List ℕ) (index : ℕ) (c : Pa
 
   pub quiet-takes : (machine : Machine) (wsize : ℕ) (old : Shelf) (next : Next) (new : Machine) (after : Shelf) → IsQuiet b machine → ((reply : Reply) → came ≡ Ok reply → Both machine call)
       → Takes wsize machine sent turn came old next new after → T old.pages → T after.pages
-  quiet-takes machine wsize old next new after (quiet_open k low o) on t had =
+  quiet-takes machine wsize old next new after (quiet_open nocto k low o) on t had =
       let s : Takes wsize (machines.Path o.m) sent turn came old next new after = subst (λ (z : Machine). Takes wsize z sent turn came old next new after) o.is t in
       let asked = λ (reply : Reply) (is : came ≡ Ok reply). subst (λ (z : Machine). Asks z call) o.is (on reply is).0 in
-      path-takes o.m.arrived wsize o.m o.q old next s.machine after o.opener (subst (λ (n : ℕ). n ≤ b) (sym o.moment) low) o.asks asked s.step had
+      path-takes o.m.arrived wsize o.m o.q old next s.machine after o.opener (subst (λ (n : ℕ). n ≤ b) (sym o.moment) low) asked s.step had
   quiet-takes machine wsize old next new after (quiet_read k) on t had =
       let s : Takes wsize (machines.File (files.Read k.m)) sent turn came old next new after = subst (λ (z : Machine). Takes wsize z sent turn came old next new after) k.is t in
       let asked = λ (reply : Reply) (is : came ≡ Ok reply). subst (λ (z : Machine). Both z call) k.is (on reply is) in

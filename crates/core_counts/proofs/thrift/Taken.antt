@@ -75,12 +75,12 @@ use Rattle.core_answers.proofs.asks.ReadAsks.{ReadIn, ReadRuns, ReadStory, read-
 use Rattle.core_answers.proofs.asks.ReadsAwaited.{PhaseNames, ReadNames}
 use Rattle.core_answers.proofs.asks.Sendings.{NoCall, NoShelf, NoStory, no-laws}
 use Rattle.core_answers.proofs.bonds.OneCall.{one-call}
-use Rattle.core_session.proofs.current.Good as good
 use Rattle.core_counts.proofs.thrift.Calm.{Young}
 use Rattle.core_counts.proofs.thrift.Came.{OutNow, out-now, says-now, came-now}
 use Rattle.core_counts.proofs.thrift.Given.{part-held, unrefused, fine-data, under-until}
 use Rattle.core_counts.proofs.thrift.Hears.{of-lane, met-so, mine, asked}
 use Rattle.core_counts.proofs.thrift.Holds.{HoldsPage, holds-shown}
+use Rattle.core_counts.proofs.thrift.KnownStates.{opened-state}
 use Rattle.core_counts.proofs.thrift.Noted.{noted-held}
 use Rattle.core_counts.proofs.thrift.PartSteps.{few-bytes}
 use Rattle.core_counts.proofs.thrift.ReadsLong.{read-parts}
@@ -126,7 +126,7 @@ no-status proc rec n e = by (nat_lt most_bytes (length rec)) e
     by true e = absurd (cc)
     by false e = read (reply_at rec) e
 
-module _ (m : Mounted) (terms : Terms) (setup : Setup) (nocto : m.nocto ≡ terms.modes.nocto) (some_size : 1 ≤ m.rsize) (noctos : terms.modes.nocto ≡ false) (q : Case m setup)
+module _ (m : Mounted) (terms : Terms) (setup : Setup) (nocto : m.nocto ≡ terms.modes.nocto) (some_size : 1 ≤ m.rsize) (q : Case m setup)
     (took : TookPage terms q.H q.o q.f q.s q.at q.i) (h : List Entry) (old new : View) (rec : List ℕ) (xid : ℕ) (call : Waiting Purpose) (k : ℕ) (r : Reaches (machine_of m) setup h old)
     (found : old.lost ≡ false) (known : Known setup h old) (fin : View) (hears : HearsRecord old rec fin) (named : xid_at rec ≡ Some xid) (waits : waiting_at xid old.calls.calls ≡ Some call)
     (there : position (is_busy call.purpose.lane) old.lanes ≡ Some k) (t : TakesAt (taken_one old xid) k call.purpose.sent (said_of call.purpose.proc rec) new) (rest : List Entry)
@@ -259,9 +259,8 @@ module _ (m : Mounted) (terms : Terms) (setup : Setup) (nocto : m.nocto ≡ term
 
   first-state : (file : List ℕ) → run.held.o.file ≡ file → (state : FileState) × (state_of file old.shelf.pages ≡ Some state)
   first-state file same =
-      let known_ = (good.reached-good m terms.modes nocto setup (λ yes_. absurd (let no_way : true ≡ false = sym yes_ ∙ noctos in cc)) h old r found).opened run.held.lane run.held.slot run.held.held.x
-      run.held.held.holds.y run.held.o.file run.held.held.holds.opens in
-      (known_.since.marked.state, subst (λ (g : List ℕ). state_of g old.shelf.pages ≡ Some known_.since.marked.state) same known_.since.marked.there)
+      let known_ = opened-state m terms.modes nocto setup h old r found run.held.lane run.held.slot run.held.held.x run.held.held.holds.y run.held.o.file run.held.held.holds.opens in
+      (known_.0, subst (λ (g : List ℕ). state_of g old.shelf.pages ≡ Some known_.0) same known_.1)
 
   small : length took.data_ ≤ took.count
   small = few-bytes took.count took.counted took.eof took.data_ (fine-data took.count took.counted took.data_ took.eof right-data)

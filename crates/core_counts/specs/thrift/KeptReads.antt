@@ -1,5 +1,5 @@
 -- That pages which are kept aren't asked for again (RFC 1813, section 3.3.6).
-use Rattle.std.specs.Prelude.{◌≡◌, false, List}
+use Rattle.std.specs.Prelude.{List}
 use Rattle.world_model.specs.declared.entry.Entry.{Entry}
 use Rattle.world_model.specs.Terms.{Terms}
 use Rattle.world_model.specs.Thrifty.{OneLane, KeptPages}
@@ -8,7 +8,7 @@ use Rattle.client_core.specs.declared.setup.Setup.{Setup}
 use Rattle.client_core.specs.View.{View}
 use Rattle.core_session.specs.calls.Whole.{GoesFrom}
 
--- Where opens ask for attributes and all operations are of one lane, no READ is sent for a page that a READ gave, while nothing shows that the file changed.
+-- Where all operations are of one lane, no READ is sent for a page that a READ gave, while nothing shows that the file changed.
 abbrev pub KeptOnce : Type 0
 KeptOnce = (m : Mounted) (terms : Terms) (setup : Setup) (before h : List Entry) (v : View) → GoesFrom m terms setup before h v
-    → terms.modes.nocto ≡ false → OneLane h → KeptPages terms h
+    → OneLane h → KeptPages terms h
