@@ -46,7 +46,7 @@ use Rattle.world_model.specs.RefusalRows.{RefusalRow}
 use Rattle.world_model.specs.Rising.{Rising}
 use Rattle.world_model.specs.Settled.{HoldsStable, SettledBy, Settled}
 use Rattle.world_model.specs.Terms.{Terms, jukebox}
-use Rattle.world_model.specs.Thrifty.{OneLane, LongReads, KeptPages, LongWrites}
+use Rattle.world_model.specs.Thrifty.{Thrifty}
 use Rattle.world_model.specs.Touched.{Wrote}
 use Rattle.bond_calls.specs.Calls.{Numbered}
 use Rattle.bond_own.specs.Own.{CutsStay}
@@ -135,13 +135,6 @@ pub record CallsShown (terms : Terms) (setup : Setup) (before h : List Entry) : 
 -- removes began, and as such names were found taken.
 abbrev pub CountsShown : Terms → List Entry → Type 0
 CountsShown terms h = (script : List Entry) → Follows script h → CallCounts terms script h
-
--- READs are long; and in a session of one lane WRITEs end only where they must, and, where opens ask for attributes, kept pages aren't asked for again. That
--- is `Thrifty` of `world_model`, but for kept pages with nocto.
-pub record ThriftShown (terms : Terms) (h : List Entry) : Type 0 where
-  pub reads : LongReads terms h
-  pub pages : terms.modes.nocto ≡ false → OneLane h → KeptPages terms h
-  pub writes : OneLane h → LongWrites terms h
 
 -- Each WRITE that is sent after the set-up had as many bytes as the session's WRITE size, as it was made; or its bytes didn't go on where it ends.
 abbrev pub WritesShown : Mounted → Setup → List Entry → List Entry → Type 0
@@ -300,13 +293,14 @@ pub record CompleteShown (terms : Terms) (t : History) : Type 0 where
 
 -- ---- all
 
--- A core goes with the history of a session that was set up so, with the history before, and this is what the history shows; and of the server, where
+-- A core goes with the history of a session that was set up so, with the history before, and this is what the history shows: among it that it is `Thrifty`, by
+-- `world_model`: READs are long, and in one lane kept pages aren't asked for again, and WRITEs end only where they must; and of the server, where
 -- it is honest and gives each change another stamp.
 pub record RunShows (s : Settings) (first : ℕ) (v : SetUp) (before h : List Entry) : Type 0 where
   pub has : HasCore (mounted_by s (setup_of s v)) (setup_of s v) before h
   pub calls : CallsShown (terms_by s first) (setup_of s v) before h
   pub counts : CountsShown (terms_by s first) h
-  pub thrift : ThriftShown (terms_by s first) h
+  pub thrift : Thrifty (terms_by s first) h
   pub writes : WritesShown (mounted_by s (setup_of s v)) (setup_of s v) before h
   pub oks : OksShown s (terms_by s first) h
   pub slots : SlotsShown (terms_by s first) h
