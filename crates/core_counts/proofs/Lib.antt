@@ -1,3 +1,4 @@
 pub mod coarse
 pub mod thrift
 pub mod counts
+pub mod whole
