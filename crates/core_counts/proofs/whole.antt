@@ -20,6 +20,7 @@ pub mod GivenClose
 pub mod GivenPut
 pub mod GuardEnds
 pub mod Guarding
+pub mod Guesses
 pub mod Hearing
 pub mod Hearkening
 pub mod HoldsStays

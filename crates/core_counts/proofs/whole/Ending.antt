@@ -79,4 +79,4 @@ module _ (base : Base) (warm : Type 0) where
       all-whole (machine_of m) setup h
       (λ k w rest on r found.
       found-whole base warm setup k w ((carried-all known_ m terms setup h v g roots named only (steps m terms setup h v g roots named only) k w r found).whole rest on))
-      v g.reaches
+      v g.reaches only

@@ -72,7 +72,7 @@ sent-only g i x call (entries.Clock ms) is = absurd cc
 
 -- ---- the set-up
 
-set-up-plain : (call : Call) → IsSetUpCall call → call_of call ≡ plain 0
+pub set-up-plain : (call : Call) → IsSetUpCall call → call_of call ≡ plain 0
 set-up-plain call (mounts path is) = ap call_of is
 set-up-plain call (informs root is) = ap call_of is
 

@@ -47,7 +47,7 @@ use Rattle.core_counts.proofs.whole.Waits.{IsExpected, LanesWait, stirs-wait, st
 use Rattle.core_counts.proofs.whole.Works as works
 use Rattle.core_counts.proofs.whole.Works.{work_of}
 
-nfs-of : (call : Call) → program_of call ≡ NFS_PROGRAM → IsNfs call
+pub nfs-of : (call : Call) → program_of call ≡ NFS_PROGRAM → IsNfs call
 nfs-of (calls.File call) is = tt
 nfs-of (calls.Dir call) is = tt
 nfs-of (calls.Mount call) is = absurd (omega (arith, is))

@@ -61,11 +61,12 @@ pub record IsWith (setup : Setup) (g : Guess) (h : List Entry) (v : core.View) :
   pub slots : (lane slot : ℕ) → c.opens lane slot ≡ file_at lane slot v.shelf.opens
   pub shown : v.lost ≡ false → Shown setup v c
 
--- Of each operation something is known, such that each guess that agrees with it reads the history as a story that the machine goes along, to where
--- the core is.
+-- Of each operation something is known, such that some guess agrees with it, and each that does reads the history as a story that the machine goes along, to
+-- where the core is.
 pub record IsWhole (setup : Setup) (h : List Entry) (v : core.View) : Type 0 where
   pub found : ℕ → Reading
   pub knows : (x lane line : ℕ) (op : Op) → At h x (entries.Began lane line op) → Knows op (found x)
+  pub some : (g : Guess) × Agrees setup g found h
   pub each : (g : Guess) → Agrees setup g found h → IsWith setup g h v
 
 -- So it is of each history that the core goes with.
