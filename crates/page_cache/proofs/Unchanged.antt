@@ -6,7 +6,7 @@ use Rattle.indexmap.specs.IndexMap.{insert_entry}
 use Rattle.nfs_types.specs.declared.wcc.Stamp.{Stamp}
 use Rattle.page_cache.specs.declared.files.FileRecord.{FileRecord}
 use Rattle.page_cache.specs.Pages.{is_stamp}
-use Rattle.page_cache.specs.Full.{states_of}
+use Rattle.page_cache.specs.Full.{states_of, learned}
 use Rattle.page_cache.proofs.Inserts.{same}
 use Rattle.page_cache.proofs.Bounds.{states_insert}
 use Rattle.page_cache.proofs.States.{is_stamp-is}
@@ -23,7 +23,7 @@ insert-same file v (e ∷ files) is = by (same file e.0) is (λ h. insert-same f
 
 -- a file of which the known stamp is told again
 pub states-unchanged : (file : List ℕ) (was : FileRecord) (files : List (List ℕ × FileRecord)) → lookup (same file) files ≡ Some was
-    → (stamp : Stamp) → is_stamp stamp was.state.known ≡ true → states_of files ≡ insert_entry same (states_of files) file (record { known = Some stamp; mark = was.state.mark })
+    → (stamp : Stamp) → is_stamp stamp was.state.known ≡ true → states_of files ≡ insert_entry same (states_of files) file (learned was stamp)
 states-unchanged file was files is stamp known =
-    let state : was.state ≡ record { known = Some stamp; mark = was.state.mark } = ap (λ k. record { known = k; mark = was.state.mark }) (is_stamp-is stamp was.state.known known) in
+    let state : was.state ≡ learned was stamp = ap (λ k. record { known = k; mark = was.state.mark }) (is_stamp-is stamp was.state.known known) in
     ap states_of (sym (insert-same file was files is)) ∙ states_insert file was files ∙ ap (insert_entry same (states_of files) file) state

@@ -1,8 +1,9 @@
 -- Whole pages of 4,096 bytes: of each file those below a number, so that a change of the file needs no walk over them.
-use Rattle.std.specs.Prelude.{◌≡◌, ◌<◌, ◌≤◌, ℕ, true, List, [], ◌∷◌, length, map, nat_eq, ⊤}
+use Rattle.std.specs.Prelude.{◌≡◌, ◌<◌, ◌≤◌, ℕ, true, List, [], ◌∷◌, length, map, nat_eq, Some, ⊤}
 use Rattle.std.specs.Option.{option_map_or}
 use Rattle.std.specs.Cmp.Lexicographic.{pointwise}
 use Rattle.std.specs.Map.{lookup}
+use Rattle.nfs_types.specs.declared.wcc.Stamp.{Stamp}
 use Rattle.page_cache.specs.declared.place.PagePlace.{PagePlace}
 use Rattle.page_cache.specs.declared.state.FileState.{FileState}
 use Rattle.page_cache.specs.declared.files.FileRecord.{FileRecord}
@@ -10,6 +11,10 @@ use Rattle.page_cache.specs.declared.files.FileRecord.{FileRecord}
 -- what is known of the files
 abbrev pub states_of : List (List ℕ × FileRecord) → List (List ℕ × FileState)
 states_of files = map (λ e. (e.0, e.1.state)) files
+
+-- what is known of a file once this stamp is, at the mark that it had
+abbrev pub learned : FileRecord → Stamp → FileState
+learned was stamp = record { known = Some stamp; mark = was.state.mark }
 
 -- below which number a file's pages are whole
 abbrev pub full_below_of : List (List ℕ × FileRecord) → List ℕ → ℕ

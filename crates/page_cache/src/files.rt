@@ -4,7 +4,7 @@ ghost use Rattle.std.specs.Prelude.{◌≡◌, List, ℕ, [], None, Some, IsSome
 ghost use Rattle.std.specs.Cmp.Lexicographic.{pointwise};
 ghost use Rattle.std.specs.Map.{lookup};
 ghost use Rattle.indexmap.specs.IndexMap.{insert_entry};
-ghost use Rattle.page_cache.specs.Full.{states_of, full_below_of};
+ghost use Rattle.page_cache.specs.Full.{states_of, learned, full_below_of};
 
 use crate::state::{FileState, is_stamp};
 use indexmap::IndexMap;
@@ -104,7 +104,7 @@ impl Files {
     /// looked up.
     pub(crate) fn learn(&mut self, file: &Handle, was: &FileRecord, stamp: &Stamp, full_below: u64)
         requires { lookup (pointwise nat_eq file.now) self.old ≡ Some was.now }
-        ensures known { states_of self.new ≡ insert_entry (pointwise nat_eq) (states_of self.old) file.now (record { known = Some stamp.now; mark = was.now.state.mark }) }
+        ensures known { states_of self.new ≡ insert_entry (pointwise nat_eq) (states_of self.old) file.now (learned was.now stamp.now) }
         ensures bound { (f : List ℕ) → full_below_of self.new f ≡ (if pointwise nat_eq f file.now then full_below else full_below_of self.old f) }
     {
         if is_stamp(stamp, was.state.known) && full_below == was.full_below {
