@@ -5,7 +5,7 @@ ghost use Rattle.page_cache.specs.Slots.{index_in, FindsPage};
 ghost use Rattle.page_cache.specs.Sorted.{freed, IsRun};
 
 use crate::place::PagePlace;
-use crate::sorted::{count_near, free_run, free_slot, give_slot, holder_at, run_of};
+use crate::sorted::{count_near, free_run, free_slot, give_slot, holder_at, holds, run_of};
 use nfs_types::Handle;
 use std::alloc::Global;
 use std::marker::Model;
@@ -102,6 +102,9 @@ impl Places {
         requires alone { (t : ℕ) → t < 1024 → get_or self.old t None ≡ Some place → t ≡ slot }
         ensures { self.new ≡ set self.old slot (Some place) }
     {
+        if holds(&self.by_slot, slot, &place.file, place.index) {
+            return;
+        }
         let left = free_slot(&mut self.by_slot, &mut self.sorted, slot, self.oldest);
         let near = after_removal(self.near, left);
         let at = give_slot(&mut self.by_slot, &mut self.sorted, slot, place, near);

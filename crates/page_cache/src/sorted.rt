@@ -120,7 +120,7 @@ pub(crate) fn count_near(
 }
 
 /// Whether a slot holds a page of a file.
-fn holds(by_slot: &[Option<PagePlace>], slot: usize, file: &Handle, index: u64) -> bool
+pub(crate) fn holds(by_slot: &[Option<PagePlace>], slot: usize, file: &Handle, index: u64) -> bool
     requires { slot < length by_slot.now }
     ensures { result ≡ holds_page file.now index (get_or by_slot.now slot None) }
 {

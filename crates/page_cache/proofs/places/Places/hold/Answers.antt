@@ -1,4 +1,6 @@
-use Rattle.std.proofs.Common.{Some, None, arith}
+use Rattle.std.proofs.Common.{Some, None, get_or, set, sym, ap, ◌∙◌, arith}
+use Rattle.std.proofs.lemmas.List.{set-get_or}
+use Rattle.page_cache.proofs.Shown.{held-place}
 use Rattle.page_cache.proofs.SortedSlots.{alone-freed, set-twice}
 use Rattle.page_cache.proofs.places.Places.hold.Goals as goal
 
@@ -8,3 +10,10 @@ give_slot-at-requires-clause-alone c = rw c.free_slot-left.ensures.held
 
 pub returns : goal.returns
 returns c = rw (c.give_slot-at.ensures.held, c.free_slot-left.ensures.held, ← c.self.view_is) (set-twice c.self.inside.by_slot.items c.args.slot None (Some c.args.place))
+
+-- the slot holds the page already
+pub returns-then-holds : goal.returns-then-holds
+returns-then-holds c =
+    let held = c.self.inside.by_slot.items in
+    let is = held-place c.args.place (get_or held c.args.slot None) (rw c.deref.ensures.value at (sym c.holds.ensures ∙ c.if-holds.true)) in
+    rw (← c.self.view_is) (sym (ap (set held c.args.slot) (sym is) ∙ set-get_or held c.args.slot None))
