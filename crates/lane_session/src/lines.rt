@@ -5,14 +5,13 @@ ghost use Rattle.outside.specs.Causes.{Rose};
 ghost use Rattle.outside.specs.Clock.{ReadsClock};
 ghost use Rattle.world_model.specs.Counts.{tally_text};
 ghost use Rattle.world_model.specs.Told.{Relates};
-ghost use Rattle.world_model.specs.Transcript.{line_text};
 ghost use Rattle.lane_session.specs.Going.{NotesBeginning, TellsAnswer};
 ghost use Rattle.lane_session.specs.Streams.{Appends, IsFrontOf, ReadsOnce, Says};
 ghost use Rattle.lane_session.specs.Statuses.{CausedBy};
 
 use crate::halt::Halt;
 use crate::output::write_all;
-use nfs_script::{line, tally_line};
+use nfs_script::{tally_line, whole_line};
 use outside::{Clock, Link, Sink};
 use std::alloc::Global;
 use world_model::{Answer, Mark, Op, Tally};
@@ -57,22 +56,13 @@ pub fn tell_answer<L: Link, K: Sink>(
     ensures later { K.faults out.old ≤ K.faults out.new }
     ensures cause { CausedBy result (Rose (K.faults out.old) (K.faults out.new)) }
 {
-    let Ok(text) = text_of(alloc, lane, line, &answer) else {
+    let Ok(text) = whole_line(alloc, lane, line, &answer) else {
         return Err(Halt::Memory);
     };
     match link.note(Mark::Answered { lane, line, answer }) {
         Ok(()) => write_all(out, text.bytes()),
         Err(_) => Err(Halt::Memory),
     }
-}
-
-/// The line of an answer.
-fn text_of(alloc: Global, lane: u8, number: u32, answer: &Answer) -> Result<Blob, Memory>
-    ensures { IfOk result (λ text. text ≡ line_text lane number answer.now) }
-{
-    let mut text = Writer::new(alloc);
-    line(&mut text, lane, number, answer)?;
-    Ok(text.finish())
 }
 
 /// Writes the line of counts.

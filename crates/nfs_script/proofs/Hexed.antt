@@ -1,6 +1,8 @@
 -- Hex digits that are written piece by piece.
-use Rattle.std.proofs.Common.{◌≡◌, ◌<◌, ℕ, ◌/◌, ◌%◌, List, [], ◌∷◌, ◌++◌, length, take, drop, codes, slice_index, refl, sym, ap, ◌∙◌, append_assoc, arith}
-use Rattle.std.proofs.lemmas.List.{append-nil, take-append-drop}
+use Rattle.std.proofs.Common.{◌≡◌, ◌<◌, ◌≤◌, ℕ, ◌+◌, ◌*◌, ◌/◌, ◌%◌, List, [], ◌∷◌, ◌++◌, length, take, drop, codes, slice_index, refl, sym, ap, ◌∙◌, append_assoc, arith}
+use Rattle.std.proofs.lemmas.List.{append-nil, take-append-drop, take-take, drop-take}
+use Rattle.std.proofs.lemmas.Simd.{length-chunk, take_more_put_chunk}
+use Rattle.std.specs.Simd.Lanes.{chunk, put_chunk}
 use Rattle.hex.specs.Hex.{encode_lower, encode_with, lower_digits}
 use Rattle.world_model.specs.Transcript.{spaced}
 
@@ -30,3 +32,41 @@ pub hex_none : (old bytes : List ℕ) → length bytes ≡ 0 → old ≡ old ++ 
 unfolding encode_with
 hex_none old [] h = sym (append-nil old)
 hex_none old (x ∷ bytes) h = cc h
+
+-- the digits of the first bytes, and then those of the rest
+pub begun_all : (bytes digits : List ℕ) (at : ℕ) → take (2 * at) digits ≡ encode_lower (take at bytes) → take (2 * at) digits ++ encode_lower (drop at bytes) ≡ encode_lower bytes
+begun_all bytes digits at h =
+    ap (λ (k : List ℕ). k ++ encode_lower (drop at bytes)) h ∙ sym (encode-append lower_digits (take at bytes) (drop at bytes)) ∙ ap encode_lower (take-append-drop at bytes)
+
+take-add : (n m : ℕ) (bytes : List ℕ) → take n bytes ++ take m (drop n bytes) ≡ take (n + m) bytes
+take-add n m bytes =
+    ap (λ (k : List ℕ). k ++ take m (drop n bytes)) (sym (take-take n (n + m) bytes (omega arith)))
+    ∙ ap (λ (k : List ℕ). take n (take (n + m) bytes) ++ k) (sym (drop-take n m bytes)) ∙ take-append-drop n (take (n + m) bytes)
+
+length-encode : (table bytes : List ℕ) → length (encode_with table bytes) ≡ 2 * length bytes
+unfolding encode_with
+length-encode table [] = refl
+length-encode table (x ∷ bytes) = let rest = length-encode table bytes in omega (arith, rest)
+
+-- a vector of digits is written behind those of the bytes before
+pub begun_block : (bytes digits block : List ℕ) (at : ℕ) → at + 16 ≤ length bytes → length digits ≡ 2 * length bytes
+    → take (2 * at) digits ≡ encode_lower (take at bytes) → block ≡ encode_lower (chunk at 16 bytes)
+    → take (2 * (at + 16)) (put_chunk (2 * at) digits block) ≡ encode_lower (take (at + 16) bytes)
+begun_block bytes digits block at fits room begun is =
+    let long : length block ≡ 32 = ap length is ∙ length-encode lower_digits (chunk at 16 bytes) ∙ ap (λ (n : ℕ). 2 * n) (length-chunk at 16 bytes fits) in
+    let more = take_more_put_chunk (2 * at) digits block (2 * (at + 16)) (omega (arith, long)) (omega arith) in
+    more ∙ ap (λ (k : List ℕ). k ++ block) begun ∙ ap (λ (k : List ℕ). encode_lower (take at bytes) ++ k) is
+    ∙ sym (encode-append lower_digits (take at bytes) (chunk at 16 bytes)) ∙ ap encode_lower (take-add at 16 bytes)
+
+pub begun_none : (bytes digits : List ℕ) → take (2 * (16 * 0)) digits ≡ encode_lower (take (16 * 0) bytes)
+unfolding encode_with
+begun_none bytes digits = refl
+
+pub begun_more : (bytes digits : List ℕ) (block : ℕ) → take (2 * (16 * block + 16)) digits ≡ encode_lower (take (16 * block + 16) bytes)
+    → take (2 * (16 * (block + 1))) digits ≡ encode_lower (take (16 * (block + 1)) bytes)
+begun_more bytes digits block h = let next : 16 * (block + 1) ≡ 16 * block + 16 = omega arith in rw next h
+
+-- after the last block
+pub begun_blocks : (bytes digits : List ℕ) (block blocks : ℕ) → block ≡ blocks → take (2 * (16 * block)) digits ≡ encode_lower (take (16 * block) bytes)
+    → take (2 * (16 * blocks)) digits ≡ encode_lower (take (16 * blocks) bytes)
+begun_blocks bytes digits block blocks e h = rw e at h

@@ -5,4 +5,4 @@ pub mod Hexed
 pub mod Shown
 pub mod ScriptRows
 pub mod LineRows
-pub mod Pairs
+pub mod Lanes

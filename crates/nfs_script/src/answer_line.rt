@@ -16,12 +16,22 @@ pub fn line(out: &mut Writer, lane: u8, number: u32, answer: &Answer) -> Result<
     ensures ok { OnOk result (out.new ≡ out.old ++ line_text lane number answer.now) }
     ensures err { OnErr result (BeginsWith out.old out.new) }
 {
+    write_head(out, lane, number)?;
+    write_answer(out, answer)?;
+    out.raw(b"\n")?;
+    Ok(())
+}
+
+/// Appends the lane and the number of a line, each with a space behind it.
+#[tactic(auto, using(xdr_codec::proofs::Begins::begins_then, std::proofs::Common::append_assoc))]
+pub(crate) fn write_head(out: &mut Writer, lane: u8, number: u32) -> Result<(), Memory>
+    ensures ok { OnOk result (out.new ≡ out.old ++ (decimal lane ++ codes " " ++ decimal number ++ codes " ")) }
+    ensures err { OnErr result (BeginsWith out.old out.new) }
+{
     write_number(out, u64::from(lane))?;
     out.raw(b" ")?;
     write_number(out, u64::from(number))?;
     out.raw(b" ")?;
-    write_answer(out, answer)?;
-    out.raw(b"\n")?;
     Ok(())
 }
 

@@ -1,26 +1,27 @@
 //! Writes bytes as hex digits.
 
-ghost use Rattle.std.specs.Prelude.{◌≡◌, ◌++◌, ◌*◌, ◌/◌, ◌%◌, ◌≤◌, ◌∷◌, [], length, slice_index, OnOk, OnErr};
+ghost use Rattle.std.specs.Prelude.{◌≡◌, ◌++◌, ◌*◌, ◌+◌, ◌/◌, ◌%◌, ◌≤◌, ◌∷◌, [], length, map, slice_index, take, OnOk, OnErr};
 ghost use Rattle.hex.specs.Hex.{encode_lower, lower_digits};
 ghost use Rattle.xdr_codec.specs.Spelling.{BeginsWith};
 ghost use Rattle.world_model.specs.Transcript.{spaced};
 
+use std::simd::prelude::*;
 use xdr_codec::{Memory, Writer};
-
-/// One in each byte of a word of two.
-const ONES: u16 = 0x0101;
-
-/// Six in each byte: it lifts a number above nine to sixteen and more.
-const SIXES: u16 = 0x0606;
-
-/// The numeral zero in each byte.
-const ZEROS: u16 = 0x3030;
-
-/// How much further a letter stands among the characters than the numeral before it would.
-const LETTER: u16 = 39;
 
 /// How many bytes are written at a time.
 const PIECE: usize = 1024;
+
+/// How many bytes make a vector.
+const BLOCK: usize = 16;
+
+/// The digits, each at its number.
+const DIGITS: [u8; 16] = *b"0123456789abcdef";
+
+/// The lanes of two vectors by turns. Those of the second are counted on from the first's.
+const ORDER: [usize; 32] = [
+    0, 16, 1, 17, 2, 18, 3, 19, 4, 20, 5, 21, 6, 22, 7, 23, 8, 24, 9, 25, 10, 26, 11, 27, 12, 28,
+    13, 29, 14, 30, 15, 31,
+];
 
 /// Appends the lower-case hex digits of bytes after a space, and nothing where there are no bytes.
 #[tactic(auto, using(xdr_codec::proofs::Begins::begins_then, std::proofs::Common::append_assoc, crate::proofs::Hexed::spaced_hex, crate::proofs::Hexed::hex_none))]
@@ -71,26 +72,63 @@ pub(crate) fn write_pair(out: &mut Writer, byte: u8) -> Result<(), Memory>
     write_through(out, &[byte], &mut [0; 2])
 }
 
-/// Writes the lower-case hex digits of bytes into room for just these. Both digits of a byte are computed in one word of two
-/// bytes, and not looked up, so that a compiler makes vectors of the loop.
-fn encode(bytes: &[u8], digits: &mut [u8])
+/// Writes the lower-case hex digits of bytes into room for just these: by vectors, and of what is left byte by byte.
+pub(crate) fn encode(bytes: &[u8], digits: &mut [u8])
     requires { length digits.old ≡ 2 * length bytes.now }
     ensures { digits.new ≡ encode_lower bytes.now }
 {
-    for at in 0..bytes.len() {
-        let word = pair(bytes[at]);
-        digits[2 * at] = (word % 256) as u8;
-        digits[2 * at + 1] = (word / 256) as u8;
+    let blocks = bytes.len() / BLOCK;
+    for block in 0..blocks {
+        encode_block(bytes, BLOCK * block, digits);
+    }
+    encode_rest(bytes, BLOCK * blocks, digits);
+}
+
+/// Writes the digits of the sixteen bytes from a place on.
+#[inline(always)]
+fn encode_block(bytes: &[u8], at: usize, digits: &mut [u8])
+    requires fits { at + 16 ≤ length bytes.now }
+    requires room { length digits.old ≡ 2 * length bytes.now }
+    requires begun { take (2 * at) digits.old ≡ encode_lower (take at bytes.now) }
+    ensures { take (2 * (at + 16)) digits.new ≡ encode_lower (take (at + 16) bytes.now) }
+{
+    digits_of(u8x16::from_slice(&bytes[at..])).copy_to_slice(&mut digits[2 * at..]);
+}
+
+/// Writes the digits of the bytes from a place on.
+fn encode_rest(bytes: &[u8], from: usize, digits: &mut [u8])
+    requires fits { from ≤ length bytes.now }
+    requires room { length digits.old ≡ 2 * length bytes.now }
+    requires begun { take (2 * from) digits.old ≡ encode_lower (take from bytes.now) }
+    ensures { digits.new ≡ encode_lower bytes.now }
+{
+    for at in from..bytes.len() {
+        let byte = bytes[at];
+        digits[2 * at] = DIGITS[usize::from(byte / 16)];
+        digits[2 * at + 1] = DIGITS[usize::from(byte % 16)];
     }
 }
 
-/// Both lower-case hex digits of a byte, the first of them in the lower byte of the word.
-fn pair(byte: u8) -> u16
-    ensures first { result % 256 ≡ slice_index lower_digits (byte / 16) }
-    ensures last { result / 256 ≡ slice_index lower_digits (byte % 16) }
+/// The digits of sixteen bytes, the first of each before the last.
+#[inline(always)]
+fn digits_of(bytes: u8x16) -> u8x32
+    ensures { result ≡ encode_lower bytes }
 {
-    let byte = u16::from(byte);
-    let numbers = (byte + byte % 16 * 4096) / 16;
-    let letters = ((numbers + SIXES) / 16) & ONES;
-    numbers + ZEROS + letters * LETTER
+    first_digits(bytes).shuffle(last_digits(bytes), ORDER)
+}
+
+/// The digits of the high four bits.
+#[inline(always)]
+fn first_digits(bytes: u8x16) -> u8x16
+    ensures { result ≡ map (λ byte. slice_index lower_digits (byte / 16)) bytes }
+{
+    u8x16::from_array(DIGITS).swizzle_dyn(bytes >> u8x16::splat(4))
+}
+
+/// The digits of the low four bits.
+#[inline(always)]
+fn last_digits(bytes: u8x16) -> u8x16
+    ensures { result ≡ map (λ byte. slice_index lower_digits (byte % 16)) bytes }
+{
+    u8x16::from_array(DIGITS).swizzle_dyn(bytes & u8x16::splat(15))
 }

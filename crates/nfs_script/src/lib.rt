@@ -9,6 +9,7 @@ mod commands;
 mod fault;
 mod file_commands;
 mod hex_text;
+mod made_line;
 mod path_commands;
 mod refused_mount;
 mod refused_script;
@@ -20,6 +21,7 @@ mod words;
 
 pub use answer_line::line;
 pub use fault::{ParseFault, ScriptFault};
+pub use made_line::whole_line;
 pub use refused_mount::mount_line;
 pub use refused_script::refusal_line;
 pub use script::{Script, ScriptLine, parse};
