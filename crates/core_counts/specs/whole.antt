@@ -1,3 +1,5 @@
+pub mod Beside
 pub mod Lanes
+pub mod Means
 pub mod Reading
 pub mod Whole

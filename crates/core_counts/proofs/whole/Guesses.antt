@@ -28,7 +28,7 @@ use Rattle.bond_writes.specs.Mirrors.{call_of}
 use Rattle.bond_writes.specs.Story.{plain, denied, plain_op, flushes}
 use Rattle.bond_writes.specs.Story as story
 use Rattle.core_counts.specs.coarse.Runs.{heard_as}
-use Rattle.core_counts.specs.whole.Reading.{Reading, unread, sure, put_of, opening, either, Reads, Guess, Agrees}
+use Rattle.core_counts.specs.whole.Reading.{Reading, unread, sure, put_of, opening, Reads, Guess, Agrees}
 use Rattle.core_counts.proofs.whole.SetsUp.{set-up-plain, only-before}
 use Rattle.core_counts.proofs.whole.Unasked.{nfs-of}
 
@@ -236,11 +236,14 @@ module _ (setup : Setup) where
 
     -- ---- a guess
 
-    pub some-guess : (found : ℕ → Reading) (h : List Entry) (v : View) → Reaches machine_of setup h v → OnlySetsUp h → (g : Guess) × Agrees setup g found h
+    -- it reads as of no file what isn't sure
+    pub some-guess : (found : ℕ → Reading) (h : List Entry) (v : View) → Reaches machine_of setup h v → OnlySetsUp h
+        → (g : Guess) × Agrees setup g found h × ((x : ℕ) → (g.op x ≡ plain_op) ⊎ (found x ≡ sure (g.op x)))
     some-guess found h v r only =
         let d = decoded h v r only in (
           record { op = λ x. op-of (found x); call = d.call; reply = d.reply; event = λ n. flushes },
           record { ops = λ x. reads-op (found x); calls = d.calls_; replies = d.replies },
+          λ x. plain-or (found x),
         )
       where
         op-of : Reading → story.Op
@@ -248,11 +251,15 @@ module _ (setup : Setup) where
         op-of (sure o) = o
         op-of (put_of offset bytes) = plain_op
         op-of (opening slot) = plain_op
-        op-of (either o) = plain_op
 
         reads-op : (r : Reading) → Reads r (op-of r)
         reads-op unread = tt
         reads-op (sure o) = refl
         reads-op (put_of offset bytes) = inl refl
         reads-op (opening slot) = inl refl
-        reads-op (either o) = inl refl
+
+        plain-or : (r : Reading) → (op-of r ≡ plain_op) ⊎ (r ≡ sure (op-of r))
+        plain-or unread = inl refl
+        plain-or (sure o) = inr refl
+        plain-or (put_of offset bytes) = inl refl
+        plain-or (opening slot) = inl refl

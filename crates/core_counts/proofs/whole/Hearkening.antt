@@ -95,10 +95,13 @@ module _ (mt : Mounted) (setup : Setup) (h : List Entry) (old : View) (r : cores
       reply-is (machine_of mt) setup found_ g h old rec xid call asked agrees r may named waits
       (it mt setup h old r found kn basis wholly c s.shown rec xid call at waits place new t basis_new.flying.flown later ahead (from l) o own.state.stage s.seq s.slots own.state.at_work quiet).spells
 
+  -- the machine comes there over the entry
+  pub over : (b : coarse.View) → H b → coarse.Hears c b (unwrap_or (xid_at rec) 0) (g.reply (length h))
+  over b k = subst (λ (n : ℕ). coarse.Hears c b n (g.reply (length h))) (sym (ap (λ (z : Option ℕ). unwrap_or z 0) named)) (subst (coarse.Hears c b xid) (sym reply) k.hears)
+
   pub start : (b : coarse.View) → H b → IsStart (story_of g later) l c b
   start b k = record {
-    reached = story-enters g h (entries.Delivered rec) c b reached
-        (subst (λ (n : ℕ). coarse.Hears c b n (g.reply (length h))) (sym (ap (λ (z : Option ℕ). unwrap_or z 0) named)) (subst (coarse.Hears c b xid) (sym reply) k.hears));
+    reached = story-enters g h (entries.Delivered rec) c b reached (over b k);
     lanes = λ n other. k.hears.lanes.lane n;
     found = k.lost ∙ s.found;
     seq = let same = k.hears.adds.seq in omega (arith, same);

@@ -38,6 +38,7 @@ use Rattle.bond_writes.specs.Machine.{View, Work, starts, joins, ready, Lane, id
 use Rattle.bond_writes.specs.Reaches.{Reaches, moves}
 use Rattle.bond_writes.specs.Story.{Op, write_op, put_op, sync_op, close_op, cut_op, open_op, plain_op, refused}
 use Rattle.bond_writes.specs.Story as story
+use Rattle.core_counts.specs.whole.Beside.{Moves, stays, more}
 use Rattle.core_counts.specs.whole.Lanes.{WriteStands, SyncStands, CloseStands, TruncateStands, PutStands, FileStands, WayStands, ArrivedStands, PathStands, Stands, StateStands, LanesStand}
 use Rattle.core_counts.specs.whole.Reading.{Guess, answered_as}
 use Rattle.core_counts.proofs.whole.Relation.{SlotsStand}
@@ -175,6 +176,16 @@ lost-lanes-stand g h lanes opens c s = record {
   idle_ = s.idle_;
 }
 
+-- ---- moves, one after the other
+
+pub moves-then : (a b c : View) → Moves a b → Moves b c → Moves a c
+moves-then a _ _ first (stays c) = first
+moves-then a _ _ first (more b c d before m) = more a c d (moves-then a b c first before) m
+
+pub moves-reach : (told : List story.Entry) (b c : View) → Moves b c → Reaches told b → Reaches told c
+moves-reach told _ _ (stays c) r = r
+moves-reach told _ _ (more b c d before m) r = moves told d c (moves-reach told b c before r) m
+
 -- ---- each lane under way is refused
 
 -- the lane's operation, with its answer or without
@@ -195,19 +206,19 @@ work-in : (o : Op) (state : State) (work : Work) → StateStands o state work �
 work-in o (Busy machine) work s = unready o machine work s
 work-in o (Over answer) work s = s
 
-module _ (told : List story.Entry) (g : Guess) (h : List Entry) where
+module _ (g : Guess) (h : List Entry) where
   record OneRefused (c : View) (number : ℕ) (state : State) : Type 0 where
     pub d : View
-    pub reached : Reaches told d
+    pub moved : Moves c d
     pub lost : d.lost ≡ true
     pub opens : (l s : ℕ) → d.opens l s ≡ c.opens l s
     pub own : LostLane g h d (record { number = number; state = lost_state state })
     pub others : (k : ℕ) → k ≢ number → d.lane k ≡ c.lane k
 
-  one-refused : (c : View) (number : ℕ) (state : State) → Reaches told c → c.lost ≡ true → LaneAt g h c number state → OneRefused c number state
-  one-refused c number (Busy machine) r lost at = record {
+  one-refused : (c : View) (number : ℕ) (state : State) → c.lost ≡ true → LaneAt g h c number state → OneRefused c number state
+  one-refused c number (Busy machine) lost at = record {
     d = record c { lane = at_lane number (busy at.x (g.op at.x) (ready refused)) c.lane };
-    reached = moves told (record c { lane = at_lane number (busy at.x (g.op at.x) (ready refused)) c.lane }) c r (refused-now c number at.x (g.op at.x) at.work lost at.is at.how);
+    moved = more c c (record c { lane = at_lane number (busy at.x (g.op at.x) (ready refused)) c.lane }) (stays c) (refused-now c number at.x (g.op at.x) at.work lost at.is at.how);
     lost = lost;
     opens = λ l s. refl;
     own = record {
@@ -221,9 +232,9 @@ module _ (told : List story.Entry) (g : Guess) (h : List Entry) where
     };
     others = λ k apart. other-lane number (busy at.x (g.op at.x) (ready refused)) c.lane k apart;
   }
-  one-refused c number (Over answer) r lost at = record {
+  one-refused c number (Over answer) lost at = record {
     d = c;
-    reached = r;
+    moved = stays c;
     lost = lost;
     opens = λ l s. refl;
     own = record { x = at.x; line = at.line; op = at.op; answer = answer; over = refl; began = at.began; is = at.is ∙ ap (λ (w : Work). busy at.x (g.op at.x) w) at.how };
@@ -232,7 +243,7 @@ module _ (told : List story.Entry) (g : Guess) (h : List Entry) where
 
   record AllRefused (c : View) (lanes : List core.Lane) : Type 0 where
     pub d : View
-    pub reached : Reaches told d
+    pub moved : Moves c d
     pub lost : d.lost ≡ true
     pub opens : (l s : ℕ) → d.opens l s ≡ c.opens l s
     pub each : (at : ℕ) (lane : core.Lane) → slice_get lanes at ≡ Some lane → LostLane g h d (lost_lane lane)
@@ -251,7 +262,7 @@ module _ (told : List story.Entry) (g : Guess) (h : List Entry) where
   all-then : (c : View) (lane : core.Lane) (lanes : List core.Lane) → AreApart (lane ∷ lanes) → (first : OneRefused c lane.number lane.state) → AllRefused first.d lanes → AllRefused c (lane ∷ lanes)
   all-then c lane lanes apart first rest = record {
     d = rest.d;
-    reached = rest.reached;
+    moved = moves-then c first.d rest.d first.moved rest.moved;
     lost = rest.lost;
     opens = λ l s. rest.opens l s ∙ first.opens l s;
     each = by;
@@ -273,25 +284,25 @@ module _ (told : List story.Entry) (g : Guess) (h : List Entry) where
       by zero l there = subst (λ (z : core.Lane). LostLane g h rest.d (lost_lane z)) (sym (some-lane lane l there)) own
       by (suc at) l there = rest.each at l there
 
-  all-refused : (c : View) (lanes : List core.Lane) → Reaches told c → c.lost ≡ true → AreApart lanes
+  all-refused : (c : View) (lanes : List core.Lane) → c.lost ≡ true → AreApart lanes
       → ((at : ℕ) (lane : core.Lane) → slice_get lanes at ≡ Some lane → LaneAt g h c lane.number lane.state) → AllRefused c lanes
-  all-refused c [] r lost apart each = record { d = c; reached = r; lost = lost; opens = λ l s. refl; each = λ at lane there. absurd cc; others = λ k none. refl }
-  all-refused c (lane ∷ lanes) r lost apart each =
-      let first = one-refused c lane.number lane.state r lost (each zero lane refl) in
-      all-then c lane lanes apart first (all-refused first.d lanes first.reached first.lost (tail-apart lane lanes apart) (λ at l there.
+  all-refused c [] lost apart each = record { d = c; moved = stays c; lost = lost; opens = λ l s. refl; each = λ at lane there. absurd cc; others = λ k none. refl }
+  all-refused c (lane ∷ lanes) lost apart each =
+      let first = one-refused c lane.number lane.state lost (each zero lane refl) in
+      all-then c lane lanes apart first (all-refused first.d lanes first.lost (tail-apart lane lanes apart) (λ at l there.
       let o = each (suc at) l there in
       record { x = o.x; line = o.line; op = o.op; work = o.work; began = o.began; is = first.others l.number (head-apart lane lanes apart at l there) ∙ o.is; how = o.how }))
 
   -- the session is lost
-  pub record IsLost (lanes : List core.Lane) (opens : Opens) : Type 0 where
+  pub record IsLost (c : View) (lanes : List core.Lane) (opens : Opens) : Type 0 where
     pub d : View
-    pub reached : Reaches told d
+    pub moved : Moves c d
     pub stands : LostStands g h lanes opens d
 
-  pub lost-now : (c : View) (lanes : List core.Lane) (opens : Opens) → Reaches told c → AreApart lanes → LanesStand g h lanes c → SlotsStand opens c → IsLost (map lost_lane lanes) opens
-  lost-now c lanes opens r apart stand slots = record {
+  pub lost-now : (c : View) (lanes : List core.Lane) (opens : Opens) → AreApart lanes → LanesStand g h lanes c → SlotsStand opens c → IsLost c (map lost_lane lanes) opens
+  lost-now c lanes opens apart stand slots = record {
     d = all.d;
-    reached = all.reached;
+    moved = moves-then c lost_view all.d loses_now all.moved;
     stands = record {
       lost = all.lost;
       over_ = λ at lane there.
@@ -307,8 +318,8 @@ module _ (told : List story.Entry) (g : Guess) (h : List Entry) where
       lost_view : View
       lost_view = record c { lost = true }
 
-      moved : Reaches told lost_view
-      moved = moves told lost_view c r (loses (record {
+      loses_now : Moves c lost_view
+      loses_now = more c c lost_view (stays c) (loses (record {
         lanes = record { lane = λ l. refl };
         calls = record { next = refl; wait = λ z. refl };
         adds = record { seq = refl; added = λ w. refl; lost = λ e. refl };
@@ -317,6 +328,6 @@ module _ (told : List story.Entry) (g : Guess) (h : List Entry) where
       }))
 
       all : AllRefused lost_view lanes
-      all = all-refused lost_view lanes moved refl apart (λ at lane there.
+      all = all-refused lost_view lanes refl apart (λ at lane there.
           let o = stand.busy_ at lane there in
           record { x = o.x; line = o.line; op = o.op; work = o.work; began = o.began; is = o.is; how = work-in (g.op o.x) lane.state o.work o.stands })

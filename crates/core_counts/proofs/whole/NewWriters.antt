@@ -33,7 +33,6 @@ use Rattle.core_counts.proofs.whole.Carrying.{Carried, from-before}
 use Rattle.core_counts.proofs.whole.Guarding.{Writers}
 use Rattle.core_counts.proofs.whole.OldAdds.{old-added}
 use Rattle.core_counts.proofs.whole.Relation.{Does}
-use Rattle.core_counts.proofs.whole.Steps.{known0}
 use Rattle.core_counts.proofs.whole.Writers.{put-late, stirs-written, starts-written, takes-written}
 
 -- what has its bytes in under an old number had them in
@@ -43,7 +42,7 @@ olds l c b d same q seq does w a is low = sym (same w) ∙ old-added l b d does 
 module _ (mt : Mounted) (terms : Terms) (setup : Setup) (Hist : List Entry) (V : View) (with_ : GoesWith mt terms setup Hist V) (roots : KnowsRoot terms.origin Hist mt.root) (named : PutsNamed Hist)
     (only : OnlySetsUp Hist) where
   abbrev Now : List Entry → View → Type 0
-  Now h v = Carried known0 mt terms setup Hist V with_ roots named only h v
+  Now h v = Carried mt terms setup Hist V with_ roots named only h v
 
   pub new-stirs : (h : List Entry) (old new : View) (at : ℕ) (kn : Known setup h old) (t : Stirs old at new) → Now h old → (rest : List Entry) → h ++ rest ≡ Hist → (c b d : coarse.View)
       → ((w : ℕ) → b.added w ≡ c.added w) → b.seq ≡ old.shelf.seq → Does t.number b d → Writers old c → Writers new d
@@ -58,7 +57,7 @@ module _ (mt : Mounted) (terms : Terms) (setup : Setup) (Hist : List Entry) (V :
   new-starts h old new lane line op r found kn idle fits t i rest on c b d same seq does writers =
       starts-written mt terms setup Hist h (h ++ entries.Began lane line op ∷ []) old new i.stands
       (λ f place. (stands-all mt terms setup Hist V with_ roots named f place).starts h old new lane line op (last_reading 0 h) r found kn idle fits t (i.stands f place))
-      (entries.Began lane line op ∷ rest) rest (from-before known0 mt terms setup Hist V with_ roots named only h (entries.Began lane line op) rest on) on c d
+      (entries.Began lane line op ∷ rest) rest (from-before Hist h (entries.Began lane line op) rest on) on c d
       (olds lane c b d same old.shelf.seq seq does) writers with_.nocto lane line op (last_reading 0 h) refl r found kn idle t
 
   pub new-takes : (h : List Entry) (old new : View) (rec : List ℕ) (xid : ℕ) (call : Waiting Purpose) (at : ℕ) (r : Reaches (machine_of mt) setup h old) (found : old.lost ≡ false) (kn : Known setup h old)
@@ -69,6 +68,6 @@ module _ (mt : Mounted) (terms : Terms) (setup : Setup) (Hist : List Entry) (V :
   new-takes h old new rec xid call at r found kn fin hears named_ waits place t i rest on c b d same seq does s_ reached x o work now reads writers =
       takes-written mt terms setup Hist h (h ++ entries.Delivered rec ∷ []) old new i.stands
       (λ f place_. (stands-all mt terms setup Hist V with_ roots named f place_).takes h old new rec xid call at r found kn fin hears named_ waits place t (i.stands f place_))
-      (entries.Delivered rec ∷ rest) rest (from-before known0 mt terms setup Hist V with_ roots named only h (entries.Delivered rec) rest on) on c d
+      (entries.Delivered rec ∷ rest) rest (from-before Hist h (entries.Delivered rec) rest on) on c d
       (olds t.number c b d same old.shelf.seq seq does) writers rec xid call at refl r found kn i.wholly waits place t i.room o work reads
       (λ puts w a is low. put-late s_ t.number b d does reached x o work now puts w a is (subst (λ (n : ℕ). n < a.number) (sym seq) low))

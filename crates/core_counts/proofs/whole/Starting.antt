@@ -126,7 +126,7 @@ module _ (mt : Mounted) (setup : Setup) (h : List Entry) (old new : View) (lane 
   abbrev HasSlot : Type 0
   HasSlot = (f : story.File) (slot : ℕ) → o ≡ story.close_op f slot → c.opens lane slot ≡ Some f
 
-  begun : HasSlot → coarse.Starts c c1 x lane o
+  pub begun : HasSlot → coarse.Starts c c1 x lane o
   begun held = record {
     slotted = slotted-of c lane o held;
     lanes = turns-at c lane coarse.idle (coarse.busy x o coarse.starts) free;

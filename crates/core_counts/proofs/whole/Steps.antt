@@ -1,5 +1,5 @@
 -- Where a lane makes a step, the machine that goes with the core goes on too; but for what is known elsewhere of calls that cut a file, and of a put that gives up.
-use Rattle.std.proofs.Common.{◌≡◌, ◌≢◌, ◌≤◌, ◌⊎◌, inl, inr, ℕ, Bool, true, false, cond, nat_eq, List, [], ◌∷◌, ◌++◌, length, Some, None, position, Ok, Result, slice_get, refl, sym, ap, subst, ◌∙◌, arith}
+use Rattle.std.proofs.Common.{◌≡◌, ◌≢◌, ◌≤◌, ◌⊎◌, inl, inr, ℕ, Bool, true, false, cond, nat_eq, List, [], ◌∷◌, ◌++◌, length, Some, None, position, Ok, Result, slice_get, unwrap_or, refl, sym, ap, subst, ◌∙◌, arith}
 use Rattle.std.specs.List.{list_any}
 use Rattle.std.proofs.lemmas.Bool.{eqb-true, eqb-false, ne_eqb}
 use Rattle.rpc_message.specs.Call.{xid_at}
@@ -74,6 +74,7 @@ use Rattle.core_counts.proofs.whole.Knowing.{Base, HasOnce, IsBeside, known_of, 
 use Rattle.core_counts.proofs.whole.Lasting.{IsStart, Went}
 use Rattle.core_counts.proofs.whole.LostLanes.{other-lane}
 use Rattle.core_counts.proofs.whole.MachineKept.{Kept}
+use Rattle.core_counts.proofs.whole.Meant.{Meant}
 use Rattle.core_counts.proofs.whole.OwnNew.{OwnNew, own-new}
 use Rattle.core_counts.proofs.whole.OwnSaves.{settles}
 use Rattle.core_counts.proofs.whole.Readings.{Ties, found_in, found-less, resumes-ties, takes-ties}
@@ -82,7 +83,7 @@ use Rattle.core_counts.proofs.whole.Seating.{base_of, seated-now, stirs-seated, 
 use Rattle.core_counts.proofs.whole.Shared.{machine-open}
 use Rattle.core_counts.proofs.whole.Sim.{LaneSim}
 use Rattle.core_counts.proofs.whole.Sized.{stirs-sized, starts-sized, takes-sized}
-use Rattle.core_counts.proofs.whole.Starting.{apart-of, from_then, from-own, from-other, c1, kept-then, reached-then, starts-went}
+use Rattle.core_counts.proofs.whole.Starting.{apart-of, from_then, from-own, from-other, begun, c1, kept-then, reached-then, starts-went}
 use Rattle.core_counts.proofs.whole.Stepping.{leads-others, stirs-went}
 use Rattle.core_counts.proofs.whole.Stories.{agrees-before, agrees-less}
 use Rattle.core_counts.proofs.whole.Unfound.{unmade-finds}
@@ -104,12 +105,12 @@ GivesPut setup new H l x o wsize old = (s : Shelf) (u : ℕ) (file : List ℕ) (
     → HasOnce (base_of old) l (Some file) s.order → IsBeside (base_of old) l s.puts → EachSound s.back → LedAt setup new.calls H l x o wsize no_turn (turned story.refused) new.shelf
 
 module _ (mt : Mounted) (terms : Terms) (setup : Setup) (Hist : List Entry) (V : View) (with_ : GoesWith mt terms setup Hist V) (roots : KnowsRoot terms.origin Hist mt.root) (named : PutsNamed Hist)
-    (only : OnlySetsUp Hist) where
+    (only : OnlySetsUp Hist) (R : Guess → coarse.View → Type 0) where
   abbrev Now : List Entry → View → Type 0
-  Now h v = Carried known0 mt terms setup Hist V with_ roots named only h v
+  Now h v = Carried mt terms setup Hist V with_ roots named only h v
 
   abbrev Here : (ℕ → ℕ) → Guess → List Entry → View → Type 0
-  Here from g h v = IsAt known0 setup from g h v
+  Here from g h v = IsAt known0 setup R from g h v
 
   placed : (h : List Entry) (v : View) → Now h v → Placed v
   placed h v i = (i.stands [] 0).placed
@@ -119,7 +120,7 @@ module _ (mt : Mounted) (terms : Terms) (setup : Setup) (Hist : List Entry) (V :
 
   -- ---- it goes on by itself
 
-  module _ (h : List Entry) (old new : View) (at : ℕ) (kn : Known setup h old) (ahead : Ahead (machine_of mt) setup h new) (t : Stirs old at new) (i : Now h old) (w : Whole known0 setup h old) where
+  module _ (h : List Entry) (old new : View) (at : ℕ) (kn : Known setup h old) (ahead : Ahead (machine_of mt) setup h new) (t : Stirs old at new) (i : Now h old) (w : Whole known0 terms.modes terms.origin Hist setup R h old) where
     abbrev v_stirs : View
     v_stirs = with_state old at t.number (Busy t.after) t.shelf
 
@@ -149,7 +150,7 @@ module _ (mt : Mounted) (terms : Terms) (setup : Setup) (Hist : List Entry) (V :
         where
           by : IsWhy setup new.calls H l (w.from l) o old.wsize no_turn k z.file z.old → LedAt setup new.calls H l (w.from l) o old.wsize no_turn (turned story.refused) new.shelf
           by (closes lane slot label) =
-              stirs-given mt terms.modes with_.nocto setup h old new kn (drops h old i) g a.c (lanes-stand base0 (Unit {0}) setup h old w g agrees a) H l
+              stirs-given mt terms.modes with_.nocto setup h old new kn (drops h old i) g a.c (lanes-stand base0 (Unit {0}) terms.modes terms.origin Hist setup R h old w g agrees a) H l
               (λ b is n other. ap (λ (c : coarse.View). c.lane n) is) (w.from l) o (work_of own.state.stage) own.state.at_work new.calls old.wsize no_turn k at t refl an there refused st z slot label.1
           by (puts lane offset bytes label alone first once beside) =
               gives z.old z.u z.file offset bytes label.1 z.led z.given (subst (λ (n : ℕ). list_any (is_other n z.file) z.old.puts ≡ false) label.0 alone)
@@ -189,14 +190,15 @@ module _ (mt : Mounted) (terms : Terms) (setup : Setup) (Hist : List Entry) (V :
             let away : n ≢ at = eqb-false n at is in
             rest n z (sym (leads-others v_stirs new at t.number t.after t.next t.leads n away ∙ set-other old.lanes at n (record { number = t.number; state = Busy t.after }) away) ∙ there)
 
-    pub stirs-whole : ((g : Guess) → Agrees setup g w.found h → Here w.from g h new) → Whole known0 setup h new
-    stirs-whole each = record {
+    pub stirs-whole : (S : Guess → coarse.View → Type 0) → Meant terms.modes terms.origin Hist h new w.from w.found → ((g : Guess) → Agrees setup g w.found h → IsAt known0 setup S w.from g h new) → Whole known0 terms.modes terms.origin Hist setup S h new
+    stirs-whole S means each = record {
       from = w.from;
       found = w.found;
       began = stirs-each (λ z. IsBegun h (w.from z.number) z.number) (λ s there is. w.began at (record { number = t.number; state = Busy t.machine }) t.there) (λ n z there. w.began n z there);
       ties = stirs-each (λ z. StateTie z.number z.state (w.found (w.from z.number)))
           (λ s there is. subst (λ (q : State). StateTie t.number q (w.found (w.from t.number))) (sym is) own-stirs.tie) (λ n z there. w.ties n z there);
       read = w.read;
+      means = means;
       each = each;
     }
 
@@ -204,7 +206,7 @@ module _ (mt : Mounted) (terms : Terms) (setup : Setup) (Hist : List Entry) (V :
 
   module _ (h : List Entry) (old new : View) (lane line : ℕ) (op : world.Op) (r : Reaches (machine_of mt) setup h old) (found_ : old.lost ≡ false) (kn : Known setup h old) (idle : IsIdle lane old.lanes)
       (fits : Fits (machine_of mt lane op)) (t : StartsLane (counted old (last_reading 0 h)) lane (machine_of mt lane op) new)
-      (ahead : Ahead (machine_of mt) setup (h ++ entries.Began lane line op ∷ []) new) (i : Now h old) (w : Whole known0 setup h old) where
+      (ahead : Ahead (machine_of mt) setup (h ++ entries.Began lane line op ∷ []) new) (i : Now h old) (w : Whole known0 terms.modes terms.origin Hist setup R h old) where
     abbrev pub later : List Entry
     later = h ++ entries.Began lane line op ∷ []
 
@@ -273,6 +275,11 @@ module _ (mt : Mounted) (terms : Terms) (setup : Setup) (Hist : List Entry) (V :
       held : (f : story.File) (slot : ℕ) → o_then ≡ story.close_op f slot → a.c.opens lane slot ≡ Some f
       held f slot is = a.sim.slots.holds lane slot ∙ slotted-at o_then f slot is lane op old.shelf.opens reads
 
+      -- the machine comes there over the entry
+      pub over_then : (b : coarse.View) → H_then b → coarse.Starts a.c b x lane o_then
+      over_then b is = subst (λ (c : coarse.View). coarse.Starts a.c c x lane o_then) (sym is)
+          (begun mt setup h old new lane line op (last_reading 0 h) kn idle fits t ahead i.basis basis_new known0 w.from g a.c a.reached a.sim held)
+
       pub reached_then : (b : coarse.View) → H_then b → reaching.Reaches (story_of g later) b
       reached_then b is = subst (reaching.Reaches (story_of g later)) (sym is)
           (reached-then mt setup h old new lane line op (last_reading 0 h) kn idle fits t ahead i.basis basis_new known0 w.from g a.c a.reached a.sim held)
@@ -289,7 +296,7 @@ module _ (mt : Mounted) (terms : Terms) (setup : Setup) (Hist : List Entry) (V :
                 let is : o_then ≡ story.close_op z.file slot = label.1 in
                 let same : op ≡ ops.Close slot = closes-is o_then z.file slot is lane op old.shelf.opens reads in
                 starts-given mt terms.modes with_.nocto setup h old new lane line slot (last_reading 0 h) r found_ kn (drops h old i) idle
-                (subst (λ (q : world.Op). StartsLane (counted old (last_reading 0 h)) lane (machine_of mt lane q) new) same t) g a.c (lanes-stand base0 (Unit {0}) setup h old w g (before g agrees) a) H_then
+                (subst (λ (q : world.Op). StartsLane (counted old (last_reading 0 h)) lane (machine_of mt lane q) new) same t) g a.c (lanes-stand base0 (Unit {0}) terms.modes terms.origin Hist setup R h old w g (before g agrees) a) H_then
                 (λ b from n other. ap (λ (c : coarse.View). c.lane n) from ∙ other-lane lane (coarse.busy x o_then coarse.starts) a.c.lane n other) x o_then new.calls old.wsize no_turn k_then at lane refl an there refused st z
                 is (slotted-at o_then z.file slot is lane op old.shelf.opens reads)
             by (puts number offset bytes label alone first once beside) =
@@ -330,8 +337,8 @@ module _ (mt : Mounted) (terms : Terms) (setup : Setup) (Hist : List Entry) (V :
             of (inl was) = rest n z was (apart-of lane old.lanes idle.other n z was)
             of (inr last) = absurd (eqb-false n at is last.0)
 
-    pub starts-whole : ((g : Guess) → Agrees setup g found_then later → Here from_now g later new) → Whole known0 setup later new
-    starts-whole each = record {
+    pub starts-whole : (S : Guess → coarse.View → Type 0) → Meant terms.modes terms.origin Hist later new from_now found_then → ((g : Guess) → Agrees setup g found_then later → IsAt known0 setup S from_now g later new) → Whole known0 terms.modes terms.origin Hist setup S later new
+    starts-whole S means each = record {
       from = from_now;
       found = found_then;
       began = starts-each (λ z. IsBegun later (from_now z.number) z.number)
@@ -349,6 +356,7 @@ module _ (mt : Mounted) (terms : Terms) (setup : Setup) (Hist : List Entry) (V :
             let long = length_last h (entries.Began lane line op) in
             found-other y (λ same. absurd (omega (arith, late, long, same))) ∙ w.read.none y (omega (arith, late, long));
       };
+      means = means;
       each = each;
     }
       where
@@ -373,7 +381,7 @@ module _ (mt : Mounted) (terms : Terms) (setup : Setup) (Hist : List Entry) (V :
   module _ (h : List Entry) (old new : View) (rec : List ℕ) (xid : ℕ) (call : Waiting Purpose) (at : ℕ) (r : Reaches (machine_of mt) setup h old) (found_ : old.lost ≡ false) (kn : Known setup h old)
       (may : MayHear old) (named_ : xid_at rec ≡ Some xid) (waits : waiting_at xid old.calls.calls ≡ Some call) (place : position (is_busy call.purpose.lane) old.lanes ≡ Some at)
       (t : TakesAt (taken_one old xid) at call.purpose.sent (said_of call.purpose.proc rec) new) (ahead : Ahead (machine_of mt) setup (h ++ entries.Delivered rec ∷ []) new) (i : Now h old)
-      (w : Whole known0 setup h old) (rest : List Entry) (goes_on : h ++ rest ≡ Hist) where
+      (w : Whole known0 terms.modes terms.origin Hist setup R h old) (rest : List Entry) (goes_on : h ++ rest ≡ Hist) where
     abbrev l_takes : ℕ
     l_takes = t.number
 
@@ -446,6 +454,10 @@ module _ (mt : Mounted) (terms : Terms) (setup : Setup) (Hist : List Entry) (V :
       pub start_takes : (b : coarse.View) → H_takes b → IsStart (story_of g later_takes) t.number a.c b
       start_takes = hearkening.start mt setup h old r found_ kn i.basis i.wholly rec xid call at may named_ waits place new t basis_takes ahead known0 w.from w.found g (less-agrees g agrees) a.c a.reached a.sim
 
+      -- the machine comes there over the entry
+      pub over_takes : (b : coarse.View) → H_takes b → coarse.Hears a.c b (unwrap_or (xid_at rec) 0) (g.reply (length h))
+      over_takes = hearkening.over mt setup h old r found_ kn i.basis i.wholly rec xid call at may named_ waits place new t basis_takes ahead known0 w.from w.found g (less-agrees g agrees) a.c a.reached a.sim
+
       gave_takes : (b : coarse.View) → H_takes b → (f : story.File) → b.gave f ≡ false
       gave_takes b k f = k.gave f
 
@@ -486,7 +498,7 @@ module _ (mt : Mounted) (terms : Terms) (setup : Setup) (Hist : List Entry) (V :
             by : IsWhy setup new.calls H_takes t.number x_takes o_takes old.wsize no_turn k_takes z.file z.old
                 → LedAt setup new.calls H_takes t.number x_takes o_takes old.wsize no_turn (turned story.refused) new.shelf
             by (closes number slot label) =
-                takes-given mt terms.modes with_.nocto setup h old new kn (drops h old i) g a.c (lanes-stand base0 (Unit {0}) setup h old w g (before-takes g agrees) a) H_takes t.number
+                takes-given mt terms.modes with_.nocto setup h old new kn (drops h old i) g a.c (lanes-stand base0 (Unit {0}) terms.modes terms.origin Hist setup R h old w g (before-takes g agrees) a) H_takes t.number
                 (λ b from n other. (start_takes b from).lanes n other) x_takes o_takes (work_of own_takes.state.stage) own_takes.state.at_work new.calls old.wsize no_turn k_takes rec xid call at waits place t refl
                 an there refused st z slot label.1
             by (puts number offset bytes label alone first once beside) =
@@ -530,8 +542,9 @@ module _ (mt : Mounted) (terms : Terms) (setup : Setup) (Hist : List Entry) (V :
             sym (leads-others v_takes new at t.number t.after t.next t.leads n away ∙ set-other old.lanes at n (record { number = t.number; state = Busy t.after }) away) ∙ there in
             others n z was (λ same. away ((lanes-under-way h old kn.lanes).apart n at z (record { number = t.number; state = Busy t.machine }) was t.there same))
 
-    pub takes-whole : ((g : Guess) → Agrees setup g found_takes later_takes → Here w.from g later_takes new) → Whole known0 setup later_takes new
-    takes-whole each = record {
+    pub takes-whole : (S : Guess → coarse.View → Type 0) → Meant terms.modes terms.origin Hist later_takes new w.from found_takes → ((g : Guess) → Agrees setup g found_takes later_takes → IsAt known0 setup S w.from g later_takes new)
+        → Whole known0 terms.modes terms.origin Hist setup S later_takes new
+    takes-whole S means each = record {
       from = w.from;
       found = found_takes;
       began = takes-each (λ z. IsBegun later_takes (w.from z.number) z.number)
@@ -547,6 +560,7 @@ module _ (mt : Mounted) (terms : Terms) (setup : Setup) (Hist : List Entry) (V :
             let below = At-below h x_takes (entries.Began t.number began_takes.line began_takes.op) began_takes.began in
             found-rest y (λ same. absurd (omega (arith, late, long, same, below))) ∙ w.read.none y (omega (arith, late, long));
       };
+      means = means;
       each = each;
     }
       where

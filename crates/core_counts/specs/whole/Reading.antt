@@ -18,14 +18,12 @@ use Rattle.core_counts.specs.coarse.Runs.{heard_as}
 
 -- ---- operations
 
--- What the core knows of the operation that began at a place: nothing began there; it is this one; a put or an open that hasn't found its file; or one that
--- began in a lost session, which may as well be of no file.
+-- What the core knows of the operation that began at a place: nothing began there; it is this one; or a put or an open that hasn't found its file.
 pub data Reading : Type 0 where
   unread : Reading
   sure : (o : Op) → Reading
   put_of : (offset : ℕ) (bytes : List ℕ) → Reading
   opening : (slot : ℕ) → Reading
-  either : (o : Op) → Reading
 
 -- the operation is one of these
 abbrev pub Reads : Reading → Op → Type 0
@@ -33,7 +31,6 @@ Reads unread o = Unit {0}
 Reads (sure p) o = o ≡ p
 Reads (put_of offset bytes) o = (o ≡ plain_op) ⊎ ((f : File) × (o ≡ put_op f offset bytes))
 Reads (opening slot) o = (o ≡ plain_op) ⊎ ((f : File) × (o ≡ open_op f slot))
-Reads (either p) o = (o ≡ plain_op) ⊎ (o ≡ p)
 
 -- ---- guesses
 
