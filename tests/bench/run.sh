@@ -4,8 +4,8 @@
 # runs, or of as many as RUNS says, and their ratio, and what the two took of the processor, which tells more where other
 # programs run beside. Run it as root on Debian 12: it installs what is missing. The program is the one that bin/nfs3 built,
 # or the one that NFS3 names; a build without a proof isn't optimised, and its times tell nothing. The words are the rows that
-# are wanted, of write, read, read16, show, show16, small, small16 and list; without words all are. The status is 0 where all
-# work was done.
+# are wanted, of write, read, read4, read16, show, show4, show16, small, small16 and list; without words all are. The status is 0
+# where all work was done.
 #
 # nfs3 writes what it read as hex digits on its answer lines. In the rows `read` libnfs throws the bytes away; in the rows
 # `show` libnfs_work writes the same lines.
@@ -117,8 +117,10 @@ row() {
     case $1 in
         write) compare 'write 64 MiB and sync' write /written- 1024 ;;
         read) compare 'read 64 MiB, libnfs throws it away' read /read 1024 ;;
+        read4) compare 'read 64 MiB, nfs3 in 4 lanes, libnfs throws it away' read /read 1024 4 ;;
         read16) compare 'read 64 MiB, nfs3 in 16 lanes, libnfs throws it away' read /read 1024 16 ;;
         show) check_lines && compare 'read 64 MiB, libnfs writes the same lines' show /read 1024 ;;
+        show4) compare 'read 64 MiB, nfs3 in 4 lanes, libnfs writes the same lines' show /read 1024 4 ;;
         show16) compare 'read 64 MiB, nfs3 in 16 lanes, libnfs writes the same lines' show /read 1024 16 ;;
         small) compare '1,000 small files' small "/small/lane$$-" 1000 ;;
         small16) compare '1,000 small files, nfs3 in 16 lanes' small "/small/lanes$$-" 1000 16 ;;
@@ -128,7 +130,7 @@ row() {
 }
 
 main() {
-    local it rows=(write read read16 show show16 small small16 list)
+    local it rows=(write read read4 read16 show show4 show16 small small16 list)
     [ $# -gt 0 ] && rows=("$@")
     trap end_all EXIT
     prepare
