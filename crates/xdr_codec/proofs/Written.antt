@@ -1,5 +1,5 @@
 -- The written spelling is a spelling.
-use Rattle.std.proofs.Common.{replicate, ◌≡◌, ◌≤◌, ◌<◌, ◌^◌, ℕ, Bool, true, false, List, ◌++◌, length, Option, Some, None, Result, Ok, Err, OnOk, refl}
+use Rattle.std.proofs.Common.{replicate, ◌≡◌, ◌≤◌, ◌<◌, ◌^◌, ℕ, Bool, true, false, List, ◌++◌, length, Option, Some, None, Result, Ok, Err, OnOk, refl, ◌∙◌}
 use Rattle.std.proofs.lemmas.List.{length-replicate}
 use Rattle.xdr_codec.specs.Reading.{padding}
 use Rattle.xdr_codec.specs.Spelling.{u32_bytes, u64_bytes, flag_bytes, fixed_bytes, opaque_bytes, opt_bytes}
@@ -47,6 +47,12 @@ wrote S text old new s is = record { text = text; is = is; spells = s }
 pub wrote_by : {X E : Type 0} (S : List ℕ → Type 0) (text old new : List ℕ) (result : Result X E) → S text → OnOk result (new ≡ old ++ text) → OnOk result (Wrote S old new)
 wrote_by S text old new (Ok x) s is = wrote S text old new s is
 wrote_by S text old new (Err e) s is = tt
+
+-- what was written stays as it is where it was written whole
+pub kept_by : {X E : Type 0} (text old mid new : List ℕ) (first result : Result X E)
+    → result ≡ first → OnOk first (mid ≡ old ++ text) → OnOk result (new ≡ mid) → OnOk result (new ≡ old ++ text)
+kept_by text old mid new first (Ok y) same m k = k ∙ (rw (← same) at m)
+kept_by text old mid new first (Err e) same m k = tt
 
 pub wrote_u32 : (v : ℕ) (old new : List ℕ) → v < 2 ^ 32 → new ≡ old ++ u32_bytes v → Wrote (SpellsU32 v) old new
 wrote_u32 v old new fits is = wrote (SpellsU32 v) (u32_bytes v) old new (u32_written v fits) is

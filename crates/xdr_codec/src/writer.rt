@@ -1,6 +1,6 @@
 //! Appends words and opaques to bytes.
 
-ghost use Rattle.std.specs.Prelude.{◌≡◌, ◌++◌, ◌<◌, ◌≤◌, ◌^◌, ℕ, [], length, OnOk, OnErr};
+ghost use Rattle.std.specs.Prelude.{◌≡◌, ◌++◌, ◌<◌, ◌≤◌, ◌^◌, ℕ, [], length, take, OnOk, OnErr};
 ghost use Rattle.xdr_codec.specs.Spelling.{u32_bytes, u64_bytes, flag_bytes, fixed_bytes, opaque_bytes, BeginsWith};
 ghost use Rattle.xdr_codec.specs.Spells.{SpellsU32, SpellsU64, SpellsFlag, SpellsFixed, SpellsOpaque, Wrote};
 
@@ -76,25 +76,31 @@ impl Writer {
         self.u32(u32::from(v))
     }
 
-    /// Appends a fixed opaque: the bytes, and zeros as padding (RFC 4506, section 4.9). When out of memory it begins
-    /// with what it held.
+    /// Appends a fixed opaque: the bytes, and zeros as padding (RFC 4506, section 4.9). When out of memory it is as it
+    /// was.
+    #[tactic(auto, using(crate::proofs::Begins::cut_back))]
     pub fn fixed(&mut self, bytes: &[u8]) -> Result<(), Memory>
         ensures ok { OnOk result (self.new ≡ self.old ++ fixed_bytes bytes.now) }
-        ensures err { OnErr result (BeginsWith self.old self.new) }
+        ensures err { OnErr result (self.new ≡ self.old) }
         ensures spelled { OnOk result (Wrote (SpellsFixed (length bytes.now) bytes.now) self.old self.new) }
     {
-        self.padded(bytes)
+        let held = self.bytes.len();
+        let written = self.padded(bytes);
+        self.keep_or_cut(held, written)
     }
 
     /// Appends an opaque or a string: a length, the bytes, and zeros as padding (RFC 4506, section 4.10). There are
-    /// fewer than 2^32 bytes. When out of memory it begins with what it held.
+    /// fewer than 2^32 bytes. When out of memory it is as it was.
+    #[tactic(auto, using(crate::proofs::Begins::cut_back))]
     pub fn opaque(&mut self, bytes: &[u8]) -> Result<(), Memory>
         requires { length bytes.now < 2 ^ 32 }
         ensures ok { OnOk result (self.new ≡ self.old ++ opaque_bytes bytes.now) }
-        ensures err { OnErr result (BeginsWith self.old self.new) }
+        ensures err { OnErr result (self.new ≡ self.old) }
         ensures spelled { (max : ℕ) → length bytes.now ≤ max → OnOk result (Wrote (SpellsOpaque max bytes.now) self.old self.new) }
     {
-        self.counted(bytes)
+        let held = self.bytes.len();
+        let written = self.counted(bytes);
+        self.keep_or_cut(held, written)
     }
 
     /// What was written.
@@ -102,6 +108,18 @@ impl Writer {
         ensures { result ≡ self }
     {
         Blob::of(self.bytes)
+    }
+
+    /// What was written stays if it was written whole. Else all behind the first `held` bytes goes.
+    fn keep_or_cut(&mut self, held: usize, written: Result<(), Memory>) -> Result<(), Memory>
+        ensures same { result ≡ written }
+        ensures ok { OnOk result (self.new ≡ self.old) }
+        ensures err { OnErr result (self.new ≡ take held self.old) }
+    {
+        if written.is_err() {
+            self.bytes.truncate(held);
+        }
+        written
     }
 
     #[tactic(auto, using(crate::proofs::Begins::begins_then), unfolding(crate::specs::Spelling::fixed_bytes))]
