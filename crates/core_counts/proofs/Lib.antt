@@ -1,4 +1,3 @@
 pub mod coarse
 pub mod thrift
 pub mod counts
-pub mod whole

@@ -8,7 +8,6 @@ ghost use Rattle.core_counts.specs.coarse.FedFiles.{FilesFound, ListsTaken};
 ghost use Rattle.core_counts.specs.coarse.FedPages.{FedPagesTrue};
 ghost use Rattle.core_counts.specs.coarse.FedWalks.{WalksLed};
 ghost use Rattle.core_counts.specs.coarse.WereLong.{WritesWereLong};
-ghost use Rattle.core_counts.specs.whole.Whole.{CoreIsWhole};
 ghost use Rattle.core_counts.specs.thrift.KeptReads.{KeptOnce};
 ghost use Rattle.core_counts.specs.thrift.Reads.{ReadsLong};
 ghost use Rattle.core_counts.specs.thrift.Unkept.{UnkeptAsked};
@@ -32,12 +31,6 @@ pub fn steps_are_coarse()
 /// So what the core keeps of each place of each file, the byte that is pending and the one in flight, is what the machine comes to.
 pub fn kept_states_are_coarse()
     ensures { StatesReached }
-{}
-
-/// The whole machine of `bond_writes` goes with each history that the core goes with, along a story that reads it, for each guess of what the core hasn't found
-/// yet: with its lanes and slots, into a lost session too.
-pub fn steps_are_whole()
-    ensures { CoreIsWhole }
 {}
 
 /// Each WRITE that is sent had as many bytes as a WRITE may have, as it was made; or its bytes didn't go on where it ends.

@@ -7,11 +7,9 @@ pub mod EvPassing
 pub mod EvPlans
 pub mod EvSteps
 pub mod EvWorking
-pub mod FloorSaves
 pub mod Holding
 pub mod Lone
 pub mod LongWrites
-pub mod Numbered
 pub mod Pends
 pub mod PendsAlong
 pub mod PendsEnd
