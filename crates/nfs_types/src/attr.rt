@@ -145,7 +145,7 @@ fn spells_attr(v: &Attr)
     spells_time(&v.ctime);
 }
 
-#[tactic(auto, using(xdr_codec::proofs::Begins::begins_then, std::proofs::Common::append_assoc), unfolding(crate::specs::Fields::attr_bytes))]
+#[tactic(auto, using(xdr_codec::proofs::Begins::after_a, xdr_codec::proofs::Begins::after_b, xdr_codec::proofs::Begins::after_c, xdr_codec::proofs::Begins::after_d, xdr_codec::proofs::Begins::grown_e), unfolding(crate::specs::Fields::attr_bytes))]
 fn attr_into(w: &mut Writer, v: &Attr) -> Result<(), Memory>
     ensures ok { OnOk result (w.new ≡ w.old ++ attr_bytes v.now) }
     ensures err { OnErr result (BeginsWith w.old w.new) }
@@ -158,7 +158,7 @@ fn attr_into(w: &mut Writer, v: &Attr) -> Result<(), Memory>
     Ok(())
 }
 
-#[tactic(auto, using(xdr_codec::proofs::Begins::begins_then, std::proofs::Common::append_assoc), unfolding(crate::specs::Fields::owner_bytes))]
+#[tactic(auto, using(xdr_codec::proofs::Begins::begins_a, xdr_codec::proofs::Begins::begins_b, xdr_codec::proofs::Begins::begins_c, xdr_codec::proofs::Begins::begins_d, xdr_codec::proofs::Begins::grown_e), unfolding(crate::specs::Fields::owner_bytes))]
 fn write_owner(w: &mut Writer, v: &Attr) -> Result<(), Memory>
     ensures ok { OnOk result (w.new ≡ w.old ++ owner_bytes v.now) }
     ensures err { OnErr result (BeginsWith w.old w.new) }
@@ -171,7 +171,7 @@ fn write_owner(w: &mut Writer, v: &Attr) -> Result<(), Memory>
     Ok(())
 }
 
-#[tactic(auto, using(xdr_codec::proofs::Begins::begins_then, std::proofs::Common::append_assoc), unfolding(crate::specs::Fields::place_bytes))]
+#[tactic(auto, using(xdr_codec::proofs::Begins::begins_a, xdr_codec::proofs::Begins::begins_b, xdr_codec::proofs::Begins::begins_c, xdr_codec::proofs::Begins::begins_d, xdr_codec::proofs::Begins::begins_e, xdr_codec::proofs::Begins::grown_f), unfolding(crate::specs::Fields::place_bytes))]
 fn write_place(w: &mut Writer, v: &Attr) -> Result<(), Memory>
     ensures ok { OnOk result (w.new ≡ w.old ++ place_bytes v.now) }
     ensures err { OnErr result (BeginsWith w.old w.new) }

@@ -131,7 +131,7 @@ fn spells_set_time(v: &SetTime)
     }
 }
 
-#[tactic(auto, using(xdr_codec::proofs::Begins::begins_then, std::proofs::Common::append_assoc), unfolding(crate::specs::Fields::set_attr_bytes))]
+#[tactic(auto, using(xdr_codec::proofs::Begins::after_a, xdr_codec::proofs::Begins::after_b, xdr_codec::proofs::Begins::after_c, xdr_codec::proofs::Begins::after_d, xdr_codec::proofs::Begins::after_e, xdr_codec::proofs::Begins::grown_f), unfolding(crate::specs::Fields::set_attr_bytes))]
 fn set_attr_into(w: &mut Writer, v: &SetAttr) -> Result<(), Memory>
     ensures ok { OnOk result (w.new ≡ w.old ++ set_attr_bytes v.now) }
     ensures err { OnErr result (BeginsWith w.old w.new) }

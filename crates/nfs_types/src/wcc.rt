@@ -79,7 +79,7 @@ fn spells_stamp(v: &Stamp)
     spells_time(&v.ctime);
 }
 
-#[tactic(auto, using(xdr_codec::proofs::Begins::begins_then, std::proofs::Common::append_assoc), unfolding(crate::specs::Fields::stamp_bytes))]
+#[tactic(auto, using(xdr_codec::proofs::Begins::begins_a, xdr_codec::proofs::Begins::after_a, xdr_codec::proofs::Begins::after_b, xdr_codec::proofs::Begins::grown_c), unfolding(crate::specs::Fields::stamp_bytes))]
 fn stamp_into(w: &mut Writer, v: &Stamp) -> Result<(), Memory>
     ensures ok { OnOk result (w.new ≡ w.old ++ stamp_bytes v.now) }
     ensures err { OnErr result (BeginsWith w.old w.new) }
