@@ -292,4 +292,8 @@ try_other_ways
 try_datagrams
 try_refusals
 try_made_scripts
+for part in launcher examples; do
+    "$here/$part.sh"
+    count $? "$part.sh"
+done
 sum_up
