@@ -3,8 +3,8 @@ use Rattle.std.proofs.Common.{◌≡◌, ◌+◌, ℕ, sym, subst, arith}
 use Rattle.world_model.specs.declared.entry.Entry.TheVariants.{Began}
 use Rattle.world_model.specs.declared.op.Op.TheVariants as ops
 use Rattle.world_model.specs.Entries.{At}
-use Rattle.world_model.specs.ReadTrue.{IsCurrent, own, held, hole}
-use Rattle.world_model.specs.Touched.{written}
+use Rattle.claims.specs.ReadTrue.{IsCurrent, own, held, hole}
+use Rattle.claims.specs.Touched.{written}
 use Rattle.world_model.proofs.Places.{At-below}
 use Rattle.bond_own.specs.Own.{CutsAreRead}
 use Rattle.bond_own.proofs.OneByte.{writes-byte, no-truncate, touched-later}

@@ -7,10 +7,10 @@ use Rattle.world_model.specs.declared.op.Op.TheVariants as ops
 use Rattle.world_model.specs.Entries.{At}
 use Rattle.world_model.specs.History.{History}
 use Rattle.world_model.specs.Lawful.{Lawful}
-use Rattle.world_model.specs.Modes.{Modes}
+use Rattle.claims.specs.Modes.{Modes}
 use Rattle.world_model.specs.Mounts.{Origin}
-use Rattle.world_model.specs.Touched.{Covers, WritesByte, Wrote, Touched, foreign, written, cut, gone, given_up}
-use Rattle.world_model.specs.Touched as touching
+use Rattle.claims.specs.Touched.{Covers, WritesByte, Wrote, Touched, foreign, written, cut, gone, given_up}
+use Rattle.claims.specs.Touched as touching
 use Rattle.world_model.proofs.Lasting.{lasts}
 use Rattle.world_model.proofs.Places.{At-one}
 

@@ -4,12 +4,12 @@ use Rattle.std.proofs.lemmas.Bool.{cases_Bool, eqb-true, eqb-false}
 use Rattle.std.proofs.lemmas.Option.{slice_get_within}
 use Rattle.world_model.specs.History.{History}
 use Rattle.world_model.specs.Lawful.{Lawful}
-use Rattle.world_model.specs.Modes.{Modes}
+use Rattle.claims.specs.Modes.{Modes}
 use Rattle.world_model.specs.Mounts.{Origin}
-use Rattle.world_model.specs.ReadTrue.{ReadsBytes, Since, HeldSize, PendingWithin, IsCurrent, own, held, hole, ReadCurrent}
+use Rattle.claims.specs.ReadTrue.{ReadsBytes, Since, HeldSize, PendingWithin, IsCurrent, own, held, hole, ReadCurrent}
 use Rattle.world_model.specs.Server.{Bytes, Object, Server, HasBytes}
-use Rattle.world_model.specs.Settled.{HoldsStable, SettledBy, Settled}
-use Rattle.world_model.specs.Touched.{Wrote, Touched, written}
+use Rattle.claims.specs.Settled.{HoldsStable, SettledBy, Settled}
+use Rattle.claims.specs.Touched.{Wrote, Touched, written}
 use Rattle.world_model.proofs.Places.{At-below}
 use Rattle.bond_own.specs.Own.{ReadEnds, SettledAreRead}
 use Rattle.bond_own.proofs.OneByte.{HasByte, wrote-byte, writes-byte, one-byte, touched-later}

@@ -2,12 +2,12 @@
 use Rattle.std.specs.Prelude.{◌≡◌, ◌<◌, ◌≤◌, ◌+◌, ℕ, List, length, Some, slice_get}
 use Rattle.world_model.specs.History.{History}
 use Rattle.world_model.specs.Lawful.{Lawful}
-use Rattle.world_model.specs.Modes.{Modes}
+use Rattle.claims.specs.Modes.{Modes}
 use Rattle.world_model.specs.Mounts.{Origin}
-use Rattle.world_model.specs.ReadTrue.{ReadsBytes, Since, HeldSize, ReadCurrent}
+use Rattle.claims.specs.ReadTrue.{ReadsBytes, Since, HeldSize, ReadCurrent}
 use Rattle.world_model.specs.Server.{HasBytes}
-use Rattle.world_model.specs.Settled.{SettledBy, Settled}
-use Rattle.world_model.specs.Touched.{Wrote, Truncated, Touched}
+use Rattle.claims.specs.Settled.{SettledBy, Settled}
+use Rattle.claims.specs.Touched.{Wrote, Truncated, Touched}
 
 -- A byte of a write, fill or put that went well, and was settled before each moment of which the read may show bytes, is seen in the range that was asked
 -- for, unless it was touched.

@@ -3,7 +3,7 @@ use Rattle.std.proofs.Common.{inl, inr, ◌⊎◌, ◌≡◌, ◌==◌, ℕ, Lis
 use Rattle.std.proofs.lemmas.Bool.{cases_Bool, eqb-true, eqb-false}
 use Rattle.std.proofs.lemmas.Option.{slice_get_past}
 use Rattle.world_model.specs.Server.{Holds, Bytes, Entries, Text, Object, Server}
-use Rattle.world_model.specs.Settled.{HoldsStable}
+use Rattle.claims.specs.Settled.{HoldsStable}
 use Rattle.bond_stable.proofs.Bytes.{some_or_past, number_is}
 use Rattle.bond_stable.specs.Stable.{StableDecided}
 

@@ -16,7 +16,7 @@ use Rattle.world_model.specs.Lawful.{Lawful, WasSent}
 use Rattle.world_model.specs.Messages.{HasXid, SpellsCall}
 use Rattle.world_model.specs.Once.{Once}
 use Rattle.world_model.specs.Server.{Server}
-use Rattle.world_model.specs.Touched.{ChangesPlace}
+use Rattle.claims.specs.Touched.{ChangesPlace}
 use Rattle.world_model.specs.Waiting.{FirstSent}
 use Rattle.world_model.proofs.Goes.{SetsSize, by_set, by_meeting}
 use Rattle.bond_calls.specs.Calls.{Numbered}

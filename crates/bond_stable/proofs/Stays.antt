@@ -14,8 +14,8 @@ use Rattle.world_model.specs.FileService.{Puts, steady_after}
 use Rattle.world_model.specs.History.{History}
 use Rattle.world_model.specs.Lawful.{Lawful}
 use Rattle.world_model.specs.Server.{Bytes, Object, Server, HasBytes}
-use Rattle.world_model.specs.Settled.{HoldsStable}
-use Rattle.world_model.specs.Touched.{Covers, foreign}
+use Rattle.claims.specs.Settled.{HoldsStable}
+use Rattle.claims.specs.Touched.{Covers, foreign}
 use Rattle.world_model.proofs.Doing.{write_done, commit_done}
 use Rattle.world_model.proofs.Lasting.{entry_at}
 use Rattle.world_model.proofs.Places.{At-below}

@@ -14,8 +14,8 @@ use Rattle.world_model.specs.Entries.{At}
 use Rattle.world_model.specs.History.{History}
 use Rattle.world_model.specs.Lawful.{Lawful}
 use Rattle.world_model.specs.Server.{Server, HasBytes}
-use Rattle.world_model.specs.Settled.{HoldsStable}
-use Rattle.world_model.specs.Touched.{writes, sizes, makes}
+use Rattle.claims.specs.Settled.{HoldsStable}
+use Rattle.claims.specs.Touched.{writes, sizes, makes}
 use Rattle.world_model.proofs.FileSteps.{BytesGo, kept, by_write, by_commit, by_size, BytesStep, unchanged, executed, foreign, flushed, restarted, bytes_step}
 use Rattle.world_model.proofs.Goes.{SetsSize, by_set, by_meeting}
 use Rattle.world_model.proofs.Lasting.{SameSort, moment_lasts}

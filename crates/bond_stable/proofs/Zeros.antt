@@ -17,7 +17,7 @@ use Rattle.world_model.specs.FileService.{SetsAttr, HoldsSized}
 use Rattle.world_model.specs.History.{History}
 use Rattle.world_model.specs.Lawful.{Lawful}
 use Rattle.world_model.specs.Server.{Holds, Bytes, Entries, Text, Server}
-use Rattle.world_model.specs.Touched.{ChangesPlace, writes}
+use Rattle.claims.specs.Touched.{ChangesPlace, writes}
 use Rattle.world_model.proofs.Doing.{setattr_done}
 use Rattle.world_model.proofs.FileSteps as steps
 use Rattle.world_model.proofs.FileSteps.{BytesGo, BytesStep, bytes_step}

@@ -8,8 +8,8 @@ use Rattle.world_model.specs.declared.entry.Entry.{Entry}
 use Rattle.world_model.specs.declared.message.Call.TheVariants as calls
 use Rattle.world_model.specs.declared.message.Reply.TheVariants as replies
 use Rattle.world_model.specs.Heard.{Asked}
-use Rattle.world_model.specs.Puts.{commit_call}
-use Rattle.world_model.specs.Touched.{Covers}
+use Rattle.world_model.specs.Commits.{commit_call}
+use Rattle.claims.specs.Touched.{Covers}
 
 -- Between two places a WRITE of the file, which has the byte at the place i, was first sent and answered 0 with a count that reaches the place.
 pub record WroteAt (h : List Entry) (from to : ℕ) (f : List ℕ) (i v firm : ℕ) (verf : Verf) : Type 0 where

@@ -13,7 +13,7 @@ use Rattle.world_model.specs.declared.message.Reply.{Reply}
 use Rattle.world_model.specs.Entries.{At}
 use Rattle.world_model.specs.History.{History}
 use Rattle.world_model.specs.Messages.{HasXid, SpellsCall}
-use Rattle.world_model.specs.Touched.{ChangesPlace}
+use Rattle.claims.specs.Touched.{ChangesPlace}
 use Rattle.world_model.specs.Waiting.{FirstSent}
 
 -- a WRITE with the place i of the file in its range, or a SETATTR of the file to a size of at most i

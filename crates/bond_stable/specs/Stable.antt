@@ -3,12 +3,12 @@ use Rattle.std.specs.Prelude.{◌≡◌, ◌≤◌, ℕ, List, length, Some, sli
 use Rattle.nfs_types.specs.declared.verf.Verf.{Verf}
 use Rattle.world_model.specs.History.{History}
 use Rattle.world_model.specs.Lawful.{Lawful}
-use Rattle.world_model.specs.Modes.{Modes}
+use Rattle.claims.specs.Modes.{Modes}
 use Rattle.world_model.specs.Mounts.{Origin}
 use Rattle.world_model.specs.Once.{Once}
 use Rattle.world_model.specs.Server.{Server, HasBytes}
-use Rattle.world_model.specs.Settled.{HoldsStable}
-use Rattle.world_model.specs.Touched.{Touched}
+use Rattle.claims.specs.Settled.{HoldsStable}
+use Rattle.claims.specs.Touched.{Touched}
 use Rattle.bond_calls.specs.Calls.{Numbered}
 use Rattle.bond_stable.specs.Evidence.{WroteAt, Evidence, written_at}
 use Rattle.bond_stable.specs.OwnCalls.{OwnCalls, NoForeign}

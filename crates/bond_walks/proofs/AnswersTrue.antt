@@ -17,14 +17,14 @@ use Rattle.world_model.specs.Entries.{At}
 use Rattle.world_model.specs.Fresh.{Fresh}
 use Rattle.world_model.specs.History.{History}
 use Rattle.world_model.specs.Lawful.{Lawful}
-use Rattle.world_model.specs.Modes.{Modes}
+use Rattle.claims.specs.Modes.{Modes}
 use Rattle.world_model.specs.Mounts.{Origin}
 use Rattle.world_model.specs.Operations as operations
 use Rattle.world_model.specs.Operations.{Ended, EndsAt, LastReply}
-use Rattle.world_model.specs.Recent.{FoundByName, NamesTrue, AttrAge, ListTrue}
+use Rattle.claims.specs.Recent.{FoundByName, NamesTrue, AttrAge, ListTrue}
 use Rattle.world_model.specs.Rising.{Rising}
-use Rattle.world_model.specs.Slots as slots
-use Rattle.world_model.specs.Slots.{Finds, Opens, NamesFile, PutsTo}
+use Rattle.claims.specs.Slots as slots
+use Rattle.claims.specs.Slots.{Finds, Opens, NamesFile, PutsTo}
 use Rattle.bond_walks.specs.Machine as machine
 use Rattle.bond_walks.specs.Machine.{View, GivesFile, EndsOpen, LastCame, Answers}
 use Rattle.bond_walks.specs.Reaches.{Reaches}

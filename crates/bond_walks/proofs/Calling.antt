@@ -12,7 +12,7 @@ use Rattle.world_model.specs.Entries.{At}
 use Rattle.world_model.specs.History.{History}
 use Rattle.world_model.specs.Lawful.{Lawful, IsReplied, replied, refused}
 use Rattle.world_model.specs.Messages.{HasXid, SpellsCall, SpellsReply, head_of}
-use Rattle.world_model.specs.Modes.{Modes}
+use Rattle.claims.specs.Modes.{Modes}
 use Rattle.world_model.specs.Mounts.{Origin}
 use Rattle.world_model.proofs.Places.{At-cases}
 use Rattle.bond_walks.specs.Calls.{Made, Taken, Calls, Fewer, MakesCall, Sends, Took, Hears, EntersCalls}

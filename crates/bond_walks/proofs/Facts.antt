@@ -11,7 +11,7 @@ use Rattle.world_model.specs.Entries.{At}
 use Rattle.world_model.specs.Fresh.{Fresh}
 use Rattle.world_model.specs.History.{History}
 use Rattle.world_model.specs.Lawful.{Lawful}
-use Rattle.world_model.specs.Modes.{Modes}
+use Rattle.claims.specs.Modes.{Modes}
 use Rattle.world_model.specs.Mounts.{Origin}
 use Rattle.world_model.specs.Server.{Object, Names}
 use Rattle.world_model.specs.Service.{Serves}

@@ -10,7 +10,7 @@ use Rattle.world_model.specs.Entries.{At}
 use Rattle.world_model.specs.History.{History}
 use Rattle.world_model.specs.Lawful.{Lawful, WasSent}
 use Rattle.world_model.specs.Messages.{HasXid, SpellsCall, SpellsReply}
-use Rattle.world_model.specs.Modes.{Modes}
+use Rattle.claims.specs.Modes.{Modes}
 use Rattle.world_model.specs.Mounts.{Origin}
 use Rattle.world_model.specs.Operations.{LastReply}
 use Rattle.world_model.specs.Waiting.{FirstSent}

@@ -12,10 +12,10 @@ use Rattle.world_model.specs.Chains.{LastCookie, names_of}
 use Rattle.world_model.specs.Fresh.{Fresh}
 use Rattle.world_model.specs.History.{History}
 use Rattle.world_model.specs.Lawful.{Lawful}
-use Rattle.world_model.specs.Modes.{Modes}
+use Rattle.claims.specs.Modes.{Modes}
 use Rattle.world_model.specs.Mounts.{Origin}
 use Rattle.world_model.specs.Names.{parent_name, is_dots}
-use Rattle.world_model.specs.Recent.{NameAt}
+use Rattle.claims.specs.Recent.{NameAt}
 use Rattle.world_model.specs.Rising.{NameRow, Rises, Rising, plus_rows}
 use Rattle.world_model.specs.Server as servers
 use Rattle.world_model.specs.Server.{Listed, Entries, Object, Lists, Names}

@@ -24,7 +24,7 @@ use Rattle.world_model.specs.Steps.{Same, TrueOf}
 use Rattle.world_model.specs.NameService.{Shown, ShowsHandle}
 use Rattle.world_model.specs.ListService.{IsPlusRowOf, ListsObjects}
 use Rattle.world_model.specs.Service.{DoesFile, DoesDir, RefusesFile, RefusesDir, Refuses, Serves, refused, broken_off, done}
-use Rattle.world_model.specs.Shown.{object_of, object_attr, target_of, target_attr, given_object, given_attr, ShowsAttr, of_object, of_target, of_given, of_listed}
+use Rattle.claims.specs.Shown.{object_of, object_attr, target_of, target_attr, given_object, given_attr, ShowsAttr, of_object, of_target, of_given, of_listed}
 
 -- what the reply shows is true of the server
 abbrev Tells : Server → Call → Reply → Type 0

@@ -19,7 +19,7 @@ use Rattle.world_model.specs.Chains.{list_call, zero_verf, names_of}
 use Rattle.world_model.specs.Entries.{At}
 use Rattle.world_model.specs.History.{History}
 use Rattle.world_model.specs.Mounts.{Given}
-use Rattle.world_model.specs.Shown.{of_object}
+use Rattle.claims.specs.Shown.{of_object}
 use Rattle.bond_walks.specs.Calls.{Adds}
 use Rattle.bond_walks.specs.Machine.{Name, Path, Place, Walk, View, makes_call, learns_attr, learns_name, forgets, looks_up, goes_by_name, finds_file, shows_object, begins_list, takes_page, by_lookup, believed, told, by_giving}
 use Rattle.bond_walks.specs.Reaches.{Reaches, begins, enters, moves}

@@ -5,12 +5,12 @@ use Rattle.world_model.specs.declared.entry.Entry.{Entry}
 use Rattle.world_model.specs.declared.entry.Entry.TheVariants as entries
 use Rattle.world_model.specs.Entries.{At}
 use Rattle.world_model.specs.History.{History}
-use Rattle.world_model.specs.Modes.{Modes}
+use Rattle.claims.specs.Modes.{Modes}
 use Rattle.world_model.specs.Mounts.{Origin, Rooted}
 use Rattle.world_model.specs.Operations.{EndsAt}
-use Rattle.world_model.specs.ReadTrue.{IsYoung}
-use Rattle.world_model.specs.Recent as recency
-use Rattle.world_model.specs.Recent.{Recent, Walked}
+use Rattle.claims.specs.ReadTrue.{IsYoung}
+use Rattle.claims.specs.Recent as recency
+use Rattle.claims.specs.Recent.{Recent, Walked}
 use Rattle.world_model.specs.Server.{Names}
 use Rattle.world_model.proofs.Places.{At-one}
 

@@ -31,11 +31,11 @@ use Rattle.world_model.specs.declared.message.Reply.TheVariants as answers
 use Rattle.world_model.specs.declared.op.Op.TheVariants as ops
 use Rattle.world_model.specs.Chains.{LastCookie, names_of}
 use Rattle.world_model.specs.History.{History}
-use Rattle.world_model.specs.Modes.{Modes}
+use Rattle.claims.specs.Modes.{Modes}
 use Rattle.world_model.specs.Mounts.{Origin, Rooted}
 use Rattle.world_model.specs.Operations.{Ended, NoneCame}
-use Rattle.world_model.specs.Shown.{ShowsAttr}
-use Rattle.world_model.specs.Slots.{NamesFile}
+use Rattle.claims.specs.Shown.{ShowsAttr}
+use Rattle.claims.specs.Slots.{NamesFile}
 use Rattle.bond_walks.specs.Calls.{Calls, Fewer, Adds, MakesCall, EntersCalls}
 
 -- a file handle, a name, and the names of a path

@@ -2,7 +2,7 @@
 use Rattle.std.specs.Prelude.{◌≡◌, List, [], ◌∷◌, ◌++◌, length, Option, None}
 use Rattle.world_model.specs.declared.entry.Entry.{Entry}
 use Rattle.world_model.specs.History.{History}
-use Rattle.world_model.specs.Modes.{Modes}
+use Rattle.claims.specs.Modes.{Modes}
 use Rattle.world_model.specs.Mounts.{Origin}
 use Rattle.bond_walks.specs.Machine.{View, Move, Enters}
 

@@ -19,7 +19,7 @@ use Rattle.world_model.specs.declared.op.Op.TheVariants as ops
 use Rattle.world_model.specs.Chains.{list_call, zero_verf, page_reply}
 use Rattle.world_model.specs.History.{History}
 use Rattle.world_model.specs.Messages.{HasXid, SpellsCall, SpellsReply}
-use Rattle.world_model.specs.Modes.{Modes}
+use Rattle.claims.specs.Modes.{Modes}
 use Rattle.world_model.specs.Mounts.{Origin, Given}
 use Rattle.world_model.specs.Rules.{most_bytes}
 use Rattle.world_model.specs.Server.{Listed, Bytes, Entries, Object, Server}

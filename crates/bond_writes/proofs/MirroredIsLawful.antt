@@ -22,14 +22,14 @@ use Rattle.world_model.specs.History.{History}
 use Rattle.world_model.specs.Lawful as model
 use Rattle.rpc_message.specs.Reply.{SpellsRefusal}
 use Rattle.world_model.specs.Messages.{HasXid, SpellsReply}
-use Rattle.world_model.specs.Modes.{Modes}
+use Rattle.claims.specs.Modes.{Modes}
 use Rattle.world_model.specs.Mounts.{Origin}
 use Rattle.world_model.specs.Once as model_once
 use Rattle.world_model.specs.Server as servers
 use Rattle.world_model.specs.Service.{Refuses, Serves, refused, broken_off}
 use Rattle.world_model.specs.Service as service_of
 use Rattle.world_model.specs.Steps.{Same}
-use Rattle.world_model.specs.Touched as touched
+use Rattle.claims.specs.Touched as touched
 use Rattle.world_model.proofs.FileSteps as steps
 use Rattle.world_model.proofs.Goes.{SetsSize, by_set, by_meeting}
 use Rattle.world_model.proofs.Lasting.{Lasts, SameSort, entry_lasts, entry_at}

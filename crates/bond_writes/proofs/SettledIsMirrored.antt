@@ -13,13 +13,13 @@ use Rattle.world_model.specs.declared.op.Op.{Op}
 use Rattle.world_model.specs.declared.op.Op.TheVariants as ops
 use Rattle.world_model.specs.Entries as histories
 use Rattle.world_model.specs.History.{History}
-use Rattle.world_model.specs.Modes.{Modes}
+use Rattle.claims.specs.Modes.{Modes}
 use Rattle.world_model.specs.Mounts.{Origin}
 use Rattle.world_model.specs.Operations.{Ended, AnsweredBefore}
 use Rattle.world_model.specs.Server as servers
-use Rattle.world_model.specs.Settled as model
-use Rattle.world_model.specs.Slots as slots
-use Rattle.world_model.specs.Touched as touched
+use Rattle.claims.specs.Settled as model
+use Rattle.claims.specs.Slots as slots
+use Rattle.claims.specs.Touched as touched
 use Rattle.world_model.proofs.Lasting.{entry_at}
 use Rattle.world_model.proofs.Places as places
 use Rattle.bond_writes.specs.Story.{File, Spot, write_op, put_op, sync_op, close_op, cut_op, open_op, plain_op, done, refused, Event, flushes, Began, Answered, Sent, Executed, Foreign, Reboot, Delivered, Failed, At, Alters, Told, means, is_put, Firms, Both, covers}

@@ -21,12 +21,12 @@ use Rattle.world_model.specs.Entries as histories
 use Rattle.world_model.specs.History.{History}
 use Rattle.world_model.specs.Leads.{Leads}
 use Rattle.world_model.specs.Messages.{HasXid, SpellsCall, SpellsReply}
-use Rattle.world_model.specs.Modes.{Modes}
+use Rattle.claims.specs.Modes.{Modes}
 use Rattle.world_model.specs.Mounts.{Origin}
 use Rattle.world_model.specs.Operations.{EndsAt}
 use Rattle.world_model.specs.Server as servers
-use Rattle.world_model.specs.Slots.{IsOf, Opens, PutsTo}
-use Rattle.world_model.specs.Touched.{ChangesPlace}
+use Rattle.claims.specs.Slots.{IsOf, Opens, PutsTo}
+use Rattle.claims.specs.Touched.{ChangesPlace}
 use Rattle.bond_writes.specs.Story.{File, Spot, write_op, put_op, sync_op, close_op, cut_op, open_op, plain_op, write, commit, resize, plain, wrote, committed, told, denied, done, refused, Event, flushes, Began, Answered, Sent, Executed, Foreign, Reboot, Delivered, Failed, At, Alters, Told}
 use Rattle.bond_writes.specs.Story as story
 

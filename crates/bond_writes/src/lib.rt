@@ -5,10 +5,10 @@
 
 ghost use Rattle.world_model.specs.History.{History};
 ghost use Rattle.world_model.specs.Lawful as model;
-ghost use Rattle.world_model.specs.Modes.{Modes};
+ghost use Rattle.claims.specs.Modes.{Modes};
 ghost use Rattle.world_model.specs.Mounts.{Origin};
 ghost use Rattle.world_model.specs.Once as once;
-ghost use Rattle.world_model.specs.Settled as kept;
+ghost use Rattle.claims.specs.Settled as kept;
 ghost use Rattle.bond_writes.specs.Lawful.{Lawful, Once};
 ghost use Rattle.bond_writes.specs.Machine.{View};
 ghost use Rattle.bond_writes.specs.Mirrors.{Mirrors};

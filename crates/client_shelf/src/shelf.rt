@@ -58,16 +58,22 @@ impl Shelf {
         ensures seq { IfOk result (λ s. s.seq ≡ 0) }
         ensures counter { IfOk result (λ s. s.counter ≡ 0) }
     {
+        // What may fail comes first, so that a failure has no caches to drop.
+        let repeats = Repeats::new(alloc)?;
+        let puts = LaneFiles::new(alloc)?;
+        let order = LaneFiles::new(alloc)?;
+        let names = NameCache::new(alloc)?;
+        let pages = PageCache::new(alloc)?;
         Ok(Shelf {
-            pages: PageCache::new(alloc)?,
+            pages,
             attrs: AttrCache::new(alloc),
-            names: NameCache::new(alloc)?,
+            names,
             back: WriteBack::new(alloc),
             opens: OpenFiles::new(alloc),
             silly: Silly::new(alloc),
-            order: LaneFiles::new(alloc)?,
-            puts: LaneFiles::new(alloc)?,
-            repeats: Repeats::new(alloc)?,
+            order,
+            puts,
+            repeats,
             seq: 0,
             counter: 0,
         })

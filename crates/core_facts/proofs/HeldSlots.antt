@@ -15,10 +15,10 @@ use Rattle.world_model.specs.declared.entry.Entry.TheVariants.{Began}
 use Rattle.world_model.specs.declared.op.Op.{Op}
 use Rattle.world_model.specs.declared.op.Op.TheVariants as ops
 use Rattle.world_model.specs.Entries.{At}
-use Rattle.world_model.specs.Modes.{Modes}
+use Rattle.claims.specs.Modes.{Modes}
 use Rattle.world_model.specs.Operations.{Ended}
-use Rattle.world_model.specs.Rights.{can_read, can_write}
-use Rattle.world_model.specs.Slots.{slot_of}
+use Rattle.claims.specs.Rights.{can_read, can_write}
+use Rattle.claims.specs.Slots.{slot_of}
 use Rattle.world_model.proofs.Places.{At-grow, At-below, At-last, At-one}
 use Rattle.client_shelf.specs.declared.next.Next.{Next}
 use Rattle.client_shelf.specs.declared.next.Next.TheVariants as nexts

@@ -5,11 +5,11 @@ use Rattle.world_model.specs.declared.entry.Entry.{Entry}
 use Rattle.world_model.specs.declared.message.Call.{Call}
 use Rattle.world_model.specs.declared.op.Op.{Op}
 use Rattle.world_model.specs.declared.op.Op.TheVariants as ops
-use Rattle.world_model.specs.Asks.{Asks, Acts, Opening, Stabilizes, IsWriter, found_by, look_up}
-use Rattle.world_model.specs.Asks as asks
+use Rattle.claims.specs.Asks.{Asks, Acts, Opening, Stabilizes, IsWriter, found_by, look_up}
+use Rattle.claims.specs.Asks as asks
 use Rattle.world_model.specs.Mounts.{Rooted}
-use Rattle.world_model.specs.Paths.{paths_of}
-use Rattle.world_model.specs.Terms.{Terms}
+use Rattle.claims.specs.Paths.{paths_of}
+use Rattle.claims.specs.Terms.{Terms}
 use Rattle.client_shelf.specs.declared.next.Next.{Next}
 use Rattle.client_shelf.specs.declared.next.Next.TheVariants as nexts
 use Rattle.name_ops.specs.declared.dir_change.DirDeed.TheVariants as deeds

@@ -13,14 +13,14 @@ use Rattle.world_model.specs.declared.message.Call.{Call}
 use Rattle.world_model.specs.declared.message.Reply.{Reply}
 use Rattle.world_model.specs.declared.op.Op.{Op}
 use Rattle.world_model.specs.declared.op.Op.TheVariants as ops
-use Rattle.world_model.specs.Asks.{Acts}
-use Rattle.world_model.specs.Asks as asks
+use Rattle.claims.specs.Asks.{Acts}
+use Rattle.claims.specs.Asks as asks
 use Rattle.world_model.specs.Entries.{At}
 use Rattle.world_model.specs.Mounts.{Origin, Given, Rooted}
-use Rattle.world_model.specs.OkRows.{ActOk}
+use Rattle.claims.specs.OkRows.{ActOk}
 use Rattle.world_model.specs.Operations.{EndsWith}
-use Rattle.world_model.specs.Paths.{PlaceOf}
-use Rattle.world_model.specs.Terms.{Terms}
+use Rattle.claims.specs.Paths.{PlaceOf}
+use Rattle.claims.specs.Terms.{Terms}
 use Rattle.world_model.specs.Waiting.{IsDelivered}
 use Rattle.world_model.proofs.Growth.{Asked-wide, FirstSent-grow, Waits-grow}
 use Rattle.world_model.proofs.Places.{At-grow, At-below, At-back, At-cases, length_last}

@@ -12,8 +12,8 @@ use Rattle.world_model.specs.declared.op.Op.{Op}
 use Rattle.world_model.specs.declared.op.Op.TheVariants as ops
 use Rattle.world_model.specs.Leads as leads
 use Rattle.world_model.specs.Mounts.{Rooted}
-use Rattle.world_model.specs.OkRows.{ActOk, OkRow}
-use Rattle.world_model.specs.Terms.{Terms}
+use Rattle.claims.specs.OkRows.{ActOk, OkRow}
+use Rattle.claims.specs.Terms.{Terms}
 use Rattle.world_model.proofs.Growth.{Rooted-wide}
 use Rattle.world_model.proofs.Places.{At-grow, At-back, length_last}
 use Rattle.client_shelf.specs.declared.next.Next.{Next}
@@ -40,8 +40,8 @@ use Rattle.core_facts.proofs.OneCalls.{VisitStory, PairStory}
 use Rattle.core_facts.proofs.Steps.{ThenOf}
 use Rattle.core_facts.proofs.Tales.{IsTold, AsksFor, TaleLaws, reached-answered}
 use Rattle.world_model.specs.declared.entry.Entry.TheVariants.{Answered}
-use Rattle.world_model.specs.Asks.{Asks}
-use Rattle.world_model.specs.CallsAsked.{NoneBegan}
+use Rattle.claims.specs.Asks.{Asks}
+use Rattle.claims.specs.CallsAsked.{NoneBegan}
 use Rattle.world_model.specs.Operations.{UnderWay}
 use Rattle.core_facts.specs.InFlight.{in_flight, IsCounted, Counts}
 use Rattle.core_facts.specs.Asked.{IsMadeFor, CallsCaused}

@@ -20,7 +20,7 @@ use Rattle.world_model.specs.declared.message.Reply.{Reply}
 use Rattle.world_model.specs.declared.message.Reply.TheVariants as replies
 use Rattle.world_model.specs.declared.op.Op.{Op}
 use Rattle.world_model.specs.Heard.{status_of}
-use Rattle.world_model.specs.OkRows.{value_of}
+use Rattle.claims.specs.OkRows.{value_of}
 use Rattle.world_model.specs.Operations.{EndsWith}
 use Rattle.client_shelf.specs.declared.next.Next.{Next}
 use Rattle.client_shelf.specs.declared.next.Next.TheVariants as nexts

@@ -25,8 +25,8 @@ use Rattle.world_model.specs.declared.message.Call.{Call}
 use Rattle.world_model.specs.declared.message.Call.TheVariants as calls
 use Rattle.world_model.specs.declared.message.Reply.{Reply}
 use Rattle.world_model.specs.declared.message.Reply.TheVariants as replies
-use Rattle.world_model.specs.Asks.{MakesFile, look_up}
-use Rattle.world_model.specs.Asks as asks
+use Rattle.claims.specs.Asks.{MakesFile, look_up}
+use Rattle.claims.specs.Asks as asks
 use Rattle.world_model.specs.Heard.{Asked, status_of}
 use Rattle.world_model.specs.Leads as leading
 use Rattle.world_model.specs.Operations.{EndsWith}

@@ -15,16 +15,16 @@ use Rattle.world_model.specs.declared.message.Call.TheVariants as calls
 use Rattle.world_model.specs.declared.message.Reply.{Reply}
 use Rattle.world_model.specs.declared.op.Op.{Op}
 use Rattle.world_model.specs.declared.op.Op.TheVariants as ops
-use Rattle.world_model.specs.Asks.{Asks}
-use Rattle.world_model.specs.Asks as asks
+use Rattle.claims.specs.Asks.{Asks}
+use Rattle.claims.specs.Asks as asks
 use Rattle.world_model.specs.Entries.{At}
 use Rattle.world_model.specs.Heard.{Asked}
 use Rattle.world_model.specs.Leads as leads
 use Rattle.world_model.specs.Mounts.{Rooted}
-use Rattle.world_model.specs.OkRows as rows
+use Rattle.claims.specs.OkRows as rows
 use Rattle.world_model.specs.Operations.{Ended}
-use Rattle.world_model.specs.RefusalRows.{IsNoFile}
-use Rattle.world_model.specs.Terms.{Terms}
+use Rattle.claims.specs.RefusalRows.{IsNoFile}
+use Rattle.claims.specs.Terms.{Terms}
 use Rattle.world_model.specs.Waiting.{IsDelivered}
 use Rattle.world_model.proofs.Growth.{Asked-grow, Asked-wide, Rooted-wide}
 use Rattle.world_model.proofs.Places.{length_last}

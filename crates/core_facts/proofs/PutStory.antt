@@ -13,7 +13,7 @@ use Rattle.world_model.specs.declared.message.Reply.TheVariants as replies
 use Rattle.world_model.specs.declared.op.Op.{Op}
 use Rattle.world_model.specs.declared.op.Op.TheVariants as ops
 use Rattle.world_model.specs.Heard.{Asked}
-use Rattle.world_model.specs.Puts.{Committed}
+use Rattle.world_model.specs.Commits.{Committed}
 use Rattle.world_model.proofs.Growth.{Committed-grow}
 use Rattle.client_shelf.specs.declared.next.Next.{Next}
 use Rattle.client_shelf.specs.declared.next.Next.TheVariants as nexts

@@ -10,12 +10,12 @@ use Rattle.world_model.specs.declared.entry.Entry.{Entry}
 use Rattle.world_model.specs.declared.entry.Entry.TheVariants.{Began}
 use Rattle.world_model.specs.declared.op.Op.{Op}
 use Rattle.world_model.specs.declared.op.Op.TheVariants as ops
-use Rattle.world_model.specs.Caused.{IsTried}
+use Rattle.claims.specs.Caused.{IsTried}
 use Rattle.world_model.specs.Entries.{At}
 use Rattle.world_model.specs.Operations.{Ended}
-use Rattle.world_model.specs.Rights.{can_write, Changes, write, fill, truncate, NoPlace, taken, free, NoRight, read, change}
-use Rattle.world_model.specs.Slots.{slot_of, InSlot}
-use Rattle.world_model.specs.Terms.{Terms}
+use Rattle.claims.specs.Rights.{can_write, Changes, write, fill, truncate, NoPlace, taken, free, NoRight, read, change}
+use Rattle.claims.specs.Slots.{slot_of, InSlot}
+use Rattle.claims.specs.Terms.{Terms}
 use Rattle.world_model.proofs.Places.{At-back, At-last, At-one, length_last}
 use Rattle.client_shelf.specs.declared.next.Next.{Next}
 use Rattle.client_shelf.specs.declared.next.Next.TheVariants as nexts

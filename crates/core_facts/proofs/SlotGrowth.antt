@@ -18,9 +18,9 @@ use Rattle.world_model.specs.declared.message.Reply.TheVariants as replies
 use Rattle.world_model.specs.declared.op.Op.{Op}
 use Rattle.world_model.specs.declared.op.Op.TheVariants as ops
 use Rattle.world_model.specs.Messages.{SpellsReply}
-use Rattle.world_model.specs.Modes.{Modes}
+use Rattle.claims.specs.Modes.{Modes}
 use Rattle.world_model.specs.Operations.{Ended, LastReply}
-use Rattle.world_model.specs.Slots.{Finds, asked, looked_up, made, InSlot}
+use Rattle.claims.specs.Slots.{Finds, asked, looked_up, made, InSlot}
 use Rattle.world_model.proofs.Places.{At-grow, At-back, At-last, At-one, length_last}
 use Rattle.core_facts.proofs.LastReplies.{last-grow, last-back, last-stays}
 use Rattle.core_facts.proofs.Stories.{ended-grow}

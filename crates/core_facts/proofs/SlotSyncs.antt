@@ -12,9 +12,9 @@ use Rattle.world_model.specs.declared.entry.Entry.TheVariants.{Began}
 use Rattle.world_model.specs.declared.message.Reply.{Reply}
 use Rattle.world_model.specs.declared.op.Op.{Op}
 use Rattle.world_model.specs.declared.op.Op.TheVariants as ops
-use Rattle.world_model.specs.Modes.{Modes}
+use Rattle.claims.specs.Modes.{Modes}
 use Rattle.world_model.specs.Operations.{Ended}
-use Rattle.world_model.specs.Puts.{Committed}
+use Rattle.world_model.specs.Commits.{Committed}
 use Rattle.world_model.proofs.Growth.{Committed-grow}
 use Rattle.client_shelf.specs.LaneFiles.{is_first}
 use Rattle.client_shelf.specs.declared.next.Next.{Next}

@@ -8,9 +8,9 @@ use Rattle.world_model.specs.declared.entry.Entry.{Entry}
 use Rattle.world_model.specs.declared.op.Op.{Op}
 use Rattle.world_model.specs.declared.op.Op.TheVariants as ops
 use Rattle.world_model.specs.Operations.{Ended}
-use Rattle.world_model.specs.Rights.{can_read, can_write, HoldsToRead, HoldsToWrite, NoPlace, taken}
-use Rattle.world_model.specs.Slots.{slot_of}
-use Rattle.world_model.specs.Terms.{Terms}
+use Rattle.claims.specs.Rights.{can_read, can_write, HoldsToRead, HoldsToWrite, NoPlace, taken}
+use Rattle.claims.specs.Slots.{slot_of}
+use Rattle.claims.specs.Terms.{Terms}
 use Rattle.op_machines.specs.declared.begun.Mounted.{Mounted}
 use Rattle.op_machines.specs.Begun.{machine_of}
 use Rattle.client_core.specs.declared.setup.Setup.{Setup}

@@ -23,9 +23,9 @@ use Rattle.world_model.specs.declared.message.Reply.{Reply}
 use Rattle.world_model.specs.declared.message.Reply.TheVariants as replies
 use Rattle.world_model.specs.declared.op.Op.{Op}
 use Rattle.world_model.specs.declared.op.Op.TheVariants as ops
-use Rattle.world_model.specs.Modes.{Modes}
+use Rattle.claims.specs.Modes.{Modes}
 use Rattle.world_model.specs.Operations.{Ended, EndsWith, UnderWay}
-use Rattle.world_model.specs.Slots.{Finds, asked, looked_up, made}
+use Rattle.claims.specs.Slots.{Finds, asked, looked_up, made}
 use Rattle.world_model.proofs.Places.{length_last}
 use Rattle.client_shelf.specs.declared.next.Next.{Next}
 use Rattle.client_shelf.specs.declared.next.Next.TheVariants.{Send, Wait, Done}

@@ -15,7 +15,7 @@ use Rattle.world_model.specs.declared.message.Reply.{Reply}
 use Rattle.world_model.specs.declared.op.Op.{Op}
 use Rattle.world_model.specs.declared.op.Op.TheVariants as ops
 use Rattle.world_model.specs.Entries.{At}
-use Rattle.world_model.specs.Modes.{Modes}
+use Rattle.claims.specs.Modes.{Modes}
 use Rattle.world_model.specs.Operations.{Ended, UnderWay, AnsweredBefore}
 use Rattle.world_model.proofs.Places.{At-grow, At-one, length_last}
 use Rattle.call_replies.specs.Says.{said_of}

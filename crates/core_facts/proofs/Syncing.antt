@@ -15,7 +15,7 @@ use Rattle.world_model.specs.declared.message.Reply.TheVariants as replies
 use Rattle.world_model.specs.declared.op.Op.{Op}
 use Rattle.world_model.specs.declared.op.Op.TheVariants as ops
 use Rattle.world_model.specs.Heard.{Asked}
-use Rattle.world_model.specs.Puts.{Committed}
+use Rattle.world_model.specs.Commits.{Committed}
 use Rattle.world_model.proofs.Growth.{Asked-grow, Asked-wide, Committed-grow}
 use Rattle.world_model.proofs.Places.{length_last}
 use Rattle.client_shelf.specs.declared.next.Next.{Next}

@@ -8,9 +8,9 @@ use Rattle.world_model.specs.declared.op.Op.{Op}
 use Rattle.world_model.specs.declared.op.Op.TheVariants as ops
 use Rattle.world_model.specs.Entries.{At}
 use Rattle.world_model.specs.Mounts.{Origin, Rooted}
-use Rattle.world_model.specs.OkRows.{OkRow}
+use Rattle.claims.specs.OkRows.{OkRow}
 use Rattle.world_model.specs.Operations.{Ended}
-use Rattle.world_model.specs.Terms.{Terms}
+use Rattle.claims.specs.Terms.{Terms}
 use Rattle.op_machines.specs.declared.begun.Mounted.{Mounted}
 use Rattle.op_machines.specs.Begun.{IsAsked, machine_of}
 use Rattle.client_core.specs.declared.setup.Setup.{Setup}

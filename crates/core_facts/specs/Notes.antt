@@ -4,7 +4,7 @@ use Rattle.world_model.specs.declared.answer.Answer.{Answer}
 use Rattle.world_model.specs.declared.entry.Entry.{Entry}
 use Rattle.world_model.specs.declared.entry.Entry.TheVariants.{Sent, Delivered}
 use Rattle.world_model.specs.declared.op.Op.{Op}
-use Rattle.world_model.specs.CallsAsked.{NoneBegan}
+use Rattle.claims.specs.CallsAsked.{NoneBegan}
 use Rattle.world_model.specs.Entries.{At}
 use Rattle.world_model.specs.Lost.{Loses}
 use Rattle.op_machines.specs.declared.machine.Machine.{Machine}

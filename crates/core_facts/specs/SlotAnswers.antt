@@ -8,11 +8,11 @@ use Rattle.world_model.specs.declared.answer.Value.{Value}
 use Rattle.world_model.specs.declared.entry.Entry.{Entry}
 use Rattle.world_model.specs.declared.op.Op.{Op}
 use Rattle.world_model.specs.declared.op.Op.TheVariants.{Read, Write, Fill, Sync, Close, Truncate}
-use Rattle.world_model.specs.Caused.{IsTried}
-use Rattle.world_model.specs.OkRows.{SyncOk, CloseOk}
+use Rattle.claims.specs.Caused.{IsTried}
+use Rattle.claims.specs.OkRows.{SyncOk, CloseOk}
 use Rattle.world_model.specs.Operations.{Ended}
-use Rattle.world_model.specs.Rights.{HoldsToRead, HoldsToWrite, NoPlace, NoRight}
-use Rattle.world_model.specs.Terms.{Terms}
+use Rattle.claims.specs.Rights.{HoldsToRead, HoldsToWrite, NoPlace, NoRight}
+use Rattle.claims.specs.Terms.{Terms}
 use Rattle.op_machines.specs.declared.begun.Mounted.{Mounted}
 use Rattle.op_machines.specs.Begun.{machine_of}
 use Rattle.client_core.specs.declared.setup.Setup.{Setup}

@@ -5,7 +5,7 @@ use Rattle.world_model.specs.declared.answer.Value.{Value}
 use Rattle.world_model.specs.declared.entry.Entry.{Entry}
 use Rattle.world_model.specs.declared.op.Op.TheVariants.{Put, Sync}
 use Rattle.world_model.specs.Operations.{Ended}
-use Rattle.world_model.specs.Puts.{Committed}
+use Rattle.world_model.specs.Commits.{Committed}
 use Rattle.op_machines.specs.declared.begun.Mounted.{Mounted}
 use Rattle.op_machines.specs.Begun.{machine_of}
 use Rattle.client_core.specs.declared.setup.Setup.{Setup}

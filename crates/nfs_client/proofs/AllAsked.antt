@@ -3,8 +3,8 @@ use Rattle.std.proofs.Common.{◌≡◌, ◌++◌, ℕ, List, inl, inr, subst, r
 use Rattle.world_model.specs.declared.entry.Entry.{Entry}
 use Rattle.world_model.specs.declared.entry.Entry.TheVariants.{Sent}
 use Rattle.world_model.specs.declared.message.Call.{Call}
-use Rattle.world_model.specs.CallsAsked.{CallsAsked, NoneBegan, IsCaused, IsCause}
-use Rattle.world_model.specs.CallsAsked as causes
+use Rattle.claims.specs.CallsAsked.{CallsAsked, NoneBegan, IsCaused, IsCause}
+use Rattle.claims.specs.CallsAsked as causes
 use Rattle.world_model.specs.Entries.{At}
 use Rattle.world_model.proofs.Places.{At-back}
 use Rattle.session_words.specs.declared.settings.Settings.{Settings}

@@ -4,11 +4,11 @@ use Rattle.world_model.specs.declared.answer.Answer.TheVariants.{Refused}
 use Rattle.world_model.specs.declared.answer.Fault.TheVariants as faults
 use Rattle.world_model.specs.declared.entry.Entry.{Entry}
 use Rattle.world_model.specs.declared.op.Op.{Op}
-use Rattle.world_model.specs.CallCounts.{CallCounts}
-use Rattle.world_model.specs.CallsAsked.{CallsAsked}
-use Rattle.world_model.specs.Caused.{Caused, calls_in}
+use Rattle.claims.specs.CallCounts.{CallCounts}
+use Rattle.claims.specs.CallsAsked.{CallsAsked}
+use Rattle.claims.specs.Caused.{Caused, calls_in}
 use Rattle.world_model.specs.Operations.{Ended}
-use Rattle.world_model.specs.Terms.{Terms}
+use Rattle.claims.specs.Terms.{Terms}
 use Rattle.lane_session.specs.Bonds.{StaysLost}
 use Rattle.session_words.specs.declared.settings.Settings.{Settings}
 use Rattle.nfs_client.specs.Shown.{AllRowed, AreGiven, OksShown, SlotsShown}

@@ -11,8 +11,8 @@ use Rattle.world_model.specs.declared.op.Op.{Op}
 use Rattle.world_model.specs.declared.op.Op.TheVariants as ops
 use Rattle.world_model.specs.declared.answer.Answer.TheVariants.{Refused}
 use Rattle.world_model.specs.declared.answer.Fault.TheVariants.{Spent}
-use Rattle.world_model.specs.CallsAsked.{CallsAsked, NoneBegan}
-use Rattle.world_model.specs.Caused.{calls_in}
+use Rattle.claims.specs.CallsAsked.{CallsAsked, NoneBegan}
+use Rattle.claims.specs.Caused.{calls_in}
 use Rattle.world_model.specs.Entries.{At}
 use Rattle.world_model.specs.Fresh.{Fresh}
 use Rattle.world_model.specs.History.{History}
@@ -21,7 +21,7 @@ use Rattle.world_model.specs.Mounts.{Rooted}
 use Rattle.world_model.specs.Once.{Once}
 use Rattle.world_model.specs.Operations.{Ended}
 use Rattle.world_model.specs.Rows.{WasSent}
-use Rattle.world_model.specs.Terms.{Terms}
+use Rattle.claims.specs.Terms.{Terms}
 use Rattle.world_model.proofs.Growth.{Rooted-grow, Rooted-wide}
 use Rattle.world_model.proofs.Places.{At-back, At-below, At-grow}
 use Rattle.op_machines.specs.Begun.{IsNamed, machine_of}

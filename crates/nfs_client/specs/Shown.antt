@@ -24,10 +24,10 @@ use Rattle.world_model.specs.declared.entry.Entry.TheVariants.{Clock, Sent}
 use Rattle.world_model.specs.declared.message.Call.{Call}
 use Rattle.world_model.specs.declared.op.Op.{Op}
 use Rattle.world_model.specs.declared.op.Op.TheVariants as ops
-use Rattle.world_model.specs.Caused.{Caused, IsTried, calls_in}
-use Rattle.world_model.specs.Complete.{IsOwn, Completes}
-use Rattle.world_model.specs.CallsAsked.{CallsAsked}
-use Rattle.world_model.specs.CallCounts.{CallCounts}
+use Rattle.claims.specs.Caused.{Caused, IsTried, calls_in}
+use Rattle.claims.specs.Complete.{IsOwn, Completes}
+use Rattle.claims.specs.CallsAsked.{CallsAsked}
+use Rattle.claims.specs.CallCounts.{CallCounts}
 use Rattle.world_model.specs.Entries.{At}
 use Rattle.world_model.specs.Follows.{Follows}
 use Rattle.world_model.specs.Fresh.{Fresh}
@@ -35,19 +35,19 @@ use Rattle.world_model.specs.History.{History}
 use Rattle.world_model.specs.Lawful.{Lawful}
 use Rattle.world_model.specs.Lost.{IsLost}
 use Rattle.world_model.specs.Messages.{HasXid, SpellsCall}
-use Rattle.world_model.specs.Modes.{Modes}
-use Rattle.world_model.specs.OkRows.{OkRow}
+use Rattle.claims.specs.Modes.{Modes}
+use Rattle.claims.specs.OkRows.{OkRow}
 use Rattle.world_model.specs.Once.{Once}
 use Rattle.world_model.specs.Operations.{Ended, UnderWay}
-use Rattle.world_model.specs.Pending.{Pending}
-use Rattle.world_model.specs.ReadTrue.{ReadCurrent, ReadShort, ReadsBytes, ReadTrue}
-use Rattle.world_model.specs.Recent.{AttrAge, ListTrue, NamesTrue}
-use Rattle.world_model.specs.RefusalRows.{RefusalRow}
+use Rattle.claims.specs.Pending.{Pending}
+use Rattle.claims.specs.ReadTrue.{ReadCurrent, ReadShort, ReadsBytes, ReadTrue}
+use Rattle.claims.specs.Recent.{AttrAge, ListTrue, NamesTrue}
+use Rattle.claims.specs.RefusalRows.{RefusalRow}
 use Rattle.world_model.specs.Rising.{Rising}
-use Rattle.world_model.specs.Settled.{HoldsStable, SettledBy, Settled}
-use Rattle.world_model.specs.Terms.{Terms, jukebox}
-use Rattle.world_model.specs.Thrifty.{Thrifty}
-use Rattle.world_model.specs.Touched.{Wrote}
+use Rattle.claims.specs.Settled.{HoldsStable, SettledBy, Settled}
+use Rattle.claims.specs.Terms.{Terms, jukebox}
+use Rattle.claims.specs.Thrifty.{Thrifty}
+use Rattle.claims.specs.Touched.{Wrote}
 use Rattle.bond_calls.specs.Calls.{Numbered}
 use Rattle.bond_own.specs.Own.{CutsStay}
 use Rattle.bond_reads.specs.Kept.{HasStamp}

@@ -7,7 +7,7 @@ use Rattle.rpc_message.proofs.CallLaws.{call_again}
 use Rattle.rpc_retry.specs.Held.{Held, next_xid}
 use Rattle.world_model.specs.declared.entry.Entry.{Entry}
 use Rattle.world_model.specs.declared.message.Call.{Call}
-use Rattle.world_model.specs.CallsAsked.{mount, inform}
+use Rattle.claims.specs.CallsAsked.{mount, inform}
 use Rattle.world_model.specs.Messages.{SpellsCall, head_of, program_of}
 use Rattle.world_model.specs.Mounts.{Origin, Mounting, Given, mount_call, info_call}
 use Rattle.session_words.specs.declared.settings.Export.TheVariants as exports

@@ -7,7 +7,7 @@ use Rattle.world_model.specs.declared.entry.Entry.{Entry}
 use Rattle.world_model.specs.declared.entry.Entry.TheVariants.{Began, Answered, Sent, Clock}
 use Rattle.world_model.specs.declared.message.Call.{Call}
 use Rattle.world_model.specs.declared.op.Op.{Op}
-use Rattle.world_model.specs.CallsAsked.{AreSetUp}
+use Rattle.claims.specs.CallsAsked.{AreSetUp}
 use Rattle.world_model.specs.Entries.{At}
 use Rattle.world_model.specs.Messages.{HasXid, SpellsCall, SpellsCallBy}
 use Rattle.world_model.specs.Mounts.{Origin, Mounting, Given, Rooted, mount_call, info_call}

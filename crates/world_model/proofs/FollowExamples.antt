@@ -1,5 +1,5 @@
 -- Worked examples: lanes that follow their script, that run together, and the clock's readings; and such that don't.
-use Rattle.std.proofs.Common.{inl, inr, ◌≡◌, ◌<◌, ◌≤◌, ℕ, zero, suc, List, [], ◌∷◌, ◌++◌, length, refl, arith}
+use Rattle.std.proofs.Common.{inl, inr, ◌≡◌, ◌<◌, ℕ, zero, suc, List, [], ◌∷◌, refl, arith}
 use Rattle.world_model.specs.declared.answer.Answer.{Answer}
 use Rattle.world_model.specs.declared.answer.Answer.TheVariants.{Done}
 use Rattle.world_model.specs.declared.answer.Value.TheVariants.{Nothing}
@@ -7,7 +7,7 @@ use Rattle.world_model.specs.declared.entry.Entry.{Entry}
 use Rattle.world_model.specs.declared.entry.Entry.TheVariants.{Began, Answered, Delivered, Clock}
 use Rattle.world_model.specs.declared.op.Op.{Op}
 use Rattle.world_model.specs.declared.op.Op.TheVariants.{Sync, Close}
-use Rattle.world_model.specs.Clocked.{Timed, IsTimed, NotesReadings}
+use Rattle.world_model.specs.Clocked.{IsTimed}
 use Rattle.world_model.specs.Entries.{At}
 use Rattle.world_model.specs.Follows.{Follows, Finishes, Alternates, none, busy, answered, marks_of}
 use Rattle.world_model.specs.LanesTogether.{LanesTogether}
@@ -76,24 +76,3 @@ may_not_run_one_after_another together =
 -- an operation that begins just after a reading is timed
 is_timed : IsTimed (Clock 5 ∷ Began 1 1 (Sync 1) ∷ []) 1
 is_timed = record { at = 0; ms = 5; next = refl; read = refl }
-
--- one that begins without a reading, and is under way, isn't
-may_not_begin_untimed : Timed (Began 1 1 (Sync 1) ∷ []) → ⊥
-may_not_begin_untimed timed = elim (timed 0 1 1 (Sync 1) refl) [ inl t ↦ let next = t.next in omega (arith, next) | inr lost ↦ unanswered lost.0 lost.1.line lost.1.answered lost.1.later ]
-  where
-    unanswered : (y line : ℕ) {answer : Answer} → At (Began 1 1 (Sync 1) ∷ []) y (Answered 1 line answer) → 0 < y → ⊥
-    unanswered zero line is later = omega (arith, later)
-    unanswered (suc y) line is later = absurd (cc is)
-
--- the first reading, from which the first xid is taken, may be left out
-leaves_the_first_out : NotesReadings 0 (5 ∷ 6 ∷ []) (6 ∷ [])
-leaves_the_first_out = record { first = 5 ∷ []; last = []; is = refl; few = omega arith; late = omega arith; whole = λ e. refl }
-
--- but none after it
-may_not_leave_out_the_last : NotesReadings 0 (5 ∷ 6 ∷ []) [] → ⊥
-may_not_leave_out_the_last notes = both notes.first notes.last notes.is (notes.whole (λ e. absurd (cc e))) notes.few
-  where
-    both : (first last : List ℕ) → 5 ∷ 6 ∷ [] ≡ first ++ [] ++ last → last ≡ [] → length first ≤ 1 → ⊥
-    both [] last is e few = absurd (cc (is, e))
-    both (a ∷ []) last is e few = absurd (cc (is, e))
-    both (a ∷ b ∷ first) last is e few = omega (arith, few)

@@ -1,5 +1,3 @@
-pub mod AnswerExamples
-pub mod CallExamples
 pub mod Deciding
 pub mod Doing
 pub mod FileSteps
@@ -9,17 +7,9 @@ pub mod Growth
 pub mod Histories
 pub mod HistoryExamples
 pub mod Lasting
-pub mod LateCopies
 pub mod LostExamples
-pub mod OperationExamples
 pub mod Places
-pub mod PutExamples
-pub mod ReadExamples
 pub mod Served
 pub mod ServiceExamples
-pub mod StaleBodies
 pub mod Stamps
-pub mod ThriftExamples
 pub mod Verifiers
-pub mod WrongBodies
-pub mod OwnReads

@@ -19,22 +19,11 @@ Tells None new es = Unit {0}
 Tells (Some old) None es = ⊥
 Tells (Some old) (Some new) es = Adds old new es
 
--- a fact of the history, where one is told
-abbrev pub IfTold : Option History → (List Entry → Type 0) → Type 0
-IfTold None P = Unit {0}
-IfTold (Some t) P = P t.entries
-
 -- a link that told a history goes on telling, and the two are so related
 abbrev pub Relates : Option History → Option History → (List Entry → List Entry → Type 0) → Type 0
 Relates None new R = Unit {0}
 Relates (Some old) None R = ⊥
 Relates (Some old) (Some new) R = R old.entries new.entries
-
--- the same of the two histories with the servers at their moments
-abbrev pub RelatesTold : Option History → Option History → (History → History → Type 0) → Type 0
-RelatesTold None new R = Unit {0}
-RelatesTold (Some old) None R = ⊥
-RelatesTold (Some old) (Some new) R = R old new
 
 -- what is told, where a history is, is lawful
 abbrev pub IsLawful : Option History → Type 0

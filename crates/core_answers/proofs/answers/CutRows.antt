@@ -21,12 +21,12 @@ use Rattle.world_model.specs.declared.message.Reply.{Reply}
 use Rattle.world_model.specs.declared.message.Reply.TheVariants as replies
 use Rattle.world_model.specs.declared.op.Op.{Op}
 use Rattle.world_model.specs.declared.op.Op.TheVariants as ops
-use Rattle.world_model.specs.Asks as asks
-use Rattle.world_model.specs.Modes.{Modes}
-use Rattle.world_model.specs.OkRows.{OkRow}
+use Rattle.claims.specs.Asks as asks
+use Rattle.claims.specs.Modes.{Modes}
+use Rattle.claims.specs.OkRows.{OkRow}
 use Rattle.world_model.specs.Operations.{EndsWith}
-use Rattle.world_model.specs.Rights.{can_write}
-use Rattle.world_model.specs.Slots.{InSlot}
+use Rattle.claims.specs.Rights.{can_write}
+use Rattle.claims.specs.Slots.{InSlot}
 use Rattle.client_shelf.specs.declared.next.Next.{Next}
 use Rattle.client_shelf.specs.declared.next.Next.TheVariants as nexts
 use Rattle.client_shelf.specs.declared.shelf.Shelf.{Shelf}

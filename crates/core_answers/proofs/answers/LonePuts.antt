@@ -9,16 +9,16 @@ use Rattle.world_model.specs.declared.entry.Entry.TheVariants.{Began, Sent}
 use Rattle.world_model.specs.declared.message.Call.{Call}
 use Rattle.world_model.specs.declared.op.Op.{Op}
 use Rattle.world_model.specs.declared.op.Op.TheVariants as ops
-use Rattle.world_model.specs.Asks.{Asks, Acts}
-use Rattle.world_model.specs.Asks as acts
-use Rattle.world_model.specs.CallsAsked.{NoneBegan}
+use Rattle.claims.specs.Asks.{Asks, Acts}
+use Rattle.claims.specs.Asks as acts
+use Rattle.claims.specs.CallsAsked.{NoneBegan}
 use Rattle.world_model.specs.Entries.{At}
-use Rattle.world_model.specs.GoesOn.{GoesOn}
-use Rattle.world_model.specs.GoesOn as on
+use Rattle.claims.specs.GoesOn.{GoesOn}
+use Rattle.claims.specs.GoesOn as on
 use Rattle.world_model.specs.Operations.{Ended}
-use Rattle.world_model.specs.PageRules.{refuses}
-use Rattle.world_model.specs.RefusalRows.{RefusedBy, RefusalRow}
-use Rattle.world_model.specs.Terms.{Terms, jukebox}
+use Rattle.claims.specs.PageRules.{refuses}
+use Rattle.claims.specs.RefusalRows.{RefusedBy, RefusalRow}
+use Rattle.claims.specs.Terms.{Terms, jukebox}
 use Rattle.world_model.proofs.Places.{At-one}
 use Rattle.op_machines.specs.declared.begun.Mounted.{Mounted}
 use Rattle.op_machines.specs.Begun.{IsNamed, machine_of}

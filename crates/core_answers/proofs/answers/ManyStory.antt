@@ -30,10 +30,10 @@ use Rattle.world_model.specs.Chains.{Chain, start, next, LastCookie, names_of, l
 use Rattle.world_model.specs.Heard.{Asked}
 use Rattle.world_model.specs.Leads as leading
 use Rattle.world_model.specs.Mounts.{Rooted}
-use Rattle.world_model.specs.OkRows.{most_names}
+use Rattle.claims.specs.OkRows.{most_names}
 use Rattle.world_model.specs.Operations.{EndsWith}
-use Rattle.world_model.specs.RefusalRows.{RefusalRow}
-use Rattle.world_model.specs.Terms.{Terms}
+use Rattle.claims.specs.RefusalRows.{RefusalRow}
+use Rattle.claims.specs.Terms.{Terms}
 use Rattle.world_model.specs.Waiting.{IsDelivered}
 use Rattle.world_model.proofs.Growth.{Asked-grow, Asked-wide, Rooted-wide}
 use Rattle.world_model.proofs.Places.{length_last}

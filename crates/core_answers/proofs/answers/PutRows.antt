@@ -13,15 +13,15 @@ use Rattle.world_model.specs.declared.message.Call.{Call}
 use Rattle.world_model.specs.declared.message.Reply.{Reply}
 use Rattle.world_model.specs.declared.op.Op.{Op}
 use Rattle.world_model.specs.declared.op.Op.TheVariants as ops
-use Rattle.world_model.specs.Asks as asks
+use Rattle.claims.specs.Asks as asks
 use Rattle.world_model.specs.Entries.{At}
 use Rattle.world_model.specs.Leads as leads
 use Rattle.world_model.specs.Mounts.{Rooted}
-use Rattle.world_model.specs.OkRows.{OkRow}
+use Rattle.claims.specs.OkRows.{OkRow}
 use Rattle.world_model.specs.Operations.{Ended}
-use Rattle.world_model.specs.Puts.{Committed}
-use Rattle.world_model.specs.RefusalRows.{RefusalRow}
-use Rattle.world_model.specs.Terms.{Terms}
+use Rattle.world_model.specs.Commits.{Committed}
+use Rattle.claims.specs.RefusalRows.{RefusalRow}
+use Rattle.claims.specs.Terms.{Terms}
 use Rattle.world_model.specs.Waiting.{IsDelivered}
 use Rattle.world_model.proofs.Growth.{Asked-wide, Committed-grow, Rooted-wide}
 use Rattle.client_shelf.specs.declared.next.Next.{Next}

@@ -79,7 +79,7 @@ use Rattle.client_core.specs.declared.lane.Purpose.{Purpose}
 use Rattle.client_core.specs.View.{View}
 use Rattle.core_facts.specs.Reaches.{Reaches}
 use Rattle.core_facts.specs.Refusing.{IsRefusedSo}
-use Rattle.world_model.specs.Asks.{look_up}
+use Rattle.claims.specs.Asks.{look_up}
 use Rattle.world_model.proofs.Places.{length_last}
 use Rattle.core_answers.proofs.answers.WalkFaults.{FineWalk, FineLook, go-walk-fine, took-walk-by}
 use Rattle.core_answers.proofs.answers.WriteCalls.{WriteCalls}

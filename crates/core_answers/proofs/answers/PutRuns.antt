@@ -20,11 +20,11 @@ use Rattle.world_model.specs.declared.message.Call.{Call}
 use Rattle.world_model.specs.declared.message.Call.TheVariants as calls
 use Rattle.world_model.specs.declared.message.Reply.{Reply}
 use Rattle.world_model.specs.declared.message.Reply.TheVariants as replies
-use Rattle.world_model.specs.Asks as asks
+use Rattle.claims.specs.Asks as asks
 use Rattle.world_model.specs.Heard.{Asked}
 use Rattle.world_model.specs.Operations.{EndsWith}
-use Rattle.world_model.specs.Puts.{Committed}
-use Rattle.world_model.specs.Slots.{NamesFile}
+use Rattle.world_model.specs.Commits.{Committed}
+use Rattle.claims.specs.Slots.{NamesFile}
 use Rattle.client_shelf.specs.LaneFiles.{is_first}
 use Rattle.client_shelf.specs.declared.next.Next.{Next}
 use Rattle.client_shelf.specs.declared.next.Next.TheVariants as nexts

@@ -20,7 +20,7 @@ use Rattle.world_model.specs.declared.message.Call.{Call}
 use Rattle.world_model.specs.declared.message.Call.TheVariants as calls
 use Rattle.world_model.specs.declared.message.Reply.{Reply}
 use Rattle.world_model.specs.declared.message.Reply.TheVariants as replies
-use Rattle.world_model.specs.Asks.{look_up}
+use Rattle.claims.specs.Asks.{look_up}
 use Rattle.world_model.specs.Heard.{Asked}
 use Rattle.world_model.specs.Rules.{Breaks, wrong_committed, wrong_count}
 use Rattle.client_shelf.specs.declared.turn.Turn.{Turn}

@@ -7,7 +7,7 @@ use Rattle.nfs_types.specs.declared.verf.Verf.{Verf}
 use Rattle.world_model.specs.declared.answer.Fault.{Fault}
 use Rattle.world_model.specs.declared.answer.Fault.TheVariants.{Memory}
 use Rattle.world_model.specs.declared.message.Reply.{Reply}
-use Rattle.world_model.specs.Slots.{NamesFile, writes, commits}
+use Rattle.claims.specs.Slots.{NamesFile, writes, commits}
 use Rattle.client_shelf.specs.declared.next.Next.{Next}
 use Rattle.client_shelf.specs.declared.next.Next.TheVariants as nexts
 use Rattle.client_shelf.specs.declared.repeats.Repeat.{Repeat}

@@ -17,13 +17,13 @@ use Rattle.world_model.specs.declared.message.Reply.{Reply}
 use Rattle.world_model.specs.declared.message.Reply.TheVariants as replies
 use Rattle.world_model.specs.declared.op.Op.{Op}
 use Rattle.world_model.specs.declared.op.Op.TheVariants as ops
-use Rattle.world_model.specs.Shown.{of_object}
+use Rattle.claims.specs.Shown.{of_object}
 use Rattle.world_model.specs.Heard.{Asked}
 use Rattle.world_model.specs.Leads as leads
 use Rattle.world_model.specs.Leads.{Leads}
 use Rattle.world_model.specs.Mounts.{Rooted}
-use Rattle.world_model.specs.OkRows.{OkRow}
-use Rattle.world_model.specs.Terms.{Terms}
+use Rattle.claims.specs.OkRows.{OkRow}
+use Rattle.claims.specs.Terms.{Terms}
 use Rattle.world_model.proofs.Growth.{Heard-wide, Rooted-wide}
 use Rattle.world_model.proofs.Places.{length_last}
 use Rattle.client_shelf.specs.Busy.{fails_busy, goes_again}

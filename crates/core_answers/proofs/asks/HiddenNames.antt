@@ -6,7 +6,7 @@ use Rattle.std.specs.Int.{w32, byte_at, bytes_high_first, to_be_bytes}
 use Rattle.std.proofs.lemmas.List.Elements.{All-from_recursion, All-nil, All-cons, All-head, All-tail}
 use Rattle.hex.specs.Hex.{lower_digits, encode_with, encode_lower}
 use Rattle.silly_rename.specs.Plans.{silly_name}
-use Rattle.world_model.specs.Hidden.{IsHexDigit, IsHidden}
+use Rattle.claims.specs.Hidden.{IsHexDigit, IsHidden}
 
 digit-at : (t : List ℕ) (k : ℕ) → All IsHexDigit t → k < length t → IsHexDigit (slice_index t k)
 digit-at [] k all within = absurd (omega (arith, within))

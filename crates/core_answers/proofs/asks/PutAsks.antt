@@ -8,14 +8,14 @@ use Rattle.world_model.specs.declared.message.Call.{Call}
 use Rattle.world_model.specs.declared.message.Reply.{Reply}
 use Rattle.world_model.specs.declared.op.Op.{Op}
 use Rattle.world_model.specs.declared.op.Op.TheVariants as ops
-use Rattle.world_model.specs.Asks.{Asks, Stabilizes, look_up}
-use Rattle.world_model.specs.Asks as asks
+use Rattle.claims.specs.Asks.{Asks, Stabilizes, look_up}
+use Rattle.claims.specs.Asks as asks
 use Rattle.world_model.specs.Entries.{At}
 use Rattle.world_model.specs.Leads.{Leads}
 use Rattle.world_model.specs.Mounts.{Rooted}
 use Rattle.world_model.specs.Operations.{UnderWay}
-use Rattle.world_model.specs.Paths.{PlaceOf}
-use Rattle.world_model.specs.Terms.{Terms}
+use Rattle.claims.specs.Paths.{PlaceOf}
+use Rattle.claims.specs.Terms.{Terms}
 use Rattle.world_model.proofs.Growth.{Asked-wide, Rooted-wide}
 use Rattle.world_model.proofs.Places.{At-grow}
 use Rattle.write_back.specs.Files.{Pending}

@@ -13,7 +13,7 @@ use Rattle.world_model.specs.declared.answer.Fault.TheVariants as faults
 use Rattle.world_model.specs.declared.entry.Entry.{Entry}
 use Rattle.world_model.specs.declared.message.Reply.{Reply}
 use Rattle.world_model.specs.declared.message.Reply.TheVariants as replies
-use Rattle.world_model.specs.Asks.{look_up}
+use Rattle.claims.specs.Asks.{look_up}
 use Rattle.world_model.specs.Heard.{Asked}
 use Rattle.world_model.specs.Leads as leading
 use Rattle.client_shelf.specs.declared.turn.Turn.{Turn}

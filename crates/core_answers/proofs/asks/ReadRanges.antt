@@ -8,7 +8,7 @@ use Rattle.std.proofs.lemmas.Bool.Decides.{nat_tests}
 use Rattle.std.proofs.lemmas.List.{length-append, length-take}
 use Rattle.page_cache.specs.Bytes.{start_of}
 use Rattle.page_cache.specs.Pages.{Pages, page_of as page_in, after_page}
-use Rattle.world_model.specs.Pages.{page_of, page_from, InsidePages}
+use Rattle.claims.specs.Pages.{page_of, page_from, InsidePages}
 use Rattle.file_ops.specs.Base.{Bytes, pages_size, nothing_of, place_after, with_more}
 use Rattle.file_ops.specs.Gather.{Planned, stopped, planned, most_asked, next_page, next_count}
 

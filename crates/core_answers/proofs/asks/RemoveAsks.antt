@@ -10,12 +10,12 @@ use Rattle.world_model.specs.declared.message.Reply.{Reply}
 use Rattle.world_model.specs.declared.message.Reply.TheVariants as replies
 use Rattle.world_model.specs.declared.op.Op.{Op}
 use Rattle.world_model.specs.declared.op.Op.TheVariants as ops
-use Rattle.world_model.specs.Asks.{Asks}
-use Rattle.world_model.specs.Asks as asks
+use Rattle.claims.specs.Asks.{Asks}
+use Rattle.claims.specs.Asks as asks
 use Rattle.world_model.specs.Heard.{Asked}
 use Rattle.world_model.specs.Mounts.{Rooted}
-use Rattle.world_model.specs.Paths.{PlaceOf}
-use Rattle.world_model.specs.Terms.{Terms}
+use Rattle.claims.specs.Paths.{PlaceOf}
+use Rattle.claims.specs.Terms.{Terms}
 use Rattle.world_model.proofs.Growth.{Asked-grow, Asked-wide}
 use Rattle.client_shelf.specs.declared.next.Next.{Next}
 use Rattle.client_shelf.specs.declared.next.Next.TheVariants as nexts

@@ -13,7 +13,7 @@ use Rattle.world_model.specs.declared.message.Call.{Call}
 use Rattle.world_model.specs.declared.message.Reply.{Reply}
 use Rattle.world_model.specs.declared.message.Reply.TheVariants as replies
 use Rattle.world_model.specs.Heard.{Asked, status_of}
-use Rattle.world_model.specs.Hidden.{IsHidden}
+use Rattle.claims.specs.Hidden.{IsHidden}
 use Rattle.world_model.proofs.Growth.{Asked-grow, Asked-wide}
 use Rattle.world_model.proofs.Places.{length_last}
 use Rattle.client_shelf.specs.declared.next.Next.{Next}

@@ -16,8 +16,8 @@ use Rattle.world_model.specs.declared.entry.Entry.TheVariants.{Began}
 use Rattle.world_model.specs.declared.message.Reply.{Reply}
 use Rattle.world_model.specs.declared.op.Op.{Op}
 use Rattle.world_model.specs.declared.op.Op.TheVariants as ops
-use Rattle.world_model.specs.Modes.{Modes}
-use Rattle.world_model.specs.Rights.{can_write}
+use Rattle.claims.specs.Modes.{Modes}
+use Rattle.claims.specs.Rights.{can_write}
 use Rattle.client_shelf.specs.Busy.{goes_again}
 use Rattle.client_shelf.specs.LaneFiles.{is_first}
 use Rattle.client_shelf.specs.declared.next.Next.{Next}

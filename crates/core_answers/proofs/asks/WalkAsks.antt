@@ -4,12 +4,12 @@ use Rattle.std.specs.Prelude.{if◌then◌else◌}
 use Rattle.world_model.specs.declared.entry.Entry.{Entry}
 use Rattle.world_model.specs.declared.message.Call.{Call}
 use Rattle.world_model.specs.declared.op.Op.{Op}
-use Rattle.world_model.specs.Asks.{Asks, look_up, found_by}
-use Rattle.world_model.specs.Asks as asks
+use Rattle.claims.specs.Asks.{Asks, look_up, found_by}
+use Rattle.claims.specs.Asks as asks
 use Rattle.world_model.specs.Leads.{Leads}
 use Rattle.world_model.specs.Mounts.{Rooted}
-use Rattle.world_model.specs.Paths.{paths_of}
-use Rattle.world_model.specs.Terms.{Terms}
+use Rattle.claims.specs.Paths.{paths_of}
+use Rattle.claims.specs.Terms.{Terms}
 use Rattle.name_ops.specs.declared.walk.Walk.{Walk}
 use Rattle.name_ops.specs.Walking as walking
 use Rattle.op_machines.specs.Begun.{IsNamed, front_of, last_of}

@@ -9,11 +9,11 @@ use Rattle.world_model.specs.declared.entry.Entry.TheVariants.{Began, Answered, 
 use Rattle.world_model.specs.declared.op.Op.{Op}
 use Rattle.world_model.specs.declared.op.Op.TheVariants as ops
 use Rattle.world_model.specs.Entries.{At}
-use Rattle.world_model.specs.Modes.{Modes}
+use Rattle.claims.specs.Modes.{Modes}
 use Rattle.world_model.specs.Mounts.{Rooted}
 use Rattle.world_model.specs.Operations.{Ended, answered}
-use Rattle.world_model.specs.ReadTrue.{IsYoung}
-use Rattle.world_model.specs.Recent.{Recent, during, kept, Walked, root, step}
+use Rattle.claims.specs.ReadTrue.{IsYoung}
+use Rattle.claims.specs.Recent.{Recent, during, kept, Walked, root, step}
 use Rattle.core_facts.specs.Reaches.{last_reading}
 use Rattle.core_answers.specs.bonds.Aged.{Rises, AttrsAged}
 use Rattle.core_answers.specs.bonds.Ages.{IsRecent, own, young, began_at}

@@ -14,7 +14,7 @@ use Rattle.world_model.specs.Entries.{At}
 use Rattle.world_model.specs.History.{History}
 use Rattle.world_model.specs.Lawful.{Lawful, IsReplied, replied, refused}
 use Rattle.world_model.specs.Messages.{HasXid, SpellsCall, SpellsReply}
-use Rattle.world_model.specs.Shown.{ShowsAttr, of_object, of_target, of_given, of_listed}
+use Rattle.claims.specs.Shown.{ShowsAttr, of_object, of_target, of_given, of_listed}
 use Rattle.bond_calls.specs.Calls.{Numbered}
 use Rattle.bond_calls.proofs.CallsWait.{xid_of_call}
 use Rattle.bond_walks.proofs.RepliesShow.{shows_true}

@@ -14,7 +14,7 @@ use Rattle.world_model.specs.declared.answer.Fault.TheVariants as faults
 use Rattle.world_model.specs.declared.message.Call.{Call}
 use Rattle.world_model.specs.declared.message.Reply.{Reply}
 use Rattle.world_model.specs.declared.message.Reply.TheVariants as replies
-use Rattle.world_model.specs.Shown.{of_object, of_given}
+use Rattle.claims.specs.Shown.{of_object, of_given}
 use Rattle.write_back.specs.Files.{of_file}
 use Rattle.write_back.specs.Segments.{last_end}
 use Rattle.client_shelf.specs.LaneFiles.{is_first}

@@ -8,7 +8,7 @@ use Rattle.nfs_types.specs.declared.attr.Attr.{Attr}
 use Rattle.world_model.specs.declared.answer.Fault.{Fault}
 use Rattle.world_model.specs.declared.message.Call.{Call}
 use Rattle.world_model.specs.declared.message.Reply.{Reply}
-use Rattle.world_model.specs.Shown.{object_of, target_of, ShowsAttr}
+use Rattle.claims.specs.Shown.{object_of, target_of, ShowsAttr}
 use Rattle.client_shelf.specs.Learning.{Learns, Renews}
 
 -- ---- the object of a call

@@ -13,7 +13,7 @@ use Rattle.world_model.specs.declared.answer.Value.{Value}
 use Rattle.world_model.specs.declared.message.Call.{Call}
 use Rattle.world_model.specs.declared.message.Reply.{Reply}
 use Rattle.world_model.specs.declared.message.Reply.TheVariants as replies
-use Rattle.world_model.specs.Shown.{of_object, of_target, of_given}
+use Rattle.claims.specs.Shown.{of_object, of_target, of_given}
 use Rattle.client_shelf.specs.declared.next.Next.{Next}
 use Rattle.client_shelf.specs.declared.shelf.Shelf.{Shelf}
 use Rattle.client_shelf.specs.declared.turn.Turn.{Turn}

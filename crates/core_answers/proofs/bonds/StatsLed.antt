@@ -21,7 +21,7 @@ use Rattle.world_model.specs.declared.op.Op.TheVariants as ops
 use Rattle.world_model.specs.Fresh.{Fresh}
 use Rattle.world_model.specs.History.{History}
 use Rattle.world_model.specs.Lawful.{Lawful}
-use Rattle.world_model.specs.Shown.{of_object}
+use Rattle.claims.specs.Shown.{of_object}
 use Rattle.world_model.proofs.Doing.{lookup_done}
 use Rattle.world_model.proofs.Places.{At-below, length_last}
 use Rattle.client_shelf.specs.Busy.{fails_busy, goes_again}

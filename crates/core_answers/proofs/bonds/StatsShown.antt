@@ -17,7 +17,7 @@ use Rattle.world_model.specs.declared.message.Reply.{Reply}
 use Rattle.world_model.specs.declared.message.Reply.TheVariants as replies
 use Rattle.world_model.specs.declared.op.Op.{Op}
 use Rattle.world_model.specs.declared.op.Op.TheVariants as ops
-use Rattle.world_model.specs.Shown.{of_object, ShowsAttr}
+use Rattle.claims.specs.Shown.{of_object, ShowsAttr}
 use Rattle.world_model.proofs.Places.{length_last}
 use Rattle.client_shelf.specs.Busy.{fails_busy, goes_again}
 use Rattle.client_shelf.specs.declared.next.Next.{Next}

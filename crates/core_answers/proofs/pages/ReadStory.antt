@@ -29,8 +29,8 @@ use Rattle.world_model.specs.declared.message.Call.TheVariants as calls
 use Rattle.world_model.specs.declared.message.Reply.{Reply}
 use Rattle.world_model.specs.declared.message.Reply.TheVariants as replies
 use Rattle.world_model.specs.declared.op.Op.{Op}
-use Rattle.world_model.specs.Modes.{Modes}
-use Rattle.world_model.specs.Slots.{IsOf}
+use Rattle.claims.specs.Modes.{Modes}
+use Rattle.claims.specs.Slots.{IsOf}
 use Rattle.client_shelf.specs.declared.next.Next.{Next}
 use Rattle.client_shelf.specs.declared.next.Next.TheVariants as nexts
 use Rattle.client_shelf.specs.declared.repeats.Repeat.{Repeat}

@@ -21,7 +21,7 @@ use Rattle.world_model.specs.History.{History}
 use Rattle.world_model.specs.Lawful.{Lawful}
 use Rattle.world_model.specs.Server.{Server, Bytes, Entries, Text, Holds}
 use Rattle.world_model.specs.Service.{Serves, refused, broken_off, done}
-use Rattle.world_model.specs.Slots.{IsOf}
+use Rattle.claims.specs.Slots.{IsOf}
 use Rattle.world_model.specs.Steps.{TrueOf, TrueWcc}
 use Rattle.bond_calls.specs.Calls.{Numbered}
 use Rattle.bond_reads.specs.Kept.{Done, HasStamp}

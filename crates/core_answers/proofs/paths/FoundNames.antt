@@ -17,13 +17,13 @@ use Rattle.world_model.specs.declared.message.Reply.TheVariants as replies
 use Rattle.world_model.specs.declared.op.Op.{Op}
 use Rattle.world_model.specs.declared.op.Op.TheVariants as ops
 use Rattle.world_model.specs.History.{History}
-use Rattle.world_model.specs.Modes.{Modes}
+use Rattle.claims.specs.Modes.{Modes}
 use Rattle.world_model.specs.Mounts.{Origin}
 use Rattle.world_model.specs.Operations.{Ended}
-use Rattle.world_model.specs.Recent.{FoundByName}
+use Rattle.claims.specs.Recent.{FoundByName}
 use Rattle.world_model.specs.Server.{Names}
-use Rattle.world_model.specs.Slots as slots
-use Rattle.world_model.specs.Slots.{Finds}
+use Rattle.claims.specs.Slots as slots
+use Rattle.claims.specs.Slots.{Finds}
 use Rattle.world_model.proofs.Doing.{lookup_done, create_done}
 use Rattle.op_machines.specs.Begun.{IsNamed, front_of, last_of, machine_of}
 use Rattle.op_machines.specs.declared.begun.Mounted.{Mounted}

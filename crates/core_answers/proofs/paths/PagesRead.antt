@@ -12,7 +12,7 @@ use Rattle.world_model.specs.Chains.{LastCookie, names_of, list_call, page_reply
 use Rattle.world_model.specs.History.{History}
 use Rattle.world_model.specs.Lawful.{Lawful}
 use Rattle.world_model.specs.Names.{parent_name, is_dots}
-use Rattle.world_model.specs.Recent.{NameAt}
+use Rattle.claims.specs.Recent.{NameAt}
 use Rattle.world_model.specs.Rising as rise
 use Rattle.world_model.specs.Rising.{NameRow, Rising, plus_rows}
 use Rattle.world_model.specs.Server as servers

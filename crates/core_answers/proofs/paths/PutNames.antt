@@ -5,10 +5,10 @@ use Rattle.world_model.specs.declared.entry.Entry.{Entry}
 use Rattle.world_model.specs.declared.message.Call.{Call}
 use Rattle.world_model.specs.declared.message.Call.TheVariants as calls
 use Rattle.world_model.specs.declared.op.Op.TheVariants as ops
-use Rattle.world_model.specs.Recent.{FoundByName}
-use Rattle.world_model.specs.Shown.{object_of}
-use Rattle.world_model.specs.Slots as slots
-use Rattle.world_model.specs.Slots.{NamesFile}
+use Rattle.claims.specs.Recent.{FoundByName}
+use Rattle.claims.specs.Shown.{object_of}
+use Rattle.claims.specs.Slots as slots
+use Rattle.claims.specs.Slots.{NamesFile}
 use Rattle.core_answers.proofs.bonds.AttrsShown.{fresh-attrs}
 use Rattle.core_answers.proofs.bonds.Learnt.{IsOn}
 use Rattle.core_answers.proofs.bonds.NamesShown.{none-kept}

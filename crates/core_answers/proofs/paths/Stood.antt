@@ -13,11 +13,11 @@ use Rattle.world_model.specs.declared.op.Op.{Op}
 use Rattle.world_model.specs.Fresh.{Fresh}
 use Rattle.world_model.specs.History.{History}
 use Rattle.world_model.specs.Lawful.{Lawful}
-use Rattle.world_model.specs.Modes.{Modes}
+use Rattle.claims.specs.Modes.{Modes}
 use Rattle.world_model.specs.Mounts.{Origin, Rooted}
 use Rattle.world_model.specs.Operations.{Ended}
-use Rattle.world_model.specs.Recent as walks
-use Rattle.world_model.specs.Recent.{Recent, Walked}
+use Rattle.claims.specs.Recent as walks
+use Rattle.claims.specs.Recent.{Recent, Walked}
 use Rattle.world_model.proofs.Doing.{lookup_done}
 use Rattle.world_model.proofs.Places.{At-below}
 use Rattle.client_shelf.specs.declared.next.Next.{Next}

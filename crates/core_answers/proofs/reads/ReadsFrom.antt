@@ -3,7 +3,7 @@ use Rattle.std.proofs.Common.{◌≡◌, ◌+◌, ℕ, List, [], ◌∷◌, ◌+
 use Rattle.write_back.specs.Segments.{Cell, cell_at, byte_of}
 use Rattle.write_back.specs.Files.{of_file}
 use Rattle.world_model.specs.declared.entry.Entry.{Entry}
-use Rattle.world_model.specs.Modes.{Modes}
+use Rattle.claims.specs.Modes.{Modes}
 use Rattle.op_machines.specs.Begun.{machine_of}
 use Rattle.op_machines.specs.declared.begun.Mounted.{Mounted}
 use Rattle.client_core.specs.declared.setup.Setup.{Setup}

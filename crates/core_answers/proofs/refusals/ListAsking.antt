@@ -27,16 +27,16 @@ use Rattle.world_model.specs.declared.message.Reply.{Reply}
 use Rattle.world_model.specs.declared.message.Reply.TheVariants as replies
 use Rattle.world_model.specs.declared.op.Op.{Op}
 use Rattle.world_model.specs.declared.op.Op.TheVariants as ops
-use Rattle.world_model.specs.Asks.{Asks, look_up}
-use Rattle.world_model.specs.Asks as asks
+use Rattle.claims.specs.Asks.{Asks, look_up}
+use Rattle.claims.specs.Asks as asks
 use Rattle.world_model.specs.Chains.{Chain, start, next, LastCookie, names_of, list_call, page_reply}
 use Rattle.world_model.specs.Heard.{Asked}
 use Rattle.world_model.specs.Leads as leading
 use Rattle.world_model.specs.Leads.{Leads}
 use Rattle.world_model.specs.Mounts.{Given, Rooted}
-use Rattle.world_model.specs.OkRows.{ListOk, most_names}
+use Rattle.claims.specs.OkRows.{ListOk, most_names}
 use Rattle.world_model.specs.Operations.{EndsWith}
-use Rattle.world_model.specs.Terms.{Terms}
+use Rattle.claims.specs.Terms.{Terms}
 use Rattle.world_model.proofs.Growth.{Asked-grow, Asked-wide}
 use Rattle.world_model.proofs.Places.{length_last}
 use Rattle.client_shelf.specs.Busy.{goes_again, fails_busy}

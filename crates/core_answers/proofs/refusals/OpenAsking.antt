@@ -17,13 +17,13 @@ use Rattle.world_model.specs.declared.message.Call.TheVariants as calls
 use Rattle.world_model.specs.declared.message.Reply.{Reply}
 use Rattle.world_model.specs.declared.op.Op.{Op}
 use Rattle.world_model.specs.declared.op.Op.TheVariants as ops
-use Rattle.world_model.specs.Asks.{Asks, look_up, create_guarded, create_unchecked}
-use Rattle.world_model.specs.Asks as asks
+use Rattle.claims.specs.Asks.{Asks, look_up, create_guarded, create_unchecked}
+use Rattle.claims.specs.Asks as asks
 use Rattle.world_model.specs.Heard.{Asked}
 use Rattle.world_model.specs.Leads as leads
 use Rattle.world_model.specs.Mounts.{Rooted}
-use Rattle.world_model.specs.Paths.{PlaceOf}
-use Rattle.world_model.specs.Terms.{Terms}
+use Rattle.claims.specs.Paths.{PlaceOf}
+use Rattle.claims.specs.Terms.{Terms}
 use Rattle.world_model.specs.Waiting.{IsDelivered}
 use Rattle.world_model.proofs.Growth.{Asked-grow, Asked-wide}
 use Rattle.world_model.proofs.Places.{length_last}

@@ -7,12 +7,12 @@ use Rattle.world_model.specs.declared.entry.Entry.{Entry}
 use Rattle.world_model.specs.declared.message.Call.{Call}
 use Rattle.world_model.specs.declared.op.Op.{Op}
 use Rattle.world_model.specs.declared.op.Op.TheVariants as ops
-use Rattle.world_model.specs.Asks.{Asks, IsWriter}
-use Rattle.world_model.specs.Asks as acts
-use Rattle.world_model.specs.GoesOn.{GoesOn}
-use Rattle.world_model.specs.GoesOn as on
-use Rattle.world_model.specs.RefusalRows.{IsLastRemove}
-use Rattle.world_model.specs.Terms.{Terms}
+use Rattle.claims.specs.Asks.{Asks, IsWriter}
+use Rattle.claims.specs.Asks as acts
+use Rattle.claims.specs.GoesOn.{GoesOn}
+use Rattle.claims.specs.GoesOn as on
+use Rattle.claims.specs.RefusalRows.{IsLastRemove}
+use Rattle.claims.specs.Terms.{Terms}
 use Rattle.op_machines.specs.declared.begun.Mounted.{Mounted}
 use Rattle.op_machines.specs.Begun.{IsAsked}
 use Rattle.client_core.specs.declared.setup.Setup.{Setup}

@@ -27,11 +27,11 @@ use Rattle.world_model.specs.declared.message.Call.{Call}
 use Rattle.world_model.specs.declared.message.Call.TheVariants as calls
 use Rattle.world_model.specs.declared.message.Reply.{Reply}
 use Rattle.world_model.specs.declared.message.Reply.TheVariants as replies
-use Rattle.world_model.specs.Asks.{look_up}
+use Rattle.claims.specs.Asks.{look_up}
 use Rattle.world_model.specs.Chains.{list_call}
 use Rattle.world_model.specs.Heard.{status_of}
 use Rattle.world_model.specs.Messages.{SpellsReply}
-use Rattle.world_model.specs.PageRules.{RefusesSo, refuses, breaks, wrong_data, no_entry, WrongData, longer, unlike, nothing}
+use Rattle.claims.specs.PageRules.{RefusesSo, refuses, breaks, wrong_data, no_entry, WrongData, longer, unlike, nothing}
 use Rattle.world_model.specs.Rules.{wrong_committed, wrong_count}
 use Rattle.write_back.specs.Files.{Pending}
 use Rattle.write_back.specs.Pieces.{Sent}

@@ -8,7 +8,7 @@ use Rattle.world_model.specs.declared.message.Call.{Call}
 use Rattle.world_model.specs.declared.message.Reply.{Reply}
 use Rattle.world_model.specs.declared.op.Op.TheVariants.{Stat}
 use Rattle.world_model.specs.Operations.{Ended}
-use Rattle.world_model.specs.Shown.{ShowsAttr}
+use Rattle.claims.specs.Shown.{ShowsAttr}
 use Rattle.op_machines.specs.Begun.{machine_of}
 use Rattle.op_machines.specs.declared.begun.Mounted.{Mounted}
 use Rattle.client_core.specs.declared.setup.Setup.{Setup}

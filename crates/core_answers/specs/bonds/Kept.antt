@@ -11,7 +11,7 @@ use Rattle.world_model.specs.declared.op.Op.{Op}
 use Rattle.world_model.specs.Entries.{At}
 use Rattle.world_model.specs.Heard.{Heard}
 use Rattle.world_model.specs.Messages.{SpellsReply}
-use Rattle.world_model.specs.Shown.{ShowsAttr}
+use Rattle.claims.specs.Shown.{ShowsAttr}
 use Rattle.op_machines.specs.Begun.{machine_of}
 use Rattle.op_machines.specs.declared.begun.Mounted.{Mounted}
 use Rattle.client_core.specs.declared.setup.Setup.{Setup}

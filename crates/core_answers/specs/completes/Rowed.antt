@@ -7,13 +7,13 @@ use Rattle.world_model.specs.declared.entry.Entry.{Entry}
 use Rattle.world_model.specs.declared.entry.Entry.TheVariants.{Sent}
 use Rattle.world_model.specs.declared.message.Call.TheVariants.{File}
 use Rattle.world_model.specs.declared.op.Op.{Op}
-use Rattle.world_model.specs.Complete.{Completes}
+use Rattle.claims.specs.Complete.{Completes}
 use Rattle.world_model.specs.Entries.{At}
 use Rattle.world_model.specs.History.{History}
 use Rattle.world_model.specs.Messages.{SpellsCall}
 use Rattle.world_model.specs.Operations.{Ended}
-use Rattle.world_model.specs.RefusalRows.{RefusalRow}
-use Rattle.world_model.specs.Terms.{Terms}
+use Rattle.claims.specs.RefusalRows.{RefusalRow}
+use Rattle.claims.specs.Terms.{Terms}
 use Rattle.bond_calls.specs.Calls.{Numbered}
 
 -- Each refusal has its row; calls are numbered; and each WRITE carries a byte.

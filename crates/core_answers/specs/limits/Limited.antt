@@ -5,7 +5,7 @@ use Rattle.world_model.specs.declared.answer.Fault.TheVariants.{Spent}
 use Rattle.world_model.specs.declared.entry.Entry.{Entry}
 use Rattle.world_model.specs.declared.entry.Entry.TheVariants.{Began, Answered, Sent}
 use Rattle.world_model.specs.declared.op.Op.{Op}
-use Rattle.world_model.specs.Caused.{calls_in}
+use Rattle.claims.specs.Caused.{calls_in}
 use Rattle.world_model.specs.Entries.{At}
 use Rattle.world_model.specs.Messages.{HasXid}
 use Rattle.world_model.specs.Operations.{Ended}

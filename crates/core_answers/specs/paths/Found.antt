@@ -3,10 +3,10 @@ use Rattle.std.specs.Prelude.{ℕ, List}
 use Rattle.world_model.specs.Fresh.{Fresh}
 use Rattle.world_model.specs.History.{History}
 use Rattle.world_model.specs.Lawful.{Lawful}
-use Rattle.world_model.specs.Modes.{Modes}
+use Rattle.claims.specs.Modes.{Modes}
 use Rattle.world_model.specs.Mounts.{Origin}
-use Rattle.world_model.specs.Recent.{FoundByName, NamesTrue}
-use Rattle.world_model.specs.Slots.{Opens, PutsTo}
+use Rattle.claims.specs.Recent.{FoundByName, NamesTrue}
+use Rattle.claims.specs.Slots.{Opens, PutsTo}
 use Rattle.op_machines.specs.Begun.{machine_of}
 use Rattle.op_machines.specs.declared.begun.Mounted.{Mounted}
 use Rattle.client_core.specs.declared.setup.Setup.{Setup}

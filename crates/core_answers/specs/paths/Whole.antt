@@ -1,8 +1,8 @@
 -- What a list shows, of an honest server whose cookies rise (RFC 1813, section 3.3.17).
 use Rattle.world_model.specs.History.{History}
-use Rattle.world_model.specs.Modes.{Modes}
+use Rattle.claims.specs.Modes.{Modes}
 use Rattle.world_model.specs.Mounts.{Origin}
-use Rattle.world_model.specs.Recent.{ListTrue}
+use Rattle.claims.specs.Recent.{ListTrue}
 use Rattle.world_model.specs.Rising.{Rising}
 use Rattle.op_machines.specs.declared.begun.Mounted.{Mounted}
 use Rattle.client_core.specs.declared.setup.Setup.{Setup}

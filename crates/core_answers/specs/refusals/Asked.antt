@@ -4,8 +4,8 @@ use Rattle.world_model.specs.declared.entry.Entry.{Entry}
 use Rattle.world_model.specs.declared.message.Call.{Call}
 use Rattle.world_model.specs.declared.op.Op.{Op}
 use Rattle.world_model.specs.declared.op.Op.TheVariants as ops
-use Rattle.world_model.specs.Asks.{Asks, IsWriter}
-use Rattle.world_model.specs.Terms.{Terms}
+use Rattle.claims.specs.Asks.{Asks, IsWriter}
+use Rattle.claims.specs.Terms.{Terms}
 use Rattle.core_answers.specs.asks.RemoveCalls.{IsHiding}
 use Rattle.core_answers.specs.asks.SlotCalls.{IsRemoval}
 

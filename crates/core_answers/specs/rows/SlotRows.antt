@@ -5,9 +5,9 @@ use Rattle.world_model.specs.declared.answer.Value.{Value}
 use Rattle.world_model.specs.declared.entry.Entry.{Entry}
 use Rattle.world_model.specs.declared.op.Op.{Op}
 use Rattle.world_model.specs.declared.op.Op.TheVariants.{Read, Write, Fill, Sync, Close}
-use Rattle.world_model.specs.OkRows.{OkRow}
+use Rattle.claims.specs.OkRows.{OkRow}
 use Rattle.world_model.specs.Operations.{Ended}
-use Rattle.world_model.specs.Terms.{Terms}
+use Rattle.claims.specs.Terms.{Terms}
 use Rattle.op_machines.specs.declared.begun.Mounted.{Mounted}
 use Rattle.client_core.specs.declared.setup.Setup.{Setup}
 use Rattle.client_core.specs.View.{View}

@@ -10,7 +10,7 @@ use Rattle.world_model.specs.declared.message.Reply.{Reply}
 use Rattle.world_model.specs.Entries.{At}
 use Rattle.world_model.specs.Heard.{Heard}
 use Rattle.world_model.specs.Messages.{HasXid, SpellsCall, SpellsReply}
-use Rattle.world_model.specs.Thrifty.{CameWithin}
+use Rattle.claims.specs.Thrifty.{CameWithin}
 use Rattle.world_model.proofs.Growth.{FirstSent-grow}
 use Rattle.world_model.proofs.Places.{At-grow, At-below, At-back, At-last}
 use Rattle.call_replies.specs.Says.{said_of, Says, SpellsOne}

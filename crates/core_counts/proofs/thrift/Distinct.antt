@@ -11,7 +11,7 @@ use Rattle.lru.specs.LruCache.{promoted}
 use Rattle.page_cache.specs.declared.place.PagePlace.{PagePlace}
 use Rattle.page_cache.specs.Pages.{is_place, without_file, fronted}
 use Rattle.page_cache.proofs.Shown.{same_place}
-use Rattle.world_model.specs.Thrifty.{FilePage, most_pages}
+use Rattle.claims.specs.Thrifty.{FilePage, most_pages}
 
 abbrev pub Entry : Type 0
 Entry = PagePlace × List ℕ

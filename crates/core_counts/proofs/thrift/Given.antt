@@ -22,7 +22,7 @@ use Rattle.world_model.specs.declared.op.Op.{Op}
 use Rattle.world_model.specs.Entries.{At}
 use Rattle.world_model.specs.Messages.{SpellsReply}
 use Rattle.world_model.specs.Operations.{Ended, AnsweredBefore, EndsAt, answered, unanswered, UnderWay}
-use Rattle.world_model.specs.PageRules.{WrongData, longer, unlike, nothing}
+use Rattle.claims.specs.PageRules.{WrongData, longer, unlike, nothing}
 use Rattle.world_model.proofs.Places.{At-grow, At-below, At-back}
 use Rattle.client_shelf.specs.declared.next.Next.{Next}
 use Rattle.client_shelf.specs.declared.repeats.Repeat.{Repeat}

@@ -25,8 +25,8 @@ use Rattle.world_model.specs.declared.message.Reply.{Reply}
 use Rattle.world_model.specs.declared.message.Reply.TheVariants as replies
 use Rattle.world_model.specs.Entries.{At}
 use Rattle.world_model.specs.Messages.{SpellsCall}
-use Rattle.world_model.specs.Shown.{ShowsAttr, of_object, object_of}
-use Rattle.world_model.specs.Thrifty.{read_call, CameWithin, ChangesFile}
+use Rattle.claims.specs.Shown.{ShowsAttr, of_object, object_of}
+use Rattle.claims.specs.Thrifty.{read_call, CameWithin, ChangesFile}
 use Rattle.world_model.proofs.Places.{At-grow, At-below, length_last}
 use Rattle.call_replies.specs.Says.{said_of}
 use Rattle.client_shelf.specs.declared.next.Next.TheVariants as nexts

@@ -11,8 +11,8 @@ use Rattle.page_cache.specs.Pages.{Pages, state_of, known_of}
 use Rattle.world_model.specs.declared.answer.Fault.{Fault}
 use Rattle.world_model.specs.declared.entry.Entry.{Entry}
 use Rattle.world_model.specs.declared.message.Reply.{Reply}
-use Rattle.world_model.specs.Modes.{Modes}
-use Rattle.world_model.specs.Slots.{Finds, asked, looked_up, made, Opens}
+use Rattle.claims.specs.Modes.{Modes}
+use Rattle.claims.specs.Slots.{Finds, asked, looked_up, made, Opens}
 use Rattle.file_ops.specs.declared.opening.Led.{Led}
 use Rattle.file_ops.specs.declared.opening.Led.TheVariants as leads
 use Rattle.file_ops.specs.declared.opening.OpeningStep.{OpeningStep}

@@ -4,9 +4,9 @@ use Rattle.world_model.specs.declared.entry.Entry.{Entry}
 use Rattle.world_model.specs.declared.entry.Entry.TheVariants.{Sent}
 use Rattle.world_model.specs.Entries.{At}
 use Rattle.world_model.specs.Messages.{SpellsCall}
-use Rattle.world_model.specs.Pages.{InsidePages}
-use Rattle.world_model.specs.Terms.{Terms}
-use Rattle.world_model.specs.Thrifty.{read_call, MeetsPage, FilePage, IsMet}
+use Rattle.claims.specs.Pages.{InsidePages}
+use Rattle.claims.specs.Terms.{Terms}
+use Rattle.claims.specs.Thrifty.{read_call, MeetsPage, FilePage, IsMet}
 use Rattle.op_machines.specs.declared.begun.Mounted.{Mounted}
 use Rattle.client_core.specs.declared.setup.Setup.{Setup}
 use Rattle.client_core.specs.View.{View}

@@ -17,7 +17,7 @@ use Rattle.page_cache.proofs.Inserts.{same-self}
 use Rattle.page_cache.proofs.States.{state_kept, state-kept}
 use Rattle.file_ops.specs.Kept.{is_given, kept_page, offered_told, offered, offered_from}
 use Rattle.file_ops.specs.Reading as reading
-use Rattle.world_model.specs.Thrifty.{GivesPage, whole, last}
+use Rattle.claims.specs.Thrifty.{GivesPage, whole, last}
 use Rattle.core_counts.proofs.thrift.Distinct.{Few}
 use Rattle.core_counts.proofs.thrift.Growth.{GoodPages, Tells, good-saw, good-kept, own-place}
 use Rattle.core_counts.proofs.thrift.Holds.{HoldsPage, saw-known, there-front, stamp-self}

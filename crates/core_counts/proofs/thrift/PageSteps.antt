@@ -5,7 +5,7 @@ use Rattle.world_model.specs.declared.answer.Fault.{Fault}
 use Rattle.world_model.specs.declared.message.Call.{Call}
 use Rattle.world_model.specs.declared.message.Call.TheVariants as calls
 use Rattle.world_model.specs.declared.message.Reply.{Reply}
-use Rattle.world_model.specs.Thrifty.{read_call}
+use Rattle.claims.specs.Thrifty.{read_call}
 use Rattle.write_back.specs.Files.{Pending}
 use Rattle.client_shelf.specs.declared.next.Next.{Next}
 use Rattle.client_shelf.specs.declared.shelf.Shelf.{Shelf}

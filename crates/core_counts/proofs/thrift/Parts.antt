@@ -10,7 +10,7 @@ use Rattle.world_model.specs.declared.entry.Entry.{Entry}
 use Rattle.world_model.specs.declared.entry.Entry.TheVariants.{Sent}
 use Rattle.world_model.specs.Entries.{At}
 use Rattle.world_model.specs.Messages.{SpellsCall}
-use Rattle.world_model.specs.Thrifty.{read_call, MeetsPage}
+use Rattle.claims.specs.Thrifty.{read_call, MeetsPage}
 use Rattle.file_ops.specs.declared.reading.Phase.{Phase}
 use Rattle.file_ops.specs.declared.reading.Phase.TheVariants as phases
 use Rattle.file_ops.specs.declared.reading.Reading.{Reading}

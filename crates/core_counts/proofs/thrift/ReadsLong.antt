@@ -12,18 +12,18 @@ use Rattle.world_model.specs.declared.message.Call.{Call}
 use Rattle.world_model.specs.declared.message.Call.TheVariants as calls
 use Rattle.world_model.specs.declared.op.Op.{Op}
 use Rattle.world_model.specs.declared.op.Op.TheVariants as ops
-use Rattle.world_model.specs.Asks.{Asks, Acts}
-use Rattle.world_model.specs.Asks as asks
-use Rattle.world_model.specs.CallsAsked.{IsCause, mounts, informs, asked}
+use Rattle.claims.specs.Asks.{Asks, Acts}
+use Rattle.claims.specs.Asks as asks
+use Rattle.claims.specs.CallsAsked.{IsCause, mounts, informs, asked}
 use Rattle.world_model.specs.Entries.{At}
 use Rattle.world_model.specs.Messages.{SpellsCall}
 use Rattle.world_model.specs.Operations.{UnderWay}
-use Rattle.world_model.specs.Pages.{page_from, InsidePages}
+use Rattle.claims.specs.Pages.{page_from, InsidePages}
 use Rattle.world_model.specs.ReadSize.{ReadSized, page_bytes}
-use Rattle.world_model.specs.Slots.{IsOf}
-use Rattle.world_model.specs.Terms.{Terms}
-use Rattle.world_model.specs.Thrifty.{read_call, IsLong, MetEarlier}
-use Rattle.world_model.specs.Thrifty as thrift
+use Rattle.claims.specs.Slots.{IsOf}
+use Rattle.claims.specs.Terms.{Terms}
+use Rattle.claims.specs.Thrifty.{read_call, IsLong, MetEarlier}
+use Rattle.claims.specs.Thrifty as thrift
 use Rattle.world_model.proofs.Places.{At-grow, At-below}
 use Rattle.file_ops.specs.declared.read_file.ReadFile.{ReadFile}
 use Rattle.file_ops.specs.declared.reading.Phase.{Phase}

@@ -12,8 +12,8 @@ use Rattle.world_model.specs.declared.answer.Fault.TheVariants as faults
 use Rattle.world_model.specs.declared.message.Call.{Call}
 use Rattle.world_model.specs.declared.message.Call.TheVariants as calls
 use Rattle.world_model.specs.declared.message.Reply.{Reply}
-use Rattle.world_model.specs.Thrifty.{ChangesFile}
-use Rattle.world_model.specs.Thrifty as thrifty
+use Rattle.claims.specs.Thrifty.{ChangesFile}
+use Rattle.claims.specs.Thrifty as thrifty
 use Rattle.client_shelf.specs.Busy.{fails_busy, goes_again}
 use Rattle.client_shelf.specs.declared.next.Next.{Next}
 use Rattle.client_shelf.specs.declared.next.Next.TheVariants as nexts

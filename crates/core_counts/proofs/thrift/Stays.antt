@@ -20,8 +20,8 @@ use Rattle.world_model.specs.declared.op.Op.{Op}
 use Rattle.world_model.specs.Entries.{At}
 use Rattle.world_model.specs.Heard.{Heard}
 use Rattle.world_model.specs.Operations.{Ended, AnsweredBefore}
-use Rattle.world_model.specs.Shown.{ShowsAttr}
-use Rattle.world_model.specs.Thrifty.{OneLane, CameWithin, ChangesFile}
+use Rattle.claims.specs.Shown.{ShowsAttr}
+use Rattle.claims.specs.Thrifty.{OneLane, CameWithin, ChangesFile}
 use Rattle.world_model.specs.Waiting.{FirstSent}
 use Rattle.world_model.proofs.Places.{At-grow, At-below, At-back, At-cases, At-last, At-one, length_last}
 use Rattle.client_shelf.specs.declared.next.Next.{Next}

@@ -32,9 +32,9 @@ use Rattle.world_model.specs.Entries.{At}
 use Rattle.world_model.specs.Heard.{Refuses}
 use Rattle.world_model.specs.Messages.{HasXid, SpellsCall, SpellsReply}
 use Rattle.world_model.specs.Operations.{EndsAt, UnderWay}
-use Rattle.world_model.specs.PageRules.{refuses, breaks, wrong_data, WrongData}
-use Rattle.world_model.specs.Terms.{Terms}
-use Rattle.world_model.specs.Thrifty.{read_call, TookPage}
+use Rattle.claims.specs.PageRules.{refuses, breaks, wrong_data, WrongData}
+use Rattle.claims.specs.Terms.{Terms}
+use Rattle.claims.specs.Thrifty.{read_call, TookPage}
 use Rattle.world_model.proofs.Places.{At-grow, At-back, At-last}
 use Rattle.call_replies.specs.Records.{results_read}
 use Rattle.call_replies.specs.Results.{dir_said, file_said}

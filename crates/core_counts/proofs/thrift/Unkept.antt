@@ -11,7 +11,7 @@ use Rattle.page_cache.specs.Bytes.{start_of}
 use Rattle.page_cache.specs.Pages.{Pages, page_of, is_place, after_page}
 use Rattle.page_cache.proofs.Entries.{All-page, All-promoted}
 use Rattle.page_cache.proofs.Inserts.{same-self}
-use Rattle.world_model.specs.Thrifty.{MeetsPage}
+use Rattle.claims.specs.Thrifty.{MeetsPage}
 use Rattle.file_ops.specs.Base.{Bytes, place_after}
 use Rattle.file_ops.specs.Gather.{Planned, stopped, planned, most_asked, next_page, next_plan, next_count}
 use Rattle.core_counts.proofs.thrift.PageNames.{Of, AllOf}

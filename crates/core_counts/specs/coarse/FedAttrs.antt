@@ -8,7 +8,7 @@ use Rattle.world_model.specs.declared.message.Call.{Call}
 use Rattle.world_model.specs.declared.message.Reply.{Reply}
 use Rattle.world_model.specs.Entries.{At}
 use Rattle.world_model.specs.History.{History}
-use Rattle.world_model.specs.Shown.{ShowsAttr}
+use Rattle.claims.specs.Shown.{ShowsAttr}
 use Rattle.core_answers.specs.bonds.Kept.{HadShown}
 
 -- The call was executed with this reply, and the clock had shown this time before.

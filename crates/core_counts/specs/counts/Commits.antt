@@ -1,8 +1,8 @@
 -- How many COMMITs a session makes of a file (RFC 1813, section 3.3.21).
 use Rattle.std.specs.Prelude.{ℕ, List}
 use Rattle.world_model.specs.declared.entry.Entry.{Entry}
-use Rattle.world_model.specs.CallCounts.{FewCommits}
-use Rattle.world_model.specs.Terms.{Terms}
+use Rattle.claims.specs.CallCounts.{FewCommits}
+use Rattle.claims.specs.Terms.{Terms}
 use Rattle.op_machines.specs.declared.begun.Mounted.{Mounted}
 use Rattle.op_machines.specs.Begun.{machine_of}
 use Rattle.client_core.specs.declared.setup.Setup.{Setup}

@@ -1,9 +1,9 @@
 -- How many LOOKUPs of hidden names a session asks for.
 use Rattle.std.specs.Prelude.{List}
 use Rattle.world_model.specs.declared.entry.Entry.{Entry}
-use Rattle.world_model.specs.CallCounts.{FewHidden}
+use Rattle.claims.specs.CallCounts.{FewHidden}
 use Rattle.world_model.specs.Follows.{Follows}
-use Rattle.world_model.specs.Terms.{Terms}
+use Rattle.claims.specs.Terms.{Terms}
 use Rattle.op_machines.specs.declared.begun.Mounted.{Mounted}
 use Rattle.op_machines.specs.Begun.{machine_of}
 use Rattle.client_core.specs.declared.setup.Setup.{Setup}

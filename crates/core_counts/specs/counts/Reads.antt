@@ -1,10 +1,10 @@
 -- How many READs a session makes of a file (RFC 1813, section 3.3.6).
 use Rattle.std.specs.Prelude.{ℕ, List, length}
 use Rattle.world_model.specs.declared.entry.Entry.{Entry}
-use Rattle.world_model.specs.CallCounts.{FewReads}
+use Rattle.claims.specs.CallCounts.{FewReads}
 use Rattle.world_model.specs.Mounts.{Rooted}
 use Rattle.world_model.specs.ReadSize.{ReadSized}
-use Rattle.world_model.specs.Terms.{Terms}
+use Rattle.claims.specs.Terms.{Terms}
 use Rattle.op_machines.specs.declared.begun.Mounted.{Mounted}
 use Rattle.op_machines.specs.Begun.{machine_of}
 use Rattle.client_core.specs.declared.setup.Setup.{Setup}

@@ -6,8 +6,8 @@ use Rattle.world_model.specs.declared.entry.Entry.TheVariants.{Sent}
 use Rattle.world_model.specs.declared.op.Op.{Op}
 use Rattle.world_model.specs.Entries.{At}
 use Rattle.world_model.specs.Messages.{SpellsCall}
-use Rattle.world_model.specs.Terms.{Terms}
-use Rattle.world_model.specs.Thrifty.{read_call, MeetsPage, OneLane}
+use Rattle.claims.specs.Terms.{Terms}
+use Rattle.claims.specs.Thrifty.{read_call, MeetsPage, OneLane}
 use Rattle.op_machines.specs.declared.begun.Mounted.{Mounted}
 use Rattle.op_machines.specs.Begun.{machine_of}
 use Rattle.op_machines.specs.declared.machine.Machine.{Machine}

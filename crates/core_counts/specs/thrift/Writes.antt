@@ -9,8 +9,8 @@ use Rattle.world_model.specs.declared.op.Op.TheVariants as ops
 use Rattle.world_model.specs.Entries.{At}
 use Rattle.world_model.specs.Messages.{SpellsCall}
 use Rattle.world_model.specs.Operations.{Ended, UnderWay}
-use Rattle.world_model.specs.Terms.{Terms}
-use Rattle.world_model.specs.Thrifty.{OneLane, NeverFull, IsSync, CoveredEarlier, LongWrites}
+use Rattle.claims.specs.Terms.{Terms}
+use Rattle.claims.specs.Thrifty.{OneLane, NeverFull, IsSync, CoveredEarlier, LongWrites}
 use Rattle.world_model.specs.Waiting.{FirstSent}
 use Rattle.write_back.specs.Files.{of_file, HasNoPiece}
 use Rattle.write_back.specs.Pieces.{FilePending, rest_at}

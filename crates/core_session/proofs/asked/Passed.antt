@@ -7,7 +7,7 @@ use Rattle.rpc_retry.proofs.Records.{waits_late}
 use Rattle.world_model.specs.declared.entry.Entry.{Entry}
 use Rattle.world_model.specs.declared.entry.Entry.TheVariants.{Began, Sent}
 use Rattle.world_model.specs.declared.op.Op.{Op}
-use Rattle.world_model.specs.CallsAsked.{NoneBegan}
+use Rattle.claims.specs.CallsAsked.{NoneBegan}
 use Rattle.world_model.specs.Entries.{At}
 use Rattle.world_model.proofs.Places.{At-below, At-back, At-cases}
 use Rattle.op_machines.specs.declared.machine.Machine.{Machine}

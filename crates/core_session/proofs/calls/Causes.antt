@@ -8,13 +8,13 @@ use Rattle.world_model.specs.declared.message.Reply.TheVariants as replies
 use Rattle.nfs_file_calls.specs.declared.owned.FileKept.TheVariants as kept
 use Rattle.world_model.specs.declared.op.Op.{Op}
 use Rattle.world_model.specs.declared.op.Op.TheVariants as ops
-use Rattle.world_model.specs.Asks.{Asks, Acts}
-use Rattle.world_model.specs.Asks as asks
+use Rattle.claims.specs.Asks.{Asks, Acts}
+use Rattle.claims.specs.Asks as asks
 use Rattle.world_model.specs.Messages.{SpellsCallBy}
 use Rattle.world_model.specs.Mounts.{Rooted, info_call}
 use Rattle.world_model.specs.Operations.{UnderWay}
 use Rattle.world_model.specs.ReadSize.{ReadSized, told, untold}
-use Rattle.world_model.specs.Terms.{Terms}
+use Rattle.claims.specs.Terms.{Terms}
 use Rattle.world_model.specs.Heard.{Asked, Refused}
 use Rattle.world_model.proofs.Growth.{Asked-grow, Asked-wide, Refused-grow, Refused-wide}
 use Rattle.op_machines.specs.declared.begun.Mounted.{Mounted}

@@ -23,12 +23,12 @@ use Rattle.world_model.specs.declared.op.Op.{Op}
 use Rattle.world_model.specs.declared.op.Op.TheVariants as ops
 use Rattle.world_model.specs.Entries.{At}
 use Rattle.world_model.specs.LanesTogether.{IsBusy}
-use Rattle.world_model.specs.Modes.{Modes}
+use Rattle.claims.specs.Modes.{Modes}
 use Rattle.world_model.specs.Leads as paths
 use Rattle.world_model.specs.Mounts as origins
 use Rattle.world_model.specs.Operations.{AnsweredBefore, UnderWay}
-use Rattle.world_model.specs.Rights.{can_write}
-use Rattle.world_model.specs.Slots.{IsOf, slot_of}
+use Rattle.claims.specs.Rights.{can_write}
+use Rattle.claims.specs.Slots.{IsOf, slot_of}
 use Rattle.world_model.proofs.Places.{At-grow, At-below, At-last, At-cases, length_last}
 use Rattle.call_replies.specs.Says.{said_of}
 use Rattle.client_shelf.specs.declared.next.Next.{Next}

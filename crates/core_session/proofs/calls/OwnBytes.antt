@@ -15,15 +15,15 @@ use Rattle.world_model.specs.declared.entry.Entry.TheVariants.{Began, Answered}
 use Rattle.world_model.specs.declared.message.Call.TheVariants as calls
 use Rattle.world_model.specs.declared.op.Op.{Op}
 use Rattle.world_model.specs.declared.op.Op.TheVariants as ops
-use Rattle.world_model.specs.CallsAsked.{IsWritten}
+use Rattle.claims.specs.CallsAsked.{IsWritten}
 use Rattle.world_model.specs.Entries.{At}
 use Rattle.world_model.specs.Leads.{Leads}
 use Rattle.world_model.specs.Mounts.{Rooted}
 use Rattle.world_model.specs.Operations.{AnsweredBefore, EndsAt, answered, unanswered}
-use Rattle.world_model.specs.Slots.{IsOf}
-use Rattle.world_model.specs.Terms.{Terms}
-use Rattle.world_model.specs.Touched.{WritesByte, Covers}
-use Rattle.world_model.specs.Touched as touched
+use Rattle.claims.specs.Slots.{IsOf}
+use Rattle.claims.specs.Terms.{Terms}
+use Rattle.claims.specs.Touched.{WritesByte, Covers}
+use Rattle.claims.specs.Touched as touched
 use Rattle.world_model.proofs.Growth.{Rooted-wide}
 use Rattle.world_model.proofs.Places.{At-below, At-one}
 use Rattle.op_machines.specs.declared.begun.Mounted.{Mounted}

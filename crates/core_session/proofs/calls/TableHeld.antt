@@ -4,7 +4,7 @@ use Rattle.std.proofs.lemmas.Bool.{eqb-true, eqb-false}
 use Rattle.std.specs.FinMap as finite
 use Rattle.world_model.specs.declared.answer.Answer.{Answer}
 use Rattle.world_model.specs.declared.entry.Entry.{Entry}
-use Rattle.world_model.specs.Modes.{Modes}
+use Rattle.claims.specs.Modes.{Modes}
 use Rattle.open_files.specs.declared.opened.Opened.{Opened}
 use Rattle.open_files.specs.Slots.{Opens, IsOpen}
 use Rattle.file_ops.specs.declared.close_file.Closing.{Closing}

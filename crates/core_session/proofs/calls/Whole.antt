@@ -6,12 +6,12 @@ use Rattle.world_model.specs.declared.entry.Entry.{Entry}
 use Rattle.world_model.specs.declared.entry.Entry.TheVariants.{Began, Sent}
 use Rattle.world_model.specs.declared.message.Call.{Call}
 use Rattle.world_model.specs.declared.op.Op.{Op}
-use Rattle.world_model.specs.CallsAsked.{NoneBegan, IsCaused, IsCause, mounts, informs, asked, AreSetUp, mount, inform, KeepsTo}
+use Rattle.claims.specs.CallsAsked.{NoneBegan, IsCaused, IsCause, mounts, informs, asked, AreSetUp, mount, inform, KeepsTo}
 use Rattle.world_model.specs.Entries.{At}
 use Rattle.world_model.specs.LanesTogether.{HasBegun}
 use Rattle.world_model.specs.Messages.{HasXid, SpellsCall, SpellsCallBy, head_of}
 use Rattle.world_model.specs.Mounts.{Rooted, Sized, mount_call, info_call}
-use Rattle.world_model.specs.Terms.{Terms}
+use Rattle.claims.specs.Terms.{Terms}
 use Rattle.world_model.proofs.Growth.{Rooted-grow, Rooted-wide, Sized-grow, Sized-wide}
 use Rattle.world_model.proofs.Places.{At-below, At-back}
 use Rattle.op_machines.specs.declared.begun.Mounted.{Mounted}

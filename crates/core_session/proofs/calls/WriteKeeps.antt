@@ -5,8 +5,8 @@ use Rattle.write_back.specs.Files.{of_file}
 use Rattle.world_model.specs.declared.entry.Entry.{Entry}
 use Rattle.world_model.specs.declared.message.Call.{Call}
 use Rattle.world_model.specs.declared.message.Call.TheVariants as calls
-use Rattle.world_model.specs.CallsAsked.{IsWrite}
-use Rattle.world_model.specs.Terms.{Terms}
+use Rattle.claims.specs.CallsAsked.{IsWrite}
+use Rattle.claims.specs.Terms.{Terms}
 use Rattle.world_model.proofs.Growth.{Sized-wide}
 use Rattle.op_machines.specs.declared.begun.Mounted.{Mounted}
 use Rattle.op_machines.specs.Begun.{machine_of}

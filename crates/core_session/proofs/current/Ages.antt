@@ -5,8 +5,8 @@ use Rattle.world_model.specs.declared.entry.Entry.{Entry}
 use Rattle.world_model.specs.declared.entry.Entry.TheVariants.{Began, Answered, Dialed, Sent, Executed, Foreign, Flushed, Reboot, Delivered, Failed, Clock}
 use Rattle.world_model.specs.declared.op.Op.{Op}
 use Rattle.world_model.specs.Entries.{At}
-use Rattle.world_model.specs.Modes.{Modes}
-use Rattle.world_model.specs.ReadTrue.{IsYoung}
+use Rattle.claims.specs.Modes.{Modes}
+use Rattle.claims.specs.ReadTrue.{IsYoung}
 use Rattle.core_facts.specs.Reaches.{last_reading}
 use Rattle.core_answers.specs.bonds.Aged.{Rises}
 use Rattle.core_answers.specs.bonds.Ages.{IsRecent, own, young, began_at}

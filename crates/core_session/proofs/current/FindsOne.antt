@@ -21,9 +21,9 @@ use Rattle.world_model.specs.declared.message.Reply.{Reply}
 use Rattle.world_model.specs.declared.message.Reply.TheVariants as replies
 use Rattle.world_model.specs.Entries.{At}
 use Rattle.world_model.specs.Messages.{HasXid, SpellsCall, SpellsReply, SpellsResults}
-use Rattle.world_model.specs.Modes.{Modes}
+use Rattle.claims.specs.Modes.{Modes}
 use Rattle.world_model.specs.Operations.{LastReply}
-use Rattle.world_model.specs.Slots.{Finds, asked, looked_up, made}
+use Rattle.claims.specs.Slots.{Finds, asked, looked_up, made}
 use Rattle.world_model.proofs.Places.{At-one}
 use Rattle.core_answers.proofs.bonds.OneCall.{IsNfs, one-call}
 

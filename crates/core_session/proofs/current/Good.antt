@@ -31,11 +31,11 @@ use Rattle.world_model.specs.declared.op.Op.{Op}
 use Rattle.world_model.specs.declared.op.Op.TheVariants as ops
 use Rattle.world_model.specs.Entries.{At}
 use Rattle.world_model.specs.Messages.{SpellsReply, proc_of}
-use Rattle.world_model.specs.Modes.{Modes}
+use Rattle.claims.specs.Modes.{Modes}
 use Rattle.world_model.specs.Operations.{Ended, UnderWay, LastReply}
-use Rattle.world_model.specs.Shown.{of_object}
-use Rattle.world_model.specs.Slots as slots
-use Rattle.world_model.specs.Slots.{Finds, Opens}
+use Rattle.claims.specs.Shown.{of_object}
+use Rattle.claims.specs.Slots as slots
+use Rattle.claims.specs.Slots.{Finds, Opens}
 use Rattle.world_model.proofs.Places.{At-below, At-grow, length_last}
 use Rattle.call_replies.specs.Says.{said_of}
 use Rattle.client_shelf.specs.declared.next.Next.{Next}

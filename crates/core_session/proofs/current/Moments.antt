@@ -23,7 +23,7 @@ use Rattle.world_model.specs.declared.message.Reply.{Reply}
 use Rattle.world_model.specs.declared.message.Reply.TheVariants as replies
 use Rattle.world_model.specs.Entries.{At}
 use Rattle.world_model.specs.Messages.{HasXid}
-use Rattle.world_model.specs.Shown.{object_of, object_attr, of_object}
+use Rattle.claims.specs.Shown.{object_of, object_attr, of_object}
 use Rattle.world_model.proofs.Places.{At-cases, length_last}
 use Rattle.client_shelf.specs.declared.turn.Turn.{Turn}
 use Rattle.file_ops.specs.Kept.{told_of, is_given, kept_page, offered_told, offered}

@@ -11,9 +11,9 @@ use Rattle.world_model.specs.declared.op.Op.{Op}
 use Rattle.world_model.specs.declared.op.Op.TheVariants as ops
 use Rattle.world_model.specs.Entries.{At}
 use Rattle.world_model.specs.Operations.{AnsweredBefore, Ended}
-use Rattle.world_model.specs.Rights.{taken}
-use Rattle.world_model.specs.Slots.{Finds, InSlot}
-use Rattle.world_model.specs.Terms.{Terms}
+use Rattle.claims.specs.Rights.{taken}
+use Rattle.claims.specs.Slots.{Finds, InSlot}
+use Rattle.claims.specs.Terms.{Terms}
 use Rattle.world_model.proofs.Places.{At-back, At-below, At-cases, At-one}
 use Rattle.op_machines.specs.declared.begun.Mounted.{Mounted}
 use Rattle.op_machines.specs.declared.machine.Machine.{Machine}

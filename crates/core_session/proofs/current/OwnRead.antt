@@ -2,7 +2,7 @@
 use Rattle.std.proofs.Common.{ℕ, List, sym, subst}
 use Rattle.world_model.specs.declared.entry.Entry.{Entry}
 use Rattle.world_model.specs.declared.op.Op.TheVariants as ops
-use Rattle.world_model.specs.Slots.{IsOf}
+use Rattle.claims.specs.Slots.{IsOf}
 use Rattle.op_machines.specs.Begun.{machine_of}
 use Rattle.core_facts.proofs.HeldSlots.{always-later}
 use Rattle.core_answers.proofs.pages.ReadsShown.{until}

@@ -21,13 +21,13 @@ use Rattle.world_model.specs.Entries.{At}
 use Rattle.world_model.specs.Fresh.{Fresh}
 use Rattle.world_model.specs.History.{History}
 use Rattle.world_model.specs.Lawful.{Lawful}
-use Rattle.world_model.specs.Modes.{Modes}
-use Rattle.world_model.specs.ReadTrue.{HeldByte, HeldSize, ReadsBytes, Since, each_read, opened}
-use Rattle.world_model.specs.ReadTrue as since_
+use Rattle.claims.specs.Modes.{Modes}
+use Rattle.claims.specs.ReadTrue.{HeldByte, HeldSize, ReadsBytes, Since, each_read, opened}
+use Rattle.claims.specs.ReadTrue as since_
 use Rattle.world_model.specs.Server.{Listed, Bytes, Entries, Text, IsSound}
 use Rattle.world_model.specs.Server as sound
-use Rattle.world_model.specs.Slots.{InSlot, IsOf, Opens}
-use Rattle.world_model.specs.Terms.{Terms}
+use Rattle.claims.specs.Slots.{InSlot, IsOf, Opens}
+use Rattle.claims.specs.Terms.{Terms}
 use Rattle.world_model.proofs.Places.{At-grow, At-one}
 use Rattle.bond_calls.specs.Calls.{Numbered}
 use Rattle.bond_reads.specs.Kept.{Done, HasStamp}

@@ -3,7 +3,7 @@ use Rattle.std.proofs.Common.{ℕ, List, refl}
 use Rattle.rpc_retry.specs.declared.waiting.Waiting.{Waiting}
 use Rattle.world_model.specs.declared.entry.Entry.{Entry}
 use Rattle.world_model.specs.declared.entry.Entry.TheVariants.{Delivered}
-use Rattle.world_model.specs.Modes.{Modes}
+use Rattle.claims.specs.Modes.{Modes}
 use Rattle.bond_pending.specs.Cells.{EachSound}
 use Rattle.op_machines.specs.Begun.{machine_of}
 use Rattle.op_machines.specs.declared.begun.Mounted.{Mounted}

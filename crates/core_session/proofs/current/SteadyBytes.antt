@@ -3,8 +3,8 @@ use Rattle.std.proofs.Common.{◌≡◌, ◌<◌, ◌≤◌, ◌+◌, ◌⊎◌,
 use Rattle.std.proofs.lemmas.Bool.{cases_lt}
 use Rattle.std.proofs.lemmas.Option.{slice_get-get_or, slice_get_within}
 use Rattle.world_model.specs.History.{History}
-use Rattle.world_model.specs.Modes.{Modes}
-use Rattle.world_model.specs.ReadTrue.{HeldSize, Since, each_read, opened, kept}
+use Rattle.claims.specs.Modes.{Modes}
+use Rattle.claims.specs.ReadTrue.{HeldSize, Since, each_read, opened, kept}
 use Rattle.world_model.specs.Server.{HasBytes, Object, Server}
 use Rattle.core_session.specs.current.Recent.{IsSoFar, own, held, past, ReadRecent}
 use Rattle.core_session.specs.current.Steady.{IsSteady, SteadyRead, StableRead}

@@ -18,8 +18,8 @@ use Rattle.world_model.specs.declared.op.Op.{Op}
 use Rattle.world_model.specs.Heard.{Heard, Refuses}
 use Rattle.world_model.specs.Messages.{SpellsCall, SpellsCallBy, proc_of}
 use Rattle.world_model.specs.Operations.{UnderWay}
-use Rattle.world_model.specs.PageRules.{RefusesSo, refuses, breaks}
-use Rattle.world_model.specs.Terms.{jukebox}
+use Rattle.claims.specs.PageRules.{RefusesSo, refuses, breaks}
+use Rattle.claims.specs.Terms.{jukebox}
 use Rattle.world_model.proofs.Growth.{FirstSent-grow}
 use Rattle.world_model.proofs.Places.{At-grow, At-below, At-back, At-last, length_last}
 use Rattle.call_replies.specs.Says.{said_of, Says}

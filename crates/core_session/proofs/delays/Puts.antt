@@ -4,9 +4,9 @@ use Rattle.std.proofs.lemmas.List.Elements.{All-cons}
 use Rattle.std.proofs.lemmas.List.Kept.{AllPairs-cons}
 use Rattle.world_model.specs.declared.entry.Entry.{Entry}
 use Rattle.world_model.specs.declared.message.Call.{Call}
-use Rattle.world_model.specs.GoesOn.{PutOff, FewPutOff}
+use Rattle.claims.specs.GoesOn.{PutOff, FewPutOff}
 use Rattle.world_model.specs.Heard.{Heard}
-use Rattle.world_model.specs.Terms.{most_tries}
+use Rattle.claims.specs.Terms.{most_tries}
 use Rattle.world_model.proofs.Growth.{FirstSent-grow, Answers-grow}
 
 pub record Puts (h : List Entry) (x n : ℕ) (call : Call) (k : ℕ) : Type 0 where

@@ -5,13 +5,13 @@ use Rattle.world_model.specs.declared.answer.Fault.TheVariants as faults
 use Rattle.world_model.specs.declared.entry.Entry.{Entry}
 use Rattle.world_model.specs.declared.message.Call.{Call}
 use Rattle.world_model.specs.declared.op.Op.{Op}
-use Rattle.world_model.specs.Asks.{Asks, IsWriter}
-use Rattle.world_model.specs.Asks as acts
-use Rattle.world_model.specs.GoesOn.{GoesOn, FewPutOff}
-use Rattle.world_model.specs.GoesOn as on
+use Rattle.claims.specs.Asks.{Asks, IsWriter}
+use Rattle.claims.specs.Asks as acts
+use Rattle.claims.specs.GoesOn.{GoesOn, FewPutOff}
+use Rattle.claims.specs.GoesOn as on
 use Rattle.world_model.specs.Operations.{Ended}
-use Rattle.world_model.specs.RefusalRows.{RefusedBy}
-use Rattle.world_model.specs.Terms.{Terms, jukebox}
+use Rattle.claims.specs.RefusalRows.{RefusedBy}
+use Rattle.claims.specs.Terms.{Terms, jukebox}
 use Rattle.op_machines.specs.declared.begun.Mounted.{Mounted}
 use Rattle.op_machines.specs.Begun.{IsAsked, machine_of}
 use Rattle.client_core.specs.declared.setup.Setup.{Setup}

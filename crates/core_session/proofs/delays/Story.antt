@@ -15,10 +15,10 @@ use Rattle.world_model.specs.declared.message.Call.{Call}
 use Rattle.world_model.specs.declared.message.Reply.{Reply}
 use Rattle.world_model.specs.declared.op.Op.{Op}
 use Rattle.world_model.specs.declared.op.Op.TheVariants as ops
-use Rattle.world_model.specs.Modes.{Modes}
-use Rattle.world_model.specs.PageRules.{RefusedSo, RefusesSo, refuses}
+use Rattle.claims.specs.Modes.{Modes}
+use Rattle.claims.specs.PageRules.{RefusedSo, RefusesSo, refuses}
 use Rattle.world_model.specs.Operations.{Ended}
-use Rattle.world_model.specs.Terms.{jukebox}
+use Rattle.claims.specs.Terms.{jukebox}
 use Rattle.world_model.proofs.Growth.{FirstSent-grow, Answers-grow}
 use Rattle.world_model.proofs.Places.{length_last}
 use Rattle.call_replies.specs.Says.{Says}

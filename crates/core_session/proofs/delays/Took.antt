@@ -4,7 +4,7 @@ use Rattle.std.specs.Prelude.{nat_lt}
 use Rattle.std.proofs.lemmas.Bool.{eqb-true}
 use Rattle.world_model.specs.declared.answer.Fault.{Fault}
 use Rattle.world_model.specs.declared.answer.Fault.TheVariants as faults
-use Rattle.world_model.specs.Terms.{jukebox}
+use Rattle.claims.specs.Terms.{jukebox}
 use Rattle.client_shelf.specs.declared.repeats.Repeat.{Repeat}
 use Rattle.client_shelf.specs.declared.turn.Turn.{Turn}
 use Rattle.client_shelf.specs.Busy.{is_busy, fails_busy, goes_again, repeats_after}

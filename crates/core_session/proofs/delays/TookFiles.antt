@@ -17,7 +17,7 @@ use Rattle.world_model.specs.declared.message.Call.TheVariants as calls
 use Rattle.world_model.specs.declared.message.Reply.{Reply}
 use Rattle.world_model.specs.declared.message.Reply.TheVariants as replies
 use Rattle.world_model.specs.Heard.{status_of}
-use Rattle.world_model.specs.Terms.{jukebox}
+use Rattle.claims.specs.Terms.{jukebox}
 use Rattle.write_back.specs.Files.{Pending}
 use Rattle.write_back.specs.Pieces.{Sent}
 use Rattle.page_cache.specs.Pages.{Pages}

@@ -3,8 +3,8 @@ use Rattle.std.proofs.Common.{◌≡◌, ◌≤◌, ℕ, List, [], ◌∷◌, �
 use Rattle.world_model.specs.declared.answer.Answer.{Answer}
 use Rattle.world_model.specs.declared.entry.Entry.{Entry}
 use Rattle.world_model.specs.declared.entry.Entry.TheVariants.{Began, Answered}
-use Rattle.world_model.specs.Modes.{Modes}
-use Rattle.world_model.specs.Terms.{Terms}
+use Rattle.claims.specs.Modes.{Modes}
+use Rattle.claims.specs.Terms.{Terms}
 use Rattle.client_shelf.specs.declared.shelf.Shelf.{Shelf}
 use Rattle.file_ops.specs.declared.close_file.CloseFile.{CloseFile}
 use Rattle.op_machines.specs.declared.begun.Mounted.{Mounted}

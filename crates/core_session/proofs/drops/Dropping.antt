@@ -9,7 +9,7 @@ use Rattle.world_model.specs.declared.answer.Answer.TheVariants.{Refused}
 use Rattle.world_model.specs.declared.entry.Entry.{Entry}
 use Rattle.world_model.specs.declared.entry.Entry.TheVariants.{Answered, Delivered}
 use Rattle.world_model.specs.declared.op.Op.TheVariants as ops
-use Rattle.world_model.specs.Modes.{Modes}
+use Rattle.claims.specs.Modes.{Modes}
 use Rattle.world_model.proofs.Places.{length_last}
 use Rattle.file_ops.specs.declared.close_file.CloseFile.{CloseFile}
 use Rattle.file_ops.specs.declared.close_file.Closing.{Closing}

@@ -13,9 +13,9 @@ use Rattle.world_model.specs.declared.message.Reply.{Reply}
 use Rattle.world_model.specs.declared.op.Op.{Op}
 use Rattle.world_model.specs.declared.op.Op.TheVariants as ops
 use Rattle.world_model.specs.Entries.{At}
-use Rattle.world_model.specs.Modes.{Modes}
+use Rattle.claims.specs.Modes.{Modes}
 use Rattle.world_model.specs.Operations.{UnderWay}
-use Rattle.world_model.specs.Slots.{IsOf}
+use Rattle.claims.specs.Slots.{IsOf}
 use Rattle.world_model.proofs.Places.{At-last}
 use Rattle.client_shelf.specs.declared.next.Next.{Next}
 use Rattle.client_shelf.specs.declared.next.Next.TheVariants.{Send, Wait, Done}

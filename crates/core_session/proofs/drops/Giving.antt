@@ -8,9 +8,9 @@ use Rattle.world_model.specs.declared.entry.Entry.{Entry}
 use Rattle.world_model.specs.declared.entry.Entry.TheVariants.{Began}
 use Rattle.world_model.specs.declared.op.Op.{Op}
 use Rattle.world_model.specs.declared.op.Op.TheVariants as ops
-use Rattle.world_model.specs.Modes.{Modes}
+use Rattle.claims.specs.Modes.{Modes}
 use Rattle.world_model.specs.Operations.{UnderWay}
-use Rattle.world_model.specs.Slots.{IsOf}
+use Rattle.claims.specs.Slots.{IsOf}
 use Rattle.world_model.proofs.Places.{At-last, length_last}
 use Rattle.client_shelf.specs.LaneFiles.{left}
 use Rattle.file_ops.specs.declared.close_file.CloseFile.{CloseFile}

@@ -7,10 +7,10 @@ use Rattle.world_model.specs.declared.entry.Entry.TheVariants.{Began, Answered, 
 use Rattle.world_model.specs.declared.op.Op.{Op}
 use Rattle.world_model.specs.declared.op.Op.TheVariants as ops
 use Rattle.world_model.specs.Entries.{At}
-use Rattle.world_model.specs.Modes.{Modes}
+use Rattle.claims.specs.Modes.{Modes}
 use Rattle.world_model.specs.Operations.{AnsweredBefore, UnderWay, NoneCame}
-use Rattle.world_model.specs.Slots.{InSlot, IsOf}
-use Rattle.world_model.specs.Touched.{Left, GivesUp, itself, beside}
+use Rattle.claims.specs.Slots.{InSlot, IsOf}
+use Rattle.claims.specs.Touched.{Left, GivesUp, itself, beside}
 use Rattle.world_model.proofs.Places.{At-grow, At-back, At-below, At-cases, At-one, length_last}
 use Rattle.core_facts.proofs.SlotGrowth.{IsHeld, held-grow, held-back, ended-back}
 use Rattle.core_facts.proofs.Stories.{ended-grow}

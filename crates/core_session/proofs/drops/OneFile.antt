@@ -26,14 +26,14 @@ use Rattle.world_model.specs.declared.message.Reply.{Reply}
 use Rattle.world_model.specs.declared.message.Reply.TheVariants as replies
 use Rattle.world_model.specs.declared.op.Op.{Op}
 use Rattle.world_model.specs.declared.op.Op.TheVariants as ops
-use Rattle.world_model.specs.Caused.{IsTried}
+use Rattle.claims.specs.Caused.{IsTried}
 use Rattle.world_model.specs.Entries.{At}
 use Rattle.world_model.specs.Messages.{HasXid, SpellsCall, SpellsReply, SpellsResults}
-use Rattle.world_model.specs.Modes.{Modes}
+use Rattle.claims.specs.Modes.{Modes}
 use Rattle.world_model.specs.Operations.{Ended, AnsweredBefore, LastReply}
-use Rattle.world_model.specs.Rights.{taken}
-use Rattle.world_model.specs.Slots.{Finds, asked, looked_up, made, InSlot}
-use Rattle.world_model.specs.Terms.{Terms}
+use Rattle.claims.specs.Rights.{taken}
+use Rattle.claims.specs.Slots.{Finds, asked, looked_up, made, InSlot}
+use Rattle.claims.specs.Terms.{Terms}
 use Rattle.world_model.proofs.Places.{At-below, At-cases, At-one}
 use Rattle.op_machines.specs.declared.begun.Mounted.{Mounted}
 use Rattle.op_machines.specs.declared.machine.Machine.{Machine}

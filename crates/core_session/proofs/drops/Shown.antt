@@ -11,8 +11,8 @@ use Rattle.world_model.specs.declared.entry.Entry.{Entry}
 use Rattle.world_model.specs.declared.entry.Entry.TheVariants.{Began, Delivered}
 use Rattle.world_model.specs.declared.op.Op.{Op}
 use Rattle.world_model.specs.declared.op.Op.TheVariants as ops
-use Rattle.world_model.specs.Modes.{Modes}
-use Rattle.world_model.specs.Terms.{Terms}
+use Rattle.claims.specs.Modes.{Modes}
+use Rattle.claims.specs.Terms.{Terms}
 use Rattle.client_shelf.specs.LaneFiles.{is_first}
 use Rattle.file_ops.specs.declared.close_file.CloseFile.{CloseFile}
 use Rattle.file_ops.specs.declared.close_file.Closing.{Closing}

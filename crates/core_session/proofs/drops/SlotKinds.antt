@@ -11,8 +11,8 @@ use Rattle.world_model.specs.declared.message.Call.{Call}
 use Rattle.world_model.specs.declared.message.Reply.{Reply}
 use Rattle.world_model.specs.declared.op.Op.{Op}
 use Rattle.world_model.specs.declared.op.Op.TheVariants as ops
-use Rattle.world_model.specs.Modes.{Modes}
-use Rattle.world_model.specs.Slots.{IsOf}
+use Rattle.claims.specs.Modes.{Modes}
+use Rattle.claims.specs.Slots.{IsOf}
 use Rattle.client_shelf.specs.declared.next.Next.{Next}
 use Rattle.client_shelf.specs.declared.next.Next.TheVariants.{Send, Wait, Done}
 use Rattle.client_shelf.specs.declared.shelf.Shelf.{Shelf}

@@ -12,11 +12,11 @@ use Rattle.world_model.specs.declared.entry.Entry.{Entry}
 use Rattle.world_model.specs.declared.entry.Entry.TheVariants.{Began, Answered}
 use Rattle.world_model.specs.declared.op.Op.{Op}
 use Rattle.world_model.specs.declared.op.Op.TheVariants as ops
-use Rattle.world_model.specs.Asks.{HeldAlone}
+use Rattle.claims.specs.Asks.{HeldAlone}
 use Rattle.world_model.specs.Entries.{At}
 use Rattle.world_model.specs.Operations.{Ended, AnsweredBefore, UnderWay}
-use Rattle.world_model.specs.Slots.{InSlot, IsOf}
-use Rattle.world_model.specs.Terms.{Terms}
+use Rattle.claims.specs.Slots.{InSlot, IsOf}
+use Rattle.claims.specs.Terms.{Terms}
 use Rattle.world_model.proofs.Places.{At-below, At-one}
 use Rattle.file_ops.specs.declared.close_file.CloseFile.{CloseFile}
 use Rattle.op_machines.specs.declared.begun.Mounted.{Mounted}

@@ -5,14 +5,14 @@ use Rattle.world_model.specs.declared.entry.Entry.TheVariants.{Began}
 use Rattle.world_model.specs.declared.message.Call.{Call}
 use Rattle.world_model.specs.declared.op.Op.{Op}
 use Rattle.world_model.specs.declared.op.Op.TheVariants as ops
-use Rattle.world_model.specs.Asks.{Asks, Stabilizes, HeldAlone, RemovesHidden}
-use Rattle.world_model.specs.Asks as asks
+use Rattle.claims.specs.Asks.{Asks, Stabilizes, HeldAlone, RemovesHidden}
+use Rattle.claims.specs.Asks as asks
 use Rattle.world_model.specs.Entries.{At}
-use Rattle.world_model.specs.Hidden.{HiddenAt}
+use Rattle.claims.specs.Hidden.{HiddenAt}
 use Rattle.world_model.specs.Mounts.{Rooted}
 use Rattle.world_model.specs.Operations.{UnderWay}
-use Rattle.world_model.specs.Slots.{IsOf}
-use Rattle.world_model.specs.Terms.{Terms}
+use Rattle.claims.specs.Slots.{IsOf}
+use Rattle.claims.specs.Terms.{Terms}
 use Rattle.world_model.proofs.Growth.{Rooted-wide}
 use Rattle.world_model.proofs.Places.{At-grow, At-below, At-one, length_last}
 use Rattle.file_ops.specs.declared.close_file.Closing.{Closing}

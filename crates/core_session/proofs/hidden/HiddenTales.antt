@@ -18,7 +18,7 @@ use Rattle.world_model.specs.declared.op.Op.{Op}
 use Rattle.world_model.specs.declared.op.Op.TheVariants as ops
 use Rattle.world_model.specs.Entries.{At}
 use Rattle.world_model.specs.Heard.{Asked}
-use Rattle.world_model.specs.Hidden.{IsHidden}
+use Rattle.claims.specs.Hidden.{IsHidden}
 use Rattle.world_model.specs.Messages.{SpellsCall, SpellsReply}
 use Rattle.world_model.specs.Operations.{UnderWay}
 use Rattle.world_model.proofs.Growth.{Asked-grow, Asked-wide}

@@ -7,7 +7,7 @@ use Rattle.rpc_retry.proofs.Records.{waits_late}
 use Rattle.world_model.specs.declared.entry.Entry.{Entry}
 use Rattle.world_model.specs.declared.entry.Entry.TheVariants.{Sent}
 use Rattle.world_model.specs.declared.op.Op.{Op}
-use Rattle.world_model.specs.CallsAsked.{NoneBegan}
+use Rattle.claims.specs.CallsAsked.{NoneBegan}
 use Rattle.world_model.specs.Entries.{At}
 use Rattle.op_machines.specs.declared.machine.Machine.{Machine}
 use Rattle.client_core.specs.declared.lane.Lane.{Lane}

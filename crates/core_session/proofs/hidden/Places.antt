@@ -11,7 +11,7 @@ use Rattle.world_model.specs.declared.message.Reply.TheVariants as replies
 use Rattle.world_model.specs.declared.op.Op.TheVariants as ops
 use Rattle.world_model.specs.Entries.{At}
 use Rattle.world_model.specs.Heard.{Asked}
-use Rattle.world_model.specs.Hidden.{IsHidden, HiddenAt}
+use Rattle.claims.specs.Hidden.{IsHidden, HiddenAt}
 use Rattle.world_model.specs.Mounts.{Origin, Rooted}
 use Rattle.world_model.proofs.Growth.{FirstSent-grow, Answers-grow, Asked-grow}
 use Rattle.world_model.proofs.Places.{At-grow, length_last}

@@ -5,11 +5,11 @@ use Rattle.world_model.specs.declared.entry.Entry.{Entry}
 use Rattle.world_model.specs.declared.entry.Entry.TheVariants.{Began}
 use Rattle.world_model.specs.declared.op.Op.{Op}
 use Rattle.world_model.specs.declared.op.Op.TheVariants as ops
-use Rattle.world_model.specs.Asks.{Asks}
-use Rattle.world_model.specs.Hidden.{HiddenAt}
+use Rattle.claims.specs.Asks.{Asks}
+use Rattle.claims.specs.Hidden.{HiddenAt}
 use Rattle.world_model.specs.Messages.{SpellsCallBy}
 use Rattle.world_model.specs.Mounts.{Rooted}
-use Rattle.world_model.specs.Terms.{Terms}
+use Rattle.claims.specs.Terms.{Terms}
 use Rattle.world_model.proofs.Growth.{Rooted-wide}
 use Rattle.world_model.proofs.Places.{At-below}
 use Rattle.op_machines.specs.declared.begun.Mounted.{Mounted}

@@ -10,7 +10,7 @@ use Rattle.std.specs.Prelude.{slice_index}
 use Rattle.world_model.specs.declared.entry.Entry.{Entry}
 use Rattle.world_model.specs.declared.entry.Entry.TheVariants.{Sent}
 use Rattle.world_model.specs.Entries.{At}
-use Rattle.world_model.specs.Terms.{Terms}
+use Rattle.claims.specs.Terms.{Terms}
 use Rattle.world_model.proofs.Places.{At-one, At-last, length_last}
 use Rattle.write_back.specs.Files.{Pending}
 use Rattle.op_machines.specs.declared.begun.Mounted.{Mounted}

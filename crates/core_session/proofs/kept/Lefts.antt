@@ -4,9 +4,9 @@ use Rattle.world_model.specs.declared.answer.Answer.TheVariants as answers
 use Rattle.world_model.specs.declared.entry.Entry.{Entry}
 use Rattle.world_model.specs.declared.entry.Entry.TheVariants.{Answered}
 use Rattle.world_model.specs.declared.op.Op.TheVariants as ops
-use Rattle.world_model.specs.Modes.{Modes}
-use Rattle.world_model.specs.Terms.{Terms}
-use Rattle.world_model.specs.Touched.{Left, GivesUp, itself, beside}
+use Rattle.claims.specs.Modes.{Modes}
+use Rattle.claims.specs.Terms.{Terms}
+use Rattle.claims.specs.Touched.{Left, GivesUp, itself, beside}
 use Rattle.world_model.proofs.Places.{At-grow, length_last}
 use Rattle.op_machines.specs.declared.begun.Mounted.{Mounted}
 use Rattle.client_core.specs.declared.setup.Setup.{Setup}

@@ -14,9 +14,9 @@ use Rattle.world_model.specs.declared.op.Op.{Op}
 use Rattle.world_model.specs.declared.op.Op.TheVariants as ops
 use Rattle.world_model.specs.Entries.{At}
 use Rattle.world_model.specs.Operations.{UnderWay, AnsweredBefore}
-use Rattle.world_model.specs.Slots.{IsOf, InSlot}
-use Rattle.world_model.specs.Touched.{Cuts}
-use Rattle.world_model.specs.Terms.{Terms}
+use Rattle.claims.specs.Slots.{IsOf, InSlot}
+use Rattle.claims.specs.Touched.{Cuts}
+use Rattle.claims.specs.Terms.{Terms}
 use Rattle.world_model.proofs.Places.{At-one}
 use Rattle.write_back.specs.Files.{Pending, of_file}
 use Rattle.write_back.proofs.WritesByFile.{same-or}

@@ -17,12 +17,12 @@ use Rattle.world_model.specs.declared.op.Op.TheVariants as ops
 use Rattle.world_model.specs.Entries.{At}
 use Rattle.world_model.specs.History.{History}
 use Rattle.world_model.specs.Operations.{AnsweredBefore, Ended}
-use Rattle.world_model.specs.ReadTrue.{ReadsBytes}
-use Rattle.world_model.specs.Settled.{SettledBy}
-use Rattle.world_model.specs.Settled as settled
-use Rattle.world_model.specs.Terms.{Terms}
-use Rattle.world_model.specs.Touched.{Wrote, Touched, Left, GivesUp, IsAnsweredPut, RefusedWrite}
-use Rattle.world_model.specs.Touched as touched_by
+use Rattle.claims.specs.ReadTrue.{ReadsBytes}
+use Rattle.claims.specs.Settled.{SettledBy}
+use Rattle.claims.specs.Settled as settled
+use Rattle.claims.specs.Terms.{Terms}
+use Rattle.claims.specs.Touched.{Wrote, Touched, Left, GivesUp, IsAnsweredPut, RefusedWrite}
+use Rattle.claims.specs.Touched as touched_by
 use Rattle.world_model.proofs.Places.{At-below, At-one}
 use Rattle.op_machines.specs.declared.begun.Mounted.{Mounted}
 use Rattle.op_machines.specs.Begun.{machine_of}

@@ -23,7 +23,7 @@ use Rattle.world_model.specs.Fresh.{Fresh}
 use Rattle.world_model.specs.FileService.{HoldsSized, SetsAttr}
 use Rattle.world_model.specs.History.{History}
 use Rattle.world_model.specs.Lawful.{Lawful}
-use Rattle.world_model.specs.ReadTrue.{HeldByte, HeldSize}
+use Rattle.claims.specs.ReadTrue.{HeldByte, HeldSize}
 use Rattle.world_model.specs.Server.{Server, Object, Holds, Listed, Bytes, Entries, Text, IsSound}
 use Rattle.world_model.specs.Server as sound
 use Rattle.world_model.specs.Service.{Serves, refused, broken_off, done}

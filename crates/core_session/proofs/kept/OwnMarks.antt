@@ -30,7 +30,7 @@ use Rattle.world_model.specs.declared.op.Op.{Op}
 use Rattle.world_model.specs.Entries.{At}
 use Rattle.world_model.specs.Heard.{Asked}
 use Rattle.world_model.specs.Messages.{HasXid, SpellsCall, SpellsReply, proc_of}
-use Rattle.world_model.specs.Modes.{Modes}
+use Rattle.claims.specs.Modes.{Modes}
 use Rattle.world_model.specs.Waiting.{Waits}
 use Rattle.world_model.proofs.Places.{At-back, At-below, At-grow, At-last, At-one, length_last}
 use Rattle.bond_calls.specs.Calls.{Numbered}

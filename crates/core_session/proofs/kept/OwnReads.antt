@@ -14,12 +14,12 @@ use Rattle.world_model.specs.Fresh.{Fresh}
 use Rattle.world_model.specs.History.{History}
 use Rattle.world_model.specs.Lawful.{Lawful}
 use Rattle.world_model.specs.Once.{Once}
-use Rattle.world_model.specs.Pending.{Pending}
-use Rattle.world_model.specs.ReadTrue.{PendingWithin, ReadsBytes}
+use Rattle.claims.specs.Pending.{Pending}
+use Rattle.claims.specs.ReadTrue.{PendingWithin, ReadsBytes}
 use Rattle.world_model.specs.Server.{Bytes, Object, Server, HasBytes}
-use Rattle.world_model.specs.Slots.{IsOf}
-use Rattle.world_model.specs.Terms.{Terms}
-use Rattle.world_model.specs.Touched.{Wrote, Touched, foreign, written, cut}
+use Rattle.claims.specs.Slots.{IsOf}
+use Rattle.claims.specs.Terms.{Terms}
+use Rattle.claims.specs.Touched.{Wrote, Touched, foreign, written, cut}
 use Rattle.world_model.proofs.Places.{At-below}
 use Rattle.bond_calls.specs.Calls.{Numbered}
 use Rattle.bond_own.proofs.OneByte.{HasByte, wrote-byte, writes-byte, one-byte, touched-later}

@@ -16,7 +16,7 @@ use Rattle.world_model.specs.declared.message.Call.{Call}
 use Rattle.world_model.specs.declared.message.Call.TheVariants as calls
 use Rattle.world_model.specs.declared.message.Reply.{Reply}
 use Rattle.world_model.specs.declared.message.Reply.TheVariants as replies
-use Rattle.world_model.specs.Shown.{ShowsAttr, object_of, object_attr, of_object}
+use Rattle.claims.specs.Shown.{ShowsAttr, object_of, object_attr, of_object}
 use Rattle.client_shelf.specs.declared.turn.Turn.{Turn}
 use Rattle.file_ops.specs.Kept.{told_of, is_given, kept_page, offered_told, offered}
 use Rattle.file_ops.specs.PagesOpened.{is_late, opened_pages, no_wcc}

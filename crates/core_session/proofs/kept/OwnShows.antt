@@ -11,12 +11,12 @@ use Rattle.world_model.specs.Fresh.{Fresh}
 use Rattle.world_model.specs.History.{History}
 use Rattle.world_model.specs.Lawful.{Lawful}
 use Rattle.world_model.specs.Once.{Once}
-use Rattle.world_model.specs.Pending.{Pending}
-use Rattle.world_model.specs.ReadTrue.{ReadsBytes}
-use Rattle.world_model.specs.Settled.{SettledBy}
-use Rattle.world_model.specs.Slots.{IsOf}
-use Rattle.world_model.specs.Terms.{Terms}
-use Rattle.world_model.specs.Touched.{Wrote, Touched, written}
+use Rattle.claims.specs.Pending.{Pending}
+use Rattle.claims.specs.ReadTrue.{ReadsBytes}
+use Rattle.claims.specs.Settled.{SettledBy}
+use Rattle.claims.specs.Slots.{IsOf}
+use Rattle.claims.specs.Terms.{Terms}
+use Rattle.claims.specs.Touched.{Wrote, Touched, written}
 use Rattle.world_model.proofs.Places.{At-below}
 use Rattle.bond_own.proofs.OneByte.{HasByte, wrote-byte, writes-byte, one-byte}
 use Rattle.bond_stable.specs.Evidence.{MadeFirm, at_once, by_commit}

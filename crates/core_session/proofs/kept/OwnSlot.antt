@@ -11,8 +11,8 @@ use Rattle.world_model.specs.declared.op.Op.{Op}
 use Rattle.world_model.specs.declared.op.Op.TheVariants as ops
 use Rattle.world_model.specs.Entries.{At}
 use Rattle.world_model.specs.Operations.{Ended, AnsweredBefore, UnderWay}
-use Rattle.world_model.specs.Slots.{IsOf, InSlot, slot_of}
-use Rattle.world_model.specs.Terms.{Terms}
+use Rattle.claims.specs.Slots.{IsOf, InSlot, slot_of}
+use Rattle.claims.specs.Terms.{Terms}
 use Rattle.world_model.proofs.Places.{At-grow, At-one, At-back}
 use Rattle.file_ops.specs.SlotFiles.{file_at}
 use Rattle.op_machines.specs.declared.begun.Mounted.{Mounted}
@@ -28,7 +28,7 @@ use Rattle.core_facts.proofs.Slots.{closing, plainly, kind_of, SlotsAgree}
 use Rattle.core_facts.proofs.SlotsAlong.{reached-slots}
 use Rattle.core_session.proofs.drops.OneFile.{slot-file, one-by-one}
 use Rattle.open_files.specs.Slots.{IsOpen}
-use Rattle.world_model.specs.ReadTrue.{ReadsBytes}
+use Rattle.claims.specs.ReadTrue.{ReadsBytes}
 use Rattle.client_core.specs.declared.lane.Lane.{Lane}
 use Rattle.client_core.specs.declared.lane.State.TheVariants.{Over}
 use Rattle.client_core.specs.Numbers.{IsOther, numbers_of}

@@ -8,8 +8,8 @@ use Rattle.page_cache.specs.Pages.{state_of}
 use Rattle.world_model.specs.declared.entry.Entry.{Entry}
 use Rattle.world_model.specs.declared.entry.Entry.TheVariants.{Delivered}
 use Rattle.world_model.specs.declared.message.Call.TheVariants as calls
-use Rattle.world_model.specs.Modes.{Modes}
-use Rattle.world_model.specs.Slots.{Opens}
+use Rattle.claims.specs.Modes.{Modes}
+use Rattle.claims.specs.Slots.{Opens}
 use Rattle.op_machines.specs.declared.begun.Mounted.{Mounted}
 use Rattle.op_machines.specs.declared.machine.Machine.{Machine}
 use Rattle.op_machines.specs.Begun.{machine_of}

@@ -13,16 +13,16 @@ use Rattle.world_model.specs.declared.entry.Entry.TheVariants.{Began}
 use Rattle.world_model.specs.declared.message.Call.{Call}
 use Rattle.world_model.specs.declared.message.Call.TheVariants as calls
 use Rattle.world_model.specs.declared.op.Op.TheVariants as ops
-use Rattle.world_model.specs.CallsAsked.{NoneBegan}
+use Rattle.claims.specs.CallsAsked.{NoneBegan}
 use Rattle.world_model.specs.Entries.{At}
 use Rattle.world_model.specs.History.{History}
 use Rattle.world_model.specs.Lawful.{Lawful}
 use Rattle.world_model.specs.Messages.{SpellsCall}
 use Rattle.world_model.specs.Once.{Once}
 use Rattle.world_model.specs.Operations.{AnsweredBefore}
-use Rattle.world_model.specs.Settled.{HoldsStable}
-use Rattle.world_model.specs.Terms.{Terms}
-use Rattle.world_model.specs.Touched.{Cuts}
+use Rattle.claims.specs.Settled.{HoldsStable}
+use Rattle.claims.specs.Terms.{Terms}
+use Rattle.claims.specs.Touched.{Cuts}
 use Rattle.world_model.specs.Waiting.{FirstSent}
 use Rattle.bond_stable.specs.Evidence.{written_at}
 use Rattle.bond_stable.specs.OwnCalls.{Alters, writes, sizes, HeardBefore, OwnCalls, NoForeign}
@@ -46,7 +46,7 @@ use Rattle.world_model.specs.declared.message.Reply.TheVariants as replies
 use Rattle.world_model.specs.Bytes.{put_at}
 use Rattle.world_model.specs.FileService.{Puts, steady_after}
 use Rattle.world_model.specs.Server.{Bytes, Object, Server, HasBytes}
-use Rattle.world_model.specs.Touched.{Covers}
+use Rattle.claims.specs.Touched.{Covers}
 use Rattle.world_model.proofs.Doing.{write_done, commit_done}
 use Rattle.world_model.proofs.Places.{At-below}
 use Rattle.world_model.proofs.Verifiers.{never_again}

@@ -14,8 +14,8 @@ use Rattle.world_model.specs.declared.message.Call.TheVariants as calls
 use Rattle.world_model.specs.declared.message.Reply.{Reply}
 use Rattle.world_model.specs.declared.message.Reply.TheVariants as answers
 use Rattle.world_model.specs.declared.op.Op.{Op}
-use Rattle.world_model.specs.Modes.{Modes}
-use Rattle.world_model.specs.Slots.{IsOf}
+use Rattle.claims.specs.Modes.{Modes}
+use Rattle.claims.specs.Slots.{IsOf}
 use Rattle.std.proofs.Common.{Result, Ok}
 use Rattle.client_shelf.specs.declared.shelf.Shelf.{Shelf}
 use Rattle.client_shelf.specs.declared.turn.Turn.{Turn}

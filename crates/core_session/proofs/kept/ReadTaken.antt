@@ -5,7 +5,7 @@ use Rattle.nfs_types.specs.declared.attr.Attr.{Attr}
 use Rattle.nfs_types.specs.Stamps.{stamp_of}
 use Rattle.world_model.specs.declared.message.Call.TheVariants as calls
 use Rattle.nfs_file_calls.specs.declared.call.FileCall.TheVariants as file_calls
-use Rattle.world_model.specs.Shown.{of_object}
+use Rattle.claims.specs.Shown.{of_object}
 use Rattle.core_answers.specs.bonds.Kept.{IsAnswered}
 use Rattle.nfs_types.specs.declared.mode.Mode.{Mode}
 use Rattle.nfs_types.specs.declared.mode.Mode.TheVariants as modes
@@ -26,10 +26,10 @@ use Rattle.world_model.specs.declared.message.Reply.{Reply}
 use Rattle.world_model.specs.declared.message.Reply.TheVariants as replies
 use Rattle.world_model.specs.declared.op.Op.{Op}
 use Rattle.world_model.specs.declared.op.Op.TheVariants as ops
-use Rattle.world_model.specs.Modes.{Modes}
+use Rattle.claims.specs.Modes.{Modes}
 use Rattle.world_model.specs.Operations.{Ended}
-use Rattle.world_model.specs.Slots.{IsOf}
-use Rattle.world_model.specs.Terms.{Terms}
+use Rattle.claims.specs.Slots.{IsOf}
+use Rattle.claims.specs.Terms.{Terms}
 use Rattle.world_model.proofs.Places.{At-grow, At-below}
 use Rattle.client_shelf.specs.declared.next.Next.{Next}
 use Rattle.client_shelf.specs.declared.next.Next.TheVariants as nexts

@@ -16,7 +16,7 @@ use Rattle.write_back.specs.Sound.{IsSound, IsOver}
 use Rattle.write_back.proofs.Flying.{fly-some}
 use Rattle.nfs_file_calls.specs.declared.call.FileCall.TheVariants as file_calls
 use Rattle.world_model.specs.declared.message.Call.TheVariants as calls
-use Rattle.world_model.specs.Touched.{Covers}
+use Rattle.claims.specs.Touched.{Covers}
 use Rattle.core_facts.specs.Tries.{IsMade}
 use Rattle.core_answers.specs.bonds.Kept.{LastAtMost}
 use Rattle.core_answers.specs.writes.Alone.{written_file}
@@ -48,8 +48,8 @@ use Rattle.world_model.specs.declared.entry.Entry.TheVariants.{Began}
 use Rattle.world_model.specs.declared.message.Reply.{Reply}
 use Rattle.world_model.specs.declared.op.Op.{Op}
 use Rattle.world_model.specs.declared.op.Op.TheVariants as ops
-use Rattle.world_model.specs.Modes.{Modes}
-use Rattle.world_model.specs.Slots.{IsOf}
+use Rattle.claims.specs.Modes.{Modes}
+use Rattle.claims.specs.Slots.{IsOf}
 use Rattle.call_replies.specs.Says.{said_of}
 use Rattle.client_shelf.specs.declared.next.Next.{Next}
 use Rattle.client_shelf.specs.declared.next.Next.TheVariants as nexts

@@ -14,8 +14,8 @@ use Rattle.world_model.specs.declared.op.Op.{Op}
 use Rattle.world_model.specs.declared.op.Op.TheVariants as ops
 use Rattle.world_model.specs.Messages.{SpellsCall}
 use Rattle.world_model.specs.Operations.{UnderWay}
-use Rattle.world_model.specs.Slots.{IsOf}
-use Rattle.world_model.specs.Terms.{Terms}
+use Rattle.claims.specs.Slots.{IsOf}
+use Rattle.claims.specs.Terms.{Terms}
 use Rattle.client_shelf.specs.declared.next.Next.{Next}
 use Rattle.client_shelf.specs.declared.next.Next.TheVariants as nexts
 use Rattle.client_shelf.specs.declared.shelf.Shelf.{Shelf}

@@ -8,11 +8,11 @@ use Rattle.world_model.specs.declared.op.Op.{Op}
 use Rattle.world_model.specs.declared.op.Op.TheVariants as ops
 use Rattle.world_model.specs.Entries.{At}
 use Rattle.world_model.specs.Leads.{Leads}
-use Rattle.world_model.specs.Modes.{Modes}
+use Rattle.claims.specs.Modes.{Modes}
 use Rattle.world_model.specs.Mounts.{Origin, Rooted}
 use Rattle.world_model.specs.Operations.{AnsweredBefore, EndsAt, answered, unanswered}
-use Rattle.world_model.specs.Touched.{Covers, WritesByte}
-use Rattle.world_model.specs.Touched as touched
+use Rattle.claims.specs.Touched.{Covers, WritesByte}
+use Rattle.claims.specs.Touched as touched
 use Rattle.world_model.proofs.Growth.{Rooted-wide}
 use Rattle.world_model.proofs.Places.{At-one}
 use Rattle.core_facts.specs.Naming.{KnowsRoot}

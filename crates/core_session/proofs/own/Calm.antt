@@ -12,7 +12,7 @@ use Rattle.world_model.specs.declared.op.Op.{Op}
 use Rattle.world_model.specs.declared.op.Op.TheVariants as ops
 use Rattle.world_model.specs.Entries.{At}
 use Rattle.world_model.specs.Operations.{Ended, UnderWay}
-use Rattle.world_model.specs.Terms.{Terms}
+use Rattle.claims.specs.Terms.{Terms}
 use Rattle.world_model.proofs.Places.{At-grow, At-below, At-back, At-last, At-one, At-cases, length_last}
 use Rattle.client_shelf.specs.declared.next.Next.{Next}
 use Rattle.client_shelf.specs.declared.next.Next.TheVariants as nexts

@@ -10,12 +10,12 @@ use Rattle.world_model.specs.declared.entry.Entry.{Entry}
 use Rattle.world_model.specs.declared.entry.Entry.TheVariants.{Began, Sent}
 use Rattle.world_model.specs.declared.message.Call.TheVariants as calls
 use Rattle.world_model.specs.declared.op.Op.TheVariants as ops
-use Rattle.world_model.specs.CallsAsked.{NoneBegan}
+use Rattle.claims.specs.CallsAsked.{NoneBegan}
 use Rattle.world_model.specs.Entries.{At}
 use Rattle.world_model.specs.Messages.{SpellsCall}
 use Rattle.world_model.specs.Operations.{AnsweredBefore}
-use Rattle.world_model.specs.Terms.{Terms}
-use Rattle.world_model.specs.Touched.{Covers, WritesByte, RefusedWrite, Truncated}
+use Rattle.claims.specs.Terms.{Terms}
+use Rattle.claims.specs.Touched.{Covers, WritesByte, RefusedWrite, Truncated}
 use Rattle.bond_own.proofs.OneByte.{writes-byte, no-truncate}
 use Rattle.bond_stable.proofs.OneFileCall.{one_file_call}
 use Rattle.op_machines.specs.declared.begun.Mounted.{Mounted}

@@ -16,12 +16,12 @@ use Rattle.world_model.specs.Fresh.{Fresh}
 use Rattle.world_model.specs.History.{History}
 use Rattle.world_model.specs.Lawful.{Lawful}
 use Rattle.world_model.specs.Once.{Once}
-use Rattle.world_model.specs.Pending.{Pending}
-use Rattle.world_model.specs.ReadTrue.{PendingWithin, ReadsBytes, ReadCut}
+use Rattle.claims.specs.Pending.{Pending}
+use Rattle.claims.specs.ReadTrue.{PendingWithin, ReadsBytes, ReadCut}
 use Rattle.world_model.specs.Server.{HasBytes}
-use Rattle.world_model.specs.Slots.{IsOf}
-use Rattle.world_model.specs.Terms.{Terms}
-use Rattle.world_model.specs.Touched.{Truncated, Touched, written}
+use Rattle.claims.specs.Slots.{IsOf}
+use Rattle.claims.specs.Terms.{Terms}
+use Rattle.claims.specs.Touched.{Truncated, Touched, written}
 use Rattle.world_model.proofs.Places.{At-below}
 use Rattle.bond_calls.specs.Calls.{Numbered}
 use Rattle.bond_own.proofs.OneByte.{writes-byte, no-truncate, touched-later}

@@ -9,11 +9,11 @@ use Rattle.world_model.specs.declared.entry.Entry.TheVariants.{Began, Answered, 
 use Rattle.world_model.specs.declared.op.Op.{Op}
 use Rattle.world_model.specs.declared.op.Op.TheVariants as ops
 use Rattle.world_model.specs.Entries.{At}
-use Rattle.world_model.specs.Modes.{Modes}
+use Rattle.claims.specs.Modes.{Modes}
 use Rattle.world_model.specs.Operations.{AnsweredBefore, Ended, NoneCame, UnderWay}
-use Rattle.world_model.specs.Pending.{LeftAlone}
-use Rattle.world_model.specs.Slots.{InSlot, IsOf}
-use Rattle.world_model.specs.Terms.{Terms}
+use Rattle.claims.specs.Pending.{LeftAlone}
+use Rattle.claims.specs.Slots.{InSlot, IsOf}
+use Rattle.claims.specs.Terms.{Terms}
 use Rattle.world_model.proofs.Places.{At-grow, At-last, At-one, length_last}
 use Rattle.file_ops.specs.declared.close_file.CloseFile.{CloseFile}
 use Rattle.file_ops.specs.declared.close_file.Closing.{Closing}

@@ -15,14 +15,14 @@ use Rattle.world_model.specs.declared.entry.Entry.TheVariants.{Began, Delivered}
 use Rattle.world_model.specs.declared.op.Op.{Op}
 use Rattle.world_model.specs.declared.op.Op.TheVariants as ops
 use Rattle.world_model.specs.Entries.{At}
-use Rattle.world_model.specs.Modes.{Modes}
-use Rattle.world_model.specs.Rights.{can_write}
-use Rattle.world_model.specs.Slots.{InSlot, IsOf, slot_of}
-use Rattle.world_model.specs.Terms.{Terms}
+use Rattle.claims.specs.Modes.{Modes}
+use Rattle.claims.specs.Rights.{can_write}
+use Rattle.claims.specs.Slots.{InSlot, IsOf, slot_of}
+use Rattle.claims.specs.Terms.{Terms}
 use Rattle.world_model.specs.Mounts.{Origin}
 use Rattle.world_model.specs.Operations.{UnderWay}
-use Rattle.world_model.specs.Touched.{Covers, WritesByte}
-use Rattle.world_model.specs.Touched as touched
+use Rattle.claims.specs.Touched.{Covers, WritesByte}
+use Rattle.claims.specs.Touched as touched
 use Rattle.world_model.proofs.Places.{At-one, At-grow, At-below, At-last}
 use Rattle.file_ops.specs.Opens.{in_mode, of_open}
 use Rattle.op_machines.specs.declared.begun.Mounted.{Mounted}

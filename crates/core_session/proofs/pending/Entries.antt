@@ -9,7 +9,7 @@ use Rattle.world_model.specs.declared.entry.Entry.TheVariants.{Began, Answered}
 use Rattle.world_model.specs.declared.op.Op.{Op}
 use Rattle.world_model.specs.Entries.{At}
 use Rattle.world_model.specs.Operations.{Ended, UnderWay}
-use Rattle.world_model.specs.Terms.{Terms}
+use Rattle.claims.specs.Terms.{Terms}
 use Rattle.world_model.proofs.Places.{At-one, At-back, At-below, At-cases, At-grow, length_last}
 use Rattle.write_back.specs.Files.{Pending, HasNoPiece}
 use Rattle.write_back.specs.Numbers.{AllUpTo}

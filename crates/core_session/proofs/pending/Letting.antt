@@ -12,7 +12,7 @@ use Rattle.world_model.specs.declared.entry.Entry.{Entry}
 use Rattle.world_model.specs.declared.entry.Entry.TheVariants.{Began, Delivered}
 use Rattle.world_model.specs.declared.op.Op.{Op}
 use Rattle.world_model.specs.declared.op.Op.TheVariants as ops
-use Rattle.world_model.specs.Modes.{Modes}
+use Rattle.claims.specs.Modes.{Modes}
 use Rattle.call_replies.specs.Says.{said_of}
 use Rattle.write_back.specs.Files.{Pending, of_file, HasNoPiece}
 use Rattle.write_back.specs.Pieces.{Sent, FilePending}

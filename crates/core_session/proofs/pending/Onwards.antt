@@ -7,10 +7,10 @@ use Rattle.world_model.specs.declared.entry.Entry.{Entry}
 use Rattle.world_model.specs.declared.entry.Entry.TheVariants.{Began, Answered}
 use Rattle.world_model.specs.declared.op.Op.{Op}
 use Rattle.world_model.specs.declared.op.Op.TheVariants as ops
-use Rattle.world_model.specs.Asks as asks
+use Rattle.claims.specs.Asks as asks
 use Rattle.world_model.specs.Entries.{At}
-use Rattle.world_model.specs.Touched.{RefusedWrite}
-use Rattle.world_model.specs.Touched as touched
+use Rattle.claims.specs.Touched.{RefusedWrite}
+use Rattle.claims.specs.Touched as touched
 use Rattle.world_model.proofs.Places.{At-grow, At-one, At-below}
 use Rattle.op_machines.specs.declared.begun.Mounted.{Mounted}
 use Rattle.op_machines.specs.Begun.{machine_of}

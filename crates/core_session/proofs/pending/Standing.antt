@@ -13,9 +13,9 @@ use Rattle.world_model.specs.declared.op.Op.{Op}
 use Rattle.world_model.specs.declared.op.Op.TheVariants as ops
 use Rattle.world_model.specs.Entries.{At}
 use Rattle.world_model.specs.Operations.{AnsweredBefore, Ended, LastReply, UnderWay}
-use Rattle.world_model.specs.Slots.{IsOf, NamesFile}
-use Rattle.world_model.specs.Terms.{Terms}
-use Rattle.world_model.specs.Touched.{WritesByte, Cuts}
+use Rattle.claims.specs.Slots.{IsOf, NamesFile}
+use Rattle.claims.specs.Terms.{Terms}
+use Rattle.claims.specs.Touched.{WritesByte, Cuts}
 use Rattle.write_back.specs.Files.{Pending, of_file, OnFile, with_bytes}
 use Rattle.write_back.specs.Segments.{covers}
 use Rattle.client_shelf.specs.declared.shelf.Shelf.{Shelf}

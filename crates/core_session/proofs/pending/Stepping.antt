@@ -10,9 +10,9 @@ use Rattle.world_model.specs.declared.op.Op.{Op}
 use Rattle.world_model.specs.declared.op.Op.TheVariants as ops
 use Rattle.world_model.specs.Entries.{At}
 use Rattle.world_model.specs.Operations.{AnsweredBefore, Ended, UnderWay}
-use Rattle.world_model.specs.Slots.{IsOf, slot_of}
-use Rattle.world_model.specs.Terms.{Terms}
-use Rattle.world_model.specs.Touched.{WritesByte, Cuts}
+use Rattle.claims.specs.Slots.{IsOf, slot_of}
+use Rattle.claims.specs.Terms.{Terms}
+use Rattle.claims.specs.Touched.{WritesByte, Cuts}
 use Rattle.world_model.proofs.Places.{At-one, At-below}
 use Rattle.write_back.specs.Files.{Pending, of_file}
 use Rattle.client_shelf.specs.declared.lane_files.LaneFile.{LaneFile}
@@ -60,7 +60,7 @@ use Rattle.core_facts.proofs.Slots.{plainly, kind_of}
 use Rattle.bond_pending.specs.Cells.{EachSound}
 use Rattle.write_back.specs.Segments.{Cell, cell_at}
 use Rattle.file_ops.specs.declared.close_file.CloseFile.{CloseFile}
-use Rattle.world_model.specs.Touched as touched
+use Rattle.claims.specs.Touched as touched
 use Rattle.core_session.proofs.pending.Settles as settles
 use Rattle.core_session.proofs.pending.Settles.{StateGood, IsPast}
 use Rattle.core_session.proofs.pending.Standing.{IsSaverOf, Marked, wrote, cut, saved, past, PutEnd, settled_, left_, never, IsGiven, Here, tale, Told, Phase, Was, IsNew, Now, C, E, c-e, plan}

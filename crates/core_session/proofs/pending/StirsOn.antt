@@ -8,8 +8,8 @@ use Rattle.world_model.specs.declared.entry.Entry.TheVariants.{Began}
 use Rattle.world_model.specs.declared.op.Op.{Op}
 use Rattle.world_model.specs.Entries.{At}
 use Rattle.world_model.specs.LanesTogether.{IsBusy}
-use Rattle.world_model.specs.Terms.{Terms}
-use Rattle.world_model.specs.Touched.{Cuts}
+use Rattle.claims.specs.Terms.{Terms}
+use Rattle.claims.specs.Touched.{Cuts}
 use Rattle.op_machines.specs.declared.begun.Mounted.{Mounted}
 use Rattle.op_machines.specs.declared.machine.Machine.{Machine}
 use Rattle.client_core.specs.declared.lane.State.TheVariants.{Busy, Over}

@@ -14,8 +14,8 @@ use Rattle.world_model.specs.declared.op.Op.TheVariants as ops
 use Rattle.world_model.specs.Entries.{At}
 use Rattle.world_model.specs.LanesTogether.{IsBusy}
 use Rattle.world_model.specs.Operations.{Ended, UnderWay}
-use Rattle.world_model.specs.Terms.{Terms}
-use Rattle.world_model.specs.Touched.{Cuts}
+use Rattle.claims.specs.Terms.{Terms}
+use Rattle.claims.specs.Touched.{Cuts}
 use Rattle.world_model.proofs.Places.{At-one, At-grow, At-back, At-cases, At-last, At-below, length_last}
 use Rattle.call_replies.specs.Says.{said_of}
 use Rattle.write_back.proofs.WritesByFile.{same-or}

@@ -12,10 +12,10 @@ use Rattle.world_model.specs.declared.op.Op.{Op}
 use Rattle.world_model.specs.declared.op.Op.TheVariants as ops
 use Rattle.world_model.specs.Entries.{At}
 use Rattle.world_model.specs.Operations.{AnsweredBefore, Ended}
-use Rattle.world_model.specs.Slots.{PutsTo}
-use Rattle.world_model.specs.Terms.{Terms}
-use Rattle.world_model.specs.Touched.{MadeStable, RefusedWrite, Truncated, WritesByte, Wrote}
-use Rattle.world_model.specs.Touched as touched
+use Rattle.claims.specs.Slots.{PutsTo}
+use Rattle.claims.specs.Terms.{Terms}
+use Rattle.claims.specs.Touched.{MadeStable, RefusedWrite, Truncated, WritesByte, Wrote}
+use Rattle.claims.specs.Touched as touched
 use Rattle.world_model.proofs.Places.{At-grow, At-back, At-one}
 use Rattle.call_replies.specs.Says.{said_of}
 use Rattle.write_back.specs.Files.{of_file}
@@ -44,7 +44,7 @@ use Rattle.core_session.proofs.syncs.Turning.{IsFixed, gone, under-was, under-an
 use Rattle.core_session.proofs.syncs.WatchingAlong.{KeepsWatching, reached-watching}
 use Rattle.core_session.specs.pending.Held.{IsUnsettled, PendingUnsettled, PendingHeldBack}
 use Rattle.core_session.proofs.pending.Entries.{answers-phase, same-phase, fresh-phase}
-use Rattle.world_model.specs.Pending.{BeganPut, LeftAlone, Pending}
+use Rattle.claims.specs.Pending.{BeganPut, LeftAlone, Pending}
 use Rattle.client_shelf.specs.declared.shelf.Shelf.{Shelf}
 use Rattle.op_machines.specs.declared.file_machine.FileMachine.TheVariants as files
 use Rattle.op_machines.specs.declared.machine.Machine.TheVariants as machines

@@ -10,10 +10,10 @@ use Rattle.world_model.specs.declared.entry.Entry.TheVariants.{Began, Answered, 
 use Rattle.world_model.specs.declared.message.Call.{Call}
 use Rattle.world_model.specs.declared.op.Op.{Op}
 use Rattle.world_model.specs.declared.op.Op.TheVariants as ops
-use Rattle.world_model.specs.Asks.{Placed, HasBegan, IsWriter}
+use Rattle.claims.specs.Asks.{Placed, HasBegan, IsWriter}
 use Rattle.world_model.specs.Entries.{At}
 use Rattle.world_model.specs.Operations.{Ended, UnderWay}
-use Rattle.world_model.specs.Touched.{RefusedWrite, write, fill}
+use Rattle.claims.specs.Touched.{RefusedWrite, write, fill}
 use Rattle.world_model.proofs.Places.{At-grow, At-below, At-back, At-one, At-cases, length_last}
 use Rattle.call_replies.specs.Says.{said_of}
 use Rattle.client_shelf.specs.declared.next.Next.{Next}

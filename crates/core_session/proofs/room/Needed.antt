@@ -6,12 +6,12 @@ use Rattle.world_model.specs.declared.entry.Entry.TheVariants.{Began, Sent}
 use Rattle.world_model.specs.declared.message.Call.{Call}
 use Rattle.world_model.specs.declared.op.Op.{Op}
 use Rattle.world_model.specs.declared.op.Op.TheVariants as ops
-use Rattle.world_model.specs.Asks.{Asks, Placed, IsWriter, TakesRoom, NeedsRoom, write as a_write, fill as a_fill, put as a_put}
-use Rattle.world_model.specs.CallsAsked.{IsCaused, asked, KeepsTo}
+use Rattle.claims.specs.Asks.{Asks, Placed, IsWriter, TakesRoom, NeedsRoom, write as a_write, fill as a_fill, put as a_put}
+use Rattle.claims.specs.CallsAsked.{IsCaused, asked, KeepsTo}
 use Rattle.world_model.specs.Entries.{At}
 use Rattle.world_model.specs.Messages.{SpellsCallBy}
 use Rattle.world_model.specs.Operations.{UnderWay}
-use Rattle.world_model.specs.Terms.{Terms}
+use Rattle.claims.specs.Terms.{Terms}
 use Rattle.file_ops.specs.declared.put_file.Putting.{Putting}
 use Rattle.file_ops.specs.declared.put_file.Putting.TheVariants as puttings
 use Rattle.file_ops.specs.declared.write_file.Writing.{Writing}

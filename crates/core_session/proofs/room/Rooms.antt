@@ -12,11 +12,11 @@ use Rattle.world_model.specs.declared.entry.Entry.TheVariants.{Began, Answered, 
 use Rattle.world_model.specs.declared.message.Call.{Call}
 use Rattle.world_model.specs.declared.op.Op.{Op}
 use Rattle.world_model.specs.declared.op.Op.TheVariants as ops
-use Rattle.world_model.specs.Asks.{Placed, IsWriter, count_of, most_pending, write as a_write, fill as a_fill, put as a_put}
+use Rattle.claims.specs.Asks.{Placed, IsWriter, count_of, most_pending, write as a_write, fill as a_fill, put as a_put}
 use Rattle.world_model.specs.Entries.{At}
 use Rattle.world_model.specs.LanesTogether.{IsBusy}
 use Rattle.world_model.specs.Operations.{Ended, UnderWay}
-use Rattle.world_model.specs.Touched.{RefusedWrite, write as refused_write, fill as refused_fill}
+use Rattle.claims.specs.Touched.{RefusedWrite, write as refused_write, fill as refused_fill}
 use Rattle.world_model.proofs.Places.{At-below, At-cases, At-one}
 use Rattle.call_replies.specs.Says.{said_of}
 use Rattle.write_back.specs.Files.{Pending, all_pending}

@@ -5,7 +5,7 @@ use Rattle.world_model.specs.declared.answer.Answer.TheVariants as answers
 use Rattle.world_model.specs.declared.answer.Fault.{Fault}
 use Rattle.world_model.specs.declared.answer.Value.{Value}
 use Rattle.world_model.specs.declared.message.Call.{Call}
-use Rattle.world_model.specs.Asks.{most_pending}
+use Rattle.claims.specs.Asks.{most_pending}
 use Rattle.client_shelf.specs.declared.next.Next.{Next}
 use Rattle.client_shelf.specs.declared.next.Next.TheVariants as nexts
 use Rattle.file_ops.specs.declared.put_file.Putting.{Putting}

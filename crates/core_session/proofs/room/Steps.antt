@@ -5,7 +5,7 @@ use Rattle.world_model.specs.declared.answer.Answer.{Answer}
 use Rattle.world_model.specs.declared.answer.Answer.TheVariants as answers
 use Rattle.world_model.specs.declared.answer.Fault.{Fault}
 use Rattle.world_model.specs.declared.message.Reply.{Reply}
-use Rattle.world_model.specs.Asks.{most_pending}
+use Rattle.claims.specs.Asks.{most_pending}
 use Rattle.write_back.specs.Files.{Pending, all_pending}
 use Rattle.write_back.specs.Sound.{most_pending as most_held}
 use Rattle.client_shelf.specs.declared.next.Next.{Next}

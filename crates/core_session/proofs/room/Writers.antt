@@ -4,7 +4,7 @@ use Rattle.std.proofs.lemmas.List.Elements.{All-nil, All-cons}
 use Rattle.std.proofs.lemmas.List.Kept.{AllPairs-cons}
 use Rattle.std.proofs.lemmas.List.Sums.{sum_by-cons}
 use Rattle.world_model.specs.declared.op.Op.{Op}
-use Rattle.world_model.specs.Asks.{Placed, AreDifferent, count_of}
+use Rattle.claims.specs.Asks.{Placed, AreDifferent, count_of}
 
 -- each of them, by recursion
 abbrev pub Each : (Placed → Type 0) → List Placed → Type 0

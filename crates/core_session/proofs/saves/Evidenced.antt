@@ -17,7 +17,7 @@ use Rattle.world_model.specs.declared.op.Op.{Op}
 use Rattle.world_model.specs.Entries.{At}
 use Rattle.world_model.specs.Heard.{Asked, Heard}
 use Rattle.world_model.specs.Messages.{HasXid, SpellsCall, SpellsReply}
-use Rattle.world_model.specs.Puts.{commit_call}
+use Rattle.world_model.specs.Commits.{commit_call}
 use Rattle.world_model.proofs.Growth.{Asked-grow}
 use Rattle.world_model.proofs.Places.{At-back}
 use Rattle.call_replies.specs.Says.{said_of, Says, IsCallOf}

@@ -9,7 +9,7 @@ use Rattle.world_model.specs.declared.op.Op.{Op}
 use Rattle.world_model.specs.Entries.{At}
 use Rattle.world_model.specs.declared.message.Call.{Call}
 use Rattle.world_model.specs.Messages.{HasXid, SpellsCall, SpellsCallBy}
-use Rattle.world_model.specs.Puts.{commit_call}
+use Rattle.world_model.specs.Commits.{commit_call}
 use Rattle.world_model.proofs.Places.{At-grow, At-cases, length_last}
 use Rattle.call_replies.specs.Says.{said_of}
 use Rattle.write_back.specs.Files.{of_file}

@@ -12,13 +12,13 @@ use Rattle.world_model.specs.declared.entry.Entry.TheVariants.{Began, Answered, 
 use Rattle.world_model.specs.declared.message.Call.TheVariants as calls
 use Rattle.world_model.specs.declared.op.Op.{Op}
 use Rattle.world_model.specs.declared.op.Op.TheVariants as ops
-use Rattle.world_model.specs.CallsAsked.{NoneBegan}
+use Rattle.claims.specs.CallsAsked.{NoneBegan}
 use Rattle.world_model.specs.Entries.{At}
 use Rattle.world_model.specs.Messages.{SpellsCall}
-use Rattle.world_model.specs.Modes.{Modes}
-use Rattle.world_model.specs.Slots.{IsOf}
-use Rattle.world_model.specs.Terms.{Terms}
-use Rattle.world_model.specs.Touched.{Covers}
+use Rattle.claims.specs.Modes.{Modes}
+use Rattle.claims.specs.Slots.{IsOf}
+use Rattle.claims.specs.Terms.{Terms}
+use Rattle.claims.specs.Touched.{Covers}
 use Rattle.world_model.proofs.Places.{At-grow, At-below, At-back, At-cases}
 use Rattle.bond_stable.proofs.OneFileCall.{one_file_call}
 use Rattle.write_back.specs.Files.{of_file}

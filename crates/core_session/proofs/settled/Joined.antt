@@ -13,17 +13,17 @@ use Rattle.world_model.specs.declared.entry.Entry.TheVariants.{Began}
 use Rattle.world_model.specs.declared.message.Call.{Call}
 use Rattle.world_model.specs.declared.message.Call.TheVariants as calls
 use Rattle.world_model.specs.declared.op.Op.TheVariants as ops
-use Rattle.world_model.specs.CallsAsked.{NoneBegan}
+use Rattle.claims.specs.CallsAsked.{NoneBegan}
 use Rattle.world_model.specs.Entries.{At}
 use Rattle.world_model.specs.History.{History}
 use Rattle.world_model.specs.Lawful.{Lawful}
 use Rattle.world_model.specs.Messages.{SpellsCall}
-use Rattle.world_model.specs.Modes.{Modes}
+use Rattle.claims.specs.Modes.{Modes}
 use Rattle.world_model.specs.Once.{Once}
 use Rattle.world_model.specs.Operations.{AnsweredBefore}
-use Rattle.world_model.specs.Settled.{HoldsStable}
-use Rattle.world_model.specs.Terms.{Terms}
-use Rattle.world_model.specs.Touched.{Wrote, write, fill, put, Cuts, cut}
+use Rattle.claims.specs.Settled.{HoldsStable}
+use Rattle.claims.specs.Terms.{Terms}
+use Rattle.claims.specs.Touched.{Wrote, write, fill, put, Cuts, cut}
 use Rattle.world_model.specs.Waiting.{FirstSent}
 use Rattle.world_model.proofs.Places.{At-one}
 use Rattle.bond_stable.specs.Evidence.{written_at}

@@ -7,11 +7,11 @@ use Rattle.world_model.specs.declared.op.Op.{Op}
 use Rattle.world_model.specs.declared.op.Op.TheVariants as ops
 use Rattle.world_model.specs.Entries.{At}
 use Rattle.world_model.specs.History.{History}
-use Rattle.world_model.specs.Modes.{Modes}
+use Rattle.claims.specs.Modes.{Modes}
 use Rattle.world_model.specs.Mounts.{Origin}
 use Rattle.world_model.specs.Operations.{Ended}
-use Rattle.world_model.specs.Settled.{SettledBy, later, itself}
-use Rattle.world_model.specs.Touched.{Wrote, write, fill, put, StableSince, IsAnsweredPut, Touched, given_up}
+use Rattle.claims.specs.Settled.{SettledBy, later, itself}
+use Rattle.claims.specs.Touched.{Wrote, write, fill, put, StableSince, IsAnsweredPut, Touched, given_up}
 use Rattle.world_model.proofs.Places.{At-one}
 use Rattle.bond_stable.specs.Evidence.{MadeFirm, at_once, by_commit}
 use Rattle.core_session.specs.settled.Settling.{IsSaved, AreSaved}

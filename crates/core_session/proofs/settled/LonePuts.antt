@@ -9,11 +9,11 @@ use Rattle.world_model.specs.declared.entry.Entry.TheVariants.{Began, Sent}
 use Rattle.world_model.specs.declared.message.Call.TheVariants as calls
 use Rattle.world_model.specs.declared.op.Op.{Op}
 use Rattle.world_model.specs.declared.op.Op.TheVariants as ops
-use Rattle.world_model.specs.CallsAsked.{NoneBegan}
+use Rattle.claims.specs.CallsAsked.{NoneBegan}
 use Rattle.world_model.specs.Entries.{At}
 use Rattle.world_model.specs.Messages.{SpellsCall}
-use Rattle.world_model.specs.Terms.{Terms}
-use Rattle.world_model.specs.Touched.{Covers}
+use Rattle.claims.specs.Terms.{Terms}
+use Rattle.claims.specs.Touched.{Covers}
 use Rattle.world_model.proofs.Places.{At-one}
 use Rattle.bond_stable.specs.Evidence.{WroteAt, Evidence}
 use Rattle.op_machines.specs.declared.begun.Mounted.{Mounted}

@@ -11,14 +11,14 @@ use Rattle.world_model.specs.declared.entry.Entry.TheVariants.{Began, Answered, 
 use Rattle.world_model.specs.declared.op.Op.{Op}
 use Rattle.world_model.specs.declared.op.Op.TheVariants as ops
 use Rattle.world_model.specs.Entries.{At}
-use Rattle.world_model.specs.Modes.{Modes}
+use Rattle.claims.specs.Modes.{Modes}
 use Rattle.world_model.specs.Mounts.{Origin}
 use Rattle.world_model.specs.Operations.{Ended, UnderWay, AnsweredBefore}
-use Rattle.world_model.specs.Terms.{Terms}
-use Rattle.world_model.specs.Settled.{SettledBy}
-use Rattle.world_model.specs.Settled as settled
-use Rattle.world_model.specs.Touched.{RefusedWrite, Wrote, WritesByte}
-use Rattle.world_model.specs.Touched as touched_by
+use Rattle.claims.specs.Terms.{Terms}
+use Rattle.claims.specs.Settled.{SettledBy}
+use Rattle.claims.specs.Settled as settled
+use Rattle.claims.specs.Touched.{RefusedWrite, Wrote, WritesByte}
+use Rattle.claims.specs.Touched as touched_by
 use Rattle.world_model.proofs.Places.{At-one, At-grow, At-last, length_last}
 use Rattle.op_machines.specs.declared.begun.Mounted.{Mounted}
 use Rattle.op_machines.specs.Begun.{machine_of}

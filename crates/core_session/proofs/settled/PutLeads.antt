@@ -8,17 +8,17 @@ use Rattle.world_model.specs.declared.message.Call.TheVariants as calls
 use Rattle.world_model.specs.declared.op.Op.{Op}
 use Rattle.world_model.specs.declared.op.Op.TheVariants as ops
 use Rattle.world_model.specs.declared.answer.Answer.{Answer}
-use Rattle.world_model.specs.Asks.{Asks, Acts, Stabilizes}
-use Rattle.world_model.specs.Asks as asks
-use Rattle.world_model.specs.CallsAsked.{NoneBegan}
+use Rattle.claims.specs.Asks.{Asks, Acts, Stabilizes}
+use Rattle.claims.specs.Asks as asks
+use Rattle.claims.specs.CallsAsked.{NoneBegan}
 use Rattle.world_model.specs.Entries.{At}
 use Rattle.world_model.specs.Leads.{Leads, root, step}
 use Rattle.world_model.specs.Messages.{SpellsCall}
 use Rattle.world_model.specs.Mounts.{Origin}
 use Rattle.world_model.specs.Operations.{Ended, EndsAt, answered, unanswered}
-use Rattle.world_model.specs.Terms.{Terms}
-use Rattle.world_model.specs.Touched.{WritesByte}
-use Rattle.world_model.specs.Touched as touching
+use Rattle.claims.specs.Terms.{Terms}
+use Rattle.claims.specs.Touched.{WritesByte}
+use Rattle.claims.specs.Touched as touching
 use Rattle.world_model.proofs.Growth.{Rooted-wide, Asked-wide}
 use Rattle.world_model.proofs.Places.{At-one, At-below}
 use Rattle.bond_stable.proofs.OneFileCall.{one_file_call}

@@ -9,14 +9,14 @@ use Rattle.world_model.specs.declared.message.Call.TheVariants as calls
 use Rattle.world_model.specs.declared.op.Op.TheVariants as ops
 use Rattle.world_model.specs.Entries.{At}
 use Rattle.world_model.specs.Messages.{SpellsCall}
-use Rattle.world_model.specs.Modes.{Modes}
+use Rattle.claims.specs.Modes.{Modes}
 use Rattle.world_model.proofs.Places.{At-one}
 use Rattle.write_back.specs.Segments.{covers}
 use Rattle.world_model.specs.History.{History}
 use Rattle.world_model.specs.Mounts.{Origin}
-use Rattle.world_model.specs.Terms.{Terms}
-use Rattle.world_model.specs.Touched.{Wrote, write, fill, put, Left, GivesUp, Touched}
-use Rattle.world_model.specs.Touched as touched
+use Rattle.claims.specs.Terms.{Terms}
+use Rattle.claims.specs.Touched.{Wrote, write, fill, put, Left, GivesUp, Touched}
+use Rattle.claims.specs.Touched as touched
 use Rattle.op_machines.specs.declared.begun.Mounted.{Mounted}
 use Rattle.client_core.specs.declared.setup.Setup.{Setup}
 use Rattle.client_core.specs.View.{View}

@@ -4,8 +4,8 @@ use Rattle.write_back.specs.Files.{of_file}
 use Rattle.write_back.specs.Segments.{newest_at}
 use Rattle.world_model.specs.declared.entry.Entry.{Entry}
 use Rattle.world_model.specs.declared.op.Op.{Op}
-use Rattle.world_model.specs.Modes.{Modes}
-use Rattle.world_model.specs.Slots.{IsOf}
+use Rattle.claims.specs.Modes.{Modes}
+use Rattle.claims.specs.Slots.{IsOf}
 use Rattle.client_core.specs.View.{View}
 use Rattle.core_session.specs.current.Read.{IsFound, IsEnd}
 

@@ -8,10 +8,10 @@ use Rattle.world_model.specs.declared.op.Op.TheVariants as ops
 use Rattle.world_model.specs.Fresh.{Fresh}
 use Rattle.world_model.specs.History.{History}
 use Rattle.world_model.specs.Lawful.{Lawful}
-use Rattle.world_model.specs.Pending.{Pending}
-use Rattle.world_model.specs.ReadTrue.{HeldByte, HeldSize, IsCurrent, own, held, hole, PendingWithin, ReadsBytes, Since}
-use Rattle.world_model.specs.Slots.{IsOf, Opens}
-use Rattle.world_model.specs.Terms.{Terms}
+use Rattle.claims.specs.Pending.{Pending}
+use Rattle.claims.specs.ReadTrue.{HeldByte, HeldSize, IsCurrent, own, held, hole, PendingWithin, ReadsBytes, Since}
+use Rattle.claims.specs.Slots.{IsOf, Opens}
+use Rattle.claims.specs.Terms.{Terms}
 use Rattle.bond_calls.specs.Calls.{Numbered}
 use Rattle.op_machines.specs.declared.begun.Mounted.{Mounted}
 use Rattle.op_machines.specs.Begun.{machine_of}

@@ -13,12 +13,12 @@ use Rattle.world_model.specs.declared.op.Op.{Op}
 use Rattle.world_model.specs.declared.op.Op.TheVariants as ops
 use Rattle.world_model.specs.Entries.{At}
 use Rattle.world_model.specs.Operations.{AnsweredBefore, Ended}
-use Rattle.world_model.specs.Pending.{BeganPut, LeftAlone, Pending}
-use Rattle.world_model.specs.ReadTrue.{ReadsBytes}
-use Rattle.world_model.specs.Slots.{PutsTo}
-use Rattle.world_model.specs.Terms.{Terms}
-use Rattle.world_model.specs.Touched.{MadeStable, RefusedWrite, Truncated, WritesByte, Wrote}
-use Rattle.world_model.specs.Touched as touched
+use Rattle.claims.specs.Pending.{BeganPut, LeftAlone, Pending}
+use Rattle.claims.specs.ReadTrue.{ReadsBytes}
+use Rattle.claims.specs.Slots.{PutsTo}
+use Rattle.claims.specs.Terms.{Terms}
+use Rattle.claims.specs.Touched.{MadeStable, RefusedWrite, Truncated, WritesByte, Wrote}
+use Rattle.claims.specs.Touched as touched
 use Rattle.world_model.proofs.Places.{At-grow, At-back, At-one}
 use Rattle.write_back.specs.Files.{of_file}
 use Rattle.write_back.specs.Segments.{Cell, byte_of, cell_at, newest_at}

@@ -11,7 +11,7 @@ use Rattle.world_model.specs.declared.message.Call.{Call}
 use Rattle.world_model.specs.declared.op.Op.{Op}
 use Rattle.world_model.specs.Entries.{At}
 use Rattle.world_model.specs.Operations.{Ended, UnderWay, LastReply}
-use Rattle.world_model.specs.Slots.{NamesFile}
+use Rattle.claims.specs.Slots.{NamesFile}
 use Rattle.world_model.specs.Waiting.{IsDelivered}
 use Rattle.world_model.proofs.Growth.{FirstSent-grow}
 use Rattle.world_model.proofs.Places.{At-one, At-grow, At-below, At-cases, length_last}

@@ -6,10 +6,10 @@ use Rattle.world_model.specs.declared.entry.Entry.TheVariants.{Began}
 use Rattle.world_model.specs.declared.op.Op.{Op}
 use Rattle.world_model.specs.declared.op.Op.TheVariants as ops
 use Rattle.world_model.specs.Entries.{At}
-use Rattle.world_model.specs.Modes.{Modes}
+use Rattle.claims.specs.Modes.{Modes}
 use Rattle.world_model.specs.Mounts.{Origin}
-use Rattle.world_model.specs.Slots.{IsOf}
-use Rattle.world_model.specs.Touched.{WritesByte, Cuts}
+use Rattle.claims.specs.Slots.{IsOf}
+use Rattle.claims.specs.Touched.{WritesByte, Cuts}
 use Rattle.write_back.specs.Segments.{covers}
 
 -- a write or a fill; a sync or a close

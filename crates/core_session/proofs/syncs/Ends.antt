@@ -12,10 +12,10 @@ use Rattle.world_model.specs.declared.op.Op.{Op}
 use Rattle.world_model.specs.declared.op.Op.TheVariants as ops
 use Rattle.world_model.specs.Entries.{At}
 use Rattle.world_model.specs.Operations.{Ended, AnsweredBefore}
-use Rattle.world_model.specs.Terms.{Terms}
-use Rattle.world_model.specs.Slots.{PutsTo}
-use Rattle.world_model.specs.Touched.{Covers, RefusedWrite, Wrote, MadeStable}
-use Rattle.world_model.specs.Touched as touched_by
+use Rattle.claims.specs.Terms.{Terms}
+use Rattle.claims.specs.Slots.{PutsTo}
+use Rattle.claims.specs.Touched.{Covers, RefusedWrite, Wrote, MadeStable}
+use Rattle.claims.specs.Touched as touched_by
 use Rattle.world_model.proofs.Places.{At-one, At-back, At-below, At-grow}
 use Rattle.op_machines.specs.declared.begun.Mounted.{Mounted}
 use Rattle.client_core.specs.declared.setup.Setup.{Setup}

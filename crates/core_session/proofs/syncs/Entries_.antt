@@ -12,7 +12,7 @@ use Rattle.world_model.specs.declared.message.Call.TheVariants as calls
 use Rattle.world_model.specs.declared.op.Op.{Op}
 use Rattle.world_model.specs.Entries.{At}
 use Rattle.world_model.specs.Messages.{SpellsCall}
-use Rattle.world_model.specs.Terms.{Terms}
+use Rattle.claims.specs.Terms.{Terms}
 use Rattle.world_model.proofs.Places.{At-one, At-back, At-grow, At-last, length_last}
 use Rattle.write_back.specs.Files.{HasNoPiece, of_file}
 use Rattle.write_back.specs.Numbers.{AllUpTo}

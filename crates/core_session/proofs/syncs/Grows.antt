@@ -15,7 +15,7 @@ use Rattle.world_model.specs.declared.entry.Entry.TheVariants.{Began, Answered, 
 use Rattle.world_model.specs.declared.op.Op.{Op}
 use Rattle.world_model.specs.Entries.{At}
 use Rattle.world_model.specs.Operations.{Ended}
-use Rattle.world_model.specs.Terms.{Terms}
+use Rattle.claims.specs.Terms.{Terms}
 use Rattle.world_model.proofs.Places.{At-one, At-below, At-cases, At-last, length_last}
 use Rattle.write_back.specs.Files.{Pending}
 use Rattle.op_machines.specs.declared.begun.Mounted.{Mounted}

@@ -8,12 +8,12 @@ use Rattle.world_model.specs.declared.entry.Entry.TheVariants.{Began, Answered}
 use Rattle.world_model.specs.declared.op.Op.{Op}
 use Rattle.world_model.specs.declared.op.Op.TheVariants as ops
 use Rattle.world_model.specs.Entries.{At}
-use Rattle.world_model.specs.Modes.{Modes}
+use Rattle.claims.specs.Modes.{Modes}
 use Rattle.world_model.specs.Operations.{AnsweredBefore, UnderWay}
-use Rattle.world_model.specs.Slots.{IsOf}
-use Rattle.world_model.specs.Terms.{Terms}
-use Rattle.world_model.specs.Touched.{Left, GivesUp, itself, beside, RefusedWrite}
-use Rattle.world_model.specs.Touched as touched_by
+use Rattle.claims.specs.Slots.{IsOf}
+use Rattle.claims.specs.Terms.{Terms}
+use Rattle.claims.specs.Touched.{Left, GivesUp, itself, beside, RefusedWrite}
+use Rattle.claims.specs.Touched as touched_by
 use Rattle.world_model.proofs.Places.{At-grow, At-one, length_last}
 use Rattle.file_ops.specs.SlotFiles.{file_at}
 use Rattle.file_ops.specs.declared.close_file.CloseFile.{CloseFile}

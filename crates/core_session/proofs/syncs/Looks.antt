@@ -10,12 +10,12 @@ use Rattle.world_model.specs.declared.entry.Entry.TheVariants.{Began}
 use Rattle.world_model.specs.declared.op.Op.{Op}
 use Rattle.world_model.specs.declared.op.Op.TheVariants as ops
 use Rattle.world_model.specs.Entries.{At}
-use Rattle.world_model.specs.Modes.{Modes}
+use Rattle.claims.specs.Modes.{Modes}
 use Rattle.world_model.specs.Mounts.{Origin}
 use Rattle.world_model.specs.Operations.{AnsweredBefore}
-use Rattle.world_model.specs.Slots.{IsOf}
-use Rattle.world_model.specs.Touched.{WritesByte, Cuts, RefusedWrite, Left, GivesUp}
-use Rattle.world_model.specs.Touched as touched
+use Rattle.claims.specs.Slots.{IsOf}
+use Rattle.claims.specs.Touched.{WritesByte, Cuts, RefusedWrite, Left, GivesUp}
+use Rattle.claims.specs.Touched as touched
 use Rattle.world_model.proofs.Places.{At-one}
 use Rattle.write_back.specs.Files.{Pending, of_file}
 use Rattle.client_shelf.specs.declared.lane_files.LaneFile.{LaneFile}

@@ -5,9 +5,9 @@ use Rattle.open_files.specs.Slots.{IsOpen}
 use Rattle.world_model.specs.declared.answer.Fault.{Fault}
 use Rattle.world_model.specs.declared.entry.Entry.{Entry}
 use Rattle.world_model.specs.declared.message.Reply.{Reply}
-use Rattle.world_model.specs.Modes.{Modes}
+use Rattle.claims.specs.Modes.{Modes}
 use Rattle.world_model.specs.Mounts.{Origin}
-use Rattle.world_model.specs.Touched.{Cuts}
+use Rattle.claims.specs.Touched.{Cuts}
 use Rattle.write_back.specs.Files.{Pending, of_file, OnFile, with_bytes}
 use Rattle.write_back.specs.Pieces.{FilePending}
 use Rattle.client_shelf.specs.declared.turn.Turn.{Turn}

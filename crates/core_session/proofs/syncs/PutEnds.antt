@@ -11,7 +11,7 @@ use Rattle.world_model.specs.declared.message.Call.TheVariants as calls
 use Rattle.world_model.specs.Entries.{At}
 use Rattle.world_model.specs.Messages.{HasXid, SpellsCall}
 use Rattle.world_model.specs.Operations.{LastReply}
-use Rattle.world_model.specs.Slots.{NamesFile, writes, commits}
+use Rattle.claims.specs.Slots.{NamesFile, writes, commits}
 use Rattle.world_model.proofs.Growth.{FirstSent-grow}
 use Rattle.world_model.proofs.Places.{At-one, At-last, At-below, length_last}
 use Rattle.file_ops.specs.declared.put_file.Putting.{Putting}

@@ -16,7 +16,7 @@ use Rattle.world_model.specs.declared.op.Op.{Op}
 use Rattle.world_model.specs.Entries.{At}
 use Rattle.world_model.specs.Heard.{Asked, Heard}
 use Rattle.world_model.specs.Messages.{HasXid, SpellsCall, SpellsCallBy, SpellsReply}
-use Rattle.world_model.specs.Puts.{commit_call}
+use Rattle.world_model.specs.Commits.{commit_call}
 use Rattle.world_model.proofs.Places.{length_last}
 use Rattle.call_replies.specs.Says.{said_of, Says, IsCallOf}
 use Rattle.client_shelf.specs.declared.next.Next.{Next}

@@ -8,8 +8,8 @@ use Rattle.world_model.specs.declared.op.Op.{Op}
 use Rattle.world_model.specs.declared.message.Call.{Call}
 use Rattle.world_model.specs.declared.op.Op.TheVariants as ops
 use Rattle.world_model.specs.Operations.{Ended, LastReply}
-use Rattle.world_model.specs.Slots.{IsOf, NamesFile}
-use Rattle.world_model.specs.Terms.{Terms}
+use Rattle.claims.specs.Slots.{IsOf, NamesFile}
+use Rattle.claims.specs.Terms.{Terms}
 use Rattle.write_back.specs.declared.state.State.TheVariants.{Waiting as Waits}
 use Rattle.write_back.specs.declared.state.Ready.{Ready}
 use Rattle.write_back.specs.Files.{Pending, of_file}

@@ -10,7 +10,7 @@ use Rattle.world_model.specs.declared.entry.Entry.TheVariants.{Began, Sent}
 use Rattle.world_model.specs.declared.op.Op.{Op}
 use Rattle.world_model.specs.Entries.{At}
 use Rattle.world_model.specs.Operations.{Ended, UnderWay, AnsweredBefore}
-use Rattle.world_model.specs.Terms.{Terms}
+use Rattle.claims.specs.Terms.{Terms}
 use Rattle.world_model.specs.Waiting.{IsDelivered}
 use Rattle.open_files.specs.Slots.{Opens}
 use Rattle.world_model.proofs.Places.{At-one, At-grow, At-last, At-cases, length_last}
@@ -84,7 +84,7 @@ use Rattle.open_files.specs.Slots.{Opens, IsOpen}
 use Rattle.world_model.specs.declared.answer.Fault.{Fault}
 use Rattle.world_model.specs.declared.op.Op.TheVariants as ops
 use Rattle.world_model.specs.declared.entry.Entry.TheVariants.{Began}
-use Rattle.world_model.specs.Slots.{IsOf, slot_of}
+use Rattle.claims.specs.Slots.{IsOf, slot_of}
 use Rattle.file_ops.specs.declared.close_file.CloseFile.{CloseFile}
 use Rattle.file_ops.specs.SlotFiles.{file_at}
 use Rattle.op_machines.specs.declared.file_machine.FileMachine.TheVariants as files

@@ -7,7 +7,7 @@ use Rattle.world_model.specs.declared.entry.Entry.TheVariants.{Began, Answered, 
 use Rattle.world_model.specs.declared.op.Op.{Op}
 use Rattle.world_model.specs.Entries.{At}
 use Rattle.world_model.specs.LanesTogether.{IsBusy}
-use Rattle.world_model.specs.Modes.{Modes}
+use Rattle.claims.specs.Modes.{Modes}
 use Rattle.world_model.specs.Operations.{Ended, UnderWay}
 use Rattle.world_model.proofs.Places.{At-last, At-below, At-one, length_last}
 use Rattle.op_machines.specs.declared.machine.Machine.{Machine}

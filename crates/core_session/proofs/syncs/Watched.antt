@@ -3,7 +3,7 @@ use Rattle.std.proofs.Common.{false, Some, position, ◌≡◌, ◌≤◌, ◌<�
 use Rattle.std.proofs.lemmas.Bool.{cases_lt}
 use Rattle.world_model.specs.declared.entry.Entry.{Entry}
 use Rattle.world_model.specs.declared.entry.Entry.TheVariants.{Delivered}
-use Rattle.world_model.specs.Terms.{Terms}
+use Rattle.claims.specs.Terms.{Terms}
 use Rattle.world_model.proofs.Places.{length_last}
 use Rattle.op_machines.specs.declared.begun.Mounted.{Mounted}
 use Rattle.op_machines.specs.Begun.{machine_of}
@@ -30,8 +30,8 @@ use Rattle.core_session.proofs.drops.GuardLaws.{stirs-step, takes-step}
 use Rattle.core_session.proofs.syncs.SlotHeld.{holds-step}
 use Rattle.core_session.proofs.syncs.Turning.{under-was}
 use Rattle.core_session.specs.syncs.Until.{TouchedUntil}
-use Rattle.world_model.specs.Settled.{SettledBy, later, itself}
-use Rattle.world_model.specs.Touched.{Wrote}
+use Rattle.claims.specs.Settled.{SettledBy, later, itself}
+use Rattle.claims.specs.Touched.{Wrote}
 use Rattle.core_session.specs.syncs.Synced.{SyncedBytes, MadeAndKept, PutsNamed}
 use Rattle.core_session.proofs.syncs.Ends.{case-of, case-self, finish, ends}
 use Rattle.core_session.proofs.syncs.Entries_.{stands-answers, stands-same, stands-fresh}

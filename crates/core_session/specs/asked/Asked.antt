@@ -1,8 +1,8 @@
 -- All calls of a session were asked for.
 use Rattle.std.specs.Prelude.{List}
 use Rattle.world_model.specs.declared.entry.Entry.{Entry}
-use Rattle.world_model.specs.CallsAsked.{CallsAsked}
-use Rattle.world_model.specs.Terms.{Terms}
+use Rattle.claims.specs.CallsAsked.{CallsAsked}
+use Rattle.claims.specs.Terms.{Terms}
 use Rattle.op_machines.specs.declared.begun.Mounted.{Mounted}
 use Rattle.op_machines.specs.Begun.{machine_of}
 use Rattle.client_core.specs.declared.setup.Setup.{Setup}

@@ -7,12 +7,12 @@ use Rattle.world_model.specs.declared.message.Call.{Call}
 use Rattle.world_model.specs.declared.message.Call.TheVariants as calls
 use Rattle.world_model.specs.declared.op.Op.{Op}
 use Rattle.world_model.specs.declared.op.Op.TheVariants as ops
-use Rattle.world_model.specs.Asks.{Asks, IsWriter}
-use Rattle.world_model.specs.CallsAsked.{NoneBegan, IsRead}
+use Rattle.claims.specs.Asks.{Asks, IsWriter}
+use Rattle.claims.specs.CallsAsked.{NoneBegan, IsRead}
 use Rattle.world_model.specs.Entries.{At}
 use Rattle.world_model.specs.Messages.{SpellsCallBy}
 use Rattle.world_model.specs.Operations.{UnderWay}
-use Rattle.world_model.specs.Terms.{Terms}
+use Rattle.claims.specs.Terms.{Terms}
 use Rattle.op_machines.specs.declared.begun.Mounted.{Mounted}
 use Rattle.client_core.specs.declared.setup.Setup.{Setup}
 use Rattle.client_core.specs.View.{View}

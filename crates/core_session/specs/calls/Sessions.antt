@@ -6,7 +6,7 @@ use Rattle.world_model.specs.declared.op.Op.{Op}
 use Rattle.world_model.specs.Entries.{At}
 use Rattle.world_model.specs.Mounts.{Sized}
 use Rattle.world_model.specs.ReadSize.{ReadSized}
-use Rattle.world_model.specs.Terms.{Terms}
+use Rattle.claims.specs.Terms.{Terms}
 use Rattle.op_machines.specs.declared.begun.Mounted.{Mounted}
 use Rattle.op_machines.specs.Begun.{IsAsked}
 use Rattle.client_core.specs.declared.setup.Setup.{Setup}

@@ -6,15 +6,15 @@ use Rattle.world_model.specs.declared.entry.Entry.TheVariants.{Began, Sent}
 use Rattle.world_model.specs.declared.message.Call.{Call}
 use Rattle.world_model.specs.declared.message.Call.TheVariants as calls
 use Rattle.world_model.specs.declared.op.Op.{Op}
-use Rattle.world_model.specs.Asks.{Asks}
-use Rattle.world_model.specs.CallsAsked.{CallsAsked, IsCaused, AreSetUp, KeepsTo}
+use Rattle.claims.specs.Asks.{Asks}
+use Rattle.claims.specs.CallsAsked.{CallsAsked, IsCaused, AreSetUp, KeepsTo}
 use Rattle.world_model.specs.Entries.{At}
 use Rattle.world_model.specs.LanesTogether.{HasBegun}
 use Rattle.world_model.specs.Messages.{HasXid, SpellsCall, SpellsCallBy}
 use Rattle.world_model.specs.Mounts.{Rooted, Sized}
 use Rattle.world_model.specs.Operations.{UnderWay}
 use Rattle.world_model.specs.ReadSize.{ReadSized}
-use Rattle.world_model.specs.Terms.{Terms}
+use Rattle.claims.specs.Terms.{Terms}
 use Rattle.world_model.specs.Waiting.{Answers}
 use Rattle.op_machines.specs.declared.begun.Mounted.{Mounted}
 use Rattle.client_core.specs.declared.setup.Setup.{Setup}

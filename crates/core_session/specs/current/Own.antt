@@ -1,8 +1,8 @@
 -- What is pending in this client is in the answers of its reads (RFC 1813, section 3.3.6; nfs(5), close-to-open).
 use Rattle.std.specs.Prelude.{◌≡◌, ℕ, true, List, take}
 use Rattle.world_model.specs.declared.entry.Entry.{Entry}
-use Rattle.world_model.specs.ReadTrue.{ReadsBytes}
-use Rattle.world_model.specs.Terms.{Terms}
+use Rattle.claims.specs.ReadTrue.{ReadsBytes}
+use Rattle.claims.specs.Terms.{Terms}
 use Rattle.op_machines.specs.Begun.{machine_of}
 use Rattle.op_machines.specs.declared.begun.Mounted.{Mounted}
 use Rattle.client_core.specs.declared.setup.Setup.{Setup}

@@ -4,9 +4,9 @@ use Rattle.world_model.specs.declared.entry.Entry.{Entry}
 use Rattle.world_model.specs.Fresh.{Fresh}
 use Rattle.world_model.specs.History.{History}
 use Rattle.world_model.specs.Lawful.{Lawful}
-use Rattle.world_model.specs.Modes.{Modes}
-use Rattle.world_model.specs.ReadTrue.{HeldByte, HeldSize, ReadsBytes, Since}
-use Rattle.world_model.specs.Terms.{Terms}
+use Rattle.claims.specs.Modes.{Modes}
+use Rattle.claims.specs.ReadTrue.{HeldByte, HeldSize, ReadsBytes, Since}
+use Rattle.claims.specs.Terms.{Terms}
 use Rattle.op_machines.specs.declared.begun.Mounted.{Mounted}
 use Rattle.client_core.specs.declared.setup.Setup.{Setup}
 use Rattle.client_core.specs.View.{View}

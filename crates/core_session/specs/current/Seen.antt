@@ -7,10 +7,10 @@ use Rattle.page_cache.specs.Pages.{known_of}
 use Rattle.world_model.specs.declared.entry.Entry.{Entry}
 use Rattle.world_model.specs.declared.message.Call.{Call}
 use Rattle.world_model.specs.declared.message.Reply.{Reply}
-use Rattle.world_model.specs.Modes.{Modes}
-use Rattle.world_model.specs.Shown.{ShowsAttr}
-use Rattle.world_model.specs.Slots.{Opens}
-use Rattle.world_model.specs.Terms.{Terms}
+use Rattle.claims.specs.Modes.{Modes}
+use Rattle.claims.specs.Shown.{ShowsAttr}
+use Rattle.claims.specs.Slots.{Opens}
+use Rattle.claims.specs.Terms.{Terms}
 use Rattle.op_machines.specs.declared.begun.Mounted.{Mounted}
 use Rattle.client_core.specs.declared.setup.Setup.{Setup}
 use Rattle.client_core.specs.View.{View}

@@ -3,11 +3,11 @@ use Rattle.std.specs.Prelude.{◌≡◌, ◌<◌, ◌≤◌, ◌+◌, ℕ, true,
 use Rattle.world_model.specs.Fresh.{Fresh}
 use Rattle.world_model.specs.History.{History}
 use Rattle.world_model.specs.Lawful.{Lawful}
-use Rattle.world_model.specs.Modes.{Modes}
-use Rattle.world_model.specs.ReadTrue.{ReadsBytes, Since}
+use Rattle.claims.specs.Modes.{Modes}
+use Rattle.claims.specs.ReadTrue.{ReadsBytes, Since}
 use Rattle.world_model.specs.Server.{HasBytes}
-use Rattle.world_model.specs.Settled.{HoldsStable}
-use Rattle.world_model.specs.Terms.{Terms}
+use Rattle.claims.specs.Settled.{HoldsStable}
+use Rattle.claims.specs.Terms.{Terms}
 use Rattle.op_machines.specs.declared.begun.Mounted.{Mounted}
 use Rattle.client_core.specs.declared.setup.Setup.{Setup}
 use Rattle.client_core.specs.View.{View}

@@ -10,8 +10,8 @@ use Rattle.world_model.specs.declared.entry.Entry.{Entry}
 use Rattle.world_model.specs.declared.entry.Entry.TheVariants.{Began}
 use Rattle.world_model.specs.declared.op.Op.{Op}
 use Rattle.world_model.specs.declared.op.Op.TheVariants as ops
-use Rattle.world_model.specs.Slots.{InSlot}
-use Rattle.world_model.specs.Terms.{Terms}
+use Rattle.claims.specs.Slots.{InSlot}
+use Rattle.claims.specs.Terms.{Terms}
 use Rattle.client_shelf.specs.LaneFiles.{is_first}
 use Rattle.file_ops.specs.declared.close_file.CloseFile.{CloseFile}
 use Rattle.file_ops.specs.declared.closing.Removal.{Removal}

@@ -4,7 +4,7 @@ use Rattle.nfs_file_calls.specs.declared.call.FileCall.TheVariants as files
 use Rattle.world_model.specs.declared.entry.Entry.{Entry}
 use Rattle.world_model.specs.declared.message.Call.{Call}
 use Rattle.world_model.specs.declared.message.Call.TheVariants as calls
-use Rattle.world_model.specs.CallsAsked.{NoneBegan}
+use Rattle.claims.specs.CallsAsked.{NoneBegan}
 use Rattle.world_model.specs.Messages.{SpellsCall}
 use Rattle.world_model.specs.Waiting.{FirstSent}
 use Rattle.op_machines.specs.declared.begun.Mounted.{Mounted}

@@ -4,8 +4,8 @@ use Rattle.world_model.specs.Fresh.{Fresh}
 use Rattle.world_model.specs.History.{History}
 use Rattle.world_model.specs.Lawful.{Lawful}
 use Rattle.world_model.specs.Once.{Once}
-use Rattle.world_model.specs.Terms.{Terms}
-use Rattle.world_model.specs.ReadTrue.{ReadCut}
+use Rattle.claims.specs.Terms.{Terms}
+use Rattle.claims.specs.ReadTrue.{ReadCut}
 use Rattle.bond_own.specs.Own.{CutsStay}
 use Rattle.op_machines.specs.declared.begun.Mounted.{Mounted}
 use Rattle.op_machines.specs.Begun.{machine_of}

@@ -3,11 +3,11 @@ use Rattle.std.specs.Prelude.{◌≡◌, ◌<◌, ◌≤◌, ℕ, List, length, 
 use Rattle.write_back.specs.Files.{of_file}
 use Rattle.write_back.specs.Segments.{newest_at}
 use Rattle.world_model.specs.declared.entry.Entry.{Entry}
-use Rattle.world_model.specs.Modes.{Modes}
+use Rattle.claims.specs.Modes.{Modes}
 use Rattle.world_model.specs.Mounts.{Origin}
 use Rattle.world_model.specs.Operations.{AnsweredBefore}
-use Rattle.world_model.specs.Terms.{Terms}
-use Rattle.world_model.specs.Touched.{WritesByte, RefusedWrite, Wrote, Truncated, MadeStable}
+use Rattle.claims.specs.Terms.{Terms}
+use Rattle.claims.specs.Touched.{WritesByte, RefusedWrite, Wrote, Truncated, MadeStable}
 use Rattle.op_machines.specs.declared.begun.Mounted.{Mounted}
 use Rattle.client_core.specs.declared.setup.Setup.{Setup}
 use Rattle.client_core.specs.View.{View}
@@ -15,7 +15,7 @@ use Rattle.core_facts.specs.Naming.{KnowsRoot}
 use Rattle.core_facts.specs.SlotAnswers.{GoesWith}
 use Rattle.core_facts.specs.Notes.{NoneReady}
 use Rattle.core_session.specs.syncs.Synced.{PutsNamed}
-use Rattle.world_model.specs.Pending.{Pending}
+use Rattle.claims.specs.Pending.{Pending}
 
 -- Before the moment n an operation w began that writes the byte to the place of the file, and it isn't a refused write or fill. Since w was answered, and
 -- before n, no write, fill or put that began then and went well covers the place, no truncate cut the file there, and no sync, close or put of it went well.

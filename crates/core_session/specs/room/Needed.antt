@@ -5,12 +5,12 @@ use Rattle.world_model.specs.declared.entry.Entry.TheVariants.{Sent}
 use Rattle.world_model.specs.declared.message.Call.{Call}
 use Rattle.world_model.specs.declared.op.Op.{Op}
 use Rattle.world_model.specs.declared.op.Op.TheVariants as ops
-use Rattle.world_model.specs.Asks.{Asks, IsWriter, NeedsRoom}
-use Rattle.world_model.specs.CallsAsked.{NoneBegan, IsCaused, AreSetUp, KeepsTo}
+use Rattle.claims.specs.Asks.{Asks, IsWriter, NeedsRoom}
+use Rattle.claims.specs.CallsAsked.{NoneBegan, IsCaused, AreSetUp, KeepsTo}
 use Rattle.world_model.specs.Entries.{At}
 use Rattle.world_model.specs.Messages.{HasXid, SpellsCall, SpellsCallBy}
 use Rattle.world_model.specs.Operations.{UnderWay}
-use Rattle.world_model.specs.Terms.{Terms}
+use Rattle.claims.specs.Terms.{Terms}
 use Rattle.world_model.specs.Waiting.{Answers}
 use Rattle.op_machines.specs.declared.begun.Mounted.{Mounted}
 use Rattle.client_core.specs.declared.setup.Setup.{Setup}

@@ -14,7 +14,7 @@ use Rattle.world_model.specs.Messages.{HasXid, SpellsCall}
 use Rattle.world_model.specs.declared.message.Call.TheVariants as calls
 use Rattle.world_model.specs.declared.message.Reply.TheVariants as replies
 use Rattle.world_model.specs.Heard.{Asked}
-use Rattle.world_model.specs.Puts.{commit_call}
+use Rattle.world_model.specs.Commits.{commit_call}
 use Rattle.write_back.specs.Segments.{covers}
 
 -- Between two places a WRITE of the file, which has the byte at the place, was first sent and answered 0 with a count that reaches it.

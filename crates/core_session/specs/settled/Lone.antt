@@ -8,19 +8,19 @@ use Rattle.world_model.specs.declared.entry.Entry.TheVariants.{Began, Sent}
 use Rattle.world_model.specs.declared.message.Call.TheVariants as calls
 use Rattle.world_model.specs.declared.op.Op.{Op}
 use Rattle.world_model.specs.declared.op.Op.TheVariants as ops
-use Rattle.world_model.specs.CallsAsked.{NoneBegan}
+use Rattle.claims.specs.CallsAsked.{NoneBegan}
 use Rattle.world_model.specs.Entries.{At}
 use Rattle.world_model.specs.History.{History}
 use Rattle.world_model.specs.Lawful.{Lawful}
 use Rattle.world_model.specs.Leads.{Leads}
 use Rattle.world_model.specs.Messages.{SpellsCall}
-use Rattle.world_model.specs.Modes.{Modes}
+use Rattle.claims.specs.Modes.{Modes}
 use Rattle.world_model.specs.Mounts.{Origin}
 use Rattle.world_model.specs.Once.{Once}
 use Rattle.world_model.specs.Operations.{Ended}
-use Rattle.world_model.specs.Settled.{HoldsStable}
-use Rattle.world_model.specs.Terms.{Terms}
-use Rattle.world_model.specs.Touched.{Covers, Cuts}
+use Rattle.claims.specs.Settled.{HoldsStable}
+use Rattle.claims.specs.Terms.{Terms}
+use Rattle.claims.specs.Touched.{Covers, Cuts}
 use Rattle.bond_stable.specs.OwnCalls.{NoForeign}
 use Rattle.op_machines.specs.declared.begun.Mounted.{Mounted}
 use Rattle.op_machines.specs.Begun.{IsNamed}

@@ -4,9 +4,9 @@ use Rattle.std.specs.Prelude.{◌<◌, ◌≤◌, ℕ, List, length}
 use Rattle.world_model.specs.History.{History}
 use Rattle.world_model.specs.Lawful.{Lawful}
 use Rattle.world_model.specs.Once.{Once}
-use Rattle.world_model.specs.Settled.{HoldsStable, SettledBy}
-use Rattle.world_model.specs.Terms.{Terms}
-use Rattle.world_model.specs.Touched.{Wrote}
+use Rattle.claims.specs.Settled.{HoldsStable, SettledBy}
+use Rattle.claims.specs.Terms.{Terms}
+use Rattle.claims.specs.Touched.{Wrote}
 use Rattle.bond_stable.specs.OwnCalls.{NoForeign}
 use Rattle.op_machines.specs.declared.begun.Mounted.{Mounted}
 use Rattle.client_core.specs.declared.setup.Setup.{Setup}

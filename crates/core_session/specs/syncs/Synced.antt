@@ -7,9 +7,9 @@ use Rattle.world_model.specs.declared.message.Call.TheVariants as calls
 use Rattle.world_model.specs.declared.op.Op.TheVariants as ops
 use Rattle.world_model.specs.Entries.{At}
 use Rattle.world_model.specs.Messages.{SpellsCall}
-use Rattle.world_model.specs.Terms.{Terms}
-use Rattle.world_model.specs.Settled.{SettledBy}
-use Rattle.world_model.specs.Touched.{Wrote}
+use Rattle.claims.specs.Terms.{Terms}
+use Rattle.claims.specs.Settled.{SettledBy}
+use Rattle.claims.specs.Touched.{Wrote}
 use Rattle.write_back.specs.Segments.{covers}
 use Rattle.op_machines.specs.declared.begun.Mounted.{Mounted}
 use Rattle.op_machines.specs.Begun.{IsNamed}

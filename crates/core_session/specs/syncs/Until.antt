@@ -2,10 +2,10 @@
 -- section 1.5).
 use Rattle.std.specs.Prelude.{◌≢◌, ◌<◌, ℕ, List}
 use Rattle.world_model.specs.declared.entry.Entry.{Entry}
-use Rattle.world_model.specs.Modes.{Modes}
+use Rattle.claims.specs.Modes.{Modes}
 use Rattle.world_model.specs.Mounts.{Origin}
 use Rattle.world_model.specs.Operations.{AnsweredBefore}
-use Rattle.world_model.specs.Touched.{WritesByte, RefusedWrite, Cuts, Left, GivesUp}
+use Rattle.claims.specs.Touched.{WritesByte, RefusedWrite, Cuts, Left, GivesUp}
 
 -- Beside the write at the place w another operation that wasn't answered before it, and began before the place p, writes to the place i of the file, or cuts it
 -- off; or, after w and before the place j, the last close left the file, and a refusal went with it.

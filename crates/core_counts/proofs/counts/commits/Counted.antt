@@ -6,11 +6,11 @@ use Rattle.std.proofs.lemmas.List.Sums.{sum_by-cons}
 use Rattle.nfs_file_calls.specs.declared.call.FileCall.{FileCall}
 use Rattle.nfs_file_calls.specs.declared.call.FileCall.TheVariants as files
 use Rattle.write_back.proofs.WritesByFile.{same-or}
-use Rattle.world_model.specs.Asks.{Asks, Acts, Placed, AreDifferent, HasBegan, Stabilizes, NeedsRoom, TakesRoom, count_of, most_pending}
-use Rattle.world_model.specs.Asks as asks
-use Rattle.world_model.specs.CallCounts.{IsCommitOf, commit, FewCommits, StableOf, WriterAt, Few, RepliedAt}
+use Rattle.claims.specs.Asks.{Asks, Acts, Placed, AreDifferent, HasBegan, Stabilizes, NeedsRoom, TakesRoom, count_of, most_pending}
+use Rattle.claims.specs.Asks as asks
+use Rattle.claims.specs.CallCounts.{IsCommitOf, commit, FewCommits, StableOf, WriterAt, Few, RepliedAt}
 use Rattle.world_model.specs.Mounts.{info_call}
-use Rattle.world_model.specs.Terms.{Terms, most_tries}
+use Rattle.claims.specs.Terms.{Terms, most_tries}
 use Rattle.world_model.specs.declared.entry.Entry.{Entry}
 use Rattle.world_model.specs.declared.entry.Entry.TheVariants.{Began}
 use Rattle.world_model.specs.declared.message.Call.{Call}

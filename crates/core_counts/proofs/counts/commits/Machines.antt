@@ -2,7 +2,7 @@
 use Rattle.std.proofs.Common.{◌≡◌, ◌≤◌, ◌+◌, ℕ, Bool, true, false, List, Option, Some, None, Result, refl, sym, ap, subst, ◌∙◌, arith}
 use Rattle.write_back.specs.Files.{of_file}
 use Rattle.write_back.specs.Segments.{last_end}
-use Rattle.world_model.specs.CallCounts.{IsCommitOf, commit}
+use Rattle.claims.specs.CallCounts.{IsCommitOf, commit}
 use Rattle.world_model.specs.declared.answer.Answer.{Answer}
 use Rattle.world_model.specs.declared.answer.Fault.{Fault}
 use Rattle.world_model.specs.declared.message.Call.{Call}

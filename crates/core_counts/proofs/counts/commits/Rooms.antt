@@ -3,9 +3,9 @@ use Rattle.std.proofs.Common.{◌≡◌, ◌<◌, ◌≤◌, inl, inr, ◌+◌, 
 use Rattle.std.proofs.lemmas.Bool.{ltb-true}
 use Rattle.write_back.specs.Files.{Pending, all_pending}
 use Rattle.write_back.specs.Sound as backs
-use Rattle.world_model.specs.Asks.{Placed, AreDifferent, HasBegan, IsWriter, count_of, most_pending}
-use Rattle.world_model.specs.Asks as asks
-use Rattle.world_model.specs.CallCounts.{WriterAt}
+use Rattle.claims.specs.Asks.{Placed, AreDifferent, HasBegan, IsWriter, count_of, most_pending}
+use Rattle.claims.specs.Asks as asks
+use Rattle.claims.specs.CallCounts.{WriterAt}
 use Rattle.world_model.specs.declared.answer.Fault.{Fault}
 use Rattle.world_model.specs.declared.entry.Entry.{Entry}
 use Rattle.world_model.specs.declared.entry.Entry.TheVariants.{Began}

@@ -10,7 +10,7 @@ use Rattle.write_back.specs.Choice.{chosen, piece_of}
 use Rattle.write_back.specs.Files.{Pending, of_file}
 use Rattle.write_back.specs.Pieces.{Sent}
 use Rattle.write_back.specs.Segments.{Segments}
-use Rattle.world_model.specs.CallCounts.{IsCommitOf, commit}
+use Rattle.claims.specs.CallCounts.{IsCommitOf, commit}
 use Rattle.world_model.specs.declared.answer.Fault.{Fault}
 use Rattle.world_model.specs.declared.answer.Fault.TheVariants.{Memory}
 use Rattle.world_model.specs.declared.answer.Answer.{Answer}

@@ -1,9 +1,9 @@
 -- Sessions in which no write waits for room, and how many COMMITs they make of a file (RFC 1813, section 3.3.21).
 use Rattle.std.specs.Prelude.{◌≤◌, ℕ, List, All, sum_by}
 use Rattle.world_model.specs.declared.entry.Entry.{Entry}
-use Rattle.world_model.specs.Asks.{Placed, AreDifferent, count_of, most_pending}
-use Rattle.world_model.specs.CallCounts.{FewCommits, WriterAt}
-use Rattle.world_model.specs.Terms.{Terms}
+use Rattle.claims.specs.Asks.{Placed, AreDifferent, count_of, most_pending}
+use Rattle.claims.specs.CallCounts.{FewCommits, WriterAt}
+use Rattle.claims.specs.Terms.{Terms}
 use Rattle.op_machines.specs.declared.begun.Mounted.{Mounted}
 use Rattle.op_machines.specs.Begun.{machine_of}
 use Rattle.client_core.specs.declared.setup.Setup.{Setup}

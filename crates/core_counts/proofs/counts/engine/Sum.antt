@@ -8,15 +8,15 @@ use Rattle.world_model.specs.declared.entry.Entry.{Entry}
 use Rattle.world_model.specs.declared.entry.Entry.TheVariants.{Began, Answered, Dialed, Sent, Executed, Foreign, Flushed, Reboot, Delivered, Failed, Clock}
 use Rattle.world_model.specs.declared.message.Call.{Call}
 use Rattle.world_model.specs.declared.op.Op.{Op}
-use Rattle.world_model.specs.Asks.{Asks, Placed, AreDifferent, HasBegan}
-use Rattle.world_model.specs.CallCounts.{Carries, Few, Different as DifferentNumbers, RepliedAt}
-use Rattle.world_model.specs.CallsAsked.{NoneBegan, IsCaused, IsCause, mounts, informs, asked}
+use Rattle.claims.specs.Asks.{Asks, Placed, AreDifferent, HasBegan}
+use Rattle.claims.specs.CallCounts.{Carries, Few, Different as DifferentNumbers, RepliedAt}
+use Rattle.claims.specs.CallsAsked.{NoneBegan, IsCaused, IsCause, mounts, informs, asked}
 use Rattle.world_model.specs.Entries.{At}
 use Rattle.world_model.specs.Waiting.{FirstSent, Answers}
 use Rattle.world_model.specs.Messages.{HasXid, SpellsCall}
 use Rattle.world_model.specs.Mounts.{mount_call, info_call}
 use Rattle.world_model.specs.Operations.{AnsweredBefore, EndsAt, answered, unanswered, UnderWay}
-use Rattle.world_model.specs.Terms.{Terms, most_tries}
+use Rattle.claims.specs.Terms.{Terms, most_tries}
 use Rattle.world_model.proofs.Growth.{FirstSent-grow, Answers-grow}
 use Rattle.world_model.proofs.Places.{At-grow, At-back, At-below, At-one}
 use Rattle.op_machines.specs.declared.begun.Mounted.{Mounted}

@@ -8,18 +8,18 @@ use Rattle.world_model.specs.declared.message.Call.{Call}
 use Rattle.world_model.specs.declared.message.Call.TheVariants as calls
 use Rattle.world_model.specs.declared.message.Reply.TheVariants as replies
 use Rattle.world_model.specs.declared.op.Op.{Op}
-use Rattle.world_model.specs.Asks as a
+use Rattle.claims.specs.Asks as a
 use Rattle.nfs_types.specs.declared.verf.Verf.{Verf}
 use Rattle.nfs_dir_calls.specs.declared.plus_page.PlusRow.{PlusRow}
 use Rattle.world_model.specs.declared.message.Reply.{Reply}
 use Rattle.world_model.specs.Heard.{Asked}
 use Rattle.world_model.specs.Chains.{Chain, start, next, list_call, page_reply}
-use Rattle.world_model.specs.Hidden.{HiddenAt}
+use Rattle.claims.specs.Hidden.{HiddenAt}
 use Rattle.world_model.specs.Leads.{Leads, root, step}
 use Rattle.world_model.specs.Mounts.{Origin}
-use Rattle.world_model.specs.Paths.{PlaceOf}
-use Rattle.world_model.specs.ReadTrue.{Within}
-use Rattle.world_model.specs.Terms.{Terms}
+use Rattle.claims.specs.Paths.{PlaceOf}
+use Rattle.claims.specs.ReadTrue.{Within}
+use Rattle.claims.specs.Terms.{Terms}
 use Rattle.world_model.proofs.Growth.{Asked-wide, Rooted-wide}
 
 pub leads-wide : (origin : Origin) (h : List Entry) (n more : ℕ) → n ≤ more → (path : List (List ℕ)) (object : List ℕ) → Leads origin h n path object → Leads origin h more path object

@@ -11,13 +11,13 @@ use Rattle.world_model.specs.declared.message.Call.{Call}
 use Rattle.world_model.specs.declared.message.Call.TheVariants as calls
 use Rattle.world_model.specs.declared.op.Op.{Op}
 use Rattle.world_model.specs.declared.op.Op.TheVariants as ops
-use Rattle.world_model.specs.Asks as a
-use Rattle.world_model.specs.CallCounts.{Carries, FewEqual, Asking, RepliedAt}
+use Rattle.claims.specs.Asks as a
+use Rattle.claims.specs.CallCounts.{Carries, FewEqual, Asking, RepliedAt}
 use Rattle.world_model.specs.Chains.{list_call}
 use Rattle.world_model.specs.Mounts.{info_call}
-use Rattle.world_model.specs.Puts.{commit_call}
-use Rattle.world_model.specs.Paths.{paths_of}
-use Rattle.world_model.specs.Terms.{Terms}
+use Rattle.world_model.specs.Commits.{commit_call}
+use Rattle.claims.specs.Paths.{paths_of}
+use Rattle.claims.specs.Terms.{Terms}
 use Rattle.name_ops.specs.Looking.{look_up}
 use Rattle.name_ops.specs.ListDir as listing
 use Rattle.op_machines.specs.declared.begun.Mounted.{Mounted}

@@ -6,7 +6,7 @@ use Rattle.nfs_dir_calls.specs.declared.create.Making.TheVariants as makings
 use Rattle.nfs_file_calls.specs.declared.call.FileCall.TheVariants as files
 use Rattle.world_model.specs.declared.message.Call.{Call}
 use Rattle.world_model.specs.declared.message.Call.TheVariants as calls
-use Rattle.world_model.specs.Asks as a
+use Rattle.claims.specs.Asks as a
 use Rattle.core_counts.proofs.counts.engine.Decided.{same_list, first-of, second-of, both-of, list-is, list-same}
 
 -- ---- the call, apart

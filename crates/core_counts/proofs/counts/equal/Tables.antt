@@ -5,7 +5,7 @@ use Rattle.world_model.specs.declared.answer.Fault.TheVariants as faults
 use Rattle.world_model.specs.declared.entry.Entry.{Entry}
 use Rattle.world_model.specs.declared.message.Call.{Call}
 use Rattle.world_model.specs.declared.message.Reply.{Reply}
-use Rattle.world_model.specs.Terms.{jukebox}
+use Rattle.claims.specs.Terms.{jukebox}
 use Rattle.client_shelf.specs.declared.next.Next.{Next}
 use Rattle.client_shelf.specs.declared.next.Next.TheVariants as nexts
 use Rattle.client_shelf.specs.declared.repeats.Repeat.{Repeat}

@@ -12,13 +12,13 @@ use Rattle.world_model.specs.declared.entry.Entry.{Entry}
 use Rattle.world_model.specs.declared.message.Call.{Call}
 use Rattle.world_model.specs.declared.message.Call.TheVariants as calls
 use Rattle.world_model.specs.declared.op.Op.{Op}
-use Rattle.world_model.specs.Asks as a
-use Rattle.world_model.specs.CallCounts.{Asking, Carries, FewEqual, IsPlain}
-use Rattle.world_model.specs.CallsAsked.{CallsAsked, IsCaused, IsCause, mounts, informs, asked}
+use Rattle.claims.specs.Asks as a
+use Rattle.claims.specs.CallCounts.{Asking, Carries, FewEqual, IsPlain}
+use Rattle.claims.specs.CallsAsked.{CallsAsked, IsCaused, IsCause, mounts, informs, asked}
 use Rattle.world_model.specs.Chains.{list_call}
 use Rattle.world_model.specs.Messages.{SpellsCall, head_of, proc_of}
 use Rattle.world_model.specs.Mounts.{mount_call, info_call}
-use Rattle.world_model.specs.Terms.{Terms}
+use Rattle.claims.specs.Terms.{Terms}
 use Rattle.core_answers.proofs.bonds.OneCall.{IsNfs, one-call}
 use Rattle.core_counts.proofs.counts.equal.Deeds.{Deed, call_of, like, like-self, no-way, access_of, cut_of, text_of, dir_of, sym_of, gone_of, unlink_of, name_of, link_of, loose_of, new_of, look_of, attr_of, read_of}
 

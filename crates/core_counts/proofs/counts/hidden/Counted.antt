@@ -10,13 +10,13 @@ use Rattle.world_model.specs.declared.message.Call.{Call}
 use Rattle.world_model.specs.declared.message.Call.TheVariants as calls
 use Rattle.world_model.specs.declared.op.Op.{Op}
 use Rattle.world_model.specs.declared.op.Op.TheVariants as ops
-use Rattle.world_model.specs.Asks as a
-use Rattle.world_model.specs.CallCounts.{FewHidden, RemovesAt, Carries, LooksForHidden, MetHidden, IsInScript}
+use Rattle.claims.specs.Asks as a
+use Rattle.claims.specs.CallCounts.{FewHidden, RemovesAt, Carries, LooksForHidden, MetHidden, IsInScript}
 use Rattle.world_model.specs.Entries.{At}
 use Rattle.world_model.specs.Follows.{Follows, begun}
 use Rattle.world_model.specs.Mounts.{info_call}
-use Rattle.world_model.specs.Paths.{paths_of}
-use Rattle.world_model.specs.Terms.{Terms}
+use Rattle.claims.specs.Paths.{paths_of}
+use Rattle.claims.specs.Terms.{Terms}
 use Rattle.op_machines.specs.declared.begun.Mounted.{Mounted}
 use Rattle.op_machines.specs.Begun.{IsAsked, machine_of}
 use Rattle.client_core.specs.declared.setup.Setup.{Setup}

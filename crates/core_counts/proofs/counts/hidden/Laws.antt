@@ -14,9 +14,9 @@ use Rattle.world_model.specs.declared.message.Reply.{Reply}
 use Rattle.world_model.specs.declared.message.Reply.TheVariants as replies
 use Rattle.world_model.specs.declared.op.Op.{Op}
 use Rattle.world_model.specs.declared.op.Op.TheVariants as ops
-use Rattle.world_model.specs.CallCounts.{IsInScript, MetHidden}
+use Rattle.claims.specs.CallCounts.{IsInScript, MetHidden}
 use Rattle.world_model.specs.Heard.{status_of}
-use Rattle.world_model.specs.Hidden.{IsHidden}
+use Rattle.claims.specs.Hidden.{IsHidden}
 use Rattle.call_replies.specs.Says.{Says}
 use Rattle.client_shelf.specs.declared.next.Next.{Next}
 use Rattle.client_shelf.specs.declared.next.Next.TheVariants as nexts

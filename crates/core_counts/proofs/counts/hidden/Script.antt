@@ -3,9 +3,9 @@ use Rattle.std.proofs.Common.{◌≡◌, ◌<◌, ◌≤◌, ◌-◌, ◌||◌, 
 use Rattle.world_model.specs.declared.entry.Entry.{Entry}
 use Rattle.world_model.specs.declared.entry.Entry.TheVariants.{Began, Answered, Dialed, Sent, Executed, Foreign, Flushed, Reboot, Delivered, Failed, Clock}
 use Rattle.world_model.specs.declared.op.Op.{Op}
-use Rattle.world_model.specs.CallCounts.{IsInScript}
+use Rattle.claims.specs.CallCounts.{IsInScript}
 use Rattle.world_model.specs.Entries.{At}
-use Rattle.world_model.specs.Paths.{paths_of}
+use Rattle.claims.specs.Paths.{paths_of}
 use Rattle.core_counts.proofs.counts.engine.Decided.{same_list, list-is, list-same}
 
 -- ---- elements

@@ -9,11 +9,11 @@ use Rattle.world_model.specs.declared.entry.Entry.{Entry}
 use Rattle.world_model.specs.declared.message.Call.{Call}
 use Rattle.world_model.specs.declared.message.Call.TheVariants as calls
 use Rattle.world_model.specs.declared.op.Op.{Op}
-use Rattle.world_model.specs.Asks as a
-use Rattle.world_model.specs.CallCounts.{FewPages, Asking}
+use Rattle.claims.specs.Asks as a
+use Rattle.claims.specs.CallCounts.{FewPages, Asking}
 use Rattle.world_model.specs.Chains.{list_call}
 use Rattle.world_model.specs.Mounts.{info_call}
-use Rattle.world_model.specs.Terms.{Terms}
+use Rattle.claims.specs.Terms.{Terms}
 use Rattle.op_machines.specs.declared.begun.Mounted.{Mounted}
 use Rattle.op_machines.specs.Begun.{machine_of}
 use Rattle.client_core.specs.declared.setup.Setup.{Setup}

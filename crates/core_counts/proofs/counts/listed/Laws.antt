@@ -20,7 +20,7 @@ use Rattle.world_model.specs.declared.message.Reply.{Reply}
 use Rattle.world_model.specs.declared.message.Reply.TheVariants as replies
 use Rattle.world_model.specs.declared.op.Op.{Op}
 use Rattle.world_model.specs.declared.op.Op.TheVariants as ops
-use Rattle.world_model.specs.CallCounts.{IsPageBefore}
+use Rattle.claims.specs.CallCounts.{IsPageBefore}
 use Rattle.world_model.specs.Chains.{list_call, page_reply, LastCookie}
 use Rattle.world_model.specs.Messages.{SpellsReply}
 use Rattle.call_replies.specs.Says.{Says}

@@ -1,11 +1,11 @@
 -- READ is a call of reads alone, and of the file of their slot.
 use Rattle.std.proofs.Common.{◌≡◌, ℕ, List, refl, sym, subst, ◌∙◌}
 use Rattle.nfs_file_calls.specs.declared.call.FileCall.TheVariants as files
-use Rattle.world_model.specs.Asks.{Asks, Acts, MakesFile}
-use Rattle.world_model.specs.Asks as asks
-use Rattle.world_model.specs.CallCounts.{IsReadOf, read, ReadsOf}
-use Rattle.world_model.specs.Slots.{IsOf}
-use Rattle.world_model.specs.Terms.{Terms}
+use Rattle.claims.specs.Asks.{Asks, Acts, MakesFile}
+use Rattle.claims.specs.Asks as asks
+use Rattle.claims.specs.CallCounts.{IsReadOf, read, ReadsOf}
+use Rattle.claims.specs.Slots.{IsOf}
+use Rattle.claims.specs.Terms.{Terms}
 use Rattle.world_model.specs.declared.entry.Entry.{Entry}
 use Rattle.world_model.specs.declared.message.Call.{Call}
 use Rattle.world_model.specs.declared.message.Call.TheVariants as calls

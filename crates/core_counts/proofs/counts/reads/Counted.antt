@@ -7,10 +7,10 @@ use Rattle.write_back.proofs.WritesByFile.{same-or}
 use Rattle.world_model.specs.declared.entry.Entry.{Entry}
 use Rattle.world_model.specs.declared.message.Call.{Call}
 use Rattle.world_model.specs.declared.message.Call.TheVariants as calls
-use Rattle.world_model.specs.CallCounts.{IsReadOf, read, IsShortRead, FewReads, ReadsOf}
+use Rattle.claims.specs.CallCounts.{IsReadOf, read, IsShortRead, FewReads, ReadsOf}
 use Rattle.world_model.specs.Mounts.{Rooted, info_call}
 use Rattle.world_model.specs.ReadSize.{ReadSized}
-use Rattle.world_model.specs.Terms.{Terms}
+use Rattle.claims.specs.Terms.{Terms}
 use Rattle.world_model.proofs.Growth.{Rooted-grow}
 use Rattle.op_machines.specs.declared.begun.Mounted.{Mounted}
 use Rattle.op_machines.specs.Begun.{machine_of}

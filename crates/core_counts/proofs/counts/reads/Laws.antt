@@ -8,8 +8,8 @@ use Rattle.nfs_file_calls.specs.declared.call.FileCall.TheVariants as calls_of
 use Rattle.nfs_file_calls.specs.declared.owned.FileKept.TheVariants as kept
 use Rattle.open_files.specs.declared.opened.Opened.{Opened}
 use Rattle.write_back.proofs.WritesByFile.{same-or}
-use Rattle.world_model.specs.CallCounts.{IsReadOf, IsShortRead}
-use Rattle.world_model.specs.Pages.{pages_met, reads_a_page}
+use Rattle.claims.specs.CallCounts.{IsReadOf, IsShortRead}
+use Rattle.claims.specs.Pages.{pages_met, reads_a_page}
 use Rattle.world_model.specs.declared.answer.Answer.{Answer}
 use Rattle.world_model.specs.declared.answer.Answer.TheVariants as answers
 use Rattle.world_model.specs.declared.answer.Fault.{Fault}

@@ -2,7 +2,7 @@
 use Rattle.std.proofs.Common.{◌≡◌, ◌<◌, ◌≤◌, ◌⊎◌, inl, inr, ◌+◌, ◌-◌, ◌*◌, ◌/◌, ◌%◌, ℕ, zero, suc, refl, ap, ◌∙◌, arith}
 use Rattle.std.proofs.lemmas.Bool.{cases_lt}
 use Rattle.std.proofs.lemmas.Nat.{div-add-mod', mul-le, div_below, mod_below}
-use Rattle.world_model.specs.Pages.{reads_a_page}
+use Rattle.claims.specs.Pages.{reads_a_page}
 
 -- ---- so many bytes, in parts of one size
 

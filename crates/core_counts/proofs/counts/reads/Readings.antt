@@ -7,8 +7,8 @@ use Rattle.std.proofs.lemmas.List.{length-append, length-take}
 use Rattle.page_cache.specs.Bytes.{start_of}
 use Rattle.page_cache.specs.Pages.{Pages, known_of, page_of as page_in, after_page}
 use Rattle.write_back.specs.Files.{Pending}
-use Rattle.world_model.specs.CallCounts.{IsReadOf, read}
-use Rattle.world_model.specs.Pages.{page_of, page_from, pages_met}
+use Rattle.claims.specs.CallCounts.{IsReadOf, read}
+use Rattle.claims.specs.Pages.{page_of, page_from, pages_met}
 use Rattle.world_model.specs.declared.message.Call.{Call}
 use Rattle.world_model.specs.declared.op.Op.TheVariants as ops
 use Rattle.client_shelf.specs.declared.next.Next.{Next}

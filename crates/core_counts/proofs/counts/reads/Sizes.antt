@@ -9,14 +9,14 @@ use Rattle.rpc_message.specs.declared.reply.ReplyFault.{ReplyFault}
 use Rattle.rpc_message.specs.declared.reply.ReplyFault.TheVariants.{NotReply}
 use Rattle.rpc_message.specs.Reply.{RpcReply, Accepted, SpellsRefusal, refusal_number}
 use Rattle.rpc_message.proofs.ReplyLaws.{reply_again}
-use Rattle.world_model.specs.CallsAsked.{AreSetUp, mount, inform}
+use Rattle.claims.specs.CallsAsked.{AreSetUp, mount, inform}
 use Rattle.world_model.specs.Entries.{At}
 use Rattle.world_model.specs.Heard.{Heard, Asked, Refused, Refuses, status_of}
 use Rattle.world_model.specs.Messages.{SpellsReply}
 use Rattle.world_model.specs.Mounts.{Origin, Mounting, Given, Rooted, mount_call, info_call, lesser_size}
 use Rattle.world_model.specs.ReadSize.{ReadSized, told, untold, whole_pages}
 use Rattle.world_model.specs.Rules.{Breaks, IsNotReply, not_a_reply, unspelled, wrong_committed, wrong_count, too_long}
-use Rattle.world_model.specs.Terms.{Terms}
+use Rattle.claims.specs.Terms.{Terms}
 use Rattle.world_model.specs.Waiting.{Answers}
 use Rattle.world_model.specs.declared.answer.Fault.{Fault}
 use Rattle.world_model.specs.declared.answer.Fault.TheVariants as faults

@@ -8,7 +8,7 @@ use Rattle.nfs_file_calls.specs.declared.owned.FileKept.TheVariants as kept
 use Rattle.xdr_codec.specs.declared.blob.Memory as memory
 use Rattle.page_cache.specs.Pages.{Pages}
 use Rattle.write_back.specs.Files.{Pending}
-use Rattle.world_model.specs.Pages.{pages_met, reads_a_page}
+use Rattle.claims.specs.Pages.{pages_met, reads_a_page}
 use Rattle.world_model.specs.declared.answer.Answer.{Answer}
 use Rattle.world_model.specs.declared.answer.Answer.TheVariants as answers
 use Rattle.world_model.specs.declared.answer.Fault.{Fault}

@@ -3,9 +3,9 @@ use Rattle.std.proofs.Common.{◌≡◌, ℕ, List, length, Option, sym, ap, sub
 use Rattle.nfs_types.specs.declared.attr.Attr.{Attr}
 use Rattle.nfs_types.specs.declared.time.Time.{Time}
 use Rattle.nfs_file_calls.specs.declared.owned.FileKept.TheVariants as kept
-use Rattle.world_model.specs.CallsAsked.{inform}
+use Rattle.claims.specs.CallsAsked.{inform}
 use Rattle.world_model.specs.Mounts.{Rooted, Sized, told, untold, info_call, lesser_size}
-use Rattle.world_model.specs.Terms.{Terms}
+use Rattle.claims.specs.Terms.{Terms}
 use Rattle.world_model.specs.declared.entry.Entry.{Entry}
 use Rattle.world_model.specs.declared.message.Reply.TheVariants as replies
 use Rattle.world_model.proofs.Growth.{Rooted-grow, Sized-grow}

@@ -11,15 +11,15 @@ use Rattle.world_model.specs.declared.entry.Entry.TheVariants.{Began, Answered, 
 use Rattle.world_model.specs.declared.message.Reply.{Reply}
 use Rattle.world_model.specs.declared.op.Op.{Op}
 use Rattle.world_model.specs.declared.op.Op.TheVariants as ops
-use Rattle.world_model.specs.Asks.{IsWriter, Stabilizes}
-use Rattle.world_model.specs.Asks as asks
-use Rattle.world_model.specs.CallCounts.{StableOf}
+use Rattle.claims.specs.Asks.{IsWriter, Stabilizes}
+use Rattle.claims.specs.Asks as asks
+use Rattle.claims.specs.CallCounts.{StableOf}
 use Rattle.world_model.specs.Entries.{At}
 use Rattle.world_model.specs.Leads.{Leads}
 use Rattle.world_model.specs.Mounts.{Rooted}
 use Rattle.world_model.specs.Operations.{AnsweredBefore, EndsAt, UnderWay}
-use Rattle.world_model.specs.Slots.{IsOf}
-use Rattle.world_model.specs.Terms.{Terms}
+use Rattle.claims.specs.Slots.{IsOf}
+use Rattle.claims.specs.Terms.{Terms}
 use Rattle.world_model.proofs.Growth.{Rooted-wide}
 use Rattle.world_model.proofs.Places.{At-last, At-one, length_last}
 use Rattle.call_replies.specs.Says.{said_of}

@@ -9,9 +9,9 @@ use Rattle.world_model.specs.declared.answer.Fault.{Fault}
 use Rattle.world_model.specs.declared.answer.Fault.TheVariants as faults
 use Rattle.world_model.specs.declared.message.Call.{Call}
 use Rattle.world_model.specs.declared.message.Reply.{Reply}
-use Rattle.world_model.specs.CallCounts.{IsCommitOf}
+use Rattle.claims.specs.CallCounts.{IsCommitOf}
 use Rattle.world_model.specs.Messages.{SpellsCall, proc_of}
-use Rattle.world_model.specs.Terms.{jukebox}
+use Rattle.claims.specs.Terms.{jukebox}
 use Rattle.client_shelf.specs.Repeats.{answered, ended, times_of}
 use Rattle.client_shelf.specs.declared.next.Next.{Next}
 use Rattle.client_shelf.specs.declared.next.Next.TheVariants.{Send}

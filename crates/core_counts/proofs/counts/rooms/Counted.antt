@@ -3,13 +3,13 @@ use Rattle.std.proofs.Common.{◌≡◌, ◌≢◌, ◌<◌, ◌≤◌, ◌+◌,
 use Rattle.std.specs.Prelude.{sum_by}
 use Rattle.std.proofs.lemmas.Bool.{cases_lt}
 use Rattle.std.proofs.lemmas.List.Sums.{sum_by-cons}
-use Rattle.world_model.specs.Asks.{Placed, AreDifferent, count_of, most_pending}
-use Rattle.world_model.specs.CallCounts.{IsCommitOf, Carries, Few, FewCommits, StableOf, WriterAt}
-use Rattle.world_model.specs.CallsAsked.{IsCaused, IsCause, NoneBegan, mounts, informs, asked}
+use Rattle.claims.specs.Asks.{Placed, AreDifferent, count_of, most_pending}
+use Rattle.claims.specs.CallCounts.{IsCommitOf, Carries, Few, FewCommits, StableOf, WriterAt}
+use Rattle.claims.specs.CallsAsked.{IsCaused, IsCause, NoneBegan, mounts, informs, asked}
 use Rattle.world_model.specs.Entries.{At}
 use Rattle.world_model.specs.Messages.{SpellsCall}
 use Rattle.world_model.specs.Mounts.{mount_call}
-use Rattle.world_model.specs.Terms.{Terms, most_tries}
+use Rattle.claims.specs.Terms.{Terms, most_tries}
 use Rattle.world_model.specs.declared.entry.Entry.{Entry}
 use Rattle.world_model.specs.declared.entry.Entry.TheVariants.{Began, Sent}
 use Rattle.world_model.specs.declared.message.Call.{Call}

@@ -13,10 +13,10 @@ use Rattle.world_model.specs.declared.entry.Entry.TheVariants.{Sent, Delivered}
 use Rattle.world_model.specs.declared.message.Call.{Call}
 use Rattle.world_model.specs.declared.message.Reply.{Reply}
 use Rattle.world_model.specs.declared.op.Op.{Op}
-use Rattle.world_model.specs.CallCounts.{IsCommitOf}
+use Rattle.claims.specs.CallCounts.{IsCommitOf}
 use Rattle.world_model.specs.LanesTogether.{IsBusy}
 use Rattle.world_model.specs.Operations.{UnderWay}
-use Rattle.world_model.specs.Terms.{Terms}
+use Rattle.claims.specs.Terms.{Terms}
 use Rattle.world_model.proofs.Places.{length_last}
 use Rattle.call_replies.specs.Says.{said_of, Says}
 use Rattle.client_shelf.specs.declared.next.Next.TheVariants.{Send}

@@ -8,7 +8,7 @@ use Rattle.world_model.specs.declared.entry.Entry.{Entry}
 use Rattle.world_model.specs.declared.entry.Entry.TheVariants.{Began}
 use Rattle.world_model.specs.declared.op.Op.{Op}
 use Rattle.world_model.specs.declared.op.Op.TheVariants as ops
-use Rattle.world_model.specs.Asks.{IsWriter, Placed, write, fill, put}
+use Rattle.claims.specs.Asks.{IsWriter, Placed, write, fill, put}
 use Rattle.world_model.specs.Entries.{At}
 use Rattle.client_shelf.specs.declared.repeats.Repeat.{Repeat}
 use Rattle.client_core.specs.declared.lane.Purpose.{Purpose}

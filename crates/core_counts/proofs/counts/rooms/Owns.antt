@@ -1,7 +1,7 @@
 -- The steps of a save of an operation's own file, a sync's, a close's or a put's: it asks for two COMMITs at most. And how each operation begins.
 use Rattle.std.proofs.Common.{◌≡◌, ◌≤◌, inl, ◌-◌, ℕ, Bool, true, false, List, Some, None, Result, refl, sym, ap, subst, ◌∙◌, arith}
 use Rattle.write_back.specs.Files.{Pending}
-use Rattle.world_model.specs.CallCounts.{IsCommitOf, commit}
+use Rattle.claims.specs.CallCounts.{IsCommitOf, commit}
 use Rattle.world_model.specs.declared.answer.Fault.{Fault}
 use Rattle.world_model.specs.declared.message.Call.{Call}
 use Rattle.world_model.specs.declared.message.Reply.{Reply}

@@ -1,9 +1,9 @@
 -- What a step of an operation leaves it of the COMMITs of a file, by what it was about.
 use Rattle.std.proofs.Common.{◌≡◌, ◌≤◌, ◌⊎◌, inl, inr, ◌+◌, ℕ, Bool, true, false, List, Some, None, Result, Err, refl, sym, ap, subst, ◌∙◌, arith}
 use Rattle.write_back.specs.Files.{Pending}
-use Rattle.world_model.specs.Asks.{Placed, IsWriter}
-use Rattle.world_model.specs.Asks as asks
-use Rattle.world_model.specs.CallCounts.{IsCommitOf}
+use Rattle.claims.specs.Asks.{Placed, IsWriter}
+use Rattle.claims.specs.Asks as asks
+use Rattle.claims.specs.CallCounts.{IsCommitOf}
 use Rattle.world_model.specs.declared.answer.Fault.{Fault}
 use Rattle.world_model.specs.declared.message.Call.{Call}
 use Rattle.world_model.specs.declared.message.Reply.{Reply}

@@ -2,7 +2,7 @@
 -- file of a sync, a close or a put.
 use Rattle.std.proofs.Common.{◌≡◌, ◌≤◌, inl, inr, ◌+◌, ℕ, Bool, true, false, List, [], Result, Ok, Err, refl, sym, ap, subst, ◌∙◌, arith}
 use Rattle.write_back.specs.Files.{Pending}
-use Rattle.world_model.specs.CallCounts.{IsCommitOf}
+use Rattle.claims.specs.CallCounts.{IsCommitOf}
 use Rattle.world_model.specs.declared.answer.Answer.{Answer}
 use Rattle.world_model.specs.declared.answer.Fault.{Fault}
 use Rattle.world_model.specs.declared.message.Call.{Call}

@@ -12,7 +12,7 @@ use Rattle.world_model.specs.declared.entry.Entry.{Entry}
 use Rattle.world_model.specs.declared.entry.Entry.TheVariants.{Began, Answered, Sent, Delivered}
 use Rattle.world_model.specs.declared.op.Op.{Op}
 use Rattle.world_model.specs.Messages.{HasXid, head_of}
-use Rattle.world_model.specs.Terms.{Terms}
+use Rattle.claims.specs.Terms.{Terms}
 use Rattle.client_shelf.specs.declared.lane_files.LaneFile.{LaneFile}
 use Rattle.client_shelf.specs.declared.shelf.Shelf.{Shelf}
 use Rattle.op_machines.specs.declared.begun.Mounted.{Mounted}

@@ -2,7 +2,7 @@
 use Rattle.std.proofs.Common.{◌≡◌, ◌≢◌, ◌≤◌, ◌<◌, ◌⊎◌, inl, inr, ◌+◌, ◌*◌, ◌-◌, ℕ, Bool, true, false, List, Result, Ok, Err, refl, sym, ap, subst, ◌∙◌, arith}
 use Rattle.write_back.specs.Files.{Pending, of_file}
 use Rattle.write_back.proofs.WritesByFile.{same-or}
-use Rattle.world_model.specs.CallCounts.{IsCommitOf, commit}
+use Rattle.claims.specs.CallCounts.{IsCommitOf, commit}
 use Rattle.world_model.specs.declared.answer.Answer.TheVariants as answers
 use Rattle.world_model.specs.declared.answer.Fault.{Fault}
 use Rattle.world_model.specs.declared.answer.Value.TheVariants as values

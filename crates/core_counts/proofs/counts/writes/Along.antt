@@ -8,9 +8,9 @@ use Rattle.world_model.specs.declared.entry.Entry.{Entry}
 use Rattle.world_model.specs.declared.entry.Entry.TheVariants.{Began, Answered as Noted, Sent}
 use Rattle.world_model.specs.declared.message.Call.{Call}
 use Rattle.world_model.specs.declared.op.Op.{Op}
-use Rattle.world_model.specs.CallCounts.{CoversPlace}
+use Rattle.claims.specs.CallCounts.{CoversPlace}
 use Rattle.world_model.specs.Messages.{HasXid, SpellsCall, SpellsCallBy, head_of}
-use Rattle.world_model.specs.Modes.{Modes}
+use Rattle.claims.specs.Modes.{Modes}
 use Rattle.write_back.specs.Files.{Pending, of_file}
 use Rattle.write_back.specs.Pieces.{rest_at}
 use Rattle.client_shelf.specs.declared.shelf.Shelf.{Shelf}

@@ -5,9 +5,9 @@ use Rattle.world_model.specs.declared.entry.Entry.{Entry}
 use Rattle.world_model.specs.declared.entry.Entry.TheVariants.{Began}
 use Rattle.world_model.specs.declared.message.Call.{Call}
 use Rattle.world_model.specs.declared.op.Op.{Op}
-use Rattle.world_model.specs.CallCounts.{CoversPlace}
+use Rattle.claims.specs.CallCounts.{CoversPlace}
 use Rattle.world_model.specs.Entries.{At}
-use Rattle.world_model.specs.Modes.{Modes}
+use Rattle.claims.specs.Modes.{Modes}
 use Rattle.world_model.specs.Operations.{UnderWay}
 use Rattle.world_model.proofs.Places.{At-below, At-one}
 use Rattle.write_back.specs.Files.{Pending, of_file, IsNewest}

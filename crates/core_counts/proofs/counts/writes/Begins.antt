@@ -4,7 +4,7 @@ use Rattle.rpc_retry.specs.Held.{next_xid}
 use Rattle.world_model.specs.declared.entry.Entry.{Entry}
 use Rattle.world_model.specs.declared.entry.Entry.TheVariants.{Began, Sent}
 use Rattle.world_model.specs.declared.op.Op.{Op}
-use Rattle.world_model.specs.Modes.{Modes}
+use Rattle.claims.specs.Modes.{Modes}
 use Rattle.world_model.specs.Operations.{UnderWay}
 use Rattle.world_model.proofs.Places.{At-last, At-one}
 use Rattle.write_back.specs.Files.{of_file}

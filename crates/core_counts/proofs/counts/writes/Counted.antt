@@ -3,12 +3,12 @@ use Rattle.std.proofs.Common.{◌≡◌, ◌≢◌, ◌≤◌, ◌+◌, ◌*◌,
 use Rattle.world_model.specs.declared.entry.Entry.{Entry}
 use Rattle.world_model.specs.declared.entry.Entry.TheVariants.{Began, Sent}
 use Rattle.world_model.specs.declared.message.Call.{Call}
-use Rattle.world_model.specs.CallCounts.{Carries, Few, RepliedAt, CoversPlace, IsPoor, IsCommitOf, WritesPlace, FewWrites}
-use Rattle.world_model.specs.CallsAsked.{NoneBegan, IsCaused, IsCause, mounts, informs, asked}
+use Rattle.claims.specs.CallCounts.{Carries, Few, RepliedAt, CoversPlace, IsPoor, IsCommitOf, WritesPlace, FewWrites}
+use Rattle.claims.specs.CallsAsked.{NoneBegan, IsCaused, IsCause, mounts, informs, asked}
 use Rattle.world_model.specs.Entries.{At}
 use Rattle.world_model.specs.Messages.{SpellsCall}
-use Rattle.world_model.specs.Terms.{Terms, most_tries}
-use Rattle.world_model.specs.Touched.{WritesByte}
+use Rattle.claims.specs.Terms.{Terms, most_tries}
+use Rattle.claims.specs.Touched.{WritesByte}
 use Rattle.world_model.specs.Waiting.{FirstSent, Answers}
 use Rattle.world_model.proofs.Growth.{FirstSent-grow, Answers-grow}
 use Rattle.world_model.proofs.Places.{At-grow, At-back, At-below}

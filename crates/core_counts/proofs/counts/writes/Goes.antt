@@ -3,7 +3,7 @@ use Rattle.std.proofs.Common.{◌≡◌, ◌≢◌, ◌+◌, ◌⊎◌, ℕ, Lis
 use Rattle.rpc_retry.specs.Held.{next_xid}
 use Rattle.world_model.specs.declared.entry.Entry.{Entry}
 use Rattle.world_model.specs.LanesTogether.{IsBusy}
-use Rattle.world_model.specs.Modes.{Modes}
+use Rattle.claims.specs.Modes.{Modes}
 use Rattle.write_back.specs.Files.{of_file, all_pending}
 use Rattle.write_back.specs.Pieces.{rest_at}
 use Rattle.file_ops.specs.SlotFiles.{IsUnused}

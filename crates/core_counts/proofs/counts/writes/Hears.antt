@@ -17,12 +17,12 @@ use Rattle.world_model.specs.declared.message.Call.{Call}
 use Rattle.world_model.specs.declared.message.Call.TheVariants as calls
 use Rattle.world_model.specs.declared.message.Reply.{Reply}
 use Rattle.world_model.specs.declared.op.Op.{Op}
-use Rattle.world_model.specs.CallCounts.{CoversPlace, IsCommitOf, commit, IsPoor, LeavesUnwritten, RepliedAt}
+use Rattle.claims.specs.CallCounts.{CoversPlace, IsCommitOf, commit, IsPoor, LeavesUnwritten, RepliedAt}
 use Rattle.world_model.specs.Entries.{At}
 use Rattle.world_model.specs.Heard.{Heard}
 use Rattle.world_model.specs.LanesTogether.{IsBusy}
 use Rattle.world_model.specs.Messages.{HasXid}
-use Rattle.world_model.specs.Modes.{Modes}
+use Rattle.claims.specs.Modes.{Modes}
 use Rattle.world_model.specs.Operations.{AnsweredBefore, UnderWay}
 use Rattle.world_model.proofs.Growth.{FirstSent-grow}
 use Rattle.world_model.proofs.Places.{At-grow, At-below, At-back, At-last, At-cases, length_last}

@@ -13,8 +13,8 @@ use Rattle.world_model.specs.declared.message.Call.{Call}
 use Rattle.world_model.specs.declared.message.Call.TheVariants as calls
 use Rattle.world_model.specs.declared.message.Reply.{Reply}
 use Rattle.world_model.specs.declared.message.Reply.TheVariants as replies
-use Rattle.world_model.specs.CallCounts.{LeavesUnwritten, refused, short}
-use Rattle.world_model.specs.PageRules.{refuses}
+use Rattle.claims.specs.CallCounts.{LeavesUnwritten, refused, short}
+use Rattle.claims.specs.PageRules.{refuses}
 use Rattle.world_model.specs.Rules.{wrong_committed, wrong_count}
 use Rattle.call_replies.specs.Says.{Says, SpellsOne}
 use Rattle.file_ops.specs.Judging.{write_told, written_by}

@@ -13,12 +13,12 @@ use Rattle.world_model.specs.declared.entry.Entry.TheVariants.{Began, Sent}
 use Rattle.world_model.specs.declared.message.Call.{Call}
 use Rattle.world_model.specs.declared.message.Call.TheVariants as calls
 use Rattle.world_model.specs.declared.op.Op.{Op}
-use Rattle.world_model.specs.CallCounts.{CoversPlace, IsCommitOf, IsPoor, RepliedAt}
-use Rattle.world_model.specs.CallsAsked.{NoneBegan}
+use Rattle.claims.specs.CallCounts.{CoversPlace, IsCommitOf, IsPoor, RepliedAt}
+use Rattle.claims.specs.CallsAsked.{NoneBegan}
 use Rattle.world_model.specs.Entries.{At}
 use Rattle.world_model.specs.Heard.{Heard}
 use Rattle.world_model.specs.Messages.{HasXid, SpellsCall, SpellsCallBy, proc_of}
-use Rattle.world_model.specs.Modes.{Modes}
+use Rattle.claims.specs.Modes.{Modes}
 use Rattle.world_model.specs.Operations.{UnderWay}
 use Rattle.world_model.proofs.Places.{At-below, At-cases, length_last}
 use Rattle.write_back.specs.Files.{Pending, of_file, all_pending}

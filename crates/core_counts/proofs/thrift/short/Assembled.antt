@@ -8,10 +8,10 @@ use Rattle.world_model.specs.declared.op.Op.{Op}
 use Rattle.world_model.specs.declared.op.Op.TheVariants as ops
 use Rattle.world_model.specs.Entries.{At}
 use Rattle.world_model.specs.Operations.{UnderWay}
-use Rattle.world_model.specs.Terms.{Terms}
-use Rattle.world_model.specs.Thrifty.{OneLane, NeverFull, IsSync, IsPut, sync, close, Uncut, IsLatest, CoveredEarlier, ShortWrite, WritesAt, earlier, itself}
-use Rattle.world_model.specs.Touched.{Covers, Wrote}
-use Rattle.world_model.specs.Touched as touched_by
+use Rattle.claims.specs.Terms.{Terms}
+use Rattle.claims.specs.Thrifty.{OneLane, NeverFull, IsSync, IsPut, sync, close, Uncut, IsLatest, CoveredEarlier, ShortWrite, WritesAt, earlier, itself}
+use Rattle.claims.specs.Touched.{Covers, Wrote}
+use Rattle.claims.specs.Touched as touched_by
 use Rattle.world_model.proofs.Places.{At-grow}
 use Rattle.write_back.specs.declared.state.State.{State}
 use Rattle.write_back.specs.declared.state.State.TheVariants.{Waiting}

@@ -9,10 +9,10 @@ use Rattle.rpc_retry.specs.Waiting.{waiting_at}
 use Rattle.world_model.specs.declared.entry.Entry.{Entry}
 use Rattle.world_model.specs.declared.entry.Entry.TheVariants.{Began, Sent}
 use Rattle.world_model.specs.declared.message.Call.{Call}
-use Rattle.world_model.specs.Asks.{Placed}
-use Rattle.world_model.specs.CallCounts.{WriterAt, CoversPlace}
+use Rattle.claims.specs.Asks.{Placed}
+use Rattle.claims.specs.CallCounts.{WriterAt, CoversPlace}
 use Rattle.world_model.specs.Messages.{SpellsCall}
-use Rattle.world_model.specs.Thrifty.{OneLane, CoveredEarlier}
+use Rattle.claims.specs.Thrifty.{OneLane, CoveredEarlier}
 use Rattle.world_model.proofs.Places.{At-grow, At-below}
 use Rattle.write_back.specs.Files.{of_file, HasNoPiece}
 use Rattle.write_back.specs.Pieces.{Sent as Piece, Flown as InAir, fly_at, fly_in, piece_under}
@@ -47,7 +47,7 @@ use Rattle.core_answers.proofs.writes.CommitsAlone.{tales, nfs-write}
 use Rattle.bond_pending.proofs.Shown.{HasPiece, has-piece}
 use Rattle.core_session.proofs.order.Basis.{Basis}
 use Rattle.core_session.proofs.saves.WholeSteps.{Wholly}
-use Rattle.world_model.specs.Thrifty.{NeverFull}
+use Rattle.claims.specs.Thrifty.{NeverFull}
 use Rattle.core_counts.proofs.thrift.short.Ends.{Each}
 
 -- ---- pieces and the xids that were given out

@@ -2,8 +2,8 @@
 use Rattle.std.proofs.Common.{◌≡◌, ◌<◌, ◌⊎◌, inl, inr, ◌+◌, ◌++◌, ℕ, false, List, length, slice_get, Some, arith}
 use Rattle.world_model.specs.declared.answer.Answer.TheVariants as answers
 use Rattle.world_model.specs.declared.entry.Entry.{Entry}
-use Rattle.world_model.specs.Terms.{Terms}
-use Rattle.world_model.specs.Thrifty.{OneLane, NeverFull, CoveredEarlier}
+use Rattle.claims.specs.Terms.{Terms}
+use Rattle.claims.specs.Thrifty.{OneLane, NeverFull, CoveredEarlier}
 use Rattle.write_back.specs.declared.state.State.TheVariants.{Waiting}
 use Rattle.write_back.specs.declared.state.Ready.TheVariants.{Unsent}
 use Rattle.write_back.specs.Files.{of_file}

@@ -15,10 +15,10 @@ use Rattle.world_model.specs.Entries.{At}
 use Rattle.world_model.specs.LanesTogether.{IsBusy}
 use Rattle.world_model.specs.Leads.{Leads}
 use Rattle.world_model.specs.Operations.{EndsAt, UnderWay}
-use Rattle.world_model.specs.Slots.{IsOf}
-use Rattle.world_model.specs.Terms.{Terms}
-use Rattle.world_model.specs.Thrifty.{CoveredEarlier}
-use Rattle.world_model.specs.Touched.{Cuts}
+use Rattle.claims.specs.Slots.{IsOf}
+use Rattle.claims.specs.Terms.{Terms}
+use Rattle.claims.specs.Thrifty.{CoveredEarlier}
+use Rattle.claims.specs.Touched.{Cuts}
 use Rattle.world_model.proofs.Places.{At-grow, length_last}
 use Rattle.call_replies.specs.Says.{said_of}
 use Rattle.client_shelf.specs.declared.shelf.Shelf.{Shelf}

@@ -11,9 +11,9 @@ use Rattle.world_model.specs.declared.op.Op.TheVariants as ops
 use Rattle.world_model.specs.Entries.{At}
 use Rattle.world_model.specs.Leads.{Leads}
 use Rattle.world_model.specs.Operations.{AnsweredBefore, Ended, EndsAt, answered as ends_answered}
-use Rattle.world_model.specs.Terms.{Terms}
-use Rattle.world_model.specs.Touched.{Cuts, WritesByte, Covers}
-use Rattle.world_model.specs.Touched as touched_by
+use Rattle.claims.specs.Terms.{Terms}
+use Rattle.claims.specs.Touched.{Cuts, WritesByte, Covers}
+use Rattle.claims.specs.Touched as touched_by
 use Rattle.world_model.proofs.Places.{At-grow, At-one, At-below}
 use Rattle.op_machines.specs.declared.begun.Mounted.{Mounted}
 use Rattle.op_machines.specs.Begun.{machine_of}
@@ -32,7 +32,7 @@ use Rattle.core_session.specs.calls.Sessions.{AreAsked}
 use Rattle.core_session.proofs.syncs.Causes.{IsWriter as IsWrite}
 use Rattle.core_session.proofs.syncs.Turning.{IsFixed, ready, gone}
 use Rattle.std.proofs.lemmas.Option.{slice_get-get_or}
-use Rattle.world_model.specs.Slots.{PutsTo}
+use Rattle.claims.specs.Slots.{PutsTo}
 use Rattle.write_back.specs.Segments.{covers}
 use Rattle.write_back.proofs.Keys.{low-of as key-low, high-of as key-high}
 use Rattle.core_session.proofs.syncs.PutEnds.{LastNames, last-names-later}

@@ -8,11 +8,11 @@ use Rattle.world_model.specs.declared.entry.Entry.TheVariants.{Began}
 use Rattle.world_model.specs.declared.op.Op.{Op}
 use Rattle.world_model.specs.declared.op.Op.TheVariants as ops
 use Rattle.world_model.specs.Operations.{Ended}
-use Rattle.world_model.specs.Slots.{IsOf, PutsTo}
-use Rattle.world_model.specs.Terms.{Terms}
-use Rattle.world_model.specs.Thrifty.{OneLane, NeverFull, WritesAt, earlier, itself}
-use Rattle.world_model.specs.Touched.{Covers, Wrote}
-use Rattle.world_model.specs.Touched as touched_by
+use Rattle.claims.specs.Slots.{IsOf, PutsTo}
+use Rattle.claims.specs.Terms.{Terms}
+use Rattle.claims.specs.Thrifty.{OneLane, NeverFull, WritesAt, earlier, itself}
+use Rattle.claims.specs.Touched.{Covers, Wrote}
+use Rattle.claims.specs.Touched as touched_by
 use Rattle.world_model.proofs.Places.{At-one}
 use Rattle.op_machines.specs.declared.begun.Mounted.{Mounted}
 use Rattle.op_machines.specs.Begun.{machine_of}

@@ -14,8 +14,8 @@ use Rattle.world_model.specs.Entries.{At}
 use Rattle.world_model.specs.Leads.{Leads}
 use Rattle.world_model.specs.Mounts.{Rooted}
 use Rattle.world_model.specs.Operations.{AnsweredBefore, EndsAt, UnderWay}
-use Rattle.world_model.specs.Slots.{IsOf}
-use Rattle.world_model.specs.Terms.{Terms}
+use Rattle.claims.specs.Slots.{IsOf}
+use Rattle.claims.specs.Terms.{Terms}
 use Rattle.world_model.proofs.Growth.{Rooted-wide}
 use Rattle.world_model.proofs.Places.{At-last, At-one, length_last}
 use Rattle.call_replies.specs.Says.{said_of}
@@ -71,8 +71,8 @@ use Rattle.std.specs.Prelude.{nat_eq, Bool, true, slice_index}
 use Rattle.std.proofs.lemmas.Bool.{eqb-true, eqb-false}
 use Rattle.world_model.specs.declared.answer.Answer.TheVariants as answers
 use Rattle.world_model.specs.declared.answer.Value.{Value}
-use Rattle.world_model.specs.Touched.{Cuts, WritesByte}
-use Rattle.world_model.specs.Touched as touched
+use Rattle.claims.specs.Touched.{Cuts, WritesByte}
+use Rattle.claims.specs.Touched as touched
 use Rattle.write_back.specs.Segments.{covers}
 use Rattle.core_session.proofs.syncs.Causes.{IsWriter as IsWrite, IsSaver}
 use Rattle.core_session.proofs.syncs.Contents.{Common, Shows, common, common-replies, common-adds, common-cuts, common-gives, known, known-replies, known-adds, known-cuts, known-gives}
@@ -80,7 +80,7 @@ use Rattle.core_session.proofs.syncs.Looks.{OpView, view-of, writes, syncs, clos
 use Rattle.core_session.proofs.syncs.Phases.{Family, KnownBy, StageBy, over-more, split}
 use Rattle.nfs_file_calls.specs.declared.call.FileCall.TheVariants as files
 use Rattle.world_model.specs.declared.message.Call.TheVariants as calls
-use Rattle.world_model.specs.Thrifty.{CoveredEarlier}
+use Rattle.claims.specs.Thrifty.{CoveredEarlier}
 use Rattle.core_session.specs.saves.Evidence.{IsHeldBy}
 use Rattle.core_session.proofs.pending.Begins.{begins}
 use Rattle.core_session.proofs.syncs.AllJobs.{job_save}

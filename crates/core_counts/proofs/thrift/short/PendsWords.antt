@@ -11,10 +11,10 @@ use Rattle.world_model.specs.declared.op.Op.TheVariants as ops
 use Rattle.world_model.specs.Entries.{At}
 use Rattle.world_model.specs.Leads.{Leads}
 use Rattle.world_model.specs.Operations.{Ended}
-use Rattle.world_model.specs.Slots.{IsOf}
-use Rattle.world_model.specs.Terms.{Terms}
-use Rattle.world_model.specs.Thrifty.{OneLane, NeverFull, Uncut, IsLatest, CoveredEarlier, earlier}
-use Rattle.world_model.specs.Touched.{Wrote}
+use Rattle.claims.specs.Slots.{IsOf}
+use Rattle.claims.specs.Terms.{Terms}
+use Rattle.claims.specs.Thrifty.{OneLane, NeverFull, Uncut, IsLatest, CoveredEarlier, earlier}
+use Rattle.claims.specs.Touched.{Wrote}
 use Rattle.write_back.specs.Files.{of_file, HasNoPiece}
 use Rattle.write_back.specs.Pieces.{Sent as Piece, FilePending, Flown, rest_at, fly_at, fly_in}
 use Rattle.write_back.specs.Segments.{Cell}

@@ -10,9 +10,9 @@ use Rattle.world_model.specs.declared.entry.Entry.TheVariants.{Began, Answered, 
 use Rattle.world_model.specs.declared.message.Call.{Call}
 use Rattle.world_model.specs.declared.message.Reply.{Reply}
 use Rattle.world_model.specs.declared.op.Op.{Op}
-use Rattle.world_model.specs.CallCounts.{CoversPlace}
+use Rattle.claims.specs.CallCounts.{CoversPlace}
 use Rattle.world_model.specs.Messages.{SpellsCall}
-use Rattle.world_model.specs.Thrifty.{CoveredEarlier}
+use Rattle.claims.specs.Thrifty.{CoveredEarlier}
 use Rattle.world_model.proofs.Places.{At-grow, At-below, length_last}
 use Rattle.call_replies.specs.Says.{said_of}
 use Rattle.write_back.specs.declared.state.State.TheVariants.{Waiting as Rests}

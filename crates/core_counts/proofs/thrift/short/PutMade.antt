@@ -12,12 +12,12 @@ use Rattle.world_model.specs.declared.op.Op.{Op}
 use Rattle.world_model.specs.declared.op.Op.TheVariants as ops
 use Rattle.world_model.specs.Entries.{At}
 use Rattle.world_model.specs.Operations.{AnsweredBefore, Ended}
-use Rattle.world_model.specs.Slots.{PutsTo}
-use Rattle.world_model.specs.Settled.{itself}
-use Rattle.world_model.specs.Terms.{Terms}
-use Rattle.world_model.specs.Thrifty.{OneLane, CoveredEarlier}
-use Rattle.world_model.specs.Touched.{Wrote, WritesByte, RefusedWrite}
-use Rattle.world_model.specs.Touched as touched
+use Rattle.claims.specs.Slots.{PutsTo}
+use Rattle.claims.specs.Settled.{itself}
+use Rattle.claims.specs.Terms.{Terms}
+use Rattle.claims.specs.Thrifty.{OneLane, CoveredEarlier}
+use Rattle.claims.specs.Touched.{Wrote, WritesByte, RefusedWrite}
+use Rattle.claims.specs.Touched as touched
 use Rattle.world_model.proofs.Places.{At-below}
 use Rattle.write_back.proofs.Keys.{low-of, high-of}
 use Rattle.op_machines.specs.declared.begun.Mounted.{Mounted}

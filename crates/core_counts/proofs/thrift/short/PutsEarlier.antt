@@ -8,11 +8,11 @@ use Rattle.world_model.specs.declared.op.Op.{Op}
 use Rattle.world_model.specs.declared.op.Op.TheVariants as ops
 use Rattle.world_model.specs.Entries.{At}
 use Rattle.world_model.specs.Mounts.{Rooted}
-use Rattle.world_model.specs.Slots.{PutsTo}
-use Rattle.world_model.specs.Terms.{Terms}
-use Rattle.world_model.specs.Thrifty.{OneLane, CoveredEarlier}
-use Rattle.world_model.specs.Touched.{Covers}
-use Rattle.world_model.specs.Touched as touched_by
+use Rattle.claims.specs.Slots.{PutsTo}
+use Rattle.claims.specs.Terms.{Terms}
+use Rattle.claims.specs.Thrifty.{OneLane, CoveredEarlier}
+use Rattle.claims.specs.Touched.{Covers}
+use Rattle.claims.specs.Touched as touched_by
 use Rattle.world_model.proofs.Growth.{Rooted-grow, Rooted-wide}
 use Rattle.world_model.proofs.Places.{At-grow, At-back}
 use Rattle.op_machines.specs.declared.begun.Mounted.{Mounted}

@@ -16,13 +16,13 @@ use Rattle.world_model.specs.declared.entry.Entry.{Entry}
 use Rattle.world_model.specs.declared.entry.Entry.TheVariants.{Began, Answered, Sent}
 use Rattle.world_model.specs.declared.op.Op.{Op}
 use Rattle.world_model.specs.declared.op.Op.TheVariants as ops
-use Rattle.world_model.specs.Asks.{Placed}
-use Rattle.world_model.specs.CallCounts.{WriterAt}
-use Rattle.world_model.specs.CallsAsked.{NoneBegan}
+use Rattle.claims.specs.Asks.{Placed}
+use Rattle.claims.specs.CallCounts.{WriterAt}
+use Rattle.claims.specs.CallsAsked.{NoneBegan}
 use Rattle.world_model.specs.Entries.{At}
 use Rattle.world_model.specs.Messages.{SpellsCall}
 use Rattle.world_model.specs.Operations.{AnsweredBefore, UnderWay}
-use Rattle.world_model.specs.Thrifty.{OneLane, NeverFull, CoveredEarlier}
+use Rattle.claims.specs.Thrifty.{OneLane, NeverFull, CoveredEarlier}
 use Rattle.world_model.specs.Waiting.{FirstSent}
 use Rattle.world_model.proofs.Places.{At-grow, At-back}
 use Rattle.write_back.specs.Files.{of_file}

@@ -10,7 +10,7 @@ use Rattle.world_model.specs.declared.entry.Entry.TheVariants.{Answered}
 use Rattle.world_model.specs.declared.op.Op.{Op}
 use Rattle.world_model.specs.declared.op.Op.TheVariants as ops
 use Rattle.world_model.specs.Operations.{Ended, UnderWay}
-use Rattle.world_model.specs.Slots.{PutsTo}
+use Rattle.claims.specs.Slots.{PutsTo}
 use Rattle.world_model.specs.Waiting.{IsDelivered}
 use Rattle.world_model.proofs.Places.{At-below}
 use Rattle.client_core.specs.declared.lane.Lane.{Lane}

@@ -10,11 +10,11 @@ use Rattle.world_model.specs.declared.answer.Answer.TheVariants as answers
 use Rattle.world_model.specs.declared.answer.Fault.TheVariants as faults
 use Rattle.world_model.specs.declared.entry.Entry.{Entry}
 use Rattle.world_model.specs.declared.entry.Entry.TheVariants.{Began, Sent}
-use Rattle.world_model.specs.CallsAsked.{NoneBegan}
+use Rattle.claims.specs.CallsAsked.{NoneBegan}
 use Rattle.world_model.specs.Entries.{At}
 use Rattle.world_model.specs.Messages.{SpellsCall}
 use Rattle.world_model.specs.Operations.{AnsweredBefore, UnderWay}
-use Rattle.world_model.specs.Thrifty.{OneLane, CoveredEarlier}
+use Rattle.claims.specs.Thrifty.{OneLane, CoveredEarlier}
 use Rattle.world_model.proofs.Places.{At-grow, At-back}
 use Rattle.write_back.specs.Files.{of_file}
 use Rattle.write_back.specs.Pieces.{Flown, fly_at, piece_under}

@@ -15,12 +15,12 @@ use Rattle.world_model.specs.declared.entry.Entry.{Entry}
 use Rattle.world_model.specs.declared.entry.Entry.TheVariants.{Began, Answered, Delivered}
 use Rattle.world_model.specs.declared.op.Op.{Op}
 use Rattle.world_model.specs.declared.op.Op.TheVariants as ops
-use Rattle.world_model.specs.Asks.{Placed, count_of, most_pending}
-use Rattle.world_model.specs.Asks as asks
-use Rattle.world_model.specs.CallCounts.{WriterAt}
+use Rattle.claims.specs.Asks.{Placed, count_of, most_pending}
+use Rattle.claims.specs.Asks as asks
+use Rattle.claims.specs.CallCounts.{WriterAt}
 use Rattle.world_model.specs.Entries.{At}
 use Rattle.world_model.specs.Operations.{AnsweredBefore, Ended, UnderWay}
-use Rattle.world_model.specs.Thrifty.{OneLane, NeverFull}
+use Rattle.claims.specs.Thrifty.{OneLane, NeverFull}
 use Rattle.world_model.proofs.Places.{At-grow, At-back, At-below, At-cases, At-last, At-one, length_last}
 use Rattle.write_back.specs.declared.state.State.TheVariants.{Waiting as Waits}
 use Rattle.write_back.specs.declared.state.Ready.TheVariants.{Unsent}
@@ -68,10 +68,10 @@ use Rattle.core_session.proofs.saves.HearingAlong.{KeepsHearing, reached-hearing
 use Rattle.core_counts.specs.thrift.Writes.{WritesBoth, write, fill}
 use Rattle.core_counts.proofs.thrift.short.Lone.{one-before, room-before}
 use Rattle.core_counts.proofs.thrift.short.Tracking.{not-full}
-use Rattle.world_model.specs.Slots.{IsOf, slot_of}
-use Rattle.world_model.specs.Rights.{can_write}
+use Rattle.claims.specs.Slots.{IsOf, slot_of}
+use Rattle.claims.specs.Rights.{can_write}
 use Rattle.core_facts.proofs.HeldSlots.{may, held-begins, always-later, Given, is-given}
-use Rattle.world_model.specs.Terms.{Terms}
+use Rattle.claims.specs.Terms.{Terms}
 use Rattle.core_facts.specs.SlotAnswers.{GoesWith}
 use Rattle.core_session.proofs.pending.Begins.{one-file, of-step}
 use Rattle.core_session.proofs.syncs.Stages.{cell_of}

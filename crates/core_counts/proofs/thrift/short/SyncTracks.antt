@@ -15,7 +15,7 @@ use Rattle.world_model.specs.declared.message.Reply.{Reply}
 use Rattle.world_model.specs.declared.op.Op.{Op}
 use Rattle.world_model.specs.Entries.{At}
 use Rattle.world_model.specs.Operations.{UnderWay}
-use Rattle.world_model.specs.Thrifty.{OneLane, CoveredEarlier, IsSync, sync, close}
+use Rattle.claims.specs.Thrifty.{OneLane, CoveredEarlier, IsSync, sync, close}
 use Rattle.world_model.proofs.Places.{At-grow, At-cases, At-last, length_last}
 use Rattle.write_back.specs.Files.{Pending, of_file, IsNewest}
 use Rattle.write_back.specs.Pieces.{Sent as Piece, Flown as InAir, fly_at, fly_in, FilePending, rest_at}

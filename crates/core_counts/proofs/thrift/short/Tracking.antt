@@ -12,12 +12,12 @@ use Rattle.world_model.specs.declared.message.Call.{Call}
 use Rattle.world_model.specs.declared.message.Reply.{Reply}
 use Rattle.world_model.specs.declared.op.Op.{Op}
 use Rattle.world_model.specs.declared.op.Op.TheVariants as ops
-use Rattle.world_model.specs.Asks.{Placed, AreDifferent, HasBegan, IsWriter, count_of, most_pending}
-use Rattle.world_model.specs.Asks as asks
-use Rattle.world_model.specs.CallCounts.{WriterAt}
+use Rattle.claims.specs.Asks.{Placed, AreDifferent, HasBegan, IsWriter, count_of, most_pending}
+use Rattle.claims.specs.Asks as asks
+use Rattle.claims.specs.CallCounts.{WriterAt}
 use Rattle.world_model.specs.Entries.{At}
 use Rattle.world_model.specs.Operations.{UnderWay}
-use Rattle.world_model.specs.Thrifty.{OneLane, CoveredEarlier}
+use Rattle.claims.specs.Thrifty.{OneLane, CoveredEarlier}
 use Rattle.world_model.proofs.Places.{At-grow, At-cases, At-last, length_last}
 use Rattle.write_back.specs.Files.{Pending, of_file, all_pending, HasNoPiece}
 use Rattle.write_back.specs.Pieces.{Sent as Piece}
@@ -91,7 +91,7 @@ use Rattle.core_session.proofs.saves.HearingAlong.{KeepsHearing, reached-hearing
 use Rattle.core_session.proofs.saves.Taking.{sent-piece}
 use Rattle.core_session.proofs.saves.WholeSteps.{IsSent, Wholly, keeps-wholly, stirs-wholly, starts-wholly, takes-wholly, starts-has, resumes-has, takes-has}
 use Rattle.core_session.proofs.syncs.LaneSteps.{asked-piece}
-use Rattle.world_model.specs.Thrifty.{NeverFull}
+use Rattle.claims.specs.Thrifty.{NeverFull}
 use Rattle.core_counts.proofs.thrift.short.Ends.{Each}
 use Rattle.core_counts.proofs.thrift.short.Lone.{early-unused, each-least, same-lane, one-before, room-before, only-one, none-flying, covered-now, none-unused}
 use Rattle.core_facts.proofs.Counting.{none-busy}

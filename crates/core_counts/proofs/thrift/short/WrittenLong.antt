@@ -7,7 +7,7 @@ use Rattle.world_model.specs.declared.op.Op.{Op}
 use Rattle.world_model.specs.declared.op.Op.TheVariants as ops
 use Rattle.world_model.specs.Entries.{At}
 use Rattle.world_model.specs.Operations.{Ended}
-use Rattle.world_model.specs.Thrifty.{OneLane, NeverFull, CoveredEarlier}
+use Rattle.claims.specs.Thrifty.{OneLane, NeverFull, CoveredEarlier}
 use Rattle.world_model.proofs.Places.{At-grow, At-back, At-below, At-one}
 use Rattle.file_ops.specs.SlotFiles.{file_at}
 use Rattle.write_back.specs.Files.{of_file}
