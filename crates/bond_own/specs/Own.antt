@@ -8,6 +8,7 @@ use Rattle.claims.specs.ReadTrue.{ReadsBytes, Since, HeldSize, ReadCurrent}
 use Rattle.world_model.specs.Server.{HasBytes}
 use Rattle.claims.specs.Settled.{SettledBy, Settled}
 use Rattle.claims.specs.Touched.{Wrote, Truncated, Touched}
+use Rattle.claims.specs.Cuts.{CutsStay}
 
 -- A byte of a write, fill or put that went well, and was settled before each moment of which the read may show bytes, is seen in the range that was asked
 -- for, unless it was touched.
@@ -27,11 +28,6 @@ SettledAreRead = (m : Modes) (origin : Origin) (t : History) → Lawful t → Se
     → ReadSettled m origin t
 
 -- ---- sizes
-
--- After a truncate that went well the file has no byte but a zero at a place past its size, unless that was touched.
-abbrev pub CutsStay : Modes → Origin → History → Type 0
-CutsStay m origin t = (x e : ℕ) (f : List ℕ) (size i : ℕ) → Truncated m t.entries x e f size → size ≤ i → (p : ℕ) → e < p → p ≤ length t.entries
-    → (Touched m origin t x p f i → ⊥) → (now stable : List ℕ) → HasBytes (t.at p) f now stable → (v : ℕ) → slice_get now i ≡ Some v → v ≡ 0
 
 -- Past the size of a truncate that went well before each moment of which the read may show bytes, a byte of the answer is 0, unless it was touched.
 abbrev pub ReadCutBefore : Modes → Origin → History → Type 0

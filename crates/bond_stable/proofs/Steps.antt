@@ -9,7 +9,7 @@ use Rattle.world_model.specs.declared.entry.Entry.TheVariants as entries
 use Rattle.world_model.specs.declared.message.Call.{Call}
 use Rattle.world_model.specs.declared.message.Call.TheVariants as calls
 use Rattle.world_model.specs.declared.message.Reply.{Reply}
-use Rattle.world_model.specs.Bytes.{put_at, part, committed_part}
+use Rattle.world_model.specs.Bytes.{put_at, committed_part}
 use Rattle.world_model.specs.Entries.{At}
 use Rattle.world_model.specs.History.{History}
 use Rattle.world_model.specs.Lawful.{Lawful}
@@ -20,7 +20,7 @@ use Rattle.world_model.proofs.FileSteps.{BytesGo, kept, by_write, by_commit, by_
 use Rattle.world_model.proofs.Goes.{SetsSize, by_set, by_meeting}
 use Rattle.world_model.proofs.Lasting.{SameSort, moment_lasts}
 use Rattle.bond_stable.specs.Stable.{HoldsNow}
-use Rattle.bond_stable.proofs.Bytes.{get_take, taken_below, put_here, put_beside, put_same, resized_keeps, part_stands, committed_stands, some_or_past}
+use Rattle.bond_stable.proofs.Bytes.{get_take, taken_below, put_here, put_beside, put_same, resized_keeps, committed_stands, some_or_past}
 use Rattle.bond_stable.proofs.Spared.{Spares}
 
 -- ---- one list
@@ -117,7 +117,7 @@ step_stays e t f now stable later steady i v s (flushed start count is a b) = re
   holds = λ none h. ap (λ (z : List ℕ). slice_get z i) a ∙ h;
   both = λ h k. (
     ap (λ (z : List ℕ). slice_get z i) a ∙ h,
-    ap (λ (z : List ℕ). slice_get z i) b ∙ put_same start (part start count now) now stable (part_stands start count now) i v h k,
+    ap (λ (z : List ℕ). slice_get z i) b ∙ put_same start (committed_part start count now) now stable (committed_stands start count now) i v h k,
   );
 }
 step_stays e t f now stable later steady i v s (restarted verf is a b) = record {

@@ -15,7 +15,7 @@ use Rattle.world_model.specs.declared.message.Call.{Call}
 use Rattle.world_model.specs.declared.message.Call.TheVariants as calls
 use Rattle.world_model.specs.declared.message.Reply.{Reply}
 use Rattle.world_model.specs.declared.message.Reply.TheVariants as replies
-use Rattle.world_model.specs.Bytes.{put_at, part, committed_part}
+use Rattle.world_model.specs.Bytes.{put_at, committed_part}
 use Rattle.world_model.specs.Entries as histories
 use Rattle.world_model.specs.FileService as service
 use Rattle.world_model.specs.History.{History}
@@ -40,7 +40,7 @@ use Rattle.bond_writes.specs.Lawful.{Keeps, Stands, Leaves, Meddles}
 use Rattle.bond_writes.specs.Lawful as law
 use Rattle.bond_writes.specs.Mirrors.{Mirrors, MirrorsEntry, MirrorsServer, Unsized, byte_now, byte_stable, held_now, held_stable, is_gone, call_of, reply_of, sized_call}
 use Rattle.bond_writes.proofs.AtLemmas.{At-below, same_file_or_not}
-use Rattle.bond_writes.proofs.BytesLemmas.{get_take, put_here, put_above, put_beside, put_same, part_stands, committed_stands, all_stable, resized_keeps, length_take_most, length_take_least}
+use Rattle.bond_writes.proofs.BytesLemmas.{get_take, put_here, put_above, put_beside, put_same, committed_stands, all_stable, resized_keeps, length_take_most, length_take_least}
 use Rattle.bond_writes.proofs.CoversLemmas.{covers_is, covers_from}
 use Rattle.bond_writes.proofs.FlyingBytes.{covers_file}
 use Rattle.bond_writes.proofs.SettledIsMirrored.{reads, reads_back}
@@ -499,7 +499,7 @@ module _ (a b : servers.Server) (old new : story.Server) (mo : MirrorsServer a o
   flush_kept t n start count g f now stable later steady i (steps.unchanged e q) = (λ y is. rw e is, λ y is st. rw q st)
   flush_kept t n start count g f now stable later steady i (steps.executed xid call reply e r) = absurd (cc e)
   flush_kept t n start count g f now stable later steady i (steps.foreign call reply e r) = absurd (cc e)
-  flush_kept t n start count g f now stable later steady i (steps.flushed st co e l q) = (λ y z. rw l z, λ y z w. rw q (put_same st (part st co now) now stable (part_stands st co now) i y z w))
+  flush_kept t n start count g f now stable later steady i (steps.flushed st co e l q) = (λ y z. rw l z, λ y z w. rw q (put_same st (committed_part st co now) now stable (committed_stands st co now) i y z w))
   flush_kept t n start count g f now stable later steady i (steps.restarted verf e l q) = absurd (cc e)
 
   left_now : (o p : Option servers.Object) (i : ℕ) → model.IsLeft o p → model.IsSteady p → (byte_now p i ≡ byte_stable o i) × (byte_stable p i ≡ byte_stable o i)

@@ -2,6 +2,7 @@ pub mod Modes
 pub mod Slots
 pub mod Touched
 pub mod Settled
+pub mod Cuts
 pub mod Pending
 pub mod ReadTrue
 pub mod Recent

@@ -12,7 +12,7 @@ use Rattle.export_fs.specs.Parts.{kind_of}
 use Rattle.export_fs.specs.Names.{is_own_name, without}
 use Rattle.export_fs.specs.Changes.{changed, with_name, without_name, with_parent, with_size, with_bytes, with_stable, unnamed, with_ctime, removed}
 use Rattle.export_fs.specs.After.{changed_at}
-use Rattle.export_fs.specs.Restart.{with_part, steady}
+use Rattle.export_fs.specs.Restart.{steady}
 use Rattle.export_fs.specs.Sound.{IsEntry, IsHeld}
 use Rattle.export_fs.proofs.EntriesByName.{once-without, once-more}
 use Rattle.export_fs.proofs.Objects.{changed_there, other, was_at}
@@ -129,11 +129,6 @@ pub held_committed : (count place offset range : ℕ) (holds : Holds) → IsHeld
 held_committed count place offset range (File content) h = put_part offset (committed_part offset range content.bytes) content.stable content.bytes (committed_within offset range content.bytes) h
 held_committed count place offset range (Directory listing) h = h
 held_committed count place offset range (Link text) h = tt
-
-pub held_part : (count place start range : ℕ) (holds : Holds) → IsHeld count place holds → IsHeld count place (with_part start range holds)
-held_part count place start range (File content) h = put_part start (part start range content.bytes) content.stable content.bytes (part_within start range content.bytes) h
-held_part count place start range (Directory listing) h = h
-held_part count place start range (Link text) h = tt
 
 pub held_sized : (count place : ℕ) (size : Option ℕ) (holds : Holds) → IsHeld count place holds → IsHeld count place (with_size size holds)
 held_sized count place None holds h = h

@@ -23,11 +23,11 @@ use Rattle.export_fs.specs.Changes.{put_node, changed, new_file, new_dir, new_li
 use Rattle.export_fs.specs.After.{next, takes, changed_at, after_set_attr, after_file, enters, leaves, after_making_at, after_unchecked, after_create, place_or_root, after_remove, after_moving, after_rename_of, after_linking, after_dir}
 use Rattle.export_fs.specs.Answer.{file_answer, file_refused, dir_answer, dir_refused}
 use Rattle.export_fs.specs.Executed.{executed}
-use Rattle.export_fs.specs.Restart.{is_unsteady, restarted, all_restarted, after_restart, flushed, after_flush}
+use Rattle.export_fs.specs.Restart.{is_unsteady, restarted, all_restarted, after_restart, after_flush}
 use Rattle.export_fs.specs.Placing.{walked, new_object, after_placing, may_place, placed_in, placed_last, placed}
 use Rattle.export_fs.specs.Stamped.{IsStamped, Stamped, Goes, GoesAt, Proceeds}
 use Rattle.export_fs.proofs.Objects.{get_last, get_past, get_front_other, changed_same, changed_other}
-use Rattle.export_fs.proofs.Stamps.{same_at, then_at, Moves, set_moves, written_moves, committed_moves, entered_moves, left_moves, unnamed_moves, removed_moves, linked_moves, moved_moves, flushed_moves, restarted_moves}
+use Rattle.export_fs.proofs.Stamps.{same_at, then_at, Moves, set_moves, written_moves, committed_moves, entered_moves, left_moves, unnamed_moves, removed_moves, linked_moves, moved_moves, restarted_moves}
 
 -- ---- lists of objects
 
@@ -210,7 +210,7 @@ restart_proceeds v = record { counter = omega arith; objects = restart_keeps v.c
 
 pub flush_proceeds : (v : View) (file : List ℕ) (start count : ℕ) → Proceeds v (after_flush v file start count)
 flush_proceeds v file start count =
-    keeps_proceeds v (changed_at (flushed start count) (place_of file) v.nodes) (changed_at_keeps v.counter v.counter (flushed start count) (place_of file) v.nodes (flushed_moves v.counter v.counter start count))
+    keeps_proceeds v (changed_at (committed start count) (place_of file) v.nodes) (changed_at_keeps v.counter v.counter (committed start count) (place_of file) v.nodes (committed_moves v.counter v.counter start count))
 
 -- ---- objects that are placed
 

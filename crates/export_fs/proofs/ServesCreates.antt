@@ -8,7 +8,7 @@ use Rattle.nfs_dir_calls.specs.declared.create.Making.{Making}
 use Rattle.nfs_dir_calls.specs.declared.create.Making.TheVariants as makings
 use Rattle.world_model.specs.Server.{HasName}
 use Rattle.world_model.specs.Steps.{Reads}
-use Rattle.world_model.specs.FileService.{HoldsSized, IsSet}
+use Rattle.world_model.specs.FileService.{HoldsSized}
 use Rattle.world_model.specs.NameService.{Relists, Shown, Makes, Meets, Links}
 use Rattle.world_model.specs.NameService.{new_file as file_held}
 use Rattle.world_model.specs.Names.{Enters}
@@ -32,7 +32,7 @@ use Rattle.export_fs.proofs.Handles.{place_is}
 use Rattle.export_fs.proofs.Objects.{changed_same, changed_other, get_last, get_front, get_front_other, get_within, get_past}
 use Rattle.export_fs.proofs.EntriesNamed.{stands}
 use Rattle.export_fs.proofs.ServerOfExport.{Found, found, seen_here, seen_place, only_at, true_here, true_of, true_wcc, live_is, OneChanged, one_turns, one_only}
-use Rattle.export_fs.proofs.ServesFileCalls.{kind_found, is_set, holds_sized, sized_kind}
+use Rattle.export_fs.proofs.ServesFileCalls.{kind_found, holds_sized, sized_kind}
 use Rattle.export_fs.proofs.DirectoryNames.{DirFound, dir_found, DirAt, dir_at, named_is, no_row, NamedRow, row_named, has_name, enters_last, found_last, is_held, numbers_left}
 
 -- ---- a list that becomes another one, and an object that is read
@@ -204,21 +204,12 @@ none_is : (o : Option ℕ) → is_none o ≡ true → o ≡ None
 none_is None e = refl
 none_is (Some x) e = absurd (cc)
 
--- what sets nothing has neither of the fields
-pub record Nothing (set : SetAttr) : Type 0 where
-  pub mode : set.mode ≡ None
-  pub uid : set.uid ≡ None
-  pub gid : set.gid ≡ None
-  pub size : set.size ≡ None
-
-nothing_set : (set : SetAttr) → sets_nothing set ≡ true → Nothing set
-nothing_set set e =
+-- what sets nothing sets no size
+no_size_set : (set : SetAttr) → sets_nothing set ≡ true → set.size ≡ None
+no_size_set set e =
     let a = and_parts _ (is_kept set.mtime) e in
     let b = and_parts _ (is_kept set.atime) a.0 in
-    let c = and_parts _ (is_none set.size) b.0 in
-    let d = and_parts _ (is_none set.gid) c.0 in
-    let f = and_parts _ (is_none set.uid) d.0 in
-    record { mode = none_is set.mode f.0; uid = none_is set.uid f.1; gid = none_is set.gid d.1; size = none_is set.size c.1 }
+    none_is set.size (and_parts _ (is_none set.size) b.0).1
 
 -- a file that has the name
 pub record Met (v : View) (dir name : List ℕ) : Type 0 where
@@ -234,7 +225,6 @@ met_name v dir name m =
 
 keeps_file : (v : View) (dir name : List ℕ) (m : Met v dir name) (set : SetAttr) → sets_nothing set ≡ true → Meets (server_of v) (server_of v) dir name set
 keeps_file v dir name m set e =
-    let n = nothing_set set e in
     let q = m.named in
     let seen = seen_here v q.row.place q.node q.below q.there in
     record {
@@ -245,9 +235,8 @@ keeps_file v dir name m set e =
       stable = m.content.stable;
       held = ap held_of m.file;
       later = held_of q.node.holds;
-      sized = subst (λ (z : Option ℕ). HoldsSized z (held_of q.node.holds) (held_of q.node.holds)) (sym n.size) refl;
+      sized = subst (λ (z : Option ℕ). HoldsSized z (held_of q.node.holds) (held_of q.node.holds)) (sym (no_size_set set e)) refl;
       turns = record { has = record { is = seen; there = q.live }; new = object_of q.row.place q.node; is = seen; becomes = record { holds = refl; gone = refl; kind = refl; fileid = refl } };
-      fields = record { mode = subst (λ (z : Option ℕ). IsSet z q.node.mode) (sym n.mode) tt; uid = subst (λ (z : Option ℕ). IsSet z q.node.uid) (sym n.uid) tt; gid = subst (λ (z : Option ℕ). IsSet z q.node.gid) (sym n.gid) tt };
       reads = reads_at v v dir m.dir_is.found.place m.dir_is.found.node m.dir_is.found.node m.dir_is.found.is m.dir_is.found.below m.dir_is.found.there m.dir_is.found.live m.dir_is.found.there refl refl;
       only = record { verf = refl; others = λ other d. refl };
     }
@@ -283,7 +272,6 @@ sets_file v dir name m set =
       later = held_of (with_set (next v) set q.node).holds;
       sized = holds_sized set.size q.node.holds (λ e. (m.content, m.file));
       turns = one_turns v w (handle_of q.row.place) f (with_set (next v) set) c;
-      fields = record { mode = is_set set.mode q.node.mode; uid = is_set set.uid q.node.uid; gid = is_set set.gid q.node.gid };
       reads = reads_at v w dir m.dir_is.found.place m.dir_is.found.node m.dir_is.found.node m.dir_is.found.is m.dir_is.found.below m.dir_is.found.there m.dir_is.found.live (set_dir v dir name m set) refl refl;
       only = record { verf = o.verf; others = λ other d. o.others other (λ g. d (inr g)) };
     }

@@ -9,7 +9,7 @@ use Rattle.nfs_file_calls.specs.declared.call.FileCall.TheVariants as files
 use Rattle.world_model.specs.Bytes.{part, put_at}
 use Rattle.world_model.specs.Server.{Bytes}
 use Rattle.world_model.specs.Steps.{TrueOf}
-use Rattle.world_model.specs.FileService.{Puts, HoldsSized, IsSet, ReadsBytes, steady_after}
+use Rattle.world_model.specs.FileService.{Puts, HoldsSized, ReadsBytes, steady_after}
 use Rattle.world_model.specs.Service.{DoesFile}
 use Rattle.export_fs.specs.declared.node.Holds.{Holds}
 use Rattle.export_fs.specs.declared.node.Holds.TheVariants.{File, Directory, Link}
@@ -87,10 +87,6 @@ holds_sized (Some size) (File content) f = refl
 holds_sized (Some size) (Directory listing) f = let p = f refl in let e = p.1 in absurd (cc)
 holds_sized (Some size) (Link text) f = let p = f refl in let e = p.1 in absurd (cc)
 
-pub is_set : (field : Option ℕ) (old : ℕ) → IsSet field (unwrap_or field old)
-is_set None old = tt
-is_set (Some value) old = refl
-
 set_changed : (v : View) (file : List ℕ) (set : SetAttr) (f : Found v file) → OneChanged v (after_set_attr v (place_of file) set) file f (with_set (next v) set)
 set_changed v file set f = record { nodes = refl; reboots = refl; gone = refl; kind = sized_kind set.size f.node.holds }
 
@@ -141,7 +137,6 @@ does_file v (files.SetAttr file set guard) s e =
         later = held_of (with_set (next v) set f.node).holds;
         sized = holds_sized set.size f.node.holds (λ n. file_found v (files.SetAttr file set guard) file f p n);
         turns = one_turns v w file f (with_set (next v) set) c;
-        fields = record { mode = is_set set.mode f.node.mode; uid = is_set set.uid f.node.uid; gid = is_set set.gid f.node.gid };
         only = one_only v w file f (with_set (next v) set) c;
       },
       true_wcc v w file s,

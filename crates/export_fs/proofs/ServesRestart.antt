@@ -9,7 +9,7 @@ use Rattle.xdr_codec.specs.Bytes.{IsBytes}
 use Rattle.xdr_codec.specs.Spelling.{u64_bytes}
 use Rattle.byteorder.specs.Endian.{big_number}
 use Rattle.byteorder.specs.Numbers.{big_number-reads_back}
-use Rattle.world_model.specs.Bytes.{put_at, part}
+use Rattle.world_model.specs.Bytes.{put_at, committed_part}
 use Rattle.world_model.specs.Server.{Bytes, Object}
 use Rattle.world_model.specs.Lawful.{Flushes, IsLeft, same, lost, IsSteady}
 use Rattle.export_fs.specs.declared.node.Holds.{Holds}
@@ -20,12 +20,13 @@ use Rattle.export_fs.specs.View.{View}
 use Rattle.export_fs.specs.Parts.{last_number, handle_of, place_of, kind, kind_in, kind_of, object, size_of, rows_of, verifier}
 use Rattle.export_fs.specs.Refusals.{is_stale}
 use Rattle.export_fs.specs.Later.{RestartsLater}
-use Rattle.export_fs.specs.Restart.{is_unsteady, steady, restarted, all_restarted, numbers_taken, may_restart, after_restart, with_part, flushed, after_flush}
+use Rattle.export_fs.specs.Changes.{with_stable, committed}
+use Rattle.export_fs.specs.Restart.{is_unsteady, steady, restarted, all_restarted, numbers_taken, may_restart, after_restart, after_flush}
 use Rattle.export_fs.specs.Seen.{server_of, object_of, held_of}
 use Rattle.export_fs.specs.Sound.{Sound, IsHeld, IsCounted, names_of, names_in}
 use Rattle.export_fs.proofs.ServerOfExport.{Found, found, nothing, a_place, sees, seen_place, seen_here, seen_by_place, has_found, OneChanged, one_seen, one_only}
 use Rattle.export_fs.proofs.ServesFileCalls.{kind_found, file_by_kind}
-use Rattle.export_fs.proofs.ContentStaysSound.{held_part, held_steady}
+use Rattle.export_fs.proofs.ContentStaysSound.{held_committed, held_steady}
 use Rattle.export_fs.proofs.SoundAfterChange.{CountsSame, counted_same, same_counts, root_same, one_stays}
 
 -- ---- the objects after a restart
@@ -245,24 +246,24 @@ restarts v m =
 
 -- ---- a range becomes stable
 
-part_kind : (start count : ℕ) (holds : Holds) → kind_of (with_part start count holds) ≡ kind_of holds
+part_kind : (start count : ℕ) (holds : Holds) → kind_of (with_stable start count holds) ≡ kind_of holds
 part_kind start count (File content) = refl
 part_kind start count (Directory listing) = refl
 part_kind start count (Link text) = refl
 
-part_size : (start count : ℕ) (holds : Holds) → size_of (with_part start count holds) ≡ size_of holds
+part_size : (start count : ℕ) (holds : Holds) → size_of (with_stable start count holds) ≡ size_of holds
 part_size start count (File content) = refl
 part_size start count (Directory listing) = refl
 part_size start count (Link text) = refl
 
-part_rows : (start count : ℕ) (holds : Holds) → rows_of (with_part start count holds) ≡ rows_of holds
+part_rows : (start count : ℕ) (holds : Holds) → rows_of (with_stable start count holds) ≡ rows_of holds
 part_rows start count (File content) = refl
 part_rows start count (Directory listing) = refl
 part_rows start count (Link text) = refl
 
 pub flush_stays : (v : View) → Sound v → (file : List ℕ) (start count : ℕ) → Sound (after_flush v file start count)
 flush_stays v s file start count =
-    one_stays v (after_flush v file start count) s (flushed start count) (place_of file)
+    one_stays v (after_flush v file start count) s (committed start count) (place_of file)
     (record {
       nodes = refl;
       reboots = refl;
@@ -270,28 +271,28 @@ flush_stays v s file start count =
       below = s.numbers;
       counts = λ node. record { kind = part_kind start count node.holds; gone = refl; nlink = refl };
       rows = λ node. part_rows start count node.holds;
-      held = λ n q node h. held_part n q start count node.holds h;
+      held = λ n q node h. held_committed n q start count node.holds h;
     })
 
 -- its attributes stay
 flushed_object : (place start count : ℕ) (node : Node) (content : Content) → node.holds ≡ File content
-    → object_of place (flushed start count node) ≡ record { attr = (object_of place node).attr; gone = node.gone; holds = Bytes content.bytes (put_at start (part start count content.bytes) content.stable) }
+    → object_of place (committed start count node) ≡ record { attr = (object_of place node).attr; gone = node.gone; holds = Bytes content.bytes (put_at start (committed_part start count content.bytes) content.stable) }
 flushed_object place start count node content e =
-    let f : held_of (with_part start count node.holds) ≡ Bytes content.bytes (put_at start (part start count content.bytes) content.stable) = ap (λ (h : Holds). held_of (with_part start count h)) e in
+    let f : held_of (with_stable start count node.holds) ≡ Bytes content.bytes (put_at start (committed_part start count content.bytes) content.stable) = ap (λ (h : Holds). held_of (with_stable start count h)) e in
     simp (part_kind start count node.holds, part_size start count node.holds, f)
 
 pub flushes : (v : View) (file : List ℕ) (start count : ℕ) (f : Found v file) (content : Content) → f.node.holds ≡ File content → Flushes (server_of v) (server_of (after_flush v file start count)) file start count
 flushes v file start count f content e =
     let w = after_flush v file start count in
-    let c : OneChanged v w file f (flushed start count) = record { nodes = refl; reboots = refl; gone = refl; kind = part_kind start count f.node.holds } in
+    let c : OneChanged v w file f (committed start count) = record { nodes = refl; reboots = refl; gone = refl; kind = part_kind start count f.node.holds } in
     record {
       file = object_of f.place f.node;
       now = content.bytes;
       stable = content.stable;
       has = has_found v file f;
       held = ap held_of e;
-      is = one_seen v w file f (flushed start count) c ∙ ap (λ (o : Object). Some o) (flushed_object f.place start count f.node content e);
-      only = one_only v w file f (flushed start count) c;
+      is = one_seen v w file f (committed start count) c ∙ ap (λ (o : Object). Some o) (flushed_object f.place start count f.node content e);
+      only = one_only v w file f (committed start count) c;
     }
 
 there_by_kind : (v : View) (h : List ℕ) → kind v.nodes h ≡ 1 → is_stale v.nodes h ≡ false

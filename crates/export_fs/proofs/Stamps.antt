@@ -11,7 +11,7 @@ use Rattle.export_fs.specs.Parts.{kind_of, size_of, bytes_of, rows_of, last_of}
 use Rattle.export_fs.specs.Names.{without}
 use Rattle.export_fs.specs.Kept.{is_rising, top}
 use Rattle.export_fs.specs.Changes.{with_size, with_set, with_bytes, written, with_stable, committed, with_name, entered, without_name, left, unnamed, with_fewer, with_ctime, removed, linked, with_parent, moved}
-use Rattle.export_fs.specs.Restart.{steady, restarted, with_part, flushed}
+use Rattle.export_fs.specs.Restart.{steady, restarted}
 use Rattle.export_fs.specs.Stamped.{Alike, HasRow, Goes, GoesAt}
 use Rattle.export_fs.proofs.Cookies.{rises, rising_from, lower, rising_last, top-last}
 
@@ -182,11 +182,6 @@ stable_alike offset count (File content) = record { size = refl; bytes = refl; r
 stable_alike offset count (Directory listing) = record { size = refl; bytes = refl; rows = refl; last = refl }
 stable_alike offset count (Link text) = record { size = refl; bytes = refl; rows = refl; last = refl }
 
-part_alike : (start count : ℕ) (holds : Holds) → AlikeHeld holds (with_part start count holds)
-part_alike start count (File content) = record { size = refl; bytes = refl; rows = refl; last = refl }
-part_alike start count (Directory listing) = record { size = refl; bytes = refl; rows = refl; last = refl }
-part_alike start count (Link text) = record { size = refl; bytes = refl; rows = refl; last = refl }
-
 parent_alike : (parent : ℕ) (holds : Holds) → AlikeHeld holds (with_parent parent holds)
 parent_alike parent (File content) = record { size = refl; bytes = refl; rows = refl; last = refl }
 parent_alike parent (Directory listing) = record { size = refl; bytes = refl; rows = refl; last = refl }
@@ -263,9 +258,6 @@ linked_moves before after number low high node = fresh_goes before after node (l
 
 pub moved_moves : (before after parent : ℕ) → Moves before after (moved parent)
 moved_moves before after parent node = alike_goes before after node (moved parent node) refl refl (parent_alike parent node.holds)
-
-pub flushed_moves : (before after start count : ℕ) → Moves before after (flushed start count)
-flushed_moves before after start count node = alike_goes before after node (flushed start count node) refl refl (part_alike start count node.holds)
 
 pub restarted_moves : (before after number : ℕ) → before < number → number ≤ after → Moves before after (restarted number)
 restarted_moves before after number low high node = fresh_goes before after node (restarted number node) low high (λ m. high) (same_go node.holds (steady node.holds) (steady_same node.holds))

@@ -1,13 +1,13 @@
 -- What a restart makes of the export, and what becomes stable by itself (RFC 1813, section 4.8).
 use Rattle.std.specs.Prelude.{◌+◌, ◌&&◌, not, ℕ, Bool, false, List, [], ◌∷◌, nat_le, nat_lt, count_by, if◌then◌else◌}
 use Rattle.std.specs.Str.{bytes_eq}
-use Rattle.world_model.specs.Bytes.{put_at, part}
 use Rattle.export_fs.specs.declared.node.Holds.{Holds}
 use Rattle.export_fs.specs.declared.node.Holds.TheVariants.{File, Directory, Link}
 use Rattle.export_fs.specs.declared.node.Node.{Node}
 use Rattle.export_fs.specs.View.{View}
 use Rattle.export_fs.specs.Parts.{last_number, place_of}
 use Rattle.export_fs.specs.After.{changed_at}
+use Rattle.export_fs.specs.Changes.{committed}
 
 -- a file some of whose bytes a restart changes
 abbrev pub is_unsteady : Node → Bool
@@ -39,14 +39,6 @@ may_restart view = nat_lt view.reboots last_number && nat_le (view.counter + num
 abbrev pub after_restart : View → View
 after_restart view = record { nodes = all_restarted view.counter view.nodes; counter = view.counter + numbers_taken view.nodes; reboots = view.reboots + 1 }
 
--- a range of a file becomes stable
-abbrev pub with_part : ℕ → ℕ → Holds → Holds
-with_part start count (File content) = File (record content { stable = put_at start (part start count content.bytes) content.stable })
-with_part start count (Directory listing) = Directory listing
-with_part start count (Link text) = Link text
-
-abbrev pub flushed : ℕ → ℕ → Node → Node
-flushed start count node = record node { holds = with_part start count node.holds }
-
+-- a range of a file becomes stable, as by a COMMIT of it
 abbrev pub after_flush : View → List ℕ → ℕ → ℕ → View
-after_flush view file start count = record view { nodes = changed_at (flushed start count) (place_of file) view.nodes }
+after_flush view file start count = record view { nodes = changed_at (committed start count) (place_of file) view.nodes }

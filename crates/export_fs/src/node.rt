@@ -279,14 +279,6 @@ impl Node {
         self.holds.commit(offset, count)
     }
 
-    /// A range becomes stable by itself. When out of memory it is as it was.
-    pub(crate) fn flush(&mut self, start: usize, count: usize) -> Result<(), Memory>
-        ensures ok { OnOk result (self.new ≡ restarts.flushed start count self.old) }
-        ensures err { OnErr result (self.new ≡ self.old) }
-    {
-        self.holds.flush(start, count)
-    }
-
     /// A name enters, where it is a directory. When out of memory it is as it was.
     pub(crate) fn enter(&mut self, number: u32, name: &Name, place: u32) -> Result<(), Memory>
         ensures ok { OnOk result (self.new ≡ changes.entered number name.now place self.old) }
@@ -394,17 +386,6 @@ impl Holds {
     {
         match self {
             Holds::File(content) => content.commit(offset, count),
-            _ => Ok(()),
-        }
-    }
-
-    /// Makes a range of a file stable. When out of memory it is as it was.
-    fn flush(&mut self, start: usize, count: usize) -> Result<(), Memory>
-        ensures ok { OnOk result (self.new ≡ restarts.with_part start count self.old) }
-        ensures err { OnErr result (self.new ≡ self.old) }
-    {
-        match self {
-            Holds::File(content) => content.keep(start, count),
             _ => Ok(()),
         }
     }

@@ -271,24 +271,6 @@ impl Nodes {
         Ok(())
     }
 
-    /// A range becomes stable by itself.
-    pub(crate) fn flush(
-        &mut self,
-        place: Option<u32>,
-        start: usize,
-        count: usize,
-    ) -> Result<(), Memory>
-        ensures ok { OnOk result (self.new ≡ changed_at (restarts.flushed start count) place self.old) }
-        ensures err { OnErr result (self.new ≡ self.old) }
-    {
-        if let Some(place) = place {
-            if (place as usize) < self.list.len() {
-                self.list[place as usize].flush(start, count)?;
-            }
-        }
-        Ok(())
-    }
-
     /// A name enters a directory.
     pub(crate) fn enter(
         &mut self,

@@ -64,7 +64,7 @@ impl Tree {
     {
         holds_bytes(file);
         self.nodes
-            .flush(place_of(file), from as usize, len as usize)
+            .commit(place_of(file), from as usize, len as usize)
     }
 }
 

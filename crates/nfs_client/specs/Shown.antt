@@ -49,7 +49,7 @@ use Rattle.claims.specs.Terms.{Terms, jukebox}
 use Rattle.claims.specs.Thrifty.{Thrifty}
 use Rattle.claims.specs.Touched.{Wrote}
 use Rattle.bond_calls.specs.Calls.{Numbered}
-use Rattle.bond_own.specs.Own.{CutsStay}
+use Rattle.claims.specs.Cuts.{CutsStay}
 use Rattle.bond_reads.specs.Kept.{HasStamp}
 use Rattle.bond_stable.specs.OwnCalls.{NoForeign}
 use Rattle.op_machines.specs.declared.machine.Machine.{Machine}

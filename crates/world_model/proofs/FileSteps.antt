@@ -8,7 +8,7 @@ use Rattle.world_model.specs.declared.entry.Entry.TheVariants as entries
 use Rattle.world_model.specs.declared.message.Call.{Call}
 use Rattle.world_model.specs.declared.message.Call.TheVariants as calls
 use Rattle.world_model.specs.declared.message.Reply.{Reply}
-use Rattle.world_model.specs.Bytes.{put_at, part, committed_part, resized}
+use Rattle.world_model.specs.Bytes.{put_at, committed_part, resized}
 use Rattle.world_model.specs.History.{History}
 use Rattle.world_model.specs.Server.{Holds, Bytes, Entries, Object, Server, HasBytes}
 use Rattle.world_model.specs.Steps.{Turns}
@@ -110,7 +110,7 @@ pub data BytesStep (t : Server) (e : Entry) (f now stable later steady : List �
   unchanged : later ≡ now → steady ≡ stable → BytesStep t e f now stable later steady
   executed : (xid : ℕ) (call : Call) (reply : Reply) → e ≡ entries.Executed xid call reply → BytesGo t call reply f now stable later steady → BytesStep t e f now stable later steady
   foreign : (call : Call) (reply : Reply) → e ≡ entries.Foreign call reply → BytesGo t call reply f now stable later steady → BytesStep t e f now stable later steady
-  flushed : (start count : ℕ) → e ≡ entries.Flushed f start count → later ≡ now → steady ≡ put_at start (part start count now) stable → BytesStep t e f now stable later steady
+  flushed : (start count : ℕ) → e ≡ entries.Flushed f start count → later ≡ now → steady ≡ put_at start (committed_part start count now) stable → BytesStep t e f now stable later steady
   restarted : (verf : Verf) → e ≡ entries.Reboot verf → later ≡ stable → steady ≡ stable → BytesStep t e f now stable later steady
 
 still : (s t : Server) (e : Entry) (f now stable later steady : List ℕ) → t.object f ≡ s.object f → HasBytes s f now stable → HasBytes t f later steady → BytesStep t e f now stable later steady
@@ -124,11 +124,11 @@ flush_step s t g start count f now stable later steady w a b =
     elim (same_bytes f g) [
       | inl q ↦
           let old : Bytes w.now w.stable ≡ Bytes now stable = sym w.held ∙ ap (λ (z : Object). z.holds) (some_is w.file a.file (sym w.has.is ∙ ap s.object (sym q) ∙ a.is)) ∙ a.holds in
-          let new : Bytes later steady ≡ Bytes w.now (put_at start (part start count w.now) w.stable) = sym b.holds ∙ ap (λ (z : Object). z.holds) (some_is b.file _ (sym b.is ∙ ap t.object q ∙ w.is)) in
+          let new : Bytes later steady ≡ Bytes w.now (put_at start (committed_part start count w.now) w.stable) = sym b.holds ∙ ap (λ (z : Object). z.holds) (some_is b.file _ (sym b.is ∙ ap t.object q ∙ w.is)) in
           let n : w.now ≡ now = bytes_now w.now w.stable now stable old in
           let m : w.stable ≡ stable = bytes_stable w.now w.stable now stable old in
-          flushed start count (ap (λ (z : List ℕ). entries.Flushed z start count) (sym q)) (bytes_now later steady w.now (put_at start (part start count w.now) w.stable) new ∙ n)
-          (bytes_stable later steady w.now (put_at start (part start count w.now) w.stable) new ∙ ap (λ (z : List ℕ). put_at start (part start count z) w.stable) n ∙ ap (put_at start (part start count now)) m)
+          flushed start count (ap (λ (z : List ℕ). entries.Flushed z start count) (sym q)) (bytes_now later steady w.now (put_at start (committed_part start count w.now) w.stable) new ∙ n)
+          (bytes_stable later steady w.now (put_at start (committed_part start count w.now) w.stable) new ∙ ap (λ (z : List ℕ). put_at start (committed_part start count z) w.stable) n ∙ ap (put_at start (committed_part start count now)) m)
       | inr d ↦ still s t _ f now stable later steady (w.only.others f d) a b
     ]
 

@@ -28,30 +28,18 @@ pub record Asks (s t : Server) (f : List ℕ) (attr : Option Attr) : Type 0 wher
   pub looks : Looks s t f
   pub shows : TrueOf t f attr
 
--- a field that is to be set has its value
-abbrev pub IsSet : Option ℕ → ℕ → Type 0
-IsSet None field = ⊤
-IsSet (Some value) field = field ≡ value
-
--- the bits of permission and the owners are those that were to be set
-pub record HasSet (set : SetAttr) (attr : Attr) : Type 0 where
-  pub mode : IsSet set.mode attr.mode
-  pub uid : IsSet set.uid attr.uid
-  pub gid : IsSet set.gid attr.gid
-
 -- what an object holds after its size was set: a file's bytes are cut, or grow by zeros, the stable ones too
 abbrev pub HoldsSized : Option ℕ → Holds → Holds → Type 0
 HoldsSized None old new = new ≡ old
 HoldsSized (Some size) (Bytes now stable) new = new ≡ Bytes (resized size now) (resized size stable)
 HoldsSized (Some size) old new = ⊥
 
--- SETATTR, section 3.3.2
+-- SETATTR, section 3.3.2: of what is set only the size is spoken of, since no claim needs the bits of permission or the owners
 pub record SetsAttr (s t : Server) (f : List ℕ) (set : SetAttr) : Type 0 where
   pub object : Object
   pub later : Holds
   pub sized : HoldsSized set.size object.holds later
   pub turns : Turns s t f object later
-  pub fields : HasSet set turns.new.attr
   pub only : Only (λ other. other ≡ f) s t
 
 -- READ, section 3.3.6: the bytes are those of the file, as many as are counted; none only where none was asked for, or

@@ -9,7 +9,7 @@ use Rattle.world_model.specs.declared.message.Reply.{Reply}
 use Rattle.world_model.specs.Entries.{At}
 use Rattle.world_model.specs.Messages.{HasXid, SpellsCall, SpellsReply}
 use Rattle.world_model.specs.Rules.{most_bytes}
-use Rattle.world_model.specs.Bytes.{put_at, part}
+use Rattle.world_model.specs.Bytes.{put_at, committed_part}
 use Rattle.world_model.specs.Server.{Bytes, Object, Server, IsServer, Has}
 use Rattle.world_model.specs.Steps.{Same, Only, Becomes}
 use Rattle.world_model.specs.Service.{Serves}
@@ -23,14 +23,14 @@ pub record WasSent (h : List Entry) (n xid : ℕ) (call : Call) : Type 0 where
   pub sent : At h at (entries.Sent bytes)
   pub spells : SpellsCall xid call bytes
 
--- A range of a file becomes stable by itself, as by a COMMIT; nothing else happens.
+-- A range of a file becomes stable by itself, as by a COMMIT (RFC 1813, section 3.3.21: a count of 0 is to the end); nothing else happens.
 pub record Flushes (s t : Server) (f : List ℕ) (start count : ℕ) : Type 0 where
   pub file : Object
   pub now : List ℕ
   pub stable : List ℕ
   pub has : Has s f file
   pub held : file.holds ≡ Bytes now stable
-  pub is : t.object f ≡ Some (record { attr = file.attr; gone = file.gone; holds = Bytes now (put_at start (part start count now) stable) })
+  pub is : t.object f ≡ Some (record { attr = file.attr; gone = file.gone; holds = Bytes now (put_at start (committed_part start count now) stable) })
   pub only : Only (λ other. other ≡ f) s t
 
 -- what a restart leaves of an object: of a file the stable bytes, and of all else what it was

@@ -10,7 +10,7 @@ use Rattle.nfs_dir_calls.specs.declared.mknod.Node.{Node}
 use Rattle.nfs_dir_calls.specs.declared.mknod.Node.TheVariants as nodes
 use Rattle.world_model.specs.Server.{Listed, Holds, Bytes, Entries, Text, Object, Server, Lists, HasName}
 use Rattle.world_model.specs.Steps.{Only, Turns, Reads, Looks, TrueOf}
-use Rattle.world_model.specs.FileService.{HasSet, HoldsSized}
+use Rattle.world_model.specs.FileService.{HoldsSized}
 use Rattle.world_model.specs.Names.{Enters, Leaves, Clears, SameButParent, IsBare, Loses}
 
 -- LOOKUP, section 3.3.3
@@ -93,7 +93,6 @@ pub record Meets (s t : Server) (d name : List ℕ) (set : SetAttr) : Type 0 whe
   pub later : Holds
   pub sized : HoldsSized set.size file.holds later
   pub turns : Turns s t object file later
-  pub fields : HasSet set turns.new.attr
   pub reads : Reads s t d
   pub only : Only (λ h. (h ≡ d) ⊎ (h ≡ object)) s t
 

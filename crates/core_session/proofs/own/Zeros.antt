@@ -11,7 +11,7 @@ use Rattle.world_model.specs.declared.message.Call.{Call}
 use Rattle.world_model.specs.declared.message.Call.TheVariants as calls
 use Rattle.world_model.specs.declared.message.Reply.{Reply}
 use Rattle.world_model.specs.declared.message.Reply.TheVariants as replies
-use Rattle.world_model.specs.Bytes.{filled, resized, put_at, part, committed_part}
+use Rattle.world_model.specs.Bytes.{filled, resized, put_at, committed_part}
 use Rattle.world_model.specs.Entries.{At}
 use Rattle.world_model.specs.FileService.{SetsAttr, HoldsSized}
 use Rattle.world_model.specs.History.{History}
@@ -26,7 +26,7 @@ use Rattle.world_model.specs.Once.{Once}
 use Rattle.bond_calls.specs.Calls.{Numbered}
 use Rattle.bond_stable.specs.Cut.{CutBy, OwnZeros, IsZeroAt, IsBare}
 use Rattle.bond_stable.specs.OwnCalls.{NoForeign}
-use Rattle.bond_stable.proofs.Bytes.{get_front, get_back, length_resized, placed, put_here, put_above, some_or_past, number_is, part_stands, committed_stands}
+use Rattle.bond_stable.proofs.Bytes.{get_front, get_back, length_resized, placed, put_here, put_above, some_or_past, number_is, committed_stands}
 use Rattle.bond_stable.proofs.Executions.{Ran}
 use Rattle.bond_stable.proofs.Spared.{first_call}
 use Rattle.bond_stable.proofs.Steps.{of_taken, next_bytes}
@@ -113,7 +113,7 @@ step_zero e t f now stable later steady i spares (steps.foreign call reply is go
     (let within = slice_get_within bytes k b byte in absurd (spares.others call reply is (writes offset how bytes same (omega (arith, place)) (omega (arith, place, within)))))) go z s
 step_zero e t f now stable later steady i spares (steps.flushed start count is a b) z s = record {
   now = zero_as later now i a z;
-  then_ = zero_as steady _ i b (zero_put start (part start count now) stable i (λ k y at byte. z y (ap (λ n. slice_get now n) at ∙ part_stands start count now k y byte)) s);
+  then_ = zero_as steady _ i b (zero_put start (committed_part start count now) stable i (λ k y at byte. z y (ap (λ n. slice_get now n) at ∙ committed_stands start count now k y byte)) s);
 }
 step_zero e t f now stable later steady i spares (steps.restarted verf is a b) z s = record { now = zero_as later stable i a s; then_ = zero_as steady stable i b s }
 

@@ -6,7 +6,7 @@ use Rattle.world_model.specs.Lawful.{Lawful}
 use Rattle.world_model.specs.Once.{Once}
 use Rattle.claims.specs.Terms.{Terms}
 use Rattle.claims.specs.ReadTrue.{ReadCut}
-use Rattle.bond_own.specs.Own.{CutsStay}
+use Rattle.claims.specs.Cuts.{CutsStay}
 use Rattle.op_machines.specs.declared.begun.Mounted.{Mounted}
 use Rattle.op_machines.specs.Begun.{machine_of}
 use Rattle.client_core.specs.declared.setup.Setup.{Setup}
