@@ -107,7 +107,7 @@ fn head_of<'a>(xid: u32, bytes: &'a [u8]) -> Result<(CallHead, &'a [u8]), XdrFau
 
 /// Writes a call up to its arguments; the verifier is AUTH_NONE. When out of memory the writer begins with what
 /// it held.
-#[tactic(auto, using(xdr_codec::proofs::Begins::begins_then, std::proofs::Common::append_assoc), unfolding(crate::specs::Call::call_head_bytes))]
+#[tactic(auto, using(xdr_codec::proofs::Begins::after_a, xdr_codec::proofs::Begins::after_b, xdr_codec::proofs::Begins::after_c, xdr_codec::proofs::Begins::grown_d), unfolding(crate::specs::Call::call_head_bytes))]
 pub fn write_call(w: &mut Writer, head: &CallHead, cred: &Cred) -> Result<(), Memory>
     ensures ok { OnOk result (w.new ≡ w.old ++ call_head_bytes head.now cred.now) }
     ensures err { OnErr result (BeginsWith w.old w.new) }
@@ -120,7 +120,7 @@ pub fn write_call(w: &mut Writer, head: &CallHead, cred: &Cred) -> Result<(), Me
     Ok(())
 }
 
-#[tactic(auto, using(xdr_codec::proofs::Begins::begins_then, std::proofs::Common::append_assoc), unfolding(crate::specs::Call::opening_bytes))]
+#[tactic(auto, using(xdr_codec::proofs::Begins::begins_a, xdr_codec::proofs::Begins::begins_b, xdr_codec::proofs::Begins::grown_c), unfolding(crate::specs::Call::opening_bytes))]
 fn write_opening(w: &mut Writer, xid: u32) -> Result<(), Memory>
     ensures ok { OnOk result (w.new ≡ w.old ++ opening_bytes xid) }
     ensures err { OnErr result (BeginsWith w.old w.new) }
@@ -132,7 +132,7 @@ fn write_opening(w: &mut Writer, xid: u32) -> Result<(), Memory>
     Ok(())
 }
 
-#[tactic(auto, using(xdr_codec::proofs::Begins::begins_then, std::proofs::Common::append_assoc), unfolding(crate::specs::Call::program_bytes))]
+#[tactic(auto, using(xdr_codec::proofs::Begins::begins_a, xdr_codec::proofs::Begins::begins_b, xdr_codec::proofs::Begins::grown_c), unfolding(crate::specs::Call::program_bytes))]
 fn write_program(w: &mut Writer, prog: u32, vers: u32, proc: u32) -> Result<(), Memory>
     ensures ok { OnOk result (w.new ≡ w.old ++ program_bytes prog vers proc) }
     ensures err { OnErr result (BeginsWith w.old w.new) }

@@ -71,7 +71,7 @@ fn write_sys(w: &mut Writer, machine: &Name, uid: u32, gid: u32) -> Result<(), M
     Ok(())
 }
 
-#[tactic(auto, using(xdr_codec::proofs::Begins::begins_then, std::proofs::Common::append_assoc), unfolding(crate::specs::Cred::sys_bytes))]
+#[tactic(auto, using(xdr_codec::proofs::Begins::begins_a, xdr_codec::proofs::Begins::begins_b, xdr_codec::proofs::Begins::begins_c, xdr_codec::proofs::Begins::begins_d, xdr_codec::proofs::Begins::grown_e), unfolding(crate::specs::Cred::sys_bytes))]
 fn write_sys_body(w: &mut Writer, machine: &[u8], uid: u32, gid: u32) -> Result<(), Memory>
     requires { length machine.now < 2 ^ 32 }
     ensures ok { OnOk result (w.new ≡ w.old ++ sys_bytes machine.now uid gid) }

@@ -242,7 +242,7 @@ pub fn write_accepted(w: &mut Writer, xid: u32) -> Result<(), Memory>
 
 /// Writes the reply to a call that was accepted and not executed: stat is 1 to 5, and low and high are 0 unless it
 /// is 2, PROG_MISMATCH. When out of memory the writer begins with what it held.
-#[tactic(auto, using(xdr_codec::proofs::Begins::begins_then, std::proofs::Common::append_assoc), unfolding(crate::specs::Reply::refused_bytes))]
+#[tactic(auto, using(xdr_codec::proofs::Begins::begins_a, xdr_codec::proofs::Begins::after_b, xdr_codec::proofs::Begins::grown_c), unfolding(crate::specs::Reply::refused_bytes))]
 pub fn write_refused(w: &mut Writer, xid: u32, stat: u32, low: u32, high: u32) -> Result<(), Memory>
     requires refused { 1 ≤ stat }
     requires known { stat ≤ 5 }
@@ -259,7 +259,7 @@ pub fn write_refused(w: &mut Writer, xid: u32, stat: u32, low: u32, high: u32) -
 
 /// Writes the reply to a call that was denied: stat is 0, RPC_MISMATCH, or 1, AUTH_ERROR, and at 1 second is 0. When
 /// out of memory the writer begins with what it held.
-#[tactic(auto, using(xdr_codec::proofs::Begins::begins_then, std::proofs::Common::append_assoc), unfolding(crate::specs::Reply::denied_bytes))]
+#[tactic(auto, using(xdr_codec::proofs::Begins::begins_a, xdr_codec::proofs::Begins::begins_b, xdr_codec::proofs::Begins::after_c, xdr_codec::proofs::Begins::grown_d), unfolding(crate::specs::Reply::denied_bytes))]
 pub fn write_denied(
     w: &mut Writer,
     xid: u32,
@@ -280,7 +280,7 @@ pub fn write_denied(
     Ok(())
 }
 
-#[tactic(auto, using(xdr_codec::proofs::Begins::begins_then, std::proofs::Common::append_assoc), unfolding(crate::specs::Reply::verified_bytes))]
+#[tactic(auto, using(xdr_codec::proofs::Begins::begins_a, xdr_codec::proofs::Begins::begins_b, xdr_codec::proofs::Begins::after_c, xdr_codec::proofs::Begins::grown_d), unfolding(crate::specs::Reply::verified_bytes))]
 fn write_verified(w: &mut Writer, xid: u32) -> Result<(), Memory>
     ensures ok { OnOk result (w.new ≡ w.old ++ verified_bytes xid) }
     ensures err { OnErr result (BeginsWith w.old w.new) }
@@ -292,7 +292,7 @@ fn write_verified(w: &mut Writer, xid: u32) -> Result<(), Memory>
     Ok(())
 }
 
-#[tactic(auto, using(xdr_codec::proofs::Begins::begins_then, std::proofs::Common::append_assoc), unfolding(crate::specs::Reply::denied_opening_bytes))]
+#[tactic(auto, using(xdr_codec::proofs::Begins::begins_a, xdr_codec::proofs::Begins::begins_b, xdr_codec::proofs::Begins::grown_c), unfolding(crate::specs::Reply::denied_opening_bytes))]
 fn write_denied_opening(w: &mut Writer, xid: u32) -> Result<(), Memory>
     ensures ok { OnOk result (w.new ≡ w.old ++ denied_opening_bytes xid) }
     ensures err { OnErr result (BeginsWith w.old w.new) }
