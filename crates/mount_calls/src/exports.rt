@@ -131,7 +131,7 @@ pub fn write_exports(w: &mut Writer, list: &ExportList) -> Result<(), Memory>
     Ok(())
 }
 
-#[tactic(auto, using(xdr_codec::proofs::Begins::begins_then, std::proofs::Common::append_assoc), unfolding(crate::specs::Exports::row_bytes))]
+#[tactic(auto, using(xdr_codec::proofs::Begins::begins_a, xdr_codec::proofs::Begins::after_b, xdr_codec::proofs::Begins::grown_c), unfolding(crate::specs::Exports::row_bytes))]
 fn write_next_row(w: &mut Writer, row: &ExportRow) -> Result<(), Memory>
     requires { IsRow row.now }
     ensures ok { OnOk result (w.new ≡ w.old ++ next_row_bytes row.now) }

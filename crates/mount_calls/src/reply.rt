@@ -136,7 +136,7 @@ pub fn write_mount_reply(w: &mut Writer, reply: &MountReply) -> Result<(), Memor
     }
 }
 
-#[tactic(auto, using(xdr_codec::proofs::Begins::begins_then, std::proofs::Common::append_assoc), unfolding(crate::specs::Replies::mnt_ok_bytes, nfs_types::specs::Fields::handle_bytes))]
+#[tactic(auto, using(xdr_codec::proofs::Begins::begins_a, xdr_codec::proofs::Begins::after_b, xdr_codec::proofs::Begins::grown_c), unfolding(crate::specs::Replies::mnt_ok_bytes, nfs_types::specs::Fields::handle_bytes))]
 fn write_mnt_ok(w: &mut Writer, root: &Handle, flavors: &Flavors) -> Result<(), Memory>
     requires { length flavors.now ≤ 64 }
     ensures ok { OnOk result (w.new ≡ w.old ++ mnt_ok_bytes root.now flavors.now) }
