@@ -49,7 +49,7 @@ fn mapping_in(args: &[u8]) -> Result<Mapping, XdrFault>
 }
 
 /// Writes a mapping. When out of memory the writer begins with what it held.
-#[tactic(auto, using(xdr_codec::proofs::Begins::begins_then, std::proofs::Common::append_assoc), unfolding(crate::specs::Mappings::mapping_bytes))]
+#[tactic(auto, using(xdr_codec::proofs::Begins::begins_a, xdr_codec::proofs::Begins::begins_b, xdr_codec::proofs::Begins::begins_c, xdr_codec::proofs::Begins::grown_d), unfolding(crate::specs::Mappings::mapping_bytes))]
 pub fn write_mapping(w: &mut Writer, mapping: &Mapping) -> Result<(), Memory>
     ensures ok { OnOk result (w.new ≡ w.old ++ mapping_bytes mapping.now) }
     ensures err { OnErr result (BeginsWith w.old w.new) }
