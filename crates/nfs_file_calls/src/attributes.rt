@@ -77,7 +77,7 @@ pub(crate) fn read_access_call(args: &[u8]) -> Result<FileCall, CodecFault>
 }
 
 /// Appends the arguments of SETATTR.
-#[tactic(auto, using(xdr_codec::proofs::Begins::begins_then, std::proofs::Common::append_assoc), unfolding(crate::specs::Attributes::set_attr_args_bytes))]
+#[tactic(auto, using(xdr_codec::proofs::Begins::after_a, xdr_codec::proofs::Begins::after_b, xdr_codec::proofs::Begins::grown_c), unfolding(crate::specs::Attributes::set_attr_args_bytes))]
 pub(crate) fn write_set_attr_args(
     w: &mut Writer,
     file: &Handle,

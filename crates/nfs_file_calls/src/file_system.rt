@@ -155,7 +155,7 @@ pub(crate) fn read_path_conf_reply<'a>(results: &'a [u8]) -> Result<FileReply<'a
 }
 
 /// Appends a total, what is free and what is available.
-#[tactic(auto, using(xdr_codec::proofs::Begins::begins_then, std::proofs::Common::append_assoc), unfolding(crate::specs::FileSystem::amounts_bytes))]
+#[tactic(auto, using(xdr_codec::proofs::Begins::begins_a, xdr_codec::proofs::Begins::begins_b, xdr_codec::proofs::Begins::grown_c), unfolding(crate::specs::FileSystem::amounts_bytes))]
 pub(crate) fn write_amounts(
     w: &mut Writer,
     total: u64,
@@ -172,7 +172,7 @@ pub(crate) fn write_amounts(
 }
 
 /// Appends the most, the preferred and the suggested multiple.
-#[tactic(auto, using(xdr_codec::proofs::Begins::begins_then, std::proofs::Common::append_assoc), unfolding(crate::specs::FileSystem::sizes_bytes))]
+#[tactic(auto, using(xdr_codec::proofs::Begins::begins_a, xdr_codec::proofs::Begins::begins_b, xdr_codec::proofs::Begins::grown_c), unfolding(crate::specs::FileSystem::sizes_bytes))]
 pub(crate) fn write_sizes(
     w: &mut Writer,
     most: u32,
@@ -189,7 +189,7 @@ pub(crate) fn write_sizes(
 }
 
 /// Appends the preferred bytes of a READDIR, the size of the greatest file, how fine times are, and properties.
-#[tactic(auto, using(xdr_codec::proofs::Begins::begins_then, std::proofs::Common::append_assoc), unfolding(crate::specs::FileSystem::limits_bytes))]
+#[tactic(auto, using(xdr_codec::proofs::Begins::begins_a, xdr_codec::proofs::Begins::after_b, xdr_codec::proofs::Begins::begins_c, xdr_codec::proofs::Begins::grown_d), unfolding(crate::specs::FileSystem::limits_bytes))]
 pub(crate) fn write_limits(
     w: &mut Writer,
     dtpref: u32,
@@ -219,7 +219,7 @@ pub(crate) fn write_bounds(w: &mut Writer, linkmax: u32, name_max: u32) -> Resul
 }
 
 /// Appends the four rules for names and owners.
-#[tactic(auto, using(xdr_codec::proofs::Begins::begins_then, std::proofs::Common::append_assoc), unfolding(crate::specs::FileSystem::rules_bytes))]
+#[tactic(auto, using(xdr_codec::proofs::Begins::begins_a, xdr_codec::proofs::Begins::begins_b, xdr_codec::proofs::Begins::begins_c, xdr_codec::proofs::Begins::grown_d), unfolding(crate::specs::FileSystem::rules_bytes))]
 pub(crate) fn write_rules(
     w: &mut Writer,
     no_trunc: bool,

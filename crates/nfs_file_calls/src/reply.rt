@@ -193,7 +193,7 @@ pub fn write_file_reply(w: &mut Writer, reply: &FileReply<'_>) -> Result<(), Mem
 }
 
 // One arm a reply, field by field: longer than other functions, but a split would only hide the table.
-#[tactic(auto, using(xdr_codec::proofs::Begins::begins_then, std::proofs::Common::append_assoc), unfolding(crate::specs::Replies::file_reply_bytes, crate::specs::FileSystem::fs_stat_done_bytes, crate::specs::FileSystem::fs_info_done_bytes, crate::specs::FileSystem::path_conf_done_bytes))]
+#[tactic(auto, using(xdr_codec::proofs::Begins::after_a, xdr_codec::proofs::Begins::after_b, xdr_codec::proofs::Begins::begins_c, std::proofs::Common::append_assoc), unfolding(crate::specs::Replies::file_reply_bytes, crate::specs::FileSystem::fs_stat_done_bytes, crate::specs::FileSystem::fs_info_done_bytes, crate::specs::FileSystem::path_conf_done_bytes))]
 fn file_reply_into(w: &mut Writer, reply: &FileReply<'_>) -> Result<(), Memory>
     requires { HasSpellingReply (kept_of reply.now) }
     ensures ok { OnOk result (w.new ≡ w.old ++ file_reply_bytes (kept_of reply.now)) }

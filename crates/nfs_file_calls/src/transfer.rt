@@ -92,7 +92,7 @@ pub(crate) fn read_commit_call(args: &[u8]) -> Result<FileCall, CodecFault>
 }
 
 /// Appends the arguments of WRITE.
-#[tactic(auto, using(xdr_codec::proofs::Begins::begins_then, std::proofs::Common::append_assoc), unfolding(crate::specs::Transfer::write_args_bytes))]
+#[tactic(auto, using(xdr_codec::proofs::Begins::begins_a, xdr_codec::proofs::Begins::begins_b, xdr_codec::proofs::Begins::begins_c, xdr_codec::proofs::Begins::begins_d, xdr_codec::proofs::Begins::grown_e), unfolding(crate::specs::Transfer::write_args_bytes))]
 pub(crate) fn write_write_args(
     w: &mut Writer,
     file: &Handle,
@@ -113,7 +113,7 @@ pub(crate) fn write_write_args(
 }
 
 /// Appends the arguments of READ and COMMIT.
-#[tactic(auto, using(xdr_codec::proofs::Begins::begins_then, std::proofs::Common::append_assoc), unfolding(crate::specs::Transfer::range_args_bytes))]
+#[tactic(auto, using(xdr_codec::proofs::Begins::begins_a, xdr_codec::proofs::Begins::begins_b, xdr_codec::proofs::Begins::grown_c), unfolding(crate::specs::Transfer::range_args_bytes))]
 pub(crate) fn write_range_args(
     w: &mut Writer,
     file: &Handle,
@@ -204,7 +204,7 @@ pub(crate) fn read_commit_reply<'a>(results: &'a [u8]) -> Result<FileReply<'a>, 
 }
 
 /// Appends the results of a READ that was done, but for the status.
-#[tactic(auto, using(xdr_codec::proofs::Begins::begins_then, std::proofs::Common::append_assoc), unfolding(crate::specs::Transfer::read_done_bytes))]
+#[tactic(auto, using(xdr_codec::proofs::Begins::begins_a, xdr_codec::proofs::Begins::begins_b, xdr_codec::proofs::Begins::begins_c, xdr_codec::proofs::Begins::grown_d), unfolding(crate::specs::Transfer::read_done_bytes))]
 pub(crate) fn write_read_done(
     w: &mut Writer,
     attr: &Option<Attr>,
@@ -224,7 +224,7 @@ pub(crate) fn write_read_done(
 }
 
 /// Appends the results of a WRITE that was done, but for the status.
-#[tactic(auto, using(xdr_codec::proofs::Begins::begins_then, std::proofs::Common::append_assoc), unfolding(crate::specs::Transfer::write_done_bytes))]
+#[tactic(auto, using(xdr_codec::proofs::Begins::begins_a, xdr_codec::proofs::Begins::begins_b, xdr_codec::proofs::Begins::after_c, xdr_codec::proofs::Begins::grown_d), unfolding(crate::specs::Transfer::write_done_bytes))]
 pub(crate) fn write_write_done(
     w: &mut Writer,
     wcc: &Wcc,
