@@ -11,12 +11,12 @@ use Rattle.world_model.specs.declared.entry.Entry.TheVariants.{Delivered}
 use Rattle.world_model.specs.declared.message.Call.{Call}
 use Rattle.world_model.specs.declared.message.Call.TheVariants as calls
 use Rattle.world_model.specs.declared.op.Op.{Op}
-use Rattle.world_model.specs.Asks.{Asks}
-use Rattle.world_model.specs.CallsAsked.{IsCause, mounts, informs, asked}
-use Rattle.world_model.specs.Complete as complete
-use Rattle.world_model.specs.Complete.{Undisturbed, AllGoOn, IsOwn}
+use Rattle.claims.specs.Asks.{Asks}
+use Rattle.claims.specs.CallsAsked.{IsCause, mounts, informs, asked}
+use Rattle.claims.specs.Complete as complete
+use Rattle.claims.specs.Complete.{Undisturbed, AllGoOn, IsOwn}
 use Rattle.world_model.specs.Entries.{At}
-use Rattle.world_model.specs.GoesOn.{GoesOn}
+use Rattle.claims.specs.GoesOn.{GoesOn}
 use Rattle.world_model.specs.Heard.{Heard, status_of}
 use Rattle.world_model.specs.History.{History}
 use Rattle.world_model.specs.Lawful.{Lawful}
@@ -24,10 +24,10 @@ use Rattle.world_model.specs.Lost.{IsLost}
 use Rattle.world_model.specs.Messages.{SpellsCall}
 use Rattle.world_model.specs.Mounts.{mount_call, info_call}
 use Rattle.world_model.specs.Operations.{Ended}
-use Rattle.world_model.specs.PageRules as pages
-use Rattle.world_model.specs.PageRules.{RefusedSo, RefusesSo}
-use Rattle.world_model.specs.RefusalRows.{RefusedBy}
-use Rattle.world_model.specs.Terms.{Terms}
+use Rattle.claims.specs.PageRules as pages
+use Rattle.claims.specs.PageRules.{RefusedSo, RefusesSo}
+use Rattle.claims.specs.RefusalRows.{RefusedBy}
+use Rattle.claims.specs.Terms.{Terms}
 use Rattle.op_machines.specs.declared.begun.Mounted.{Mounted}
 use Rattle.client_core.specs.declared.setup.Setup.{Setup}
 use Rattle.client_core.specs.View.{View}

@@ -16,8 +16,8 @@ use Rattle.world_model.specs.declared.message.Call.TheVariants as calls
 use Rattle.world_model.specs.declared.message.Reply.{Reply}
 use Rattle.world_model.specs.declared.op.Op.{Op}
 use Rattle.world_model.specs.declared.op.Op.TheVariants as ops
-use Rattle.world_model.specs.Asks.{create_unchecked}
-use Rattle.world_model.specs.GoesOn.{MadeWithin}
+use Rattle.claims.specs.Asks.{create_unchecked}
+use Rattle.claims.specs.GoesOn.{MadeWithin}
 use Rattle.world_model.specs.Heard.{Asked}
 use Rattle.world_model.proofs.Growth.{FirstSent-grow}
 use Rattle.world_model.proofs.Places.{length_last}

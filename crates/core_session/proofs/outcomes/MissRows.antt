@@ -9,16 +9,16 @@ use Rattle.world_model.specs.declared.entry.Entry.{Entry}
 use Rattle.world_model.specs.declared.message.Call.{Call}
 use Rattle.world_model.specs.declared.op.Op.{Op}
 use Rattle.world_model.specs.declared.op.Op.TheVariants as ops
-use Rattle.world_model.specs.Asks.{Asks, IsWriter, look_up, create_unchecked}
-use Rattle.world_model.specs.Asks as acts
-use Rattle.world_model.specs.GoesOn.{GoesOn, IsNotOnTheWay, MadeWithin}
-use Rattle.world_model.specs.GoesOn as on
+use Rattle.claims.specs.Asks.{Asks, IsWriter, look_up, create_unchecked}
+use Rattle.claims.specs.Asks as acts
+use Rattle.claims.specs.GoesOn.{GoesOn, IsNotOnTheWay, MadeWithin}
+use Rattle.claims.specs.GoesOn as on
 use Rattle.world_model.specs.Leads.{Leads}
 use Rattle.world_model.specs.Mounts.{Rooted}
 use Rattle.world_model.specs.Operations.{Ended}
-use Rattle.world_model.specs.Paths.{PlaceOf}
-use Rattle.world_model.specs.RefusalRows.{IsLastRemove, RefusedBy}
-use Rattle.world_model.specs.Terms.{Terms, jukebox}
+use Rattle.claims.specs.Paths.{PlaceOf}
+use Rattle.claims.specs.RefusalRows.{IsLastRemove, RefusedBy}
+use Rattle.claims.specs.Terms.{Terms, jukebox}
 use Rattle.world_model.proofs.Growth.{FirstSent-grow, Rooted-wide}
 use Rattle.op_machines.specs.declared.begun.Mounted.{Mounted}
 use Rattle.op_machines.specs.Begun.{IsNamed, front_of, last_of}

@@ -22,11 +22,11 @@ use Rattle.world_model.specs.declared.message.Reply.{Reply}
 use Rattle.world_model.specs.declared.message.Reply.TheVariants as replies
 use Rattle.world_model.specs.declared.op.Op.{Op}
 use Rattle.world_model.specs.declared.op.Op.TheVariants as ops
-use Rattle.world_model.specs.Asks.{look_up, create_unchecked}
-use Rattle.world_model.specs.GoesOn.{MadeWithin}
-use Rattle.world_model.specs.Modes.{Modes}
+use Rattle.claims.specs.Asks.{look_up, create_unchecked}
+use Rattle.claims.specs.GoesOn.{MadeWithin}
+use Rattle.claims.specs.Modes.{Modes}
 use Rattle.world_model.specs.Operations.{Ended}
-use Rattle.world_model.specs.PageRules.{RefusedSo, RefusesSo}
+use Rattle.claims.specs.PageRules.{RefusedSo, RefusesSo}
 use Rattle.world_model.proofs.Growth.{FirstSent-grow, Answers-grow}
 use Rattle.world_model.proofs.Places.{length_last}
 use Rattle.call_replies.specs.Says.{Says}

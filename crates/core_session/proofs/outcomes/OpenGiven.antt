@@ -16,10 +16,10 @@ use Rattle.world_model.specs.declared.message.Call.{Call}
 use Rattle.world_model.specs.declared.message.Call.TheVariants as calls
 use Rattle.world_model.specs.declared.message.Reply.{Reply}
 use Rattle.world_model.specs.declared.message.Reply.TheVariants as replies
-use Rattle.world_model.specs.Asks.{MakesFile, look_up}
+use Rattle.claims.specs.Asks.{MakesFile, look_up}
 use Rattle.world_model.specs.Heard.{Asked, status_of}
 use Rattle.world_model.specs.Operations.{EndsWith}
-use Rattle.world_model.specs.Shown.{ShownWithin, given_object}
+use Rattle.claims.specs.Shown.{ShownWithin, given_object}
 use Rattle.world_model.proofs.Growth.{Asked-grow, Asked-wide, Heard-wide}
 use Rattle.world_model.proofs.Places.{length_last}
 use Rattle.file_ops.specs.declared.opening.Led.TheVariants as leads

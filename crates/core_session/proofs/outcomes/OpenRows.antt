@@ -8,13 +8,13 @@ use Rattle.world_model.specs.declared.message.Call.{Call}
 use Rattle.world_model.specs.declared.message.Call.TheVariants as calls
 use Rattle.world_model.specs.declared.message.Reply.{Reply}
 use Rattle.world_model.specs.declared.op.Op.TheVariants as ops
-use Rattle.world_model.specs.Asks.{Asks}
-use Rattle.world_model.specs.Asks as asks
+use Rattle.claims.specs.Asks.{Asks}
+use Rattle.claims.specs.Asks as asks
 use Rattle.world_model.specs.Heard.{Asked}
 use Rattle.world_model.specs.Mounts.{Rooted}
-use Rattle.world_model.specs.OkRows.{OpenOk, asked, known, FindsFile, looked_up, made, OkRow}
-use Rattle.world_model.specs.Paths.{PlaceOf}
-use Rattle.world_model.specs.Terms.{Terms}
+use Rattle.claims.specs.OkRows.{OpenOk, asked, known, FindsFile, looked_up, made, OkRow}
+use Rattle.claims.specs.Paths.{PlaceOf}
+use Rattle.claims.specs.Terms.{Terms}
 use Rattle.world_model.proofs.Growth.{Asked-grow, Rooted-wide}
 use Rattle.op_machines.specs.declared.begun.Mounted.{Mounted}
 use Rattle.op_machines.specs.Begun.{IsNamed, front_of, last_of, machine_of}

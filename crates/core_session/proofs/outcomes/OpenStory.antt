@@ -13,7 +13,7 @@ use Rattle.world_model.specs.declared.message.Call.{Call}
 use Rattle.world_model.specs.declared.message.Reply.{Reply}
 use Rattle.world_model.specs.declared.op.Op.{Op}
 use Rattle.world_model.specs.declared.op.Op.TheVariants as ops
-use Rattle.world_model.specs.Shown.{ShownWithin}
+use Rattle.claims.specs.Shown.{ShownWithin}
 use Rattle.world_model.specs.Waiting.{IsDelivered}
 use Rattle.world_model.proofs.Growth.{Asked-grow, Asked-wide}
 use Rattle.world_model.proofs.Places.{length_last}

@@ -4,10 +4,10 @@ use Rattle.world_model.specs.declared.entry.Entry.{Entry}
 use Rattle.world_model.specs.declared.message.Call.{Call}
 use Rattle.world_model.specs.declared.op.Op.{Op}
 use Rattle.world_model.specs.declared.op.Op.TheVariants as ops
-use Rattle.world_model.specs.Asks.{Asks, IsWriter}
-use Rattle.world_model.specs.Asks as asks
-use Rattle.world_model.specs.RefusalRows.{IsLastRemove}
-use Rattle.world_model.specs.Terms.{Terms}
+use Rattle.claims.specs.Asks.{Asks, IsWriter}
+use Rattle.claims.specs.Asks as asks
+use Rattle.claims.specs.RefusalRows.{IsLastRemove}
+use Rattle.claims.specs.Terms.{Terms}
 use Rattle.op_machines.specs.declared.begun.Mounted.{Mounted}
 use Rattle.op_machines.specs.Begun.{IsAsked, machine_of}
 use Rattle.client_core.specs.declared.setup.Setup.{Setup}

@@ -11,8 +11,8 @@ use Rattle.world_model.specs.declared.message.Call.{Call}
 use Rattle.world_model.specs.declared.message.Reply.{Reply}
 use Rattle.world_model.specs.declared.op.Op.{Op}
 use Rattle.world_model.specs.Heard.{Refuses}
-use Rattle.world_model.specs.PageRules.{RefusesSo}
-use Rattle.world_model.specs.PageRules as page_rules
+use Rattle.claims.specs.PageRules.{RefusesSo}
+use Rattle.claims.specs.PageRules as page_rules
 use Rattle.call_replies.specs.Says.{Says}
 use Rattle.client_shelf.specs.declared.next.Next.{Next}
 use Rattle.client_shelf.specs.declared.next.Next.TheVariants as nexts

@@ -9,8 +9,8 @@ use Rattle.world_model.specs.declared.entry.Entry.{Entry}
 use Rattle.world_model.specs.declared.op.Op.{Op}
 use Rattle.world_model.specs.declared.op.Op.TheVariants as ops
 use Rattle.world_model.specs.Operations.{Ended}
-use Rattle.world_model.specs.RefusalRows.{RefusedBy, RefusalRow}
-use Rattle.world_model.specs.Terms.{Terms, jukebox}
+use Rattle.claims.specs.RefusalRows.{RefusedBy, RefusalRow}
+use Rattle.claims.specs.Terms.{Terms, jukebox}
 use Rattle.op_machines.specs.declared.begun.Mounted.{Mounted}
 use Rattle.op_machines.specs.Begun.{IsAsked}
 use Rattle.client_core.specs.declared.setup.Setup.{Setup}

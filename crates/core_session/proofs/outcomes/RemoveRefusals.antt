@@ -6,12 +6,12 @@ use Rattle.world_model.specs.declared.entry.Entry.{Entry}
 use Rattle.world_model.specs.declared.message.Call.{Call}
 use Rattle.world_model.specs.declared.op.Op.{Op}
 use Rattle.world_model.specs.declared.op.Op.TheVariants as ops
-use Rattle.world_model.specs.Asks.{Asks, HeldOpen}
-use Rattle.world_model.specs.GoesOn.{GoesOn}
-use Rattle.world_model.specs.GoesOn as on
+use Rattle.claims.specs.Asks.{Asks, HeldOpen}
+use Rattle.claims.specs.GoesOn.{GoesOn}
+use Rattle.claims.specs.GoesOn as on
 use Rattle.world_model.specs.Mounts.{Rooted}
-use Rattle.world_model.specs.RefusalRows.{IsLastRemove, RefusedBy}
-use Rattle.world_model.specs.Terms.{Terms}
+use Rattle.claims.specs.RefusalRows.{IsLastRemove, RefusedBy}
+use Rattle.claims.specs.Terms.{Terms}
 use Rattle.op_machines.specs.declared.begun.Mounted.{Mounted}
 use Rattle.op_machines.specs.Begun.{IsNamed, front_of, last_of, machine_of}
 use Rattle.client_core.specs.declared.lane.State.TheVariants.{Busy}

@@ -12,12 +12,12 @@ use Rattle.world_model.specs.declared.message.Call.TheVariants as calls
 use Rattle.world_model.specs.declared.message.Reply.{Reply}
 use Rattle.world_model.specs.declared.op.Op.{Op}
 use Rattle.world_model.specs.declared.op.Op.TheVariants as ops
-use Rattle.world_model.specs.Asks.{HeldOpen, look_up}
+use Rattle.claims.specs.Asks.{HeldOpen, look_up}
 use Rattle.world_model.specs.Heard.{status_of}
-use Rattle.world_model.specs.Hidden.{IsHidden}
-use Rattle.world_model.specs.OkRows.{value_of}
+use Rattle.claims.specs.Hidden.{IsHidden}
+use Rattle.claims.specs.OkRows.{value_of}
 use Rattle.world_model.specs.Operations.{EndsWith}
-use Rattle.world_model.specs.Terms.{Terms}
+use Rattle.claims.specs.Terms.{Terms}
 use Rattle.world_model.specs.Waiting.{IsDelivered}
 use Rattle.world_model.proofs.Growth.{Asked-grow, Asked-wide}
 use Rattle.world_model.proofs.Places.{length_last}

@@ -12,16 +12,16 @@ use Rattle.world_model.specs.declared.entry.Entry.TheVariants.{Began, Answered, 
 use Rattle.world_model.specs.declared.message.Call.{Call}
 use Rattle.world_model.specs.declared.op.Op.{Op}
 use Rattle.world_model.specs.declared.op.Op.TheVariants as ops
-use Rattle.world_model.specs.Asks.{Asks, IsWriter}
-use Rattle.world_model.specs.Asks as asks
+use Rattle.claims.specs.Asks.{Asks, IsWriter}
+use Rattle.claims.specs.Asks as asks
 use Rattle.world_model.specs.Entries.{At}
-use Rattle.world_model.specs.GoesOn.{GoesOn}
-use Rattle.world_model.specs.GoesOn as on
+use Rattle.claims.specs.GoesOn.{GoesOn}
+use Rattle.claims.specs.GoesOn as on
 use Rattle.world_model.specs.Heard.{Heard}
 use Rattle.world_model.specs.Mounts.{Rooted}
 use Rattle.world_model.specs.Operations.{Ended, UnderWay}
-use Rattle.world_model.specs.RefusalRows.{IsLastRemove, RefusedBy}
-use Rattle.world_model.specs.Terms.{Terms, jukebox}
+use Rattle.claims.specs.RefusalRows.{IsLastRemove, RefusedBy}
+use Rattle.claims.specs.Terms.{Terms, jukebox}
 use Rattle.world_model.proofs.Places.{At-one}
 use Rattle.op_machines.specs.declared.begun.Mounted.{Mounted}
 use Rattle.op_machines.specs.Begun.{IsAsked, IsNamed, machine_of}

@@ -26,18 +26,18 @@ use Rattle.world_model.specs.declared.message.Call.TheVariants as calls
 use Rattle.world_model.specs.declared.message.Reply.{Reply}
 use Rattle.world_model.specs.declared.message.Reply.TheVariants as replies
 use Rattle.world_model.specs.declared.op.Op.{Op}
-use Rattle.world_model.specs.Asks as asks
-use Rattle.world_model.specs.Asks.{Asks, Acts}
+use Rattle.claims.specs.Asks as asks
+use Rattle.claims.specs.Asks.{Asks, Acts}
 use Rattle.world_model.specs.Entries.{At}
 use Rattle.world_model.specs.Heard.{Heard}
 use Rattle.world_model.specs.History.{History}
 use Rattle.world_model.specs.Lawful.{Lawful, IsReplied, replied, refused}
 use Rattle.world_model.specs.Messages.{HasXid, SpellsCall, SpellsReply, SpellsResults}
-use Rattle.world_model.specs.PageRules as pages
-use Rattle.world_model.specs.PageRules.{WrongData, BreaksPage, RefusesSo}
+use Rattle.claims.specs.PageRules as pages
+use Rattle.claims.specs.PageRules.{WrongData, BreaksPage, RefusesSo}
 use Rattle.world_model.specs.Rules as rules
 use Rattle.world_model.specs.Rules.{Breaks, IsNotReply}
-use Rattle.world_model.specs.Terms.{Terms}
+use Rattle.claims.specs.Terms.{Terms}
 use Rattle.world_model.proofs.Doing.{read_done, write_done, list_done}
 use Rattle.bond_calls.proofs.CallsWait.{xid_of_call}
 use Rattle.call_replies.proofs.Readings.{not_reply_read}

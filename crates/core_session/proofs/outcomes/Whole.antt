@@ -2,7 +2,7 @@
 use Rattle.world_model.specs.declared.answer.Answer.TheVariants.{Done}
 use Rattle.world_model.specs.declared.op.Op.{Op}
 use Rattle.world_model.specs.declared.op.Op.TheVariants as ops
-use Rattle.world_model.specs.OkRows.{OkRow}
+use Rattle.claims.specs.OkRows.{OkRow}
 use Rattle.world_model.specs.Operations.{Ended}
 use Rattle.op_machines.specs.Begun.{IsAsked}
 use Rattle.core_facts.proofs.OneCalled.{one-calls-done}

@@ -11,7 +11,7 @@ use Rattle.world_model.specs.declared.message.Call.{Call}
 use Rattle.world_model.specs.declared.message.Call.TheVariants.{File}
 use Rattle.world_model.specs.declared.message.Reply.{Reply}
 use Rattle.world_model.specs.declared.op.Op.{Op}
-use Rattle.world_model.specs.Complete.{Undisturbed, IsOwn}
+use Rattle.claims.specs.Complete.{Undisturbed, IsOwn}
 use Rattle.world_model.specs.Entries.{At}
 use Rattle.world_model.specs.Heard.{status_of}
 use Rattle.world_model.specs.History.{History}
@@ -19,7 +19,7 @@ use Rattle.world_model.specs.Lawful.{Lawful}
 use Rattle.world_model.specs.Lost.{IsLost}
 use Rattle.world_model.specs.Messages.{SpellsCall}
 use Rattle.world_model.specs.Operations.{Ended}
-use Rattle.world_model.specs.Terms.{Terms}
+use Rattle.claims.specs.Terms.{Terms}
 use Rattle.op_machines.specs.declared.begun.Mounted.{Mounted}
 use Rattle.client_core.specs.declared.setup.Setup.{Setup}
 use Rattle.client_core.specs.View.{View}

@@ -6,11 +6,11 @@ use Rattle.world_model.specs.declared.answer.Fault.TheVariants as faults
 use Rattle.world_model.specs.declared.entry.Entry.{Entry}
 use Rattle.world_model.specs.declared.message.Call.{Call}
 use Rattle.world_model.specs.declared.op.Op.{Op}
-use Rattle.world_model.specs.Asks.{IsWriter}
+use Rattle.claims.specs.Asks.{IsWriter}
 use Rattle.world_model.specs.Operations.{Ended, UnderWay}
-use Rattle.world_model.specs.PageRules.{RefusedSo}
-use Rattle.world_model.specs.RefusalRows.{RefusalRow}
-use Rattle.world_model.specs.Terms.{Terms, jukebox}
+use Rattle.claims.specs.PageRules.{RefusedSo}
+use Rattle.claims.specs.RefusalRows.{RefusalRow}
+use Rattle.claims.specs.Terms.{Terms, jukebox}
 use Rattle.op_machines.specs.declared.begun.Mounted.{Mounted}
 use Rattle.op_machines.specs.Begun.{IsAsked}
 use Rattle.client_core.specs.declared.setup.Setup.{Setup}
