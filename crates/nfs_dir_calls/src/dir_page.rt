@@ -83,7 +83,7 @@ pub fn write_dir_entry(w: &mut Writer, entry: &DirEntry<'_>) -> Result<(), Memor
 }
 
 /// Appends an entry alone.
-#[tactic(auto, using(xdr_codec::proofs::Begins::begins_then, std::proofs::Common::append_assoc), unfolding(crate::specs::DirPages::dir_row_bytes))]
+#[tactic(auto, using(xdr_codec::proofs::Begins::after_a, xdr_codec::proofs::Begins::begins_b, xdr_codec::proofs::Begins::grown_c), unfolding(crate::specs::DirPages::dir_row_bytes))]
 pub(crate) fn write_dir_row(w: &mut Writer, entry: &DirEntry<'_>) -> Result<(), Memory>
     requires { IsName entry.now.name.now }
     ensures ok { OnOk result (w.new ≡ w.old ++ dir_row_bytes (dir_row_of entry.now)) }

@@ -69,7 +69,7 @@ pub fn read_reply<'a>(results: &'a [u8]) -> Result<DirReply<'a>, XdrFault>
 }
 
 /// Appends the results at any status.
-#[tactic(auto, using(xdr_codec::proofs::Begins::begins_then, std::proofs::Common::append_assoc), unfolding(crate::specs::Link::link_bytes))]
+#[tactic(auto, using(xdr_codec::proofs::Begins::after_a, xdr_codec::proofs::Begins::after_b, xdr_codec::proofs::Begins::grown_c), unfolding(crate::specs::Link::link_bytes))]
 pub fn write_reply(
     w: &mut Writer,
     status: Status,

@@ -26,7 +26,7 @@ pub fn read_listed_name<'a>(r: &mut Reader<'a>) -> Result<&'a [u8], XdrFault>
 }
 
 /// Appends a name.
-#[tactic(auto, unfolding(nfs_types::specs::Fields::name_bytes))]
+#[tactic(auto, using(xdr_codec::proofs::Begins::begins_same), unfolding(nfs_types::specs::Fields::name_bytes))]
 pub fn write_listed_name(w: &mut Writer, name: &[u8]) -> Result<(), Memory>
     requires { IsName name.now }
     ensures ok { OnOk result (w.new ≡ w.old ++ name_bytes name.now) }

@@ -51,7 +51,7 @@ pub fn read_reply<'a>(results: &'a [u8]) -> Result<DirReply<'a>, XdrFault>
 }
 
 /// Appends the results at status 0.
-#[tactic(auto, using(xdr_codec::proofs::Begins::begins_then, std::proofs::Common::append_assoc), unfolding(crate::specs::Lookup::lookup_bytes))]
+#[tactic(auto, using(xdr_codec::proofs::Begins::after_a, xdr_codec::proofs::Begins::after_b, xdr_codec::proofs::Begins::after_c, xdr_codec::proofs::Begins::grown_d), unfolding(crate::specs::Lookup::lookup_bytes))]
 pub fn write_reply(
     w: &mut Writer,
     found: &Handle,

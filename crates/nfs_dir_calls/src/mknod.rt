@@ -82,7 +82,7 @@ fn read_node(r: &mut Reader<'_>) -> Result<Node, XdrFault>
 }
 
 /// Appends what is to be made.
-#[tactic(auto, using(xdr_codec::proofs::Begins::begins_then, std::proofs::Common::append_assoc), unfolding(crate::specs::Nodes::node_bytes))]
+#[tactic(auto, using(xdr_codec::proofs::Begins::after_a, xdr_codec::proofs::Begins::begins_b, xdr_codec::proofs::Begins::begins_c, xdr_codec::proofs::Begins::grown_d, std::proofs::Common::append_assoc), unfolding(crate::specs::Nodes::node_bytes))]
 fn write_node(w: &mut Writer, node: &Node) -> Result<(), Memory>
     requires { IsNode node.now }
     ensures ok { OnOk result (w.new ≡ w.old ++ node_bytes node.now) }

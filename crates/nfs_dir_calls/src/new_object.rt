@@ -51,7 +51,7 @@ pub fn read_new_object(results: &[u8]) -> Result<NewObject, XdrFault>
 }
 
 /// Appends the results at status 0.
-#[tactic(auto, using(xdr_codec::proofs::Begins::begins_then, std::proofs::Common::append_assoc), unfolding(crate::specs::NewObjects::new_object_bytes))]
+#[tactic(auto, using(xdr_codec::proofs::Begins::after_a, xdr_codec::proofs::Begins::after_b, xdr_codec::proofs::Begins::after_c, xdr_codec::proofs::Begins::grown_d), unfolding(crate::specs::NewObjects::new_object_bytes))]
 pub fn write_new_object(
     w: &mut Writer,
     found: &Option<Handle>,

@@ -101,7 +101,7 @@ pub fn write_plus_entry(w: &mut Writer, entry: &PlusEntry<'_>) -> Result<(), Mem
 }
 
 /// Appends an entry alone.
-#[tactic(auto, using(xdr_codec::proofs::Begins::begins_then, std::proofs::Common::append_assoc), unfolding(crate::specs::PlusPages::plus_row_bytes))]
+#[tactic(auto, using(xdr_codec::proofs::Begins::after_a, xdr_codec::proofs::Begins::after_b, xdr_codec::proofs::Begins::grown_c), unfolding(crate::specs::PlusPages::plus_row_bytes))]
 fn write_plus_row(w: &mut Writer, entry: &PlusEntry<'_>) -> Result<(), Memory>
     requires { IsName entry.now.name.now }
     ensures ok { OnOk result (w.new ≡ w.old ++ plus_row_bytes (plus_row_of entry.now)) }

@@ -39,7 +39,7 @@ pub fn read_call(args: &[u8]) -> Result<DirCall, XdrFault>
 }
 
 /// Appends the arguments.
-#[tactic(auto, using(xdr_codec::proofs::Begins::begins_then, std::proofs::Common::append_assoc))]
+#[tactic(auto, using(xdr_codec::proofs::Begins::begins_a, xdr_codec::proofs::Begins::after_b, xdr_codec::proofs::Begins::begins_c, xdr_codec::proofs::Begins::grown_d))]
 pub fn write_call(
     w: &mut Writer,
     dir: &Handle,
@@ -87,7 +87,7 @@ pub fn read_reply<'a>(results: &'a [u8]) -> Result<DirReply<'a>, XdrFault>
 }
 
 /// Appends the results at status 0.
-#[tactic(auto, using(xdr_codec::proofs::Begins::begins_then, std::proofs::Common::append_assoc), unfolding(crate::specs::ReadDir::readdir_bytes))]
+#[tactic(auto, using(xdr_codec::proofs::Begins::after_a, xdr_codec::proofs::Begins::after_b, xdr_codec::proofs::Begins::after_c, xdr_codec::proofs::Begins::begins_d, xdr_codec::proofs::Begins::grown_e), unfolding(crate::specs::ReadDir::readdir_bytes))]
 pub fn write_reply(
     w: &mut Writer,
     attr: &Option<Attr>,

@@ -46,7 +46,7 @@ pub fn read_reply<'a>(results: &'a [u8]) -> Result<DirReply<'a>, XdrFault>
 }
 
 /// Appends the results at status 0.
-#[tactic(auto, using(xdr_codec::proofs::Begins::begins_then, std::proofs::Common::append_assoc), unfolding(crate::specs::ReadLink::readlink_bytes))]
+#[tactic(auto, using(xdr_codec::proofs::Begins::after_a, xdr_codec::proofs::Begins::begins_b, xdr_codec::proofs::Begins::grown_c), unfolding(crate::specs::ReadLink::readlink_bytes))]
 pub fn write_reply(w: &mut Writer, attr: &Option<Attr>, text: &[u8]) -> Result<(), Memory>
     requires { length text.now ≤ 1024 }
     ensures ok { OnOk result (w.new ≡ w.old ++ readlink_bytes attr.now text.now) }

@@ -37,7 +37,7 @@ pub fn read_call(alloc: Global, args: &[u8]) -> Result<DirCall, CodecFault>
 }
 
 /// Appends the arguments.
-#[tactic(auto, using(xdr_codec::proofs::Begins::begins_then, std::proofs::Common::append_assoc))]
+#[tactic(auto, using(xdr_codec::proofs::Begins::after_a, xdr_codec::proofs::Begins::begins_b, xdr_codec::proofs::Begins::grown_c))]
 pub fn write_call(
     w: &mut Writer,
     dir: &Handle,
