@@ -42,16 +42,20 @@ check_paths() {
             [ -e "$path" ]
             count $? "$document: $path isn't there"
         done < <(grep -oE '`(crates|docs|tests|examples|bin)/[A-Za-z0-9_./-]*`' "$document" | tr -d '`' | grep -v '/NAME\|/out/' | sort -u)
+        while read -r path; do
+            [ -e "crates/$path" ]
+            count $? "$document: crates/$path isn't there"
+        done < <(grep -oE '`[a-z_0-9]+/(src|specs|proofs)/[A-Za-z0-9_/-]+\.(rt|antt)`' "$document" | tr -d '`' | sort -u)
+        while read -r path; do
+            [ -e "crates/$path" ] || [ -e "crates/$path.antt" ] || [ -e "crates/$path.rt" ]
+            count $? "$document: crates/$path isn't there"
+        done < <(grep -oE '`[a-z_0-9]+/(src|specs|proofs)/[A-Za-z0-9_/-]+`' "$document" | tr -d '`' | sort -u)
     done
 }
 
-# A name of CLAIMS.md is a file of specs/ or something that one declares; CRATE/specs/FILE is a file.
+# A name of CLAIMS.md is a file of specs/, or something that one or a source declares.
 check_claims() {
     local name
-    while read -r name; do
-        [ -e "crates/$name.antt" ]
-        count $? "docs/CLAIMS.md: crates/$name.antt isn't there"
-    done < <(grep -oE '`[a-z_]+/specs/[A-Za-z/]+`' docs/CLAIMS.md | tr -d '`' | sort -u)
     while read -r name; do
         [ -n "$(find crates/*/specs -name "$name.antt" -print -quit)" ] || grep -rqE "^ *(abbrev |unfoldable )?(pub )?(record|data|abbrev|unfoldable)? ?(pub )?$name( |$)" crates/*/specs ||
             grep -rqE "pub (struct|enum|trait) $name( |<|\(|\{|:|;|$)" crates/*/src
