@@ -184,13 +184,21 @@ verifier_3 : reply (after_restart (after_restart part_kept)) (commit (number 2) 
 unfolding spelling.u64_bytes
 verifier_3 = refl
 
--- UNSTABLE, `HELLO`; then nothing, and what is there of nine bytes from 3, becomes stable by itself
+-- UNSTABLE, `HELLO`
+abbrev unstable : View
+unstable = does one_file (write (number 2) 0 0 loud ∷ [])
+
+-- what is there of it of nine bytes from 3 becomes stable by itself
 abbrev flushed : View
-flushed = after_flush (after_flush (does one_file (write (number 2) 0 0 loud ∷ [])) (number 2) 0 0) (number 2) 3 9
+flushed = after_flush unstable (number 2) 3 9
 
 -- `helLO`
 flush_row : reads (after_restart flushed) 0 9 (Some (file_at 5 4)) (104 ∷ 101 ∷ 108 ∷ 76 ∷ 79 ∷ []) 5 true
 flush_row = refl
+
+-- as by a COMMIT of 0 bytes from 3, all to the end becomes stable
+flush_to_end : after_flush unstable (number 2) 3 0 ≡ flushed
+flush_to_end = refl
 
 -- with `j` in place of `h`, and no number left: a restart that would change a file is refused
 abbrev last : View

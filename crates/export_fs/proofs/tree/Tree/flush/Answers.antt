@@ -10,13 +10,13 @@ pub returns-clause-err : goal.returns-clause-err
 returns-clause-err c = search rules
 
 pub returns-clause-sound : goal.returns-clause-sound
-returns-clause-sound c = sound_flush c.args.self.now _ c.args.file.now c.args.from c.args.len c.flush.result (returns-clause-ok c) (returns-clause-err c)
+returns-clause-sound c = sound_flush c.args.self.now _ c.args.file.now c.args.from c.args.len c.commit.result (returns-clause-ok c) (returns-clause-err c)
 
 pub returns-clause-flushes : goal.returns-clause-flushes
-returns-clause-flushes c = flushes_range c.args.self.now _ c.args.file.now c.args.from c.args.len c.flush.result (returns-clause-ok c) c.holds_bytes.ensures
+returns-clause-flushes c = flushes_range c.args.self.now _ c.args.file.now c.args.from c.args.len c.commit.result (returns-clause-ok c) c.holds_bytes.ensures
 
 pub returns-clause-stamped : goal.returns-clause-stamped
-returns-clause-stamped c = stamped_flushed c.args.self.now _ c.args.file.now c.args.from c.args.len c.flush.result (returns-clause-ok c) (returns-clause-err c)
+returns-clause-stamped c = stamped_flushed c.args.self.now _ c.args.file.now c.args.from c.args.len c.commit.result (returns-clause-ok c) (returns-clause-err c)
 
 pub returns-clause-fresh : goal.returns-clause-fresh
-returns-clause-fresh c = fresh_flush c.args.self.now _ c.args.file.now c.args.from c.args.len c.flush.result (returns-clause-ok c) (returns-clause-err c)
+returns-clause-fresh c = fresh_flush c.args.self.now _ c.args.file.now c.args.from c.args.len c.commit.result (returns-clause-ok c) (returns-clause-err c)
