@@ -21,7 +21,7 @@ pub fn show_found(
     if xid == u32::MAX {
         return println!(rt; "  the next xid doesn't fit");
     }
-    let mut link = UdpLink::new(alloc, over);
+    let mut link = UdpLink::new(over);
     match find_ports(alloc, &mut link, port_of(port), xid, number_of(protocol)) {
         Ok(ports) => println!(rt; "  mount {} nfs {}", ports.mount, ports.nfs)?,
         Err(fault) => show_fault(rt, fault)?,

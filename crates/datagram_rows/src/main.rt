@@ -91,7 +91,7 @@ fn row(
     match word {
         "link" => {
             *current = match datagrams(alloc, case) {
-                Ok(over) => Some(UdpLink::new(alloc, over)),
+                Ok(over) => Some(UdpLink::new(over)),
                 Err(_) => None,
             };
             Ok(true)

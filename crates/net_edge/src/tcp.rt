@@ -5,7 +5,7 @@ ghost use Rattle.std.specs.Io.{ReadsAtMost};
 ghost use Rattle.net_edge.specs.Counts.{next_count};
 
 use crate::again::{read_again, write_again};
-use outside::{LinkFault, Wire, WireRead};
+use outside::{LinkFault, Wire, WirePlace, WireRead};
 use std::io::{self, ErrorKind, Read};
 use std::marker::Model;
 use std::net::{Net, OpenStream, SocketAddr, TcpStream, ToSocketAddrs};
@@ -73,13 +73,16 @@ impl<'a, N: Net> TcpWire<'a, N> {
 }
 
 impl<N: Net> Wire for TcpWire<'_, N> {
-    ghost use Rattle.std.specs.Prelude.{◌≡◌, ◌≤◌, ◌<◌, None, length, IfOk, IsOk};
+    ghost use Rattle.std.specs.Prelude.{◌≡◌, ◌≤◌, ◌<◌, [], true, None, length, IfOk, IsOk};
     ghost use Rattle.outside.specs.Causes.{HasCause};
     ghost use Rattle.outside.specs.Sink.{TakesSome};
-    ghost use Rattle.outside.specs.Wire.{WireTells, WireNotes, IsTelling, GetsSome, IfGot, HasCauseRead, connected_as, wrote_as, read_as, marked_as};
+    ghost use Rattle.outside.specs.Wire.{WireTells, WireNotes, GetsSome, IfGot, HasCauseRead, connected_as, wrote_as, read_as, marked_as};
     ghost use Rattle.net_edge.specs.Counts.{CountsFault, CountsRead};
 
+    // No contract can say what a connection gives or takes.
     ghost told = { λ _. None };
+
+    ghost placed = { λ _. [] };
 
     ghost faults = { λ count. count };
 
@@ -87,13 +90,6 @@ impl<N: Net> Wire for TcpWire<'_, N> {
     ghost honest = { λ _. ⊥ };
 
     ghost lawful = { λ _ h. absurd h };
-
-    /// No contract can say what a connection gives or takes.
-    fn tells(&self) -> bool
-        ensures { IsTelling None result }
-    {
-        false
-    }
 
     /// Dials the host's addresses in turn, each for at most 15 seconds. A name that can't be looked up is a failure.
     fn connect(&mut self, port: u16) -> Result<(), LinkFault>
@@ -155,6 +151,26 @@ impl<N: Net> Wire for TcpWire<'_, N> {
         ensures ok { IsOk result }
     {
         Ok(())
+    }
+
+    /// There is nothing to forget.
+    fn forget_places(&mut self)
+        ensures cause { self.new ≡ self.old }
+    {
+    }
+
+    /// Keeps nothing.
+    fn keep_place(&mut self, _place: WirePlace) -> bool
+        ensures cause { self.new ≡ self.old }
+        ensures ok { result ≡ true }
+    {
+        true
+    }
+
+    /// Drops the place.
+    fn put_place(&mut self, _place: WirePlace)
+        ensures cause { self.new ≡ self.old }
+    {
     }
 }
 

@@ -6,7 +6,7 @@ ghost use Rattle.net_edge.specs.Counts.{next_count, CountsArrived};
 
 use crate::datagram::PeerSocket;
 use crate::listener::LOOPBACK;
-use outside::{Arrived, Datagrams, Failed, LinkFault};
+use outside::{Arrived, DatagramAdds, Datagrams, Failed, LinkFault};
 use std::io;
 use std::marker::Model;
 use std::net::{Net, SocketAddr, ToSocketAddrs, UdpSocket};
@@ -88,12 +88,15 @@ impl<'a, N: Net> UdpDatagrams<'a, N> {
 }
 
 impl<N: Net> Datagrams for UdpDatagrams<'_, N> {
-    ghost use Rattle.std.specs.Prelude.{◌≡◌, ◌≤◌, None, IsOk};
+    ghost use Rattle.std.specs.Prelude.{◌≡◌, ◌≤◌, [], true, None, IsOk};
     ghost use Rattle.outside.specs.Causes.{HasCause};
-    ghost use Rattle.outside.specs.Datagrams.{DatagramsTell, DatagramsNote, AreTold, HasCauseArrived, aimed_as, datagram_as, arrived_as, remarked_as};
+    ghost use Rattle.outside.specs.Datagrams.{DatagramsTell, DatagramsNote, HasCauseArrived, aimed_as, datagram_as, arrived_as, remarked_as};
     ghost use Rattle.net_edge.specs.Counts.{CountsFault, CountsArrived};
 
+    // No contract can say what a socket gives or takes.
     ghost told = { λ _. None };
+
+    ghost placed = { λ _. [] };
 
     ghost faults = { λ count. count };
 
@@ -101,13 +104,6 @@ impl<N: Net> Datagrams for UdpDatagrams<'_, N> {
     ghost honest = { λ _. ⊥ };
 
     ghost lawful = { λ _ h. absurd h };
-
-    /// No contract can say what a socket gives or takes.
-    fn tells(&self) -> bool
-        ensures { AreTold None result }
-    {
-        false
-    }
 
     /// Aims at the first of the host's addresses. A name that can't be looked up is a failure.
     fn aim(&mut self, port: u16) -> Result<(), LinkFault>
@@ -162,6 +158,40 @@ impl<N: Net> Datagrams for UdpDatagrams<'_, N> {
         ensures ok { IsOk result }
     {
         Ok(())
+    }
+
+    /// There is nothing to forget.
+    fn forget_places(&mut self)
+        ensures cause { self.new ≡ self.old }
+    {
+    }
+
+    /// Keeps nothing.
+    fn keep_place(&mut self, _place: DatagramAdds) -> bool
+        ensures cause { self.new ≡ self.old }
+        ensures ok { result ≡ true }
+    {
+        true
+    }
+
+    /// Keeps nothing, and copies nothing.
+    fn keep_unsent(&mut self, _rec: &[u8]) -> bool
+        ensures cause { self.new ≡ self.old }
+        ensures ok { result ≡ true }
+    {
+        true
+    }
+
+    /// Drops the place.
+    fn put_place(&mut self, _place: DatagramAdds)
+        ensures cause { self.new ≡ self.old }
+    {
+    }
+
+    /// There is nothing to give back.
+    fn give_back(&mut self)
+        ensures cause { self.new ≡ self.old }
+    {
     }
 }
 

@@ -34,7 +34,7 @@ pub fn run_over_udp(rt: &HostRuntime, host: &str, words: &[String]) -> Ending {
         return Ending::Memory;
     };
     let mut source = StandardInput::new(rt.stdin());
-    let mut link = UdpLink::new(alloc, UdpDatagrams::new(rt, host));
+    let mut link = UdpLink::new(UdpDatagrams::new(rt, host));
     let mut clock = SystemClock::new(rt);
     let mut sink = StandardOutput::new(rt.stdout());
     Ending::Ran(nfs_client::run(

@@ -4,3 +4,4 @@ pub mod Pieces
 pub mod ReadingExamples
 pub mod Notes
 pub mod Arrivals
+pub mod SetLast

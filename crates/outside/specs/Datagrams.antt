@@ -1,6 +1,6 @@
 -- What datagrams tell: the calls in order, each with what the server did before it, and the server at each moment; and
 -- the history that is read from them. One datagram is one record. (RFC 768; RFC 5531 section 9)
-use Rattle.std.specs.Prelude.{◌≡◌, ◌≤◌, ◌==◌, ℕ, Bool, true, false, List, [], ◌∷◌, ◌++◌, Option, Some, None, Result, Ok, Err, if◌then◌else◌}
+use Rattle.std.specs.Prelude.{◌≡◌, ◌≤◌, ◌==◌, ℕ, Bool, false, List, [], ◌∷◌, ◌++◌, Option, Some, None, Result, Ok, Err, if◌then◌else◌}
 use Rattle.world_model.specs.declared.entry.Mark.{Mark}
 use Rattle.world_model.specs.declared.entry.Entry.TheVariants as entries
 use Rattle.world_model.specs.Entries.{ours}
@@ -54,11 +54,6 @@ abbrev pub DatagramsNote : Option DatagramsTold → Option DatagramsTold → Opt
 DatagramsNote None new did = new ≡ None
 DatagramsNote (Some old) None did = ⊥
 DatagramsNote (Some old) (Some new) did = NotesDatagram old new did
-
--- whether the calls are told
-abbrev pub AreTold : Option DatagramsTold → Bool → Type 0
-AreTold None tells = tells ≡ false
-AreTold (Some told) tells = tells ≡ true
 
 -- an aim is told whether it could be taken or not
 abbrev pub aimed_as : {T : Type 0} → ℕ → Result T LinkFault → Option DatagramEntry

@@ -5,6 +5,7 @@ pub mod Sink
 pub mod Clock
 pub mod Link
 pub mod Hostile
+pub mod Places
 pub mod Wire
 pub mod Records
 pub mod Reading

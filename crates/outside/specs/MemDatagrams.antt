@@ -4,17 +4,19 @@ use Rattle.outside.specs.declared.datagrams.DatagramEntry.{DatagramEntry}
 use Rattle.outside.specs.declared.datagrams.Arrived.{Arrived}
 use Rattle.outside.specs.declared.datagrams.Arrived.TheVariants as arrivals
 use Rattle.outside.specs.declared.mem_datagrams.Arrival.{Arrival}
+use Rattle.outside.specs.declared.places.DatagramAdds.{DatagramAdds}
 use Rattle.world_model.specs.History.{no_server}
 use Rattle.outside.specs.Datagrams.{DatagramCall, DatagramsTold}
 
 -- what a caller sees of them: what the calls did, the arrivals that weren't handed out, the numbers of the calls that
--- fail, how many were made but for notes, and the faults so far
+-- fail, how many were made but for notes, the faults so far, and what a link placed
 pub record DatagramsView : Type 0 where
   pub told : List DatagramEntry
   pub left : List Arrival
   pub fails : List ℕ
   pub calls : ℕ
   pub faults : ℕ
+  pub placed : List DatagramAdds
 
 -- a call before which the server did nothing
 abbrev pub by_itself : DatagramEntry → DatagramCall

@@ -4,12 +4,14 @@ use Rattle.outside.specs.declared.link.LinkFault.{LinkFault}
 use Rattle.outside.specs.declared.link.LinkFault.TheVariants as faults
 use Rattle.outside.specs.declared.wire.WireEntry.{WireEntry}
 use Rattle.outside.specs.declared.wire.WireRead.{WireRead}
+use Rattle.outside.specs.declared.places.WirePlace.{WirePlace}
 use Rattle.outside.specs.declared.wire.WireRead.TheVariants as reads
 use Rattle.world_model.specs.History.{no_server}
 use Rattle.outside.specs.Wire.{WireCall, WireTold}
 
 -- what a caller sees of it: what its calls did, the pieces that weren't handed out whole, how much of the first of them
--- was handed out, the numbers of the calls that fail, how many were made but for notes, and the faults so far
+-- was handed out, the numbers of the calls that fail, how many were made but for notes, the faults so far, and what a
+-- link placed
 pub record WireView : Type 0 where
   pub told : List WireEntry
   pub pieces : List (List ℕ)
@@ -17,6 +19,7 @@ pub record WireView : Type 0 where
   pub fails : List ℕ
   pub calls : ℕ
   pub faults : ℕ
+  pub placed : List WirePlace
 
 -- a call before which the server did nothing
 abbrev pub alone : WireEntry → WireCall

@@ -1,6 +1,6 @@
 -- What a wire tells: its calls in order, each with what the server did before it, and the server at each moment. (RFC
 -- 5531 section 11 has the bytes.)
-use Rattle.std.specs.Prelude.{◌≡◌, ◌≤◌, ◌<◌, ℕ, Bool, true, false, List, [], ◌∷◌, ◌++◌, take, length, Option, Some, None, Result, Ok, Err}
+use Rattle.std.specs.Prelude.{◌≡◌, ◌≤◌, ◌<◌, ℕ, List, [], ◌∷◌, ◌++◌, take, length, Option, Some, None, Result, Ok, Err}
 use Rattle.world_model.specs.declared.entry.Mark.{Mark}
 use Rattle.world_model.specs.declared.entry.Entry.{Entry}
 use Rattle.world_model.specs.Entries.{ours}
@@ -58,11 +58,6 @@ abbrev pub WireNotes : Option WireTold → Option WireTold → Option WireEntry 
 WireNotes None new did = new ≡ None
 WireNotes (Some old) None did = ⊥
 WireNotes (Some old) (Some new) did = NotesCall old new did
-
--- whether a wire tells its calls
-abbrev pub IsTelling : Option WireTold → Bool → Type 0
-IsTelling None tells = tells ≡ false
-IsTelling (Some told) tells = tells ≡ true
 
 -- a connection is told whether it came about or not
 abbrev pub connected_as : {T : Type 0} → ℕ → Result T LinkFault → Option WireEntry

@@ -1,10 +1,15 @@
 //! Datagrams to the server and back, each of them whole.
 
-ghost use Rattle.std.specs.Prelude.{◌≤◌, ℕ, Option};
+ghost use Rattle.std.specs.Prelude.{◌≡◌, ◌≤◌, [], ℕ, List, Option};
+ghost use Rattle.std.specs.Bool.{OnTrue, OnFalse};
 ghost use Rattle.outside.specs.Causes.{HasCause};
-ghost use Rattle.outside.specs.Datagrams.{DatagramsTold, DatagramsTell, DatagramsNote, AreTold, AreLawful, HasCauseArrived, aimed_as, datagram_as, arrived_as, remarked_as};
+ghost use Rattle.outside.specs.Datagrams.{DatagramsTold, DatagramsTell, DatagramsNote, AreLawful, HasCauseArrived, aimed_as, datagram_as, arrived_as, remarked_as};
+ghost use Rattle.outside.specs.Places.{KeepsPlace, PutsLast, TakesLast};
+ghost use Rattle.outside.specs.declared.places.DatagramAdds.{DatagramAdds};
+ghost use Rattle.outside.specs.declared.places.DatagramAdds.TheVariants as added;
 
 use crate::link::LinkFault;
+use crate::places::DatagramAdds;
 use world_model::Mark;
 use xdr_codec::{Blob, Memory};
 
@@ -42,25 +47,26 @@ pub trait Datagrams {
     /// The calls so far with the server at each moment, where they are told.
     ghost told: { Self → Option DatagramsTold };
 
+    /// What a link over them placed behind each of the calls, where they are told.
+    ghost placed: { Self → List DatagramAdds };
+
     /// How often the outside failed. It never falls.
     ghost faults: { Self → ℕ };
 
     /// Whether what is told is what an honest server and network make.
     ghost honest: { Self → Type 0 };
 
-    /// Whether the calls are told.
-    fn tells(&self) -> bool
-        ensures { AreTold (told self.now) result };
-
     /// Sends to that port from now on, in place of the one before.
     fn aim(&mut self, port: u16) -> Result<(), LinkFault>
         ensures told { DatagramsTell (told self.old) (told self.new) (aimed_as port result) }
+        ensures placed { placed self.new ≡ placed self.old }
         ensures honest { honest self.old → honest self.new }
         ensures cause { HasCause (faults self.old) (faults self.new) result };
 
     /// Sends the bytes as one datagram. After a failure or when out of memory none was sent.
     fn send(&mut self, bytes: &[u8]) -> Result<(), LinkFault>
         ensures told { DatagramsTell (told self.old) (told self.new) (datagram_as bytes.now result) }
+        ensures placed { placed self.new ≡ placed self.old }
         ensures honest { honest self.old → honest self.new }
         ensures cause { HasCause (faults self.old) (faults self.new) result };
 
@@ -69,14 +75,54 @@ pub trait Datagrams {
     fn receive(&mut self, wait_ms: u32, buf: &mut Vec<u8>) -> Arrived
         requires { 15000 ≤ wait_ms }
         ensures told { DatagramsTell (told self.old) (told self.new) (arrived_as buf.new.items result) }
+        ensures placed { placed self.new ≡ placed self.old }
         ensures honest { honest self.old → honest self.new }
         ensures cause { HasCauseArrived (faults self.old) (faults self.new) result };
 
     /// Notes a mark among the calls, and nothing else.
     fn note(&mut self, mark: Mark) -> Result<(), Memory>
         ensures told { DatagramsNote (told self.old) (told self.new) (remarked_as mark result) }
+        ensures placed { placed self.new ≡ placed self.old }
         ensures honest { honest self.old → honest self.new }
         ensures cause { faults self.old ≤ faults self.new };
+
+    /// Forgets what a link placed, for another that begins.
+    fn forget_places(&mut self)
+        ensures placed { placed self.new ≡ [] }
+        ensures told { told self.new ≡ told self.old }
+        ensures honest { honest self.old → honest self.new }
+        ensures cause { faults self.new ≡ faults self.old };
+
+    /// Keeps a place behind all others, where the calls are told; where they aren't, it does nothing. When out of memory
+    /// nothing is changed, and the answer is false.
+    fn keep_place(&mut self, place: DatagramAdds) -> bool
+        ensures yes { OnTrue result (KeepsPlace (told self.old) (placed self.old) (placed self.new) place) }
+        ensures no { OnFalse result (placed self.new ≡ placed self.old) }
+        ensures told { told self.new ≡ told self.old }
+        ensures honest { honest self.old → honest self.new }
+        ensures cause { faults self.new ≡ faults self.old };
+
+    /// The same for a record that is to go out, as one that didn't. The record is copied only where the calls are told.
+    fn keep_unsent(&mut self, rec: &[u8]) -> bool
+        ensures yes { OnTrue result (KeepsPlace (told self.old) (placed self.old) (placed self.new) (added.Unsent rec.now)) }
+        ensures no { OnFalse result (placed self.new ≡ placed self.old) }
+        ensures told { told self.new ≡ told self.old }
+        ensures honest { honest self.old → honest self.new }
+        ensures cause { faults self.new ≡ faults self.old };
+
+    /// Puts a place into that of the last, if there is one. It takes no memory.
+    fn put_place(&mut self, place: DatagramAdds)
+        ensures placed { PutsLast (placed self.old) (placed self.new) place }
+        ensures told { told self.new ≡ told self.old }
+        ensures honest { honest self.old → honest self.new }
+        ensures cause { faults self.new ≡ faults self.old };
+
+    /// Gives back the last place, if there is one.
+    fn give_back(&mut self)
+        ensures placed { TakesLast (placed self.old) (placed self.new) }
+        ensures told { told self.new ≡ told self.old }
+        ensures honest { honest self.old → honest self.new }
+        ensures cause { faults self.new ≡ faults self.old };
 
     /// The history that is read from honest datagrams is lawful: one that went out is sent, and one that came from the
     /// port last aimed at is delivered.

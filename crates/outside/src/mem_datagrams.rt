@@ -7,6 +7,7 @@ ghost use Rattle.outside.specs.Views.{next_call};
 
 use crate::datagrams::{Arrived, DatagramEntry, Datagrams};
 use crate::link::LinkFault;
+use crate::places::{DatagramAdds, put_last, take_last};
 use std::alloc::Global;
 use std::marker::Model;
 use world_model::Mark;
@@ -33,6 +34,7 @@ pub struct MemDatagrams {
     fails: Vec<u32>,
     calls: u32,
     faults: u64,
+    placed: Vec<DatagramAdds>,
 }
 
 impl Model for MemDatagrams {
@@ -41,7 +43,7 @@ impl Model for MemDatagrams {
 
     ghost Value = { DatagramsView };
 
-    ghost view = { λ d. record { told = d.entries.items; left = drop d.next d.arrivals.items; fails = d.fails.items; calls = d.calls; faults = d.faults } };
+    ghost view = { λ d. record { told = d.entries.items; left = drop d.next d.arrivals.items; fails = d.fails.items; calls = d.calls; faults = d.faults; placed = d.placed.items } };
 
     ghost invariant = { λ d. d.next ≤ length d.arrivals.items };
 }
@@ -49,7 +51,7 @@ impl Model for MemDatagrams {
 impl MemDatagrams {
     /// No arrivals yet; the calls of these numbers fail. Calls are counted from 1, and notes not at all.
     pub fn new(alloc: Global, fails: &[u32]) -> Result<MemDatagrams, Memory>
-        ensures { IfOk result (λ d. d ≡ record { told = []; left = []; fails = fails.now; calls = 0; faults = 0 }) }
+        ensures { IfOk result (λ d. d ≡ record { told = []; left = []; fails = fails.now; calls = 0; faults = 0; placed = [] }) }
     {
         Ok(MemDatagrams {
             alloc,
@@ -59,6 +61,7 @@ impl MemDatagrams {
             fails: fails.to_vec(alloc)?,
             calls: 0,
             faults: 0,
+            placed: Vec::new(alloc),
         })
     }
 
@@ -97,14 +100,19 @@ impl MemDatagrams {
 }
 
 impl Datagrams for MemDatagrams {
-    ghost use Rattle.std.specs.Prelude.{◌≡◌, ◌≤◌, Some};
+    ghost use Rattle.std.specs.Prelude.{◌≡◌, ◌≤◌, [], Some};
+    ghost use Rattle.std.specs.Bool.{OnTrue, OnFalse};
     ghost use Rattle.outside.specs.Causes.{HasCause};
     ghost use Rattle.outside.specs.Views.{is_to_fail};
-    ghost use Rattle.outside.specs.Datagrams.{DatagramsTell, DatagramsNote, AreTold, HasCauseArrived, aimed_as, datagram_as, arrived_as, remarked_as};
+    ghost use Rattle.outside.specs.Datagrams.{DatagramsTell, DatagramsNote, HasCauseArrived, aimed_as, datagram_as, arrived_as, remarked_as};
+    ghost use Rattle.outside.specs.Places.{KeepsPlace, PutsLast, TakesLast};
+    ghost use Rattle.outside.specs.declared.places.DatagramAdds.TheVariants as added;
     ghost use Rattle.outside.specs.MemWire.{FailsListed};
     ghost use Rattle.outside.specs.MemDatagrams.{of_memory, HandsArrival, ArrivalFailsListed};
 
     ghost told = { λ d. Some (of_memory d.told) };
+
+    ghost placed = { λ d. d.placed };
 
     ghost faults = { λ d. d.faults };
 
@@ -113,15 +121,10 @@ impl Datagrams for MemDatagrams {
 
     ghost lawful = { λ d h. absurd h };
 
-    fn tells(&self) -> bool
-        ensures { AreTold (Some (of_memory self.now.told)) result }
-    {
-        true
-    }
-
     #[tactic(auto, using(crate::proofs::Arrivals::tells_itself))]
     fn aim(&mut self, port: u16) -> Result<(), LinkFault>
         ensures told { DatagramsTell (Some (of_memory self.old.told)) (Some (of_memory self.new.told)) (aimed_as port result) }
+        ensures placed { self.new.placed ≡ self.old.placed }
         ensures cause { HasCause self.old.faults self.new.faults result }
         ensures listed { FailsListed result (is_to_fail self.old.fails self.old.calls) }
         ensures given { self.new.left ≡ self.old.left }
@@ -141,6 +144,7 @@ impl Datagrams for MemDatagrams {
     #[tactic(auto, using(crate::proofs::Arrivals::tells_itself))]
     fn send(&mut self, bytes: &[u8]) -> Result<(), LinkFault>
         ensures told { DatagramsTell (Some (of_memory self.old.told)) (Some (of_memory self.new.told)) (datagram_as bytes.now result) }
+        ensures placed { self.new.placed ≡ self.old.placed }
         ensures cause { HasCause self.old.faults self.new.faults result }
         ensures listed { FailsListed result (is_to_fail self.old.fails self.old.calls) }
         ensures given { self.new.left ≡ self.old.left }
@@ -166,6 +170,7 @@ impl Datagrams for MemDatagrams {
     fn receive(&mut self, _wait_ms: u32, buf: &mut Vec<u8>) -> Arrived
         requires { 15000 ≤ _wait_ms }
         ensures told { DatagramsTell (Some (of_memory self.old.told)) (Some (of_memory self.new.told)) (arrived_as buf.new.items result) }
+        ensures placed { self.new.placed ≡ self.old.placed }
         ensures cause { HasCauseArrived self.old.faults self.new.faults result }
         ensures listed { ArrivalFailsListed result (is_to_fail self.old.fails self.old.calls) }
         ensures given { HandsArrival self.old.left self.new.left buf.new.items result }
@@ -202,6 +207,7 @@ impl Datagrams for MemDatagrams {
     #[tactic(auto, using(crate::proofs::Arrivals::notes_itself))]
     fn note(&mut self, mark: Mark) -> Result<(), Memory>
         ensures told { DatagramsNote (Some (of_memory self.old.told)) (Some (of_memory self.new.told)) (remarked_as mark result) }
+        ensures placed { self.new.placed ≡ self.old.placed }
         ensures cause { self.old.faults ≤ self.new.faults }
         ensures given { self.new.left ≡ self.old.left }
     {
@@ -209,6 +215,56 @@ impl Datagrams for MemDatagrams {
             return Err(Memory);
         }
         Ok(())
+    }
+
+    fn forget_places(&mut self)
+        ensures placed { self.new.placed ≡ [] }
+        ensures told { Some (of_memory self.new.told) ≡ Some (of_memory self.old.told) }
+        ensures cause { self.new.faults ≡ self.old.faults }
+        ensures given { self.new.left ≡ self.old.left }
+    {
+        self.placed.clear();
+    }
+
+    fn keep_place(&mut self, place: DatagramAdds) -> bool
+        ensures yes { OnTrue result (KeepsPlace (Some (of_memory self.old.told)) self.old.placed self.new.placed place) }
+        ensures no { OnFalse result (self.new.placed ≡ self.old.placed) }
+        ensures told { Some (of_memory self.new.told) ≡ Some (of_memory self.old.told) }
+        ensures cause { self.new.faults ≡ self.old.faults }
+        ensures given { self.new.left ≡ self.old.left }
+    {
+        self.placed.push(place).is_ok()
+    }
+
+    fn keep_unsent(&mut self, rec: &[u8]) -> bool
+        ensures yes { OnTrue result (KeepsPlace (Some (of_memory self.old.told)) self.old.placed self.new.placed (added.Unsent rec.now)) }
+        ensures no { OnFalse result (self.new.placed ≡ self.old.placed) }
+        ensures told { Some (of_memory self.new.told) ≡ Some (of_memory self.old.told) }
+        ensures cause { self.new.faults ≡ self.old.faults }
+        ensures given { self.new.left ≡ self.old.left }
+    {
+        let Ok(bytes) = Blob::copy(self.alloc, rec) else {
+            return false;
+        };
+        self.placed.push(DatagramAdds::Unsent { bytes }).is_ok()
+    }
+
+    fn put_place(&mut self, place: DatagramAdds)
+        ensures placed { PutsLast self.old.placed self.new.placed place }
+        ensures told { Some (of_memory self.new.told) ≡ Some (of_memory self.old.told) }
+        ensures cause { self.new.faults ≡ self.old.faults }
+        ensures given { self.new.left ≡ self.old.left }
+    {
+        put_last(&mut self.placed, place);
+    }
+
+    fn give_back(&mut self)
+        ensures placed { TakesLast self.old.placed self.new.placed }
+        ensures told { Some (of_memory self.new.told) ≡ Some (of_memory self.old.told) }
+        ensures cause { self.new.faults ≡ self.old.faults }
+        ensures given { self.new.left ≡ self.old.left }
+    {
+        take_last(&mut self.placed);
     }
 }
 

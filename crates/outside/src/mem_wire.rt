@@ -7,6 +7,7 @@ ghost use Rattle.outside.specs.MemWire.{IsFilled};
 ghost use Rattle.outside.specs.Views.{next_call};
 
 use crate::link::LinkFault;
+use crate::places::{WirePlace, put_last};
 use crate::source::copy_front;
 use crate::wire::{Wire, WireEntry, WireRead};
 use std::alloc::Global;
@@ -27,6 +28,7 @@ pub struct MemWire {
     fails: Vec<u32>,
     calls: u32,
     faults: u64,
+    placed: Vec<WirePlace>,
 }
 
 impl Model for MemWire {
@@ -35,7 +37,7 @@ impl Model for MemWire {
 
     ghost Value = { WireView };
 
-    ghost view = { λ w. record { told = w.entries.items; pieces = drop w.next w.pieces.items; at = w.at; fails = w.fails.items; calls = w.calls; faults = w.faults } };
+    ghost view = { λ w. record { told = w.entries.items; pieces = drop w.next w.pieces.items; at = w.at; fails = w.fails.items; calls = w.calls; faults = w.faults; placed = w.placed.items } };
 
     ghost invariant = { λ w. (w.next ≤ length w.pieces.items) × (All IsFilled w.pieces.items) × (IsPartOf w.at (drop w.next w.pieces.items)) };
 }
@@ -43,7 +45,7 @@ impl Model for MemWire {
 impl MemWire {
     /// A wire with no pieces yet, whose calls of these numbers fail. Calls are counted from 1, and notes not at all.
     pub fn new(alloc: Global, fails: &[u32]) -> Result<MemWire, Memory>
-        ensures { IfOk result (λ w. w ≡ record { told = []; pieces = []; at = 0; fails = fails.now; calls = 0; faults = 0 }) }
+        ensures { IfOk result (λ w. w ≡ record { told = []; pieces = []; at = 0; fails = fails.now; calls = 0; faults = 0; placed = [] }) }
     {
         Ok(MemWire {
             alloc,
@@ -54,6 +56,7 @@ impl MemWire {
             fails: fails.to_vec(alloc)?,
             calls: 0,
             faults: 0,
+            placed: Vec::new(alloc),
         })
     }
 
@@ -90,14 +93,18 @@ impl MemWire {
 }
 
 impl Wire for MemWire {
-    ghost use Rattle.std.specs.Prelude.{◌≡◌, ◌≤◌, ◌<◌, Some, length, IfOk};
+    ghost use Rattle.std.specs.Prelude.{◌≡◌, ◌≤◌, ◌<◌, [], Some, length, IfOk};
+    ghost use Rattle.std.specs.Bool.{OnTrue, OnFalse};
     ghost use Rattle.outside.specs.Causes.{HasCause};
     ghost use Rattle.outside.specs.Sink.{TakesSome};
     ghost use Rattle.outside.specs.Views.{is_to_fail};
-    ghost use Rattle.outside.specs.Wire.{WireTells, WireNotes, IsTelling, GetsSome, IfGot, HasCauseRead, connected_as, wrote_as, read_as, marked_as};
+    ghost use Rattle.outside.specs.Wire.{WireTells, WireNotes, GetsSome, IfGot, HasCauseRead, connected_as, wrote_as, read_as, marked_as};
+    ghost use Rattle.outside.specs.Places.{KeepsPlace, PutsLast};
     ghost use Rattle.outside.specs.MemWire.{in_memory, HandsOutNothing, HandsOutPiece, FailsListed, ReadFailsListed, PutsBack};
 
     ghost told = { λ w. Some (in_memory w.told) };
+
+    ghost placed = { λ w. w.placed };
 
     ghost faults = { λ w. w.faults };
 
@@ -106,15 +113,10 @@ impl Wire for MemWire {
 
     ghost lawful = { λ w h. absurd h };
 
-    fn tells(&self) -> bool
-        ensures { IsTelling (Some (in_memory self.now.told)) result }
-    {
-        true
-    }
-
     #[tactic(auto, using(crate::proofs::Pieces::tells_alone))]
     fn connect(&mut self, port: u16) -> Result<(), LinkFault>
         ensures told { WireTells (Some (in_memory self.old.told)) (Some (in_memory self.new.told)) (connected_as port result) }
+        ensures placed { self.new.placed ≡ self.old.placed }
         ensures cause { HasCause self.old.faults self.new.faults result }
         ensures listed { FailsListed result (is_to_fail self.old.fails self.old.calls) }
         ensures back { PutsBack self.old self.new result }
@@ -136,6 +138,7 @@ impl Wire for MemWire {
     fn write(&mut self, bytes: &[u8]) -> Result<usize, LinkFault>
         ensures takes { IfOk result (TakesSome bytes.now) }
         ensures told { WireTells (Some (in_memory self.old.told)) (Some (in_memory self.new.told)) (wrote_as bytes.now result) }
+        ensures placed { self.new.placed ≡ self.old.placed }
         ensures cause { HasCause self.old.faults self.new.faults result }
         ensures whole { IfOk result (λ n. n ≡ length bytes.now) }
         ensures listed { FailsListed result (is_to_fail self.old.fails self.old.calls) }
@@ -164,6 +167,7 @@ impl Wire for MemWire {
         requires room { 0 < length buf.old }
         ensures gets { IfGot result (GetsSome buf.new) }
         ensures told { WireTells (Some (in_memory self.old.told)) (Some (in_memory self.new.told)) (read_as buf.new result) }
+        ensures placed { self.new.placed ≡ self.old.placed }
         ensures cause { HasCauseRead self.old.faults self.new.faults result }
         ensures listed { ReadFailsListed result (is_to_fail self.old.fails self.old.calls) }
         ensures given { HandsOutPiece self.old self.new buf.new result }
@@ -203,6 +207,7 @@ impl Wire for MemWire {
     #[tactic(auto, using(crate::proofs::Pieces::notes_alone))]
     fn note(&mut self, mark: Mark) -> Result<(), Memory>
         ensures told { WireNotes (Some (in_memory self.old.told)) (Some (in_memory self.new.told)) (marked_as mark result) }
+        ensures placed { self.new.placed ≡ self.old.placed }
         ensures cause { self.old.faults ≤ self.new.faults }
         ensures given { HandsOutNothing self.old self.new }
     {
@@ -210,6 +215,34 @@ impl Wire for MemWire {
             return Err(Memory);
         }
         Ok(())
+    }
+
+    fn forget_places(&mut self)
+        ensures placed { self.new.placed ≡ [] }
+        ensures told { Some (in_memory self.new.told) ≡ Some (in_memory self.old.told) }
+        ensures cause { self.new.faults ≡ self.old.faults }
+        ensures given { HandsOutNothing self.old self.new }
+    {
+        self.placed.clear();
+    }
+
+    fn keep_place(&mut self, place: WirePlace) -> bool
+        ensures yes { OnTrue result (KeepsPlace (Some (in_memory self.old.told)) self.old.placed self.new.placed place) }
+        ensures no { OnFalse result (self.new.placed ≡ self.old.placed) }
+        ensures told { Some (in_memory self.new.told) ≡ Some (in_memory self.old.told) }
+        ensures cause { self.new.faults ≡ self.old.faults }
+        ensures given { HandsOutNothing self.old self.new }
+    {
+        self.placed.push(place).is_ok()
+    }
+
+    fn put_place(&mut self, place: WirePlace)
+        ensures placed { PutsLast self.old.placed self.new.placed place }
+        ensures told { Some (in_memory self.new.told) ≡ Some (in_memory self.old.told) }
+        ensures cause { self.new.faults ≡ self.old.faults }
+        ensures given { HandsOutNothing self.old self.new }
+    {
+        put_last(&mut self.placed, place);
     }
 }
 

@@ -1,12 +1,16 @@
 //! Bytes to the server and back, in pieces that may be cut anywhere.
 
-ghost use Rattle.std.specs.Prelude.{◌≤◌, ◌<◌, ℕ, Option, length, IfOk};
+ghost use Rattle.std.specs.Prelude.{◌≡◌, ◌≤◌, ◌<◌, [], ℕ, List, Option, length, IfOk};
+ghost use Rattle.std.specs.Bool.{OnTrue, OnFalse};
 ghost use Rattle.outside.specs.Causes.{HasCause};
 ghost use Rattle.outside.specs.Sink.{TakesSome};
 ghost use Rattle.outside.specs.Reading.{IsLawfulWire};
-ghost use Rattle.outside.specs.Wire.{WireTold, WireTells, WireNotes, IsTelling, GetsSome, IfGot, HasCauseRead, connected_as, wrote_as, read_as, marked_as};
+ghost use Rattle.outside.specs.Places.{KeepsPlace, PutsLast};
+ghost use Rattle.outside.specs.declared.places.WirePlace.{WirePlace};
+ghost use Rattle.outside.specs.Wire.{WireTold, WireTells, WireNotes, GetsSome, IfGot, HasCauseRead, connected_as, wrote_as, read_as, marked_as};
 
 use crate::link::LinkFault;
+use crate::places::WirePlace;
 use world_model::Mark;
 use xdr_codec::{Blob, Memory};
 
@@ -44,19 +48,19 @@ pub trait Wire {
     /// The calls so far with the server at each moment, where the wire tells them.
     ghost told: { Self → Option WireTold };
 
+    /// What a link over it placed behind its calls, where it tells them.
+    ghost placed: { Self → List WirePlace };
+
     /// How often the outside failed. It never falls.
     ghost faults: { Self → ℕ };
 
     /// Whether what it tells is what an honest server and network make.
     ghost honest: { Self → Type 0 };
 
-    /// Whether it tells its calls.
-    fn tells(&self) -> bool
-        ensures { IsTelling (told self.now) result };
-
     /// Makes a connection to that port, in place of the one before.
     fn connect(&mut self, port: u16) -> Result<(), LinkFault>
         ensures told { WireTells (told self.old) (told self.new) (connected_as port result) }
+        ensures placed { placed self.new ≡ placed self.old }
         ensures honest { honest self.old → honest self.new }
         ensures cause { HasCause (faults self.old) (faults self.new) result };
 
@@ -65,6 +69,7 @@ pub trait Wire {
     fn write(&mut self, bytes: &[u8]) -> Result<usize, LinkFault>
         ensures takes { IfOk result (TakesSome bytes.now) }
         ensures told { WireTells (told self.old) (told self.new) (wrote_as bytes.now result) }
+        ensures placed { placed self.new ≡ placed self.old }
         ensures honest { honest self.old → honest self.new }
         ensures cause { HasCause (faults self.old) (faults self.new) result };
 
@@ -74,14 +79,39 @@ pub trait Wire {
         requires room { 0 < length buf.old }
         ensures gets { IfGot result (GetsSome buf.new) }
         ensures told { WireTells (told self.old) (told self.new) (read_as buf.new result) }
+        ensures placed { placed self.new ≡ placed self.old }
         ensures honest { honest self.old → honest self.new }
         ensures cause { HasCauseRead (faults self.old) (faults self.new) result };
 
     /// Notes a mark among the calls, and nothing else.
     fn note(&mut self, mark: Mark) -> Result<(), Memory>
         ensures told { WireNotes (told self.old) (told self.new) (marked_as mark result) }
+        ensures placed { placed self.new ≡ placed self.old }
         ensures honest { honest self.old → honest self.new }
         ensures cause { faults self.old ≤ faults self.new };
+
+    /// Forgets what a link placed, for another that begins.
+    fn forget_places(&mut self)
+        ensures placed { placed self.new ≡ [] }
+        ensures told { told self.new ≡ told self.old }
+        ensures honest { honest self.old → honest self.new }
+        ensures cause { faults self.new ≡ faults self.old };
+
+    /// Keeps a place behind all others, where it tells its calls; where it doesn't, it does nothing. When out of memory
+    /// nothing is changed, and the answer is false.
+    fn keep_place(&mut self, place: WirePlace) -> bool
+        ensures yes { OnTrue result (KeepsPlace (told self.old) (placed self.old) (placed self.new) place) }
+        ensures no { OnFalse result (placed self.new ≡ placed self.old) }
+        ensures told { told self.new ≡ told self.old }
+        ensures honest { honest self.old → honest self.new }
+        ensures cause { faults self.new ≡ faults self.old };
+
+    /// Puts a place into that of the last, if there is one. It takes no memory.
+    fn put_place(&mut self, place: WirePlace)
+        ensures placed { PutsLast (placed self.old) (placed self.new) place }
+        ensures told { told self.new ≡ told self.old }
+        ensures honest { honest self.old → honest self.new }
+        ensures cause { faults self.new ≡ faults self.old };
 
     /// The history that is read from what an honest wire tells is lawful: a record is sent where its last byte was
     /// written, and delivered where its last byte was read.

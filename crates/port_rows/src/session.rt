@@ -47,7 +47,7 @@ pub fn run_by_portmap(rt: &impl Print, alloc: Global, case: &Case) -> io::Result
     let Ok(over) = datagrams(alloc, case.arrivals.as_slice(), &[]) else {
         return println!(rt; "  out of memory");
     };
-    let mut link = UdpLink::new(alloc, over);
+    let mut link = UdpLink::new(over);
     run_found_over(rt, alloc, case, &mut link)?;
     show_calls(rt, &link.into_datagrams())
 }
@@ -67,7 +67,7 @@ fn run_found_over<L: Link>(
         println!(rt; "  out of memory")?;
         return Ok(None);
     };
-    let mut finder = UdpLink::new(alloc, over);
+    let mut finder = UdpLink::new(over);
     let status = run_found(
         alloc,
         case.words.as_slice(),
@@ -90,7 +90,7 @@ pub fn run_over_datagrams(rt: &impl Print, alloc: Global, case: &Case) -> io::Re
     ) else {
         return println!(rt; "  out of memory");
     };
-    let mut link = UdpLink::new(alloc, over);
+    let mut link = UdpLink::new(over);
     let status = run(
         alloc,
         words.as_slice(),

@@ -1,5 +1,6 @@
 pub mod GatherLemmas
 pub mod Replays
+pub mod LineCalls
 pub mod LineBegins
 pub mod RecordJoins
 pub mod LineSteps

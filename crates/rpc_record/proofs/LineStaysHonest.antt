@@ -10,9 +10,9 @@ use Rattle.outside.specs.declared.wire.WireEntry.TheVariants.{Connected, Wrote, 
 use Rattle.outside.specs.Wire.{WireCall, WireTold, AddsCall, WireTells}
 use Rattle.outside.specs.Records.{record_at}
 use Rattle.outside.specs.Reading.{Reading, begins_at, read_call, read_calls, reading, IsLawfulWire}
-use Rattle.rpc_record.specs.declared.kept.Kept.{Kept}
-use Rattle.rpc_record.specs.declared.kept.Adds.{Adds}
-use Rattle.rpc_record.specs.declared.kept.Adds.TheVariants as added
+use Rattle.outside.specs.declared.places.WirePlace.{WirePlace}
+use Rattle.outside.specs.declared.places.WireAdds.{WireAdds}
+use Rattle.outside.specs.declared.places.WireAdds.TheVariants as added
 use Rattle.rpc_record.specs.Stream.{Stream, Along, begun, quietly, shows, places, after_calls, now_of, now_in, AllPlaced, told_of}
 use Rattle.rpc_record.specs.Records.{one_fragment}
 use Rattle.rpc_record.specs.Shown.{Waiting, Follows}
@@ -44,7 +44,7 @@ along_at t None s e w = absurd cc
 along_at t (Some u) s e w = let same : s ≡ u = cc in let v = subst (State (reading t)) same w in record { lawful = v.lawful; mirrored = v.mirrors }
 
 -- what may be placed behind a call, where a history is told
-abbrev pub MayPlace : WireEntry → Adds → Option Stream → Type 0
+abbrev pub MayPlace : WireEntry → WireAdds → Option Stream → Type 0
 MayPlace did a None = Unit {0}
 MayPlace did a (Some s) = Permits did a s
 
@@ -53,7 +53,7 @@ abbrev pub IsUnwritten : WireEntry → Type 0
 IsUnwritten (Wrote bytes) = ⊥
 IsUnwritten did = Unit {0}
 
-own_may : (did : WireEntry) (a : Adds) (now : Option Stream) → IsUnwritten did → IsOwn a → MayPlace did a now
+own_may : (did : WireEntry) (a : WireAdds) (now : Option Stream) → IsUnwritten did → IsOwn a → MayPlace did a now
 own_may did a None free own = tt
 own_may (Connected port) a (Some s) free own = own
 own_may (Wrote bytes) a (Some s) free own = absurd free
@@ -61,11 +61,11 @@ own_may (Read bytes) a (Some s) free own = own
 own_may (Noted mark) a (Some s) free own = own
 own_may Missed a (Some s) free own = own
 
-may_at : (did : WireEntry) (a : Adds) (now : Option Stream) (s : Stream) → now ≡ Some s → MayPlace did a now → Permits did a s
+may_at : (did : WireEntry) (a : WireAdds) (now : Option Stream) (s : Stream) → now ≡ Some s → MayPlace did a now → Permits did a s
 may_at did a None s e p = absurd cc
 may_at did a (Some u) s e p = let same : u ≡ s = cc in subst (Permits did a) same p
 
-pub call_along : (old new : Option WireTold) (ks js : List Kept) (own : WireEntry) (a : Adds) → AllPlaced old ks → OneMore old ks (record { call = true; adds = a }) js → WireTells old new (Some own) → MayPlace own a (now_of old ks)
+pub call_along : (old new : Option WireTold) (ks js : List WirePlace) (own : WireEntry) (a : WireAdds) → AllPlaced old ks → OneMore old ks (record { call = true; adds = a }) js → WireTells old new (Some own) → MayPlace own a (now_of old ks)
     → Accords old (now_of old ks) → IsLawfulWire new → Accords new (now_of new js)
 call_along None None ks js own a w more e p l n = record { lawful = tt; mirrored = tt }
 call_along None (Some new) ks js own a w more e p l n = absurd cc
@@ -77,7 +77,7 @@ call_along (Some t) (Some new) ks js own a w more e p l n =
     let after = call_state c a (reading t) w.now (may_at own a (now_of (Some t) ks) w.now w.is p) s (subst (λ (r : Reading). Lawful r.history) is n) in
     rw more (along_at new _ (places a (shows own (quietly e.quiet w.now))) (called_at t new ks own a w e) (subst (λ (r : Reading). State r (places a (shows own (quietly e.quiet w.now)))) (sym is) after))
 
-pub place_along : (told : Option WireTold) (ks js : List Kept) (a : Adds) → AllPlaced told ks → OneMore told ks (record { call = false; adds = a }) js → IsOwn a → Accords told (now_of told ks) → IsLawfulWire told
+pub place_along : (told : Option WireTold) (ks js : List WirePlace) (a : WireAdds) → AllPlaced told ks → OneMore told ks (record { call = false; adds = a }) js → IsOwn a → Accords told (now_of told ks) → IsLawfulWire told
     → Accords told (now_of told js)
 place_along None ks js a w more own l n = record { lawful = tt; mirrored = tt }
 place_along (Some t) ks js a w more own l n =
@@ -96,13 +96,13 @@ along_of told honest a h = record { lawful = h.lawful; mirrored = h.mirrored }
 over_of : {W : Type 0} (told : W → Option WireTold) (honest : W → Type 0) (a : Along W) → honest a.over → Accords (told a.over) (now_in told a) → HonestOver told honest a
 over_of told honest a w l = record { wire = w; lawful = l.lawful; mirrored = l.mirrored }
 
-abbrev pub at_wire : {W : Type 0} → W → List Kept → ℕ → Along W
+abbrev pub at_wire : {W : Type 0} → W → List WirePlace → ℕ → Along W
 at_wire wire ks faults = record { over = wire; kept = ks; faults = faults }
 
 abbrev pub IsLaw : {W : Type 0} → (W → Option WireTold) → (W → Type 0) → Type 0
 IsLaw {W = W} told honest = (x : W) → honest x → IsLawfulWire (told x)
 
-pub call_honest : {W : Type 0} (told : W → Option WireTold) (honest : W → Type 0) (law : IsLaw told honest) (x y : W) (ks js : List Kept) (f g : ℕ) (own : WireEntry) (a : Adds)
+pub call_honest : {W : Type 0} (told : W → Option WireTold) (honest : W → Type 0) (law : IsLaw told honest) (x y : W) (ks js : List WirePlace) (f g : ℕ) (own : WireEntry) (a : WireAdds)
     → AllPlaced (told x) ks → OneMore (told x) ks (record { call = true; adds = a }) js → WireTells (told x) (told y) (Some own) → (honest x → honest y) → MayPlace own a (now_of (told x) ks)
     → HonestOver told honest (at_wire x ks f) → HonestOver told honest (at_wire y js g)
 call_honest told honest law x y ks js f g own a w more e keeps p h =
@@ -110,19 +110,20 @@ call_honest told honest law x y ks js f g own a w more e keeps p h =
     (call_along (told x) (told y) ks js own a w more e p (along_of told honest (at_wire x ks f) h) (law y (keeps h.wire)))
 
 -- the same where the call wrote no bytes
-pub own_honest : {W : Type 0} (told : W → Option WireTold) (honest : W → Type 0) (law : IsLaw told honest) (x y : W) (ks js : List Kept) (f g : ℕ) (own : WireEntry) (a : Adds)
+pub own_honest : {W : Type 0} (told : W → Option WireTold) (honest : W → Type 0) (law : IsLaw told honest) (x y : W) (ks js : List WirePlace) (f g : ℕ) (own : WireEntry) (a : WireAdds)
     → AllPlaced (told x) ks → OneMore (told x) ks (record { call = true; adds = a }) js → WireTells (told x) (told y) (Some own) → (honest x → honest y) → IsUnwritten own → IsOwn a
     → HonestOver told honest (at_wire x ks f) → HonestOver told honest (at_wire y js g)
 own_honest told honest law x y ks js f g own a w more e keeps free is h = call_honest told honest law x y ks js f g own a w more e keeps (own_may own a (now_of (told x) ks) free is) h
 
-pub place_honest : {W : Type 0} (told : W → Option WireTold) (honest : W → Type 0) (law : IsLaw told honest) (x : W) (ks js : List Kept) (f : ℕ) (a : Adds)
-    → AllPlaced (told x) ks → OneMore (told x) ks (record { call = false; adds = a }) js → IsOwn a
-    → HonestOver told honest (at_wire x ks f) → HonestOver told honest (at_wire x js f)
-place_honest told honest law x ks js f a w more own h =
-    over_of told honest (at_wire x js f) h.wire
-    (place_along (told x) ks js a w more own (along_of told honest (at_wire x ks f) h) (law x h.wire))
+-- an entry of the link's own was placed
+pub place_stays : {W : Type 0} (told : W → Option WireTold) (honest : W → Type 0) (law : IsLaw told honest) (x y : W) (ks js : List WirePlace) (f g : ℕ) (a : WireAdds)
+    → AllPlaced (told x) ks → OneMore (told x) ks (record { call = false; adds = a }) js → told y ≡ told x → (honest x → honest y) → IsOwn a
+    → HonestOver told honest (at_wire x ks f) → HonestOver told honest (at_wire y js g)
+place_stays told honest law x y ks js f g a w more e keeps own h =
+    let l : Accords (told x) (now_of (told x) js) = place_along (told x) ks js a w more own (along_of told honest (at_wire x ks f) h) (law x h.wire) in
+    over_of told honest (at_wire y js g) (keeps h.wire) (rw e l)
 
-pub none_honest : {W : Type 0} (told : W → Option WireTold) (honest : W → Type 0) (law : IsLaw told honest) (x y : W) (ks js : List Kept) (f g : ℕ)
+pub none_honest : {W : Type 0} (told : W → Option WireTold) (honest : W → Type 0) (law : IsLaw told honest) (x y : W) (ks js : List WirePlace) (f g : ℕ)
     → AllPlaced (told x) ks → OneMore (told x) ks (record { call = false; adds = added.Nothing }) js → WireTells (told x) (told y) None → (honest x → honest y)
     → HonestOver told honest (at_wire x ks f) → HonestOver told honest (at_wire y js g)
 none_honest told honest law x y ks js f g w more e keeps h =
@@ -175,5 +176,7 @@ begins_along (Some t) f l = along_at t (now_of (Some t) []) (begun t.start []) (
         let is : reading t ≡ record { history = begins_at t.start; unread = []; unsent = [] } = ap (λ (cs : List WireCall). read_calls cs (record { history = begins_at t.start; unread = []; unsent = [] })) f in
         rw is (begins_state t.start (subst (λ (r : Reading). Lawful r.history) is l))
 
-pub begins_honest : {W : Type 0} (told : W → Option WireTold) (honest : W → Type 0) (law : IsLaw told honest) (x : W) (f : ℕ) → IsFresh (told x) → honest x → HonestOver told honest (at_wire x [] f)
-begins_honest told honest law x f fresh h = over_of told honest (at_wire x [] f) h (begins_along (told x) fresh (law x h))
+pub begins_honest : {W : Type 0} (told : W → Option WireTold) (honest : W → Type 0) (law : IsLaw told honest) (x y : W) (f : ℕ) (ks : List WirePlace)
+    → told y ≡ told x → ks ≡ [] → (honest x → honest y) → IsFresh (told x) → honest x → HonestOver told honest (at_wire y ks f)
+begins_honest told honest law x y f ks same none keeps fresh h =
+    over_of told honest (at_wire y ks f) (keeps h) (rw none (begins_along (told y) (rw same fresh) (law y (keeps h))))

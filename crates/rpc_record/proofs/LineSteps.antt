@@ -14,7 +14,7 @@ use Rattle.outside.specs.Reading.{now_at, goes_on, adds, follows}
 use Rattle.outside.specs.Link.{NotesOnly, entry_of, noted_as}
 use Rattle.outside.specs.declared.link.Received.TheVariants as received
 use Rattle.outside.specs.declared.wire.WireEntry.TheVariants.{Connected, Wrote, Read, Noted, Missed}
-use Rattle.rpc_record.specs.declared.kept.Adds.TheVariants as added
+use Rattle.outside.specs.declared.places.WireAdds.TheVariants as added
 use Rattle.rpc_record.specs.declared.gather.Phase.{Phase}
 use Rattle.rpc_record.specs.declared.gather.Phase.TheVariants as phases
 use Rattle.outside.specs.Records.{record_at}

@@ -11,8 +11,8 @@ use Rattle.outside.specs.Link.{entry_of}
 use Rattle.outside.specs.Wire.{Step, WireCall}
 use Rattle.outside.specs.Records.{Split, record_at, left, nth_record, split, ◌>>=◌}
 use Rattle.outside.specs.Reading.{Reading, now_at, adds, follows, shown, wrote_all, read_call}
-use Rattle.rpc_record.specs.declared.kept.Adds.{Adds}
-use Rattle.rpc_record.specs.declared.kept.Adds.TheVariants as added
+use Rattle.outside.specs.declared.places.WireAdds.{WireAdds}
+use Rattle.outside.specs.declared.places.WireAdds.TheVariants as added
 use Rattle.rpc_record.specs.Stream.{Stream, begun, quietly, shows, sends, delivers, places}
 use Rattle.rpc_record.specs.Honest.{Queued, Mirrors, IsOwn}
 use Rattle.rpc_record.proofs.RecordJoins.{left_grow, left_next, nth_is}
@@ -154,7 +154,7 @@ one_delivered r s w x l e =
       lawful = b.lawful;
     })
 
-pub place_state : (a : Adds) (r : Reading) (s : Stream) → IsOwn a → State r s → Lawful r.history → State r (places a s)
+pub place_state : (a : WireAdds) (r : Reading) (s : Stream) → IsOwn a → State r s → Lawful r.history → State r (places a s)
 place_state added.Nothing r s own w l = w
 place_state added.Failed r s own w l = with_both r s _ w (both_failed r.history s.history (both_of r s w))
 place_state added.Whole r s own w l = absurd own
@@ -170,7 +170,7 @@ place_state added.Delivered r s own w l =
 -- ---- a call of the wire, and what the link then placed
 
 -- What may be placed: a record that was written where its last bytes were, and else what speaks of no written bytes.
-abbrev pub Permits : WireEntry → Adds → Stream → Type 0
+abbrev pub Permits : WireEntry → WireAdds → Stream → Type 0
 Permits (Wrote bytes) added.Whole s = (begun : List ℕ) × (rec : List ℕ) × (left s.sent s.went ≡ Some begun) × (record_at (begun ++ bytes) ≡ Some (rec, []))
 Permits (Wrote bytes) added.Nothing s = (begun : List ℕ) × (left s.sent s.went ≡ Some begun) × (record_at (begun ++ bytes) ≡ None)
 Permits (Wrote bytes) a s = ⊥
@@ -179,14 +179,14 @@ Permits (Read bytes) a s = IsOwn a
 Permits (Noted mark) a s = IsOwn a
 Permits Missed a s = IsOwn a
 
-wrote_state : (bytes : List ℕ) (a : Adds) (r : Reading) (s : Stream) → Permits (Wrote bytes) a s → State r s → Lawful (shown (Wrote bytes) r).history → State (shown (Wrote bytes) r) (places a (shows (Wrote bytes) s))
+wrote_state : (bytes : List ℕ) (a : WireAdds) (r : Reading) (s : Stream) → Permits (Wrote bytes) a s → State r s → Lawful (shown (Wrote bytes) r).history → State (shown (Wrote bytes) r) (places a (shows (Wrote bytes) s))
 wrote_state bytes added.Whole r s p w l = whole_state bytes p.0 p.1 r s w p.2 p.3 l
 wrote_state bytes added.Nothing r s p w l = part_state bytes p.0 r s w p.1 p.2
 wrote_state bytes added.Failed r s p w l = absurd p
 wrote_state bytes (added.Part rec) r s p w l = absurd p
 wrote_state bytes added.Delivered r s p w l = absurd p
 
-own_state : (did : WireEntry) (a : Adds) (r : Reading) (s : Stream) → Permits did a s → State r s → Lawful (shown did r).history → State (shown did r) (places a (shows did s))
+own_state : (did : WireEntry) (a : WireAdds) (r : Reading) (s : Stream) → Permits did a s → State r s → Lawful (shown did r).history → State (shown did r) (places a (shows did s))
 own_state (Connected port) a r s p w l = place_state a (shown (Connected port) r) (shows (Connected port) s) p (connected_state port r s w l) l
 own_state (Wrote bytes) a r s p w l = wrote_state bytes a r s p w l
 own_state (Read bytes) a r s p w l = place_state a (shown (Read bytes) r) (shows (Read bytes) s) p (read_state bytes r s w) l
@@ -200,7 +200,7 @@ before_own (Read bytes) r l = lawful_all (split (r.unread ++ bytes)).records ent
 before_own (Noted mark) r l = lawful_front r.history (entry_of mark) (now_at r.history) l
 before_own Missed r l = l
 
-permits_quiet : (did : WireEntry) (a : Adds) (quiet : List Step) (s : Stream) → Permits did a s → Permits did a (quietly quiet s)
+permits_quiet : (did : WireEntry) (a : WireAdds) (quiet : List Step) (s : Stream) → Permits did a s → Permits did a (quietly quiet s)
 permits_quiet (Connected port) a quiet s p = p
 permits_quiet (Wrote bytes) added.Whole quiet s p = p
 permits_quiet (Wrote bytes) added.Nothing quiet s p = p
@@ -211,7 +211,7 @@ permits_quiet (Read bytes) a quiet s p = p
 permits_quiet (Noted mark) a quiet s p = p
 permits_quiet Missed a quiet s p = p
 
-pub call_state : (c : WireCall) (a : Adds) (r : Reading) (s : Stream) → Permits c.did a s → State r s → Lawful (read_call c r).history → State (read_call c r) (places a (shows c.did (quietly c.quiet s)))
+pub call_state : (c : WireCall) (a : WireAdds) (r : Reading) (s : Stream) → Permits c.did a s → State r s → Lawful (read_call c r).history → State (read_call c r) (places a (shows c.did (quietly c.quiet s)))
 call_state c a r s p w l =
     let q : Reading = record { history = follows c.quiet r.history; unread = r.unread; unsent = r.unsent } in
     own_state c.did a q (quietly c.quiet s) (permits_quiet c.did a c.quiet s p) (quiet_state c.quiet r s w (before_own c.did q l)) l

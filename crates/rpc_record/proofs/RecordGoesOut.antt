@@ -8,8 +8,8 @@ use Rattle.outside.specs.Link.{sent_as}
 use Rattle.outside.specs.declared.link.LinkFault.{LinkFault}
 use Rattle.outside.specs.declared.link.LinkFault.TheVariants as faults
 use Rattle.outside.specs.declared.wire.WireEntry.TheVariants.{Wrote, Missed}
-use Rattle.rpc_record.specs.declared.kept.Adds.{Adds}
-use Rattle.rpc_record.specs.declared.kept.Adds.TheVariants as added
+use Rattle.outside.specs.declared.places.WireAdds.{WireAdds}
+use Rattle.outside.specs.declared.places.WireAdds.TheVariants as added
 use Rattle.rpc_record.specs.declared.sending.SendState.TheVariants as sendings
 use Rattle.outside.specs.Records.{nth_record}
 use Rattle.rpc_record.specs.Records.{one_fragment}
@@ -30,7 +30,7 @@ delivers_went : (r : Option (List ℕ)) (s : Stream) → (delivers r s).went ≡
 delivers_went None s = refl
 delivers_went (Some rec) s = refl
 
-pub places_went : (a : Adds) (s : Stream) → (places a s).went ≡ s.went
+pub places_went : (a : WireAdds) (s : Stream) → (places a s).went ≡ s.went
 places_went added.Nothing s = refl
 places_went added.Failed s = refl
 places_went added.Whole s = sends_went (nth_record s.sent s.went) s
@@ -50,10 +50,10 @@ wrote_then (Some a) None c x y R f e h = absurd e
 wrote_then (Some a) (Some b) None x y R f e h = absurd h
 wrote_then (Some a) (Some b) (Some c) x y R f e h = f b c h ∙ ap (λ (u : List ℕ). u ++ y) e ∙ append_assoc a.went x y
 
-did_write : (a : Adds) (bytes : List ℕ) (s t : Stream) → Did (Some (Wrote bytes)) a s t → WroteMore bytes s t
+did_write : (a : WireAdds) (bytes : List ℕ) (s t : Stream) → Did (Some (Wrote bytes)) a s t → WroteMore bytes s t
 did_write a bytes s t d = ap (λ (u : Stream). u.went) d.is ∙ places_went a _
 
-did_miss : (a : Adds) (s t : Stream) → Did (Some Missed) a s t → WroteMore [] s t
+did_miss : (a : WireAdds) (s t : Stream) → Did (Some Missed) a s t → WroteMore [] s t
 did_miss a s t d = ap (λ (u : Stream). u.went) d.is ∙ places_went a _ ∙ sym (append-nil s.went)
 
 did_none : (s t : Stream) → t ≡ s → WroteMore [] s t

@@ -8,7 +8,7 @@ use Rattle.outside.specs.declared.link.Received.{Received}
 use Rattle.outside.specs.declared.link.Received.TheVariants as received
 use Rattle.outside.specs.Link.{received_as}
 use Rattle.outside.specs.declared.wire.WireEntry.TheVariants.{Read, Missed}
-use Rattle.rpc_record.specs.declared.kept.Adds.TheVariants as added
+use Rattle.outside.specs.declared.places.WireAdds.TheVariants as added
 use Rattle.rpc_record.specs.declared.gather.Phase.TheVariants as phases
 use Rattle.outside.specs.Records.{nth_record}
 use Rattle.rpc_record.specs.Stream.{Stream, Goes, Did, places, told_of}

@@ -8,8 +8,8 @@ use Rattle.world_model.specs.Told.{IsLawful}
 use Rattle.outside.specs.Wire.{WireTold}
 use Rattle.outside.specs.Records.{record_at, left}
 use Rattle.outside.specs.Reading.{Reading, now_at, reading}
-use Rattle.rpc_record.specs.declared.kept.Adds.{Adds}
-use Rattle.rpc_record.specs.declared.kept.Adds.TheVariants as added
+use Rattle.outside.specs.declared.places.WireAdds.{WireAdds}
+use Rattle.outside.specs.declared.places.WireAdds.TheVariants as added
 use Rattle.rpc_record.specs.Stream.{Stream, Along, now_in, told_of}
 
 -- the entries by which later ones are lawful
@@ -60,7 +60,7 @@ EndsRecord None bytes = Unit {0}
 EndsRecord (Some s) bytes = (begun : List ℕ) × (rec : List ℕ) × (left s.sent s.went ≡ Some begun) × (record_at (begun ++ bytes) ≡ Some (rec, []))
 
 -- an entry of the link's own that speaks of no written bytes
-abbrev pub IsOwn : Adds → Type 0
+abbrev pub IsOwn : WireAdds → Type 0
 IsOwn added.Whole = ⊥
 IsOwn adds = Unit {0}
 

@@ -8,7 +8,7 @@ use Rattle.outside.specs.declared.link.LinkFault.TheVariants as faults
 use Rattle.outside.specs.declared.wire.WireEntry.TheVariants.{Read, Missed}
 use Rattle.outside.specs.Causes.{Rose, HasCause}
 use Rattle.outside.specs.Link.{received_as}
-use Rattle.rpc_record.specs.declared.kept.Adds.TheVariants as added
+use Rattle.outside.specs.declared.places.WireAdds.TheVariants as added
 use Rattle.rpc_record.specs.declared.gather.Phase.{Phase}
 use Rattle.rpc_record.specs.declared.gather.Phase.TheVariants as phases
 use Rattle.rpc_record.specs.declared.sending.SendState.{SendState}
@@ -19,7 +19,7 @@ use Rattle.rpc_record.specs.Limits.{found_at}
 use Rattle.rpc_record.specs.Limits as limits
 use Rattle.rpc_record.specs.Gather.{Gathered, resumes}
 use Rattle.outside.specs.Wire.{WireTold}
-use Rattle.rpc_record.specs.declared.kept.Kept.{Kept}
+use Rattle.outside.specs.declared.places.WirePlace.{WirePlace}
 use Rattle.world_model.specs.History.{History}
 use Rattle.rpc_record.specs.Stream.{Stream, Along, now_of, Goes, Did, told_of}
 
@@ -35,7 +35,7 @@ pub record Shown : Type 0 where
 -- what a link is: its wire and what it placed behind the wire's calls, and the rest of what it shows
 pub record Held (W : Type 0) : Type 0 where
   pub over : W
-  pub kept : List Kept
+  pub kept : List WirePlace
   pub wire : ℕ
   pub own : ℕ
   pub sending : SendState

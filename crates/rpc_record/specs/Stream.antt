@@ -14,9 +14,9 @@ use Rattle.outside.specs.declared.link.LinkFault.TheVariants as faults
 use Rattle.outside.specs.Link.{entry_of}
 use Rattle.outside.specs.Wire.{Step, WireCall, WireTold, entries_in}
 use Rattle.outside.specs.Reading.{begins_at, adds, follows}
-use Rattle.rpc_record.specs.declared.kept.Kept.{Kept}
-use Rattle.rpc_record.specs.declared.kept.Adds.{Adds}
-use Rattle.rpc_record.specs.declared.kept.Adds.TheVariants as added
+use Rattle.outside.specs.declared.places.WirePlace.{WirePlace}
+use Rattle.outside.specs.declared.places.WireAdds.{WireAdds}
+use Rattle.outside.specs.declared.places.WireAdds.TheVariants as added
 use Rattle.outside.specs.Records.{◌>>=◌, nth_record}
 
 -- What is known at a moment: the calls of the wire that have no place yet, the history so far, and since the latest
@@ -54,7 +54,7 @@ sends (Some rec) s = record s { history = adds s.history (entries.Sent rec); sen
 
 -- What the link placed. A record that is delivered is the next one of the bytes that were read since the latest
 -- connection, and a record that was sent whole is the next one of those that were written.
-abbrev pub places : Adds → Stream → Stream
+abbrev pub places : WireAdds → Stream → Stream
 places added.Nothing s = s
 places added.Failed s = record s { history = adds s.history entries.Failed }
 places added.Whole s = sends (nth_record s.sent s.went) s
@@ -70,7 +70,7 @@ called false s = Some s
 called true s = called_of s.calls s
 
 -- the kept list, played over the calls
-abbrev pub replays : List Kept → Stream → Option Stream
+abbrev pub replays : List WirePlace → Stream → Option Stream
 replays [] s = Some s
 replays (k ∷ ks) s = called k.call s >>= λ t. replays ks (places k.adds t)
 
@@ -79,7 +79,7 @@ one_if true = 1
 one_if false = 0
 
 -- how many of the kept places are those of calls
-abbrev pub calls_in : List Kept → ℕ
+abbrev pub calls_in : List WirePlace → ℕ
 calls_in [] = 0
 calls_in (k ∷ ks) = one_if k.call + calls_in ks
 
@@ -103,41 +103,31 @@ after_calls s (c ∷ cs) = after_calls (after_steps s c.quiet) cs
 abbrev pub begun_at : ℕ → WireTold → Stream
 begun_at n t = begun (after_calls t.start (earlier n t.calls)) (latest n t.calls)
 
-abbrev pub now_of : Option WireTold → List Kept → Option Stream
+abbrev pub now_of : Option WireTold → List WirePlace → Option Stream
 now_of None ks = None
 now_of (Some t) ks = replays ks (begun_at (calls_in ks) t)
 
 -- Each call of the wire since then has its place, and no place is without a call. Behind a wire that doesn't tell its calls
 -- nothing is placed.
-pub record Placed (t : WireTold) (ks : List Kept) : Type 0 where
+pub record Placed (t : WireTold) (ks : List WirePlace) : Type 0 where
   pub enough : calls_in ks ≤ length t.calls
   pub now : Stream
   pub is : replays ks (begun_at (calls_in ks) t) ≡ Some now
   pub all : now.calls ≡ []
 
-abbrev pub AllPlaced : Option WireTold → List Kept → Type 0
+abbrev pub AllPlaced : Option WireTold → List WirePlace → Type 0
 AllPlaced None ks = ks ≡ []
 AllPlaced (Some t) ks = Placed t ks
 
 -- nothing is kept where the wire doesn't tell its calls
-abbrev pub KeepsNone : Option WireTold → List Kept → Type 0
+abbrev pub KeepsNone : Option WireTold → List WirePlace → Type 0
 KeepsNone None ks = ks ≡ []
 KeepsNone (Some t) ks = Unit {0}
-
--- a place, where the wire tells its calls
-abbrev pub if_tells : Bool → Kept → List Kept
-if_tells true k = k ∷ []
-if_tells false k = []
-
--- What stands last is put in place of the last, if there is one.
-pub record PutsLast (old new : List Kept) (k : Kept) : Type 0 where
-  pub last : (ks : List Kept) (j : Kept) → old ≡ ks ++ j ∷ [] → new ≡ ks ++ k ∷ []
-  pub none : old ≡ [] → new ≡ []
 
 -- what a line is: its wire, what it placed behind the wire's calls, and the wire's count
 pub record Along (W : Type 0) : Type 0 where
   pub over : W
-  pub kept : List Kept
+  pub kept : List WirePlace
   pub faults : ℕ
 
 -- where its history stands
@@ -151,13 +141,13 @@ Goes (Some s) None R = ⊥
 Goes (Some s) (Some t) R = R s t
 
 -- After s comes t by a call of the wire, perhaps after entries of the server.
-pub record Called (did : WireEntry) (places_then : Adds) (s t : Stream) : Type 0 where
+pub record Called (did : WireEntry) (places_then : WireAdds) (s t : Stream) : Type 0 where
   pub quiet : List Step
   pub unseen : ours (entries_in quiet) ≡ []
   pub is : t ≡ places places_then (shows did (quietly quiet s))
 
 -- what a call of a line did, from what the wire's call did and what was then placed
-abbrev pub Did : Option WireEntry → Adds → Stream → Stream → Type 0
+abbrev pub Did : Option WireEntry → WireAdds → Stream → Stream → Type 0
 Did None a s t = t ≡ s
 Did (Some did) a s t = Called did a s t
 
@@ -167,17 +157,17 @@ Marked mark (Ok x) s t = t ≡ shows (Noted mark) s
 Marked mark (Err e) s t = t ≡ s
 
 -- after a write: the record where its last bytes were taken, and the part of it where the wire failed
-abbrev pub if_wrote : ℕ → List ℕ → Result ℕ LinkFault → Adds
+abbrev pub if_wrote : ℕ → List ℕ → Result ℕ LinkFault → WireAdds
 if_wrote len part (Ok n) = if n == len then added.Whole else added.Nothing
 if_wrote len part (Err faults.Failed) = added.Part part
 if_wrote len part (Err faults.Memory) = added.Nothing
 
-abbrev pub if_dialed : {T : Type 0} → Result T LinkFault → Adds
+abbrev pub if_dialed : {T : Type 0} → Result T LinkFault → WireAdds
 if_dialed (Ok x) = added.Nothing
 if_dialed (Err faults.Failed) = added.Failed
 if_dialed (Err faults.Memory) = added.Nothing
 
-abbrev pub if_missed : WireRead → Adds
+abbrev pub if_missed : WireRead → WireAdds
 if_missed (reads.Got n) = added.Nothing
 if_missed reads.Silent = added.Failed
 if_missed reads.Failed = added.Failed

@@ -3,7 +3,6 @@
 
 mod gather;
 mod inbox;
-mod kept;
 mod line;
 mod sending;
 mod stream_link;

@@ -5,14 +5,12 @@ ghost use Rattle.std.specs.Bool.{OnTrue, OnFalse};
 ghost use Rattle.outside.specs.Causes.{HasCause};
 ghost use Rattle.outside.specs.Sink.{TakesSome};
 ghost use Rattle.outside.specs.Wire.{connected_as, wrote_as, read_as, IfGot, GetsSome, HasCauseRead};
-ghost use Rattle.rpc_record.specs.declared.kept.Kept.{Kept};
-ghost use Rattle.rpc_record.specs.declared.kept.Adds.TheVariants as added;
+ghost use Rattle.outside.specs.declared.places.WireAdds.TheVariants as added;
 ghost use Rattle.rpc_record.specs.Honest.{HonestOver, EndsRecord, IsOwn, IsFresh};
-ghost use Rattle.rpc_record.specs.Stream.{Goes, Did, Marked, KeepsNone, PutsLast, places, if_wrote, if_missed, if_dialed, if_tells, IsBegun, now_in};
+ghost use Rattle.rpc_record.specs.Stream.{Goes, Did, Marked, KeepsNone, places, if_wrote, if_missed, if_dialed, IsBegun, now_in};
 
-use crate::kept::{Adds, Kept};
 use crate::sending::HEADER;
-use outside::{LinkFault, Wire, WireRead};
+use outside::{LinkFault, Wire, WireAdds, WirePlace, WireRead};
 use std::alloc::Global;
 use std::marker::Model;
 use std::mem;
@@ -20,12 +18,12 @@ use world_model::Mark;
 use xdr_codec::{Blob, Memory};
 
 /// A wire, with what is placed behind its calls. Each call keeps its place before the wire is called, so that nothing
-/// that happened is left without one for lack of memory. Over a wire that doesn't tell its calls nothing is kept.
+/// that happened is left without one for lack of memory. The wire keeps the places; one that doesn't tell its calls has
+/// none.
 #[derive(Drop)]
 pub(crate) struct Line<W: Wire> {
     alloc: Global,
     wire: W,
-    kept: Vec<Kept>,
 }
 
 impl<W: Wire> Model for Line<W> {
@@ -33,43 +31,20 @@ impl<W: Wire> Model for Line<W> {
 
     ghost Value = { Along W };
 
-    ghost view = { λ s. record { over = s.wire; kept = s.kept.items; faults = W.faults s.wire } };
+    ghost view = { λ s. record { over = s.wire; kept = W.placed s.wire; faults = W.faults s.wire } };
 
-    ghost invariant = { λ s. AllPlaced (W.told s.wire) s.kept.items };
-}
-
-/// Puts k in place of the last, if there is one.
-fn put(kept: &mut Vec<Kept>, k: Kept)
-    ensures { PutsLast kept.old.items kept.new.items k }
-{
-    if kept.is_empty() {
-        return;
-    }
-    let at = kept.len() - 1;
-    kept[at] = k;
-}
-
-/// Keeps a place for what comes next, where the wire tells its calls. When out of memory nothing is changed, and the
-/// answer is false.
-fn room(kept: &mut Vec<Kept>, tells: bool) -> bool
-    ensures yes { OnTrue result (kept.new.items ≡ kept.old.items ++ if_tells tells (record { call = false; adds = added.Nothing })) }
-    ensures no { OnFalse result (kept.new.items ≡ kept.old.items) }
-{
-    if !tells {
-        return true;
-    }
-    let nothing = Kept {
-        call: false,
-        adds: Adds::Nothing,
-    };
-    kept.push(nothing).is_ok()
+    ghost invariant = { λ s. AllPlaced (W.told s.wire) (W.placed s.wire) };
 }
 
 /// What is placed after a write that took n bytes of len.
-fn after_write(n: usize, len: usize) -> Adds
+fn after_write(n: usize, len: usize) -> WireAdds
     ensures { result ≡ (if n == len then added.Whole else added.Nothing) }
 {
-    if n == len { Adds::Whole } else { Adds::Nothing }
+    if n == len {
+        WireAdds::Whole
+    } else {
+        WireAdds::Nothing
+    }
 }
 
 /// Takes the record out of the text of its fragment, and leaves nothing. It takes no memory.
@@ -92,11 +67,9 @@ impl<W: Wire + Drop> Line<W> {
         ensures honest { IsFresh (W.told wire) → W.honest wire → HonestOver W.told W.honest result }
         ensures faults { result.faults ≡ W.faults wire }
     {
-        Line {
-            alloc,
-            wire,
-            kept: Vec::new(alloc),
-        }
+        let mut wire = wire;
+        wire.forget_places();
+        Line { alloc, wire }
     }
 
     /// The wire.
@@ -106,26 +79,23 @@ impl<W: Wire + Drop> Line<W> {
         self.wire
     }
 
-    /// How many places it keeps: none where the wire doesn't tell its calls.
-    pub(crate) fn kept(&self) -> usize
-        ensures untold { KeepsNone (W.told self.now.over) self.now.kept }
-        ensures count { result ≡ length self.now.kept }
+    /// Over a wire that doesn't tell its calls no place is kept.
+    pub(crate) fn keeps_none(&self)
+        ensures { KeepsNone (W.told self.now.over) self.now.kept }
     {
-        self.kept.len()
+        let _wire = &self.wire;
     }
 
     /// Places an entry after all that was done. When out of memory nothing is changed, and the answer is false.
-    pub(crate) fn place(&mut self, adds: Adds) -> bool
+    pub(crate) fn place(&mut self, adds: WireAdds) -> bool
         ensures yes { OnTrue result (Goes (now_in W.told self.old) (now_in W.told self.new) (λ s t. t ≡ places adds s)) }
         ensures no { OnFalse result (now_in W.told self.new ≡ now_in W.told self.old) }
         ensures honest { IsOwn adds → HonestOver W.told W.honest self.old → HonestOver W.told W.honest self.new }
         ensures faults { self.new.faults ≡ self.old.faults }
     {
-        let telling = self.wire.tells();
-        if !room(&mut self.kept, telling) {
+        if !self.wire.keep_place(WirePlace { call: false, adds }) {
             return false;
         }
-        put(&mut self.kept, Kept { call: false, adds });
         true
     }
 
@@ -138,18 +108,21 @@ impl<W: Wire + Drop> Line<W> {
         ensures gets { IfGot result (GetsSome buf.new) }
         ensures cause { HasCauseRead self.old.faults self.new.faults result }
     {
-        let telling = self.wire.tells();
-        if !room(&mut self.kept, telling) {
+        let nothing = WirePlace {
+            call: false,
+            adds: WireAdds::Nothing,
+        };
+        if !self.wire.keep_place(nothing) {
             return WireRead::Memory;
         }
         let got = self.wire.read(wait_ms, buf);
         let adds = match got {
-            WireRead::Got(_) => Adds::Nothing,
-            WireRead::Silent => Adds::Failed,
-            WireRead::Failed => Adds::Failed,
+            WireRead::Got(_) => WireAdds::Nothing,
+            WireRead::Silent => WireAdds::Failed,
+            WireRead::Failed => WireAdds::Failed,
             WireRead::Memory => return WireRead::Memory,
         };
-        put(&mut self.kept, Kept { call: true, adds });
+        self.wire.put_place(WirePlace { call: true, adds });
         got
     }
 
@@ -164,22 +137,25 @@ impl<W: Wire + Drop> Line<W> {
         ensures text { IfOk result (λ n. text.new ≡ text.old) }
         ensures cause { HasCause self.old.faults self.new.faults result }
     {
-        let telling = self.wire.tells();
-        if !room(&mut self.kept, telling) {
+        let nothing = WirePlace {
+            call: false,
+            adds: WireAdds::Nothing,
+        };
+        if !self.wire.keep_place(nothing) {
             return Err(LinkFault::Memory);
         }
         let (_, bytes) = text.as_slice().split_at(at);
         match self.wire.write(bytes) {
             Ok(n) => {
                 let adds = after_write(n, bytes.len());
-                put(&mut self.kept, Kept { call: true, adds });
+                self.wire.put_place(WirePlace { call: true, adds });
                 Ok(n)
             }
             Err(LinkFault::Failed) => {
-                let adds = Adds::Part {
+                let adds = WireAdds::Part {
                     bytes: take_record(self.alloc, text),
                 };
-                put(&mut self.kept, Kept { call: true, adds });
+                self.wire.put_place(WirePlace { call: true, adds });
                 Err(LinkFault::Failed)
             }
             Err(LinkFault::Memory) => Err(LinkFault::Memory),
@@ -192,19 +168,22 @@ impl<W: Wire + Drop> Line<W> {
         ensures honest { HonestOver W.told W.honest self.old → HonestOver W.told W.honest self.new }
         ensures cause { HasCause self.old.faults self.new.faults result }
     {
-        let telling = self.wire.tells();
-        if !room(&mut self.kept, telling) {
+        let nothing = WirePlace {
+            call: false,
+            adds: WireAdds::Nothing,
+        };
+        if !self.wire.keep_place(nothing) {
             return Err(LinkFault::Memory);
         }
         match self.wire.connect(port) {
             Ok(()) => {
-                let adds = Adds::Nothing;
-                put(&mut self.kept, Kept { call: true, adds });
+                let adds = WireAdds::Nothing;
+                self.wire.put_place(WirePlace { call: true, adds });
                 Ok(())
             }
             Err(LinkFault::Failed) => {
-                let adds = Adds::Failed;
-                put(&mut self.kept, Kept { call: true, adds });
+                let adds = WireAdds::Failed;
+                self.wire.put_place(WirePlace { call: true, adds });
                 Err(LinkFault::Failed)
             }
             Err(LinkFault::Memory) => Err(LinkFault::Memory),
@@ -217,14 +196,17 @@ impl<W: Wire + Drop> Line<W> {
         ensures honest { HonestOver W.told W.honest self.old → HonestOver W.told W.honest self.new }
         ensures cause { self.old.faults ≤ self.new.faults }
     {
-        let telling = self.wire.tells();
-        if !room(&mut self.kept, telling) {
+        let nothing = WirePlace {
+            call: false,
+            adds: WireAdds::Nothing,
+        };
+        if !self.wire.keep_place(nothing) {
             return Err(Memory);
         }
         match self.wire.note(mark) {
             Ok(()) => {
-                let adds = Adds::Nothing;
-                put(&mut self.kept, Kept { call: true, adds });
+                let adds = WireAdds::Nothing;
+                self.wire.put_place(WirePlace { call: true, adds });
                 Ok(())
             }
             Err(_) => Err(Memory),

@@ -12,10 +12,9 @@ ghost use Rattle.rpc_record.specs.Shown.{Waits, Turned, Turns, GoesOn, Sends, le
 
 use crate::gather::Phase;
 use crate::inbox::Inbox;
-use crate::kept::Adds;
 use crate::line::Line;
 use crate::sending::{SendState, framed};
-use outside::{Link, LinkFault, Received, Wire, WireRead};
+use outside::{Link, LinkFault, Received, Wire, WireAdds, WireRead};
 use std::alloc::Global;
 use std::marker::Model;
 use world_model::Mark;
@@ -86,13 +85,11 @@ impl<W: Wire + Drop> StreamLink<W> {
         self.line.into_wire()
     }
 
-    /// How many places it keeps, each for a call of the wire or an entry of its own. Over a wire that doesn't tell its
-    /// calls it keeps none, so that a call takes no memory that stays.
-    pub fn kept(&self) -> usize
+    /// Over a wire that doesn't tell its calls no place is kept, so that a call takes no memory that stays.
+    pub fn keeps_none(&self)
         ensures untold { KeepsNone (W.told self.now.over) self.now.kept }
-        ensures count { result ≡ length self.now.kept }
     {
-        self.line.kept()
+        self.line.keeps_none();
     }
 
     /// Delivers the record that ended.
@@ -101,7 +98,7 @@ impl<W: Wire + Drop> StreamLink<W> {
         ensures turned { Turned (shown_by W.told self.old) (shown_by W.told self.new) rec.new.items result }
         ensures honest { HonestOver W.told W.honest (line_of self.old) → HonestOver W.told W.honest (line_of self.new) }
     {
-        if !self.line.place(Adds::Delivered) {
+        if !self.line.place(WireAdds::Delivered) {
             return Received::Memory;
         }
         self.inbox.hand_out(rec);
@@ -114,7 +111,7 @@ impl<W: Wire + Drop> StreamLink<W> {
         ensures turned { (rec : List ℕ) → Turned (shown_by W.told self.old) (shown_by W.told self.new) rec result }
         ensures honest { HonestOver W.told W.honest (line_of self.old) → HonestOver W.told W.honest (line_of self.new) }
     {
-        if !self.line.place(Adds::Failed) {
+        if !self.line.place(WireAdds::Failed) {
             return Received::Memory;
         }
         self.faults = self.faults.saturating_add(1);
@@ -199,7 +196,7 @@ impl<W: Wire + Drop> StreamLink<W> {
         let Ok(bytes) = Blob::copy(self.alloc, rec) else {
             return Err(LinkFault::Memory);
         };
-        if !self.line.place(Adds::Part { bytes }) {
+        if !self.line.place(WireAdds::Part { bytes }) {
             return Err(LinkFault::Memory);
         }
         self.faults = self.faults.saturating_add(1);

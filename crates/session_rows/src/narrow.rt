@@ -1,6 +1,6 @@
 //! A wire that takes a part of what is written.
 
-use outside::{LinkFault, Wire, WireRead};
+use outside::{LinkFault, Wire, WirePlace, WireRead};
 use world_model::Mark;
 use xdr_codec::Memory;
 
@@ -32,9 +32,11 @@ impl Narrow {
 }
 
 impl Wire for Narrow {
-    ghost use Rattle.std.specs.Prelude.{None};
+    ghost use Rattle.std.specs.Prelude.{None, []};
 
     ghost told = { λ w. None };
+
+    ghost placed = { λ w. [] };
 
     ghost faults = { λ w. w.faults };
 
@@ -42,10 +44,6 @@ impl Wire for Narrow {
     ghost honest = { λ w. Unit {0} };
 
     ghost lawful = { λ w h. tt };
-
-    fn tells(&self) -> bool {
-        false
-    }
 
     fn connect(&mut self, _port: u16) -> Result<(), LinkFault> {
         Ok(())
@@ -68,4 +66,12 @@ impl Wire for Narrow {
     fn note(&mut self, _mark: Mark) -> Result<(), Memory> {
         Ok(())
     }
+
+    fn forget_places(&mut self) {}
+
+    fn keep_place(&mut self, _place: WirePlace) -> bool {
+        true
+    }
+
+    fn put_place(&mut self, _place: WirePlace) {}
 }

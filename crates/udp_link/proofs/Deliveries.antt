@@ -14,13 +14,13 @@ use Rattle.outside.specs.Link.{entry_of}
 use Rattle.outside.specs.Wire.{Step, entries_in}
 use Rattle.outside.specs.Reading.{adds, goes_on, follows}
 use Rattle.outside.specs.Datagrams.{DatagramCall, DatagramsTold, AddsDatagram, Heard, is_aimed, shown, hear_call}
-use Rattle.udp_link.specs.declared.kept.Adds.{Adds}
-use Rattle.udp_link.specs.declared.kept.Adds.TheVariants as added
+use Rattle.outside.specs.declared.places.DatagramAdds.{DatagramAdds}
+use Rattle.outside.specs.declared.places.DatagramAdds.TheVariants as added
 use Rattle.udp_link.specs.Placing.{places, replays, latest, earlier, after_calls, begun, heard_by, aims, aims_all, brought, brought_by, delivered_of, delivered, Placed}
 
 -- ---- one call more
 
-replays_last : (ks : List Adds) (cs : List DatagramCall) (a : Adds) (c : DatagramCall) (h : Heard) → length ks ≡ length cs → replays (ks ++ a ∷ []) (cs ++ c ∷ []) h ≡ places a (hear_call c (replays ks cs h))
+replays_last : (ks : List DatagramAdds) (cs : List DatagramCall) (a : DatagramAdds) (c : DatagramCall) (h : Heard) → length ks ≡ length cs → replays (ks ++ a ∷ []) (cs ++ c ∷ []) h ≡ places a (hear_call c (replays ks cs h))
 replays_last [] [] a c h e = refl
 replays_last [] (x ∷ cs) a c h e = absurd (omega (arith, e))
 replays_last (k ∷ ks) [] a c h e = absurd (omega (arith, e))
@@ -42,20 +42,20 @@ latest_long n calls le = omega (arith, length-drop (length calls - n) calls, le)
 abbrev with_call : DatagramsTold → DatagramCall → DatagramsTold
 with_call t c = record { start = t.start; calls = t.calls ++ c ∷ [] }
 
-one_longer : (ks : List Adds) (a : Adds) → length (ks ++ a ∷ []) ≡ length ks + 1
+one_longer : (ks : List DatagramAdds) (a : DatagramAdds) → length (ks ++ a ∷ []) ≡ length ks + 1
 one_longer ks a = omega (arith, length-append ks (a ∷ []))
 
-latest_with : (t : DatagramsTold) (ks : List Adds) (a : Adds) (c : DatagramCall) → length ks ≤ length t.calls → latest (length (ks ++ a ∷ [])) (t.calls ++ c ∷ []) ≡ latest (length ks) t.calls ++ c ∷ []
+latest_with : (t : DatagramsTold) (ks : List DatagramAdds) (a : DatagramAdds) (c : DatagramCall) → length ks ≤ length t.calls → latest (length (ks ++ a ∷ [])) (t.calls ++ c ∷ []) ≡ latest (length ks) t.calls ++ c ∷ []
 latest_with t ks a c le = ap (λ (n : ℕ). latest n (t.calls ++ c ∷ [])) (one_longer ks a) ∙ latest_more (length ks) t.calls c le
 
-earlier_with : (t : DatagramsTold) (ks : List Adds) (a : Adds) (c : DatagramCall) → length ks ≤ length t.calls → earlier (length (ks ++ a ∷ [])) (t.calls ++ c ∷ []) ≡ earlier (length ks) t.calls
+earlier_with : (t : DatagramsTold) (ks : List DatagramAdds) (a : DatagramAdds) (c : DatagramCall) → length ks ≤ length t.calls → earlier (length (ks ++ a ∷ [])) (t.calls ++ c ∷ []) ≡ earlier (length ks) t.calls
 earlier_with t ks a c le = ap (λ (n : ℕ). earlier n (t.calls ++ c ∷ [])) (one_longer ks a) ∙ earlier_more (length ks) t.calls c le
 
-abbrev replays_from : List Adds → DatagramsTold → List DatagramCall → List DatagramCall → Heard
+abbrev replays_from : List DatagramAdds → DatagramsTold → List DatagramCall → List DatagramCall → Heard
 replays_from ks t late early = replays ks late (begun (after_calls t.start early))
 
 -- where a history stands after one more call
-pub heard_more : (t : DatagramsTold) (ks : List Adds) (a : Adds) (c : DatagramCall) → length ks ≤ length t.calls → heard_by (with_call t c) (ks ++ a ∷ []) ≡ places a (hear_call c (heard_by t ks))
+pub heard_more : (t : DatagramsTold) (ks : List DatagramAdds) (a : DatagramAdds) (c : DatagramCall) → length ks ≤ length t.calls → heard_by (with_call t c) (ks ++ a ∷ []) ≡ places a (hear_call c (heard_by t ks))
 heard_more t ks a c le =
     ap (λ (late : List DatagramCall). replays_from (ks ++ a ∷ []) t late (earlier (length (ks ++ a ∷ [])) (t.calls ++ c ∷ []))) (latest_with t ks a c le)
     ∙ ap (λ (early : List DatagramCall). replays_from (ks ++ a ∷ []) t (latest (length ks) t.calls ++ c ∷ []) early) (earlier_with t ks a c le)
@@ -67,7 +67,7 @@ aims_last : (cs : List DatagramCall) (c : DatagramCall) (p : Option ℕ) → aim
 aims_last [] c p = refl
 aims_last (x ∷ cs) c p = aims_last cs c (aims x.did p)
 
-places_aimed : (a : Adds) (h : Heard) → (places a h).aimed ≡ h.aimed
+places_aimed : (a : DatagramAdds) (h : Heard) → (places a h).aimed ≡ h.aimed
 places_aimed added.Nothing h = refl
 places_aimed added.Failed h = refl
 places_aimed (added.Unsent bytes) h = refl
@@ -83,7 +83,7 @@ shown_aimed (Came from bytes) h = either_aimed (is_aimed h.aimed from) (record h
 shown_aimed (Noted mark) h = refl
 shown_aimed Missed h = refl
 
-call_aimed : (c : DatagramCall) (a : Adds) (h : Heard) → (places a (hear_call c h)).aimed ≡ aims c.did h.aimed
+call_aimed : (c : DatagramCall) (a : DatagramAdds) (h : Heard) → (places a (hear_call c h)).aimed ≡ aims c.did h.aimed
 call_aimed c a h = places_aimed a (hear_call c h) ∙ shown_aimed c.did (record h { history = follows c.quiet h.history })
 
 -- ---- what is delivered
@@ -130,7 +130,7 @@ quiet_delivers (s ∷ quiet) h u =
     let parted : ours (s.entry ∷ []) ++ ours (entries_in quiet) ≡ [] = sym (ours-append (s.entry ∷ []) (entries_in quiet)) ∙ u in
     quiet_delivers quiet (goes_on h s.entry s.after) (second_nil _ _ parted) ∙ one_more h.entries s.entry (unseen_none s.entry (first_nil _ _ parted))
 
-places_delivers : (a : Adds) (h : Heard) → delivered (places a h).history.entries ≡ delivered h.history.entries
+places_delivers : (a : DatagramAdds) (h : Heard) → delivered (places a h).history.entries ≡ delivered h.history.entries
 places_delivers added.Nothing h = refl
 places_delivers added.Failed h = one_more h.history.entries entries.Failed refl
 places_delivers (added.Unsent bytes) h = one_more (h.history.entries ++ entries.Sent bytes ∷ []) entries.Failed refl ∙ one_more h.history.entries (entries.Sent bytes) refl
@@ -152,7 +152,7 @@ shown_delivers (Came from bytes) h = came_delivers (is_aimed h.aimed from) h byt
 shown_delivers (Noted mark) h = one_more h.history.entries (entry_of mark) (mark_none mark) ∙ sym (append-nil _)
 shown_delivers Missed h = sym (append-nil _)
 
-call_delivers : (c : DatagramCall) (a : Adds) (h : Heard) → ours (entries_in c.quiet) ≡ [] → delivered (places a (hear_call c h)).history.entries ≡ delivered h.history.entries ++ brought c.did h.aimed
+call_delivers : (c : DatagramCall) (a : DatagramAdds) (h : Heard) → ours (entries_in c.quiet) ≡ [] → delivered (places a (hear_call c h)).history.entries ≡ delivered h.history.entries ++ brought c.did h.aimed
 call_delivers c a h u =
     places_delivers a (hear_call c h)
     ∙ shown_delivers c.did (record h { history = follows c.quiet h.history })
@@ -160,7 +160,7 @@ call_delivers c a h u =
 
 -- ---- all of it
 
-with_placed : (t : DatagramsTold) (ks : List Adds) (p : Option ℕ) (c : DatagramCall) (a : Adds) → Placed t ks p → ours (entries_in c.quiet) ≡ [] → Placed (with_call t c) (ks ++ a ∷ []) (aims c.did p)
+with_placed : (t : DatagramsTold) (ks : List DatagramAdds) (p : Option ℕ) (c : DatagramCall) (a : DatagramAdds) → Placed t ks p → ours (entries_in c.quiet) ≡ [] → Placed (with_call t c) (ks ++ a ∷ []) (aims c.did p)
 with_placed t ks p c a w u =
     let is = heard_more t ks a c w.enough in
     let late = latest_with t ks a c w.enough in
@@ -178,5 +178,5 @@ with_placed t ks p c a w u =
     }
 
 -- after one more call, and what was placed behind it
-pub placed_more : (t new : DatagramsTold) (ks : List Adds) (p : Option ℕ) (did : DatagramEntry) (a : Adds) → Placed t ks p → AddsDatagram t new did → Placed new (ks ++ a ∷ []) (aims did p)
+pub placed_more : (t new : DatagramsTold) (ks : List DatagramAdds) (p : Option ℕ) (did : DatagramEntry) (a : DatagramAdds) → Placed t ks p → AddsDatagram t new did → Placed new (ks ++ a ∷ []) (aims did p)
 placed_more t new ks p did a w e = subst (λ (n : DatagramsTold). Placed n (ks ++ a ∷ []) (aims did p)) (sym e.grown) (with_placed t ks p (record { quiet = e.quiet; did = did }) a w e.unseen)

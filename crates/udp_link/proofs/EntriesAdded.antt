@@ -16,7 +16,7 @@ use Rattle.outside.specs.Datagrams.{DatagramCall, Heard, is_aimed, shown, hear_c
 use Rattle.outside.proofs.Notes.{mark_ours}
 use Rattle.rpc_record.proofs.LawfulAlong.{at_old}
 use Rattle.udp_link.specs.declared.kept.Adds.{Adds as Added}
-use Rattle.udp_link.specs.declared.kept.Adds.TheVariants as added
+use Rattle.outside.specs.declared.places.DatagramAdds.TheVariants as added
 use Rattle.udp_link.specs.Placing.{places, shown_as, placed_as}
 use Rattle.udp_link.proofs.Deliveries.{first_nil, second_nil}
 

@@ -10,8 +10,8 @@ use Rattle.outside.specs.Link.{entry_of}
 use Rattle.outside.specs.Reading.{begins_at, now_at, adds, follows}
 use Rattle.outside.specs.Datagrams.{DatagramCall, DatagramsTold, AddsDatagram, DatagramsTell, Heard, is_aimed, shown, hear_call, hear_calls, heard, AreLawful}
 use Rattle.rpc_record.proofs.LawfulAlong.{Both, both_steps, both_add, both_failed, both_sent, lawful_front}
-use Rattle.udp_link.specs.declared.kept.Adds.{Adds}
-use Rattle.udp_link.specs.declared.kept.Adds.TheVariants as added
+use Rattle.outside.specs.declared.places.DatagramAdds.{DatagramAdds}
+use Rattle.outside.specs.declared.places.DatagramAdds.TheVariants as added
 use Rattle.udp_link.specs.Placing.{places, begun, after_calls, heard_by, now_of, told_of, Placed, IsPlaced}
 use Rattle.udp_link.specs.Honest.{Mirrors, Mirrored, IsFresh}
 use Rattle.udp_link.proofs.PlacesKept.{OneMore}
@@ -43,7 +43,7 @@ shown_state (Came from bytes) r s w l =
 shown_state (Noted mark) r s w l = state_of (shown (Noted mark) r) (shown (Noted mark) s) (both_add r.history s.history (entry_of mark) (both_of r s w) l) w.mirrors.aimed
 shown_state Missed r s w l = w
 
-places_state : (a : Adds) (r s : Heard) → State r s → State r (places a s)
+places_state : (a : DatagramAdds) (r s : Heard) → State r s → State r (places a s)
 places_state added.Nothing r s w = w
 places_state added.Failed r s w = state_of r (places added.Failed s) (both_failed r.history s.history (both_of r s w)) w.mirrors.aimed
 places_state (added.Unsent bytes) r s w =
@@ -60,7 +60,7 @@ shown_before (Came from bytes) r l = came_before (is_aimed r.aimed from) bytes r
 shown_before (Noted mark) r l = lawful_front r.history (entry_of mark) (now_at r.history) l
 shown_before Missed r l = l
 
-call_state : (c : DatagramCall) (a : Adds) (r s : Heard) → State r s → Lawful (hear_call c r).history → State (hear_call c r) (places a (hear_call c s))
+call_state : (c : DatagramCall) (a : DatagramAdds) (r s : Heard) → State r s → Lawful (hear_call c r).history → State (hear_call c r) (places a (hear_call c s))
 call_state c a r s w l =
     let q : Heard = record r { history = follows c.quiet r.history } in
     let z : Heard = record s { history = follows c.quiet s.history } in
@@ -81,12 +81,12 @@ hears_more (x ∷ cs) c r = hears_more cs c (hear_call x r)
 heard_new : (t new : DatagramsTold) (did : DatagramEntry) (e : AddsDatagram t new did) → heard new ≡ hear_call (record { quiet = e.quiet; did = did }) (heard t)
 heard_new t new did e = ap heard e.grown ∙ hears_more t.calls (record { quiet = e.quiet; did = did }) (record { history = begins_at t.start; aimed = None })
 
-link_new : (t new : DatagramsTold) (ks js : List Adds) (p : Option ℕ) (did : DatagramEntry) (a : Adds) (w : Placed t ks p) (e : AddsDatagram t new did) → js ≡ ks ++ a ∷ []
+link_new : (t new : DatagramsTold) (ks js : List DatagramAdds) (p : Option ℕ) (did : DatagramEntry) (a : DatagramAdds) (w : Placed t ks p) (e : AddsDatagram t new did) → js ≡ ks ++ a ∷ []
     → heard_by new js ≡ places a (hear_call (record { quiet = e.quiet; did = did }) (heard_by t ks))
 link_new t new ks js p did a w e is =
     ap (heard_by new) is ∙ ap (λ (n : DatagramsTold). heard_by n (ks ++ a ∷ [])) e.grown ∙ heard_more t ks a (record { quiet = e.quiet; did = did }) w.enough
 
-pub call_accords : (old new : Option DatagramsTold) (ks js : List Adds) (p : Option ℕ) (did : DatagramEntry) (a : Adds) → IsPlaced old ks p → OneMore old ks a js → DatagramsTell old new (Some did) → Accords old (now_of old ks) → AreLawful new
+pub call_accords : (old new : Option DatagramsTold) (ks js : List DatagramAdds) (p : Option ℕ) (did : DatagramEntry) (a : DatagramAdds) → IsPlaced old ks p → OneMore old ks a js → DatagramsTell old new (Some did) → Accords old (now_of old ks) → AreLawful new
     → Accords new (now_of new js)
 call_accords None None ks js p did a w more e l n = record { lawful = tt; mirrored = tt }
 call_accords None (Some new) ks js p did a w more e l n = absurd cc

@@ -14,7 +14,7 @@ use Rattle.outside.specs.declared.datagrams.DatagramEntry.TheVariants.{Came, Mis
 use Rattle.outside.specs.Causes.{Rose, HasCauseReceived}
 use Rattle.outside.specs.Link.{received_as}
 use Rattle.outside.specs.Datagrams.{DatagramCall, DatagramsTold, DatagramsTell, is_aimed}
-use Rattle.udp_link.specs.declared.kept.Adds.{Adds}
+use Rattle.outside.specs.declared.places.DatagramAdds.{DatagramAdds}
 use Rattle.udp_link.specs.declared.link.TheConstants.{MOST_PASSED}
 use Rattle.udp_link.specs.Placing.{now_of, told_of, heard_by, shown_as, placed_as}
 use Rattle.udp_link.specs.Shown.{Held, told_by, AreStrangers, PassesOver, PassedOver, PassedThen, Passes, GoesOn, Ends, Takes, Misses, GivesUp, Turned, Waited}
@@ -80,7 +80,7 @@ tells_both (Some t) None c es fs p q = absurd p
 tells_both (Some t) (Some u) None es fs p q = absurd q
 tells_both (Some t) (Some u) (Some v) es fs p q = adds_then t u v es fs p q
 
-tells_same : (told : Option DatagramsTold) (ks : List Adds) → Tells (told_of (now_of told ks)) (told_of (now_of told ks)) []
+tells_same : (told : Option DatagramsTold) (ks : List DatagramAdds) → Tells (told_of (now_of told ks)) (told_of (now_of told ks)) []
 tells_same None ks = tt
 tells_same (Some t) ks = adds_none (heard_by t ks).history (heard_by t ks).history refl (λ n le. refl)
 
@@ -91,10 +91,10 @@ aimed_is (Some port) from e = ap (λ (n : ℕ). Some n) (eqb-true port from e)
 -- ---- one turn
 
 -- nothing was called
-pub stays : {D : Type 0} (told : D → Option DatagramsTold) (s : Held D) (js : List Adds) → js ≡ s.kept → GoesOn told 0 s (record s { kept = js })
+pub stays : {D : Type 0} (told : D → Option DatagramsTold) (s : Held D) (js : List DatagramAdds) → js ≡ s.kept → GoesOn told 0 s (record s { kept = js })
 stays told s js same = record {
   passes = record {
-    tells = subst (λ (ks : List Adds). Tells (told_by told s) (told_of (now_of (told s.over) ks)) []) (sym same) (tells_same (told s.over) s.kept);
+    tells = subst (λ (ks : List DatagramAdds). Tells (told_by told s) (told_of (now_of (told s.over) ks)) []) (sym same) (tells_same (told s.over) s.kept);
     passed = passed_none (told s.over) s.port;
     below = omega arith;
     port = refl;
@@ -123,7 +123,7 @@ takes told old new from rec aimed t e below own port = (
   },
 )
 
-pub passes_one : {D : Type 0} (told : D → Option DatagramsTold) (old new : Held D) (from : ℕ) (rec : List ℕ) (a : Adds) → is_aimed old.port from ≡ false → Tells (told_by told old) (told_by told new) (shown_as old.port (Came from rec) ++ placed_as a)
+pub passes_one : {D : Type 0} (told : D → Option DatagramsTold) (old new : Held D) (from : ℕ) (rec : List ℕ) (a : DatagramAdds) → is_aimed old.port from ≡ false → Tells (told_by told old) (told_by told new) (shown_as old.port (Came from rec) ++ placed_as a)
     → DatagramsTell (told old.over) (told new.over) (Some (Came from rec)) → old.below ≤ new.below → new.port ≡ old.port → Passes told 1 (placed_as a) old new
 passes_one told old new from rec a other t e below port = record {
   tells = subst (λ (b : Bool). Tells (told_by told old) (told_by told new) ((if b then entries.Delivered rec ∷ [] else []) ++ placed_as a)) other t;

@@ -1,5 +1,5 @@
 -- The history of a link, from the calls of its datagrams and what the link placed behind each of them.
-use Rattle.std.specs.Prelude.{◌≡◌, ◌≤◌, ◌-◌, ℕ, List, [], ◌∷◌, ◌++◌, take, drop, length, Bool, true, false, Option, Some, None, if◌then◌else◌}
+use Rattle.std.specs.Prelude.{◌≡◌, ◌≤◌, ◌-◌, ℕ, List, [], ◌∷◌, ◌++◌, take, drop, length, Bool, false, Option, Some, None, if◌then◌else◌}
 use Rattle.world_model.specs.declared.entry.Entry.{Entry}
 use Rattle.world_model.specs.declared.entry.Entry.TheVariants as entries
 use Rattle.world_model.specs.Server.{Server}
@@ -10,17 +10,17 @@ use Rattle.outside.specs.Link.{entry_of}
 use Rattle.outside.specs.Reading.{begins_at, adds}
 use Rattle.outside.specs.Datagrams.{DatagramCall, DatagramsTold, Heard, is_aimed, hear_call}
 use Rattle.rpc_record.specs.Stream.{after_steps}
-use Rattle.udp_link.specs.declared.kept.Adds.{Adds}
-use Rattle.udp_link.specs.declared.kept.Adds.TheVariants as added
+use Rattle.outside.specs.declared.places.DatagramAdds.{DatagramAdds}
+use Rattle.outside.specs.declared.places.DatagramAdds.TheVariants as added
 
 -- what the link placed
-abbrev pub places : Adds → Heard → Heard
+abbrev pub places : DatagramAdds → Heard → Heard
 places added.Nothing h = h
 places added.Failed h = record h { history = adds h.history entries.Failed }
 places (added.Unsent bytes) h = record h { history = adds (adds h.history (entries.Sent bytes)) entries.Failed }
 
 -- the kept list, played over the calls: each place stands behind its call
-abbrev pub replays : List Adds → List DatagramCall → Heard → Heard
+abbrev pub replays : List DatagramAdds → List DatagramCall → Heard → Heard
 replays [] cs h = h
 replays (a ∷ more) [] h = h
 replays (a ∷ more) (c ∷ cs) h = replays more cs (places a (hear_call c h))
@@ -43,10 +43,10 @@ begun start = record { history = begins_at start; aimed = None }
 
 -- Where the history of a link stands. What the datagrams did before the latest calls is no part of it: it begins with the
 -- server after that.
-abbrev pub heard_by : DatagramsTold → List Adds → Heard
+abbrev pub heard_by : DatagramsTold → List DatagramAdds → Heard
 heard_by t ks = replays ks (latest (length ks) t.calls) (begun (after_calls t.start (earlier (length ks) t.calls)))
 
-abbrev pub now_of : Option DatagramsTold → List Adds → Option Heard
+abbrev pub now_of : Option DatagramsTold → List DatagramAdds → Option Heard
 now_of None ks = None
 now_of (Some t) ks = Some (heard_by t ks)
 
@@ -93,33 +93,16 @@ delivered (e ∷ es) = delivered_of e ++ delivered es
 
 -- Each call since the link was made has its place. The port is the one dialed last, and the records that were delivered are
 -- exactly the datagrams that came from the port dialed last, in order, each whole.
-pub record Placed (t : DatagramsTold) (ks : List Adds) (port : Option ℕ) : Type 0 where
+pub record Placed (t : DatagramsTold) (ks : List DatagramAdds) (port : Option ℕ) : Type 0 where
   pub enough : length ks ≤ length t.calls
   pub aimed : (heard_by t ks).aimed ≡ port
   pub dialed : aims_all (latest (length ks) t.calls) None ≡ port
   pub exact : delivered (heard_by t ks).history.entries ≡ brought_by (latest (length ks) t.calls) None
 
 -- Nothing is placed behind datagrams that don't tell their calls.
-abbrev pub IsPlaced : Option DatagramsTold → List Adds → Option ℕ → Type 0
+abbrev pub IsPlaced : Option DatagramsTold → List DatagramAdds → Option ℕ → Type 0
 IsPlaced None ks port = ks ≡ []
 IsPlaced (Some t) ks port = Placed t ks port
-
--- ---- how the kept list changes
-
--- a place, where calls are told
-abbrev pub if_told : Bool → Adds → List Adds
-if_told true a = a ∷ []
-if_told false a = []
-
--- What stands last is put in place of the last, if there is one.
-pub record PutsLast (old new : List Adds) (a : Adds) : Type 0 where
-  pub last : (ks : List Adds) (b : Adds) → old ≡ ks ++ b ∷ [] → new ≡ ks ++ a ∷ []
-  pub none : old ≡ [] → new ≡ []
-
--- The last is taken away, if there is one.
-pub record TakesLast (old new : List Adds) : Type 0 where
-  pub last : (ks : List Adds) (b : Adds) → old ≡ ks ++ b ∷ [] → new ≡ ks
-  pub none : old ≡ [] → new ≡ []
 
 -- ---- what a call adds
 
@@ -132,7 +115,7 @@ shown_as aimed (Noted mark) = entry_of mark ∷ []
 shown_as aimed Missed = []
 
 -- the entries that were placed behind it
-abbrev pub placed_as : Adds → List Entry
+abbrev pub placed_as : DatagramAdds → List Entry
 placed_as added.Nothing = []
 placed_as added.Failed = entries.Failed ∷ []
 placed_as (added.Unsent bytes) = entries.Sent bytes ∷ entries.Failed ∷ []

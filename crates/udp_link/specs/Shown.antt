@@ -13,7 +13,7 @@ use Rattle.outside.specs.declared.datagrams.DatagramEntry.TheVariants.{Sent, Cam
 use Rattle.outside.specs.Causes.{Rose, HasCause}
 use Rattle.outside.specs.Wire.{Step}
 use Rattle.outside.specs.Datagrams.{DatagramCall, DatagramsTold, is_aimed}
-use Rattle.udp_link.specs.declared.kept.Adds.{Adds}
+use Rattle.outside.specs.declared.places.DatagramAdds.{DatagramAdds}
 use Rattle.udp_link.specs.declared.link.TheConstants.{MOST_PASSED}
 use Rattle.udp_link.specs.Placing.{now_of, told_of, heard_by, begun, after_calls, brought_by, delivered, latest}
 
@@ -21,7 +21,7 @@ use Rattle.udp_link.specs.Placing.{now_of, told_of, heard_by, begun, after_calls
 -- port that was dialed last.
 pub record Held (D : Type 0) : Type 0 where
   pub over : D
-  pub kept : List Adds
+  pub kept : List DatagramAdds
   pub below : ℕ
   pub own : ℕ
   pub port : Option ℕ
@@ -30,7 +30,7 @@ abbrev pub told_by : {D : Type 0} → (D → Option DatagramsTold) → Held D �
 told_by told s = told_of (now_of (told s.over) s.kept)
 
 -- nothing is kept where the datagrams don't tell their calls
-abbrev pub KeepsNone : Option DatagramsTold → List Adds → Type 0
+abbrev pub KeepsNone : Option DatagramsTold → List DatagramAdds → Type 0
 KeepsNone None ks = ks ≡ []
 KeepsNone (Some t) ks = Unit {0}
 
@@ -41,7 +41,7 @@ IsBegun (Some t) now = now ≡ Some (begun (after_calls t.start t.calls)).histor
 
 -- The records that were delivered are exactly the datagrams that came, since the link was made, from the port dialed last
 -- before each, in order, each whole.
-abbrev pub DeliversExactly : Option DatagramsTold → List Adds → Type 0
+abbrev pub DeliversExactly : Option DatagramsTold → List DatagramAdds → Type 0
 DeliversExactly None ks = Unit {0}
 DeliversExactly (Some t) ks = delivered (heard_by t ks).history.entries ≡ brought_by (latest (length ks) t.calls) None
 

@@ -1,33 +1,28 @@
 //! A link over datagrams.
 
 ghost use Rattle.std.specs.Prelude.{◌≡◌, ◌≤◌, ◌<◌, ◌+◌, ◌++◌, None, length};
-ghost use Rattle.std.specs.Bool.{OnTrue, OnFalse};
 ghost use Rattle.world_model.specs.Told.{Tells};
 ghost use Rattle.outside.specs.Causes.{HasCause, HasCauseReceived};
 ghost use Rattle.outside.specs.Link.{NotesOnly, dialed_as, sent_as, received_as, noted_as};
 ghost use Rattle.outside.specs.Datagrams.{is_aimed};
-ghost use Rattle.udp_link.specs.declared.kept.Adds.TheVariants as added;
-ghost use Rattle.udp_link.specs.Placing.{if_told};
 ghost use Rattle.udp_link.specs.Honest.{HonestOver, IsFresh};
 ghost use Rattle.udp_link.specs.Shown.{IsBegun, KeepsNone, DeliversExactly, Turned, Waited, told_by};
 
-use crate::kept::{Adds, give_back, keep, put};
-use outside::{Arrived, Datagrams, Link, LinkFault, Received};
+use outside::{Arrived, DatagramAdds, Datagrams, Link, LinkFault, Received};
 use std::alloc::Global;
 use std::marker::Model;
 use world_model::Mark;
-use xdr_codec::{Blob, Memory};
+use xdr_codec::Memory;
 
 /// The most datagrams from other ports that one wait passes over.
 const MOST_PASSED: u32 = 1_024;
 
 /// A link over datagrams, each of them one record. It delivers those that come from the port dialed last, and passes over
-/// those from others.
+/// those from others. Each call keeps its place before the datagrams are called, so that nothing that happened is left
+/// without one for lack of memory.
 #[derive(Drop)]
 pub struct UdpLink<D: Datagrams> {
-    alloc: Global,
     over: D,
-    kept: Vec<Adds>,
     port: Option<u16>,
     faults: u64,
 }
@@ -38,24 +33,9 @@ impl<D: Datagrams> Model for UdpLink<D> {
 
     ghost Value = { Held D };
 
-    ghost view = { λ s. record { over = s.over; kept = s.kept.items; below = D.faults s.over; own = s.faults; port = s.port } };
+    ghost view = { λ s. record { over = s.over; kept = D.placed s.over; below = D.faults s.over; own = s.faults; port = s.port } };
 
-    ghost invariant = { λ s. IsPlaced (D.told s.over) s.kept.items s.port };
-}
-
-/// Keeps a place for a record that is to go out, as one that didn't. When out of memory nothing is changed, and the answer
-/// is false.
-fn keep_unsent(alloc: Global, kept: &mut Vec<Adds>, telling: bool, rec: &[u8]) -> bool
-    ensures yes { OnTrue result (kept.new.items ≡ kept.old.items ++ if_told telling (added.Unsent rec.now)) }
-    ensures no { OnFalse result (kept.new.items ≡ kept.old.items) }
-{
-    if !telling {
-        return true;
-    }
-    let Ok(bytes) = Blob::copy(alloc, rec) else {
-        return false;
-    };
-    keep(kept, telling, Adds::Unsent { bytes })
+    ghost invariant = { λ s. IsPlaced (D.told s.over) (D.placed s.over) s.port };
 }
 
 /// Whether a datagram from that port is from the one dialed last.
@@ -72,16 +52,16 @@ impl<D: Datagrams + Drop> UdpLink<D> {
     /// A link over datagrams, with an empty history: what they did before is no part of it, and no port is dialed. Over
     /// honest datagrams that did nothing yet the link is honest.
     #[tactic(auto, using(crate::proofs::Begins::begins_placed, crate::proofs::Begins::begins_told))]
-    pub fn new(alloc: Global, over: D) -> UdpLink<D>
+    pub fn new(over: D) -> UdpLink<D>
         ensures begun { IsBegun (D.told over) (told_by D.told result) }
         ensures honest { IsFresh (D.told over) → D.honest over → HonestOver D.told D.honest result.over result.kept }
         ensures faults { result.below + result.own ≡ D.faults over }
         ensures port { result.port ≡ None }
     {
+        let mut over = over;
+        over.forget_places();
         UdpLink {
-            alloc,
             over,
-            kept: Vec::new(alloc),
             port: None,
             faults: 0,
         }
@@ -94,13 +74,11 @@ impl<D: Datagrams + Drop> UdpLink<D> {
         self.over
     }
 
-    /// How many places it keeps, each for a call of the datagrams. Over datagrams that don't tell their calls it keeps none,
-    /// so that a call takes no memory that stays.
-    pub fn kept(&self) -> usize
-        ensures untold { KeepsNone (D.told self.now.over) self.now.kept }
-        ensures count { result ≡ length self.now.kept }
+    /// Over datagrams that don't tell their calls no place is kept, so that a call takes no memory that stays.
+    pub fn keeps_none(&self)
+        ensures { KeepsNone (D.told self.now.over) self.now.kept }
     {
-        self.kept.len()
+        let _over = &self.over;
     }
 
     /// The records that were delivered are exactly the datagrams that came from the port dialed last, in order.
@@ -117,27 +95,26 @@ impl<D: Datagrams + Drop> UdpLink<D> {
         ensures turned { Turned D.told passed rec.new.items result self.old self.new }
         ensures honest { HonestOver D.told D.honest self.old.over self.old.kept → HonestOver D.told D.honest self.new.over self.new.kept }
     {
-        let telling = self.over.tells();
-        if !keep(&mut self.kept, telling, Adds::Failed) {
+        if !self.over.keep_place(DatagramAdds::Failed) {
             return Some(Received::Memory);
         }
         match self.over.receive(wait_ms, rec) {
             Arrived::From(from) => {
                 if is_dialed(self.port, from) {
-                    put(&mut self.kept, Adds::Nothing);
+                    self.over.put_place(DatagramAdds::Nothing);
                     return Some(Received::Whole);
                 }
                 if passed + 1 == MOST_PASSED {
                     self.faults = self.faults.saturating_add(1);
                     return Some(Received::Silent);
                 }
-                put(&mut self.kept, Adds::Nothing);
+                self.over.put_place(DatagramAdds::Nothing);
                 None
             }
             Arrived::Silent => Some(Received::Silent),
             Arrived::Failed => Some(Received::Failed),
             Arrived::Memory => {
-                give_back(&mut self.kept);
+                self.over.give_back();
                 Some(Received::Memory)
             }
         }
@@ -177,13 +154,12 @@ impl<D: Datagrams + Drop> Link for UdpLink<D> {
         ensures cause { HasCause (self.old.below + self.old.own) (self.new.below + self.new.own) result }
         ensures dials { Dials self.old self.new port result }
     {
-        let telling = self.over.tells();
-        if !keep(&mut self.kept, telling, Adds::Failed) {
+        if !self.over.keep_place(DatagramAdds::Failed) {
             return Err(LinkFault::Memory);
         }
         match self.over.aim(port) {
             Ok(()) => {
-                put(&mut self.kept, Adds::Nothing);
+                self.over.put_place(DatagramAdds::Nothing);
                 self.port = Some(port);
                 Ok(())
             }
@@ -192,7 +168,7 @@ impl<D: Datagrams + Drop> Link for UdpLink<D> {
                 Err(LinkFault::Failed)
             }
             Err(LinkFault::Memory) => {
-                give_back(&mut self.kept);
+                self.over.give_back();
                 Err(LinkFault::Memory)
             }
         }
@@ -204,18 +180,17 @@ impl<D: Datagrams + Drop> Link for UdpLink<D> {
         ensures cause { HasCause (self.old.below + self.old.own) (self.new.below + self.new.own) result }
         ensures sends { Sends D.told self.old self.new rec.now result }
     {
-        let telling = self.over.tells();
-        if !keep_unsent(self.alloc, &mut self.kept, telling, rec) {
+        if !self.over.keep_unsent(rec) {
             return Err(LinkFault::Memory);
         }
         match self.over.send(rec) {
             Ok(()) => {
-                put(&mut self.kept, Adds::Nothing);
+                self.over.put_place(DatagramAdds::Nothing);
                 Ok(())
             }
             Err(LinkFault::Failed) => Err(LinkFault::Failed),
             Err(LinkFault::Memory) => {
-                give_back(&mut self.kept);
+                self.over.give_back();
                 Err(LinkFault::Memory)
             }
         }
@@ -237,14 +212,13 @@ impl<D: Datagrams + Drop> Link for UdpLink<D> {
         ensures cause { self.old.below + self.old.own ≤ self.new.below + self.new.own }
         ensures notes { Notes self.old self.new }
     {
-        let telling = self.over.tells();
-        if !keep(&mut self.kept, telling, Adds::Nothing) {
+        if !self.over.keep_place(DatagramAdds::Nothing) {
             return Err(Memory);
         }
         match self.over.note(mark) {
             Ok(()) => Ok(()),
             Err(_) => {
-                give_back(&mut self.kept);
+                self.over.give_back();
                 Err(Memory)
             }
         }
