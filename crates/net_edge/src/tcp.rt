@@ -77,6 +77,7 @@ impl<N: Net> Wire for TcpWire<'_, N> {
     ghost use Rattle.outside.specs.Causes.{HasCause};
     ghost use Rattle.outside.specs.Sink.{TakesSome};
     ghost use Rattle.outside.specs.Wire.{WireTells, WireNotes, GetsSome, IfGot, HasCauseRead, connected_as, wrote_as, read_as, marked_as};
+    ghost use Rattle.outside.specs.Places.{PutsLast};
     ghost use Rattle.net_edge.specs.Counts.{CountsFault, CountsRead};
 
     // No contract can say what a connection gives or takes.
@@ -168,7 +169,9 @@ impl<N: Net> Wire for TcpWire<'_, N> {
     }
 
     /// Drops the place.
+    #[tactic(auto, using(outside::proofs::SetLast::puts_none))]
     fn put_place(&mut self, _place: WirePlace)
+        ensures placed { PutsLast [] [] _place }
         ensures cause { self.new ≡ self.old }
     {
     }

@@ -91,6 +91,8 @@ impl<N: Net> Datagrams for UdpDatagrams<'_, N> {
     ghost use Rattle.std.specs.Prelude.{◌≡◌, ◌≤◌, [], true, None, IsOk};
     ghost use Rattle.outside.specs.Causes.{HasCause};
     ghost use Rattle.outside.specs.Datagrams.{DatagramsTell, DatagramsNote, HasCauseArrived, aimed_as, datagram_as, arrived_as, remarked_as};
+    ghost use Rattle.outside.specs.declared.places.DatagramAdds.{DatagramAdds};
+    ghost use Rattle.outside.specs.Places.{PutsLast, TakesLast};
     ghost use Rattle.net_edge.specs.Counts.{CountsFault, CountsArrived};
 
     // No contract can say what a socket gives or takes.
@@ -183,13 +185,17 @@ impl<N: Net> Datagrams for UdpDatagrams<'_, N> {
     }
 
     /// Drops the place.
+    #[tactic(auto, using(outside::proofs::SetLast::puts_none))]
     fn put_place(&mut self, _place: DatagramAdds)
+        ensures placed { PutsLast [] [] _place }
         ensures cause { self.new ≡ self.old }
     {
     }
 
     /// There is nothing to give back.
+    #[tactic(auto, using(outside::proofs::SetLast::takes_none))]
     fn give_back(&mut self)
+        ensures placed { TakesLast {P = DatagramAdds} [] [] }
         ensures cause { self.new ≡ self.old }
     {
     }
