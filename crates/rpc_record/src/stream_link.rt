@@ -1,6 +1,6 @@
 //! A link over a wire.
 
-ghost use Rattle.std.specs.Prelude.{◌≡◌, ◌≤◌, ◌<◌, ◌+◌, ◌∷◌, [], ℕ, List, length};
+ghost use Rattle.std.specs.Prelude.{◌≡◌, ◌≤◌, ◌<◌, ◌+◌, ℕ, List};
 ghost use Rattle.world_model.specs.Told.{Tells};
 ghost use Rattle.outside.specs.Link.{NotesOnly, sent_as, received_as, dialed_as, noted_as};
 ghost use Rattle.outside.specs.Causes.{HasCause, HasCauseReceived};
