@@ -157,8 +157,7 @@ impl<N: Net> Wire for TcpWire<'_, N> {
     /// There is nothing to forget.
     fn forget_places(&mut self)
         ensures cause { self.new ≡ self.old }
-    {
-    }
+    {}
 
     /// Keeps nothing.
     fn keep_place(&mut self, _place: WirePlace) -> bool
@@ -173,8 +172,7 @@ impl<N: Net> Wire for TcpWire<'_, N> {
     fn put_place(&mut self, _place: WirePlace)
         ensures placed { PutsLast [] [] _place }
         ensures cause { self.new ≡ self.old }
-    {
-    }
+    {}
 }
 
 /// A connection to the first of the host's addresses that answers, if there is a host and one does.

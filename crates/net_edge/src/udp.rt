@@ -165,8 +165,7 @@ impl<N: Net> Datagrams for UdpDatagrams<'_, N> {
     /// There is nothing to forget.
     fn forget_places(&mut self)
         ensures cause { self.new ≡ self.old }
-    {
-    }
+    {}
 
     /// Keeps nothing.
     fn keep_place(&mut self, _place: DatagramAdds) -> bool
@@ -189,16 +188,14 @@ impl<N: Net> Datagrams for UdpDatagrams<'_, N> {
     fn put_place(&mut self, _place: DatagramAdds)
         ensures placed { PutsLast [] [] _place }
         ensures cause { self.new ≡ self.old }
-    {
-    }
+    {}
 
     /// There is nothing to give back.
     #[tactic(auto, using(outside::proofs::SetLast::takes_none))]
     fn give_back(&mut self)
         ensures placed { TakesLast {P = DatagramAdds} [] [] }
         ensures cause { self.new ≡ self.old }
-    {
-    }
+    {}
 }
 
 /// The socket, aimed at that port.

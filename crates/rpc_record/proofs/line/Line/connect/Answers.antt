@@ -12,68 +12,68 @@ nothing = record { call = false; adds = added.Nothing }
 pub invariant_of-self-in-Ok : goal.invariant_of-self-in-Ok
 invariant_of-self-in-Ok g c =
     let s = put_then g.W.Wire.told g.W.Wire.placed g.W.Wire.honest c.self.inside.wire _ _ _ _ nothing (record { call = true; adds = added.Nothing }) c.self.invariant
-      (record { same = c.if-not-keep_place.ensures.told; places = c.if-not-keep_place.ensures.yes; stays = c.if-not-keep_place.ensures.honest })
-      (record { tells = c.in-Ok.ensures.told; places = c.in-Ok.ensures.placed; stays = c.in-Ok.ensures.honest })
-      (record { same = c.put_place.ensures.told; places = c.put_place.ensures.placed; stays = c.put_place.ensures.honest }) in
+    (record { same = c.if-not-keep_place.ensures.told; places = c.if-not-keep_place.ensures.yes; stays = c.if-not-keep_place.ensures.honest })
+    (record { tells = c.in-Ok.ensures.told; places = c.in-Ok.ensures.placed; stays = c.in-Ok.ensures.honest })
+    (record { same = c.put_place.ensures.told; places = c.put_place.ensures.placed; stays = c.put_place.ensures.honest }) in
     (call_now _ _ (g.W.Wire.placed c.self.inside.wire) _ _ added.Nothing c.self.invariant s.more s.tells).placed
 
 pub invariant_of-self-in-Err-Failed : goal.invariant_of-self-in-Err-Failed
 invariant_of-self-in-Err-Failed g c =
     let s = put_then g.W.Wire.told g.W.Wire.placed g.W.Wire.honest c.self.inside.wire _ _ _ _ nothing (record { call = true; adds = added.Failed }) c.self.invariant
-      (record { same = c.if-not-keep_place.ensures.told; places = c.if-not-keep_place.ensures.yes; stays = c.if-not-keep_place.ensures.honest })
-      (record { tells = (rw c.in-Err-Failed.field-0-is at c.in-Err-Failed.ensures.told); places = c.in-Err-Failed.ensures.placed; stays = c.in-Err-Failed.ensures.honest })
-      (record { same = c.put_place-in-Err-Failed.ensures.told; places = c.put_place-in-Err-Failed.ensures.placed; stays = c.put_place-in-Err-Failed.ensures.honest }) in
+    (record { same = c.if-not-keep_place.ensures.told; places = c.if-not-keep_place.ensures.yes; stays = c.if-not-keep_place.ensures.honest })
+    (record { tells = (rw c.in-Err-Failed.field-0-is at c.in-Err-Failed.ensures.told); places = c.in-Err-Failed.ensures.placed; stays = c.in-Err-Failed.ensures.honest })
+    (record { same = c.put_place-in-Err-Failed.ensures.told; places = c.put_place-in-Err-Failed.ensures.placed; stays = c.put_place-in-Err-Failed.ensures.honest }) in
     (call_now _ _ (g.W.Wire.placed c.self.inside.wire) _ _ added.Failed c.self.invariant s.more s.tells).placed
 
 pub invariant_of-self-in-Err-Memory : goal.invariant_of-self-in-Err-Memory
 invariant_of-self-in-Err-Memory g c =
     let s = kept_then g.W.Wire.told g.W.Wire.placed g.W.Wire.honest c.self.inside.wire _ _ _ nothing c.self.invariant
-      (record { same = c.if-not-keep_place.ensures.told; places = c.if-not-keep_place.ensures.yes; stays = c.if-not-keep_place.ensures.honest })
-      (record { tells = (rw c.in-Err-Memory.field-0-is at c.in-Err-Memory.ensures.told); places = c.in-Err-Memory.ensures.placed; stays = c.in-Err-Memory.ensures.honest }) in
+    (record { same = c.if-not-keep_place.ensures.told; places = c.if-not-keep_place.ensures.yes; stays = c.if-not-keep_place.ensures.honest })
+    (record { tells = (rw c.in-Err-Memory.field-0-is at c.in-Err-Memory.ensures.told); places = c.in-Err-Memory.ensures.placed; stays = c.in-Err-Memory.ensures.honest }) in
     (none_now _ _ (g.W.Wire.placed c.self.inside.wire) _ c.self.invariant s.more s.tells).placed
 
 pub returns-in-Ok-clause-now : goal.returns-in-Ok-clause-now
 returns-in-Ok-clause-now g c =
     let s = put_then g.W.Wire.told g.W.Wire.placed g.W.Wire.honest c.self.inside.wire _ _ _ _ nothing (record { call = true; adds = added.Nothing }) c.self.invariant
-      (record { same = c.if-not-keep_place.ensures.told; places = c.if-not-keep_place.ensures.yes; stays = c.if-not-keep_place.ensures.honest })
-      (record { tells = c.in-Ok.ensures.told; places = c.in-Ok.ensures.placed; stays = c.in-Ok.ensures.honest })
-      (record { same = c.put_place.ensures.told; places = c.put_place.ensures.placed; stays = c.put_place.ensures.honest }) in
+    (record { same = c.if-not-keep_place.ensures.told; places = c.if-not-keep_place.ensures.yes; stays = c.if-not-keep_place.ensures.honest })
+    (record { tells = c.in-Ok.ensures.told; places = c.in-Ok.ensures.placed; stays = c.in-Ok.ensures.honest })
+    (record { same = c.put_place.ensures.told; places = c.put_place.ensures.placed; stays = c.put_place.ensures.honest }) in
     rw (← c.self.view_is) (call_now _ _ (g.W.Wire.placed c.self.inside.wire) _ _ added.Nothing c.self.invariant s.more s.tells).goes
 
 pub returns-in-Err-Failed-clause-now : goal.returns-in-Err-Failed-clause-now
 returns-in-Err-Failed-clause-now g c =
     let s = put_then g.W.Wire.told g.W.Wire.placed g.W.Wire.honest c.self.inside.wire _ _ _ _ nothing (record { call = true; adds = added.Failed }) c.self.invariant
-      (record { same = c.if-not-keep_place.ensures.told; places = c.if-not-keep_place.ensures.yes; stays = c.if-not-keep_place.ensures.honest })
-      (record { tells = (rw c.in-Err-Failed.field-0-is at c.in-Err-Failed.ensures.told); places = c.in-Err-Failed.ensures.placed; stays = c.in-Err-Failed.ensures.honest })
-      (record { same = c.put_place-in-Err-Failed.ensures.told; places = c.put_place-in-Err-Failed.ensures.placed; stays = c.put_place-in-Err-Failed.ensures.honest }) in
+    (record { same = c.if-not-keep_place.ensures.told; places = c.if-not-keep_place.ensures.yes; stays = c.if-not-keep_place.ensures.honest })
+    (record { tells = (rw c.in-Err-Failed.field-0-is at c.in-Err-Failed.ensures.told); places = c.in-Err-Failed.ensures.placed; stays = c.in-Err-Failed.ensures.honest })
+    (record { same = c.put_place-in-Err-Failed.ensures.told; places = c.put_place-in-Err-Failed.ensures.placed; stays = c.put_place-in-Err-Failed.ensures.honest }) in
     rw (← c.self.view_is) (call_now _ _ (g.W.Wire.placed c.self.inside.wire) _ _ added.Failed c.self.invariant s.more s.tells).goes
 
 pub returns-in-Err-Memory-clause-now : goal.returns-in-Err-Memory-clause-now
 returns-in-Err-Memory-clause-now g c =
     let s = kept_then g.W.Wire.told g.W.Wire.placed g.W.Wire.honest c.self.inside.wire _ _ _ nothing c.self.invariant
-      (record { same = c.if-not-keep_place.ensures.told; places = c.if-not-keep_place.ensures.yes; stays = c.if-not-keep_place.ensures.honest })
-      (record { tells = (rw c.in-Err-Memory.field-0-is at c.in-Err-Memory.ensures.told); places = c.in-Err-Memory.ensures.placed; stays = c.in-Err-Memory.ensures.honest }) in
+    (record { same = c.if-not-keep_place.ensures.told; places = c.if-not-keep_place.ensures.yes; stays = c.if-not-keep_place.ensures.honest })
+    (record { tells = (rw c.in-Err-Memory.field-0-is at c.in-Err-Memory.ensures.told); places = c.in-Err-Memory.ensures.placed; stays = c.in-Err-Memory.ensures.honest }) in
     rw (← c.self.view_is) (none_now _ _ (g.W.Wire.placed c.self.inside.wire) _ c.self.invariant s.more s.tells).goes
 
 pub returns-in-Ok-clause-honest : goal.returns-in-Ok-clause-honest
 returns-in-Ok-clause-honest g c =
     let s = put_then g.W.Wire.told g.W.Wire.placed g.W.Wire.honest c.self.inside.wire _ _ _ _ nothing (record { call = true; adds = added.Nothing }) c.self.invariant
-      (record { same = c.if-not-keep_place.ensures.told; places = c.if-not-keep_place.ensures.yes; stays = c.if-not-keep_place.ensures.honest })
-      (record { tells = c.in-Ok.ensures.told; places = c.in-Ok.ensures.placed; stays = c.in-Ok.ensures.honest })
-      (record { same = c.put_place.ensures.told; places = c.put_place.ensures.placed; stays = c.put_place.ensures.honest }) in
+    (record { same = c.if-not-keep_place.ensures.told; places = c.if-not-keep_place.ensures.yes; stays = c.if-not-keep_place.ensures.honest })
+    (record { tells = c.in-Ok.ensures.told; places = c.in-Ok.ensures.placed; stays = c.in-Ok.ensures.honest })
+    (record { same = c.put_place.ensures.told; places = c.put_place.ensures.placed; stays = c.put_place.ensures.honest }) in
     rw (← c.self.view_is) (own_honest g.W.Wire.told g.W.Wire.honest g.met.W.Wire.lawful c.self.inside.wire _ (g.W.Wire.placed c.self.inside.wire) _ _ _ _ added.Nothing c.self.invariant s.more s.tells s.stays tt tt)
 
 pub returns-in-Err-Failed-clause-honest : goal.returns-in-Err-Failed-clause-honest
 returns-in-Err-Failed-clause-honest g c =
     let s = put_then g.W.Wire.told g.W.Wire.placed g.W.Wire.honest c.self.inside.wire _ _ _ _ nothing (record { call = true; adds = added.Failed }) c.self.invariant
-      (record { same = c.if-not-keep_place.ensures.told; places = c.if-not-keep_place.ensures.yes; stays = c.if-not-keep_place.ensures.honest })
-      (record { tells = (rw c.in-Err-Failed.field-0-is at c.in-Err-Failed.ensures.told); places = c.in-Err-Failed.ensures.placed; stays = c.in-Err-Failed.ensures.honest })
-      (record { same = c.put_place-in-Err-Failed.ensures.told; places = c.put_place-in-Err-Failed.ensures.placed; stays = c.put_place-in-Err-Failed.ensures.honest }) in
+    (record { same = c.if-not-keep_place.ensures.told; places = c.if-not-keep_place.ensures.yes; stays = c.if-not-keep_place.ensures.honest })
+    (record { tells = (rw c.in-Err-Failed.field-0-is at c.in-Err-Failed.ensures.told); places = c.in-Err-Failed.ensures.placed; stays = c.in-Err-Failed.ensures.honest })
+    (record { same = c.put_place-in-Err-Failed.ensures.told; places = c.put_place-in-Err-Failed.ensures.placed; stays = c.put_place-in-Err-Failed.ensures.honest }) in
     rw (← c.self.view_is) (own_honest g.W.Wire.told g.W.Wire.honest g.met.W.Wire.lawful c.self.inside.wire _ (g.W.Wire.placed c.self.inside.wire) _ _ _ _ added.Failed c.self.invariant s.more s.tells s.stays tt tt)
 
 pub returns-in-Err-Memory-clause-honest : goal.returns-in-Err-Memory-clause-honest
 returns-in-Err-Memory-clause-honest g c =
     let s = kept_then g.W.Wire.told g.W.Wire.placed g.W.Wire.honest c.self.inside.wire _ _ _ nothing c.self.invariant
-      (record { same = c.if-not-keep_place.ensures.told; places = c.if-not-keep_place.ensures.yes; stays = c.if-not-keep_place.ensures.honest })
-      (record { tells = (rw c.in-Err-Memory.field-0-is at c.in-Err-Memory.ensures.told); places = c.in-Err-Memory.ensures.placed; stays = c.in-Err-Memory.ensures.honest }) in
+    (record { same = c.if-not-keep_place.ensures.told; places = c.if-not-keep_place.ensures.yes; stays = c.if-not-keep_place.ensures.honest })
+    (record { tells = (rw c.in-Err-Memory.field-0-is at c.in-Err-Memory.ensures.told); places = c.in-Err-Memory.ensures.placed; stays = c.in-Err-Memory.ensures.honest }) in
     rw (← c.self.view_is) (none_honest g.W.Wire.told g.W.Wire.honest g.met.W.Wire.lawful c.self.inside.wire _ (g.W.Wire.placed c.self.inside.wire) _ _ _ c.self.invariant s.more s.tells s.stays)

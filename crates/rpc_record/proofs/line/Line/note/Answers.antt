@@ -13,44 +13,44 @@ nothing = record { call = false; adds = added.Nothing }
 pub invariant_of-self-in-Ok : goal.invariant_of-self-in-Ok
 invariant_of-self-in-Ok g c =
     let s = put_then g.W.Wire.told g.W.Wire.placed g.W.Wire.honest c.self.inside.wire _ _ _ _ nothing (record { call = true; adds = added.Nothing }) c.self.invariant
-      (record { same = c.if-not-keep_place.ensures.told; places = c.if-not-keep_place.ensures.yes; stays = c.if-not-keep_place.ensures.honest })
-      (record { tells = wire_notes_tell _ _ _ c.in-Ok.ensures.told; places = c.in-Ok.ensures.placed; stays = c.in-Ok.ensures.honest })
-      (record { same = c.put_place.ensures.told; places = c.put_place.ensures.placed; stays = c.put_place.ensures.honest }) in
+    (record { same = c.if-not-keep_place.ensures.told; places = c.if-not-keep_place.ensures.yes; stays = c.if-not-keep_place.ensures.honest })
+    (record { tells = wire_notes_tell _ _ _ c.in-Ok.ensures.told; places = c.in-Ok.ensures.placed; stays = c.in-Ok.ensures.honest })
+    (record { same = c.put_place.ensures.told; places = c.put_place.ensures.placed; stays = c.put_place.ensures.honest }) in
     (note_now _ _ (g.W.Wire.placed c.self.inside.wire) _ _ c.self.invariant s.more (notes_between _ _ _ _ _ c.if-not-keep_place.ensures.told c.in-Ok.ensures.told c.put_place.ensures.told)).placed
 
 pub invariant_of-self-in-Err : goal.invariant_of-self-in-Err
 invariant_of-self-in-Err g c =
     let s = kept_then g.W.Wire.told g.W.Wire.placed g.W.Wire.honest c.self.inside.wire _ _ _ nothing c.self.invariant
-      (record { same = c.if-not-keep_place.ensures.told; places = c.if-not-keep_place.ensures.yes; stays = c.if-not-keep_place.ensures.honest })
-      (record { tells = wire_notes_tell _ _ _ c.in-Err.ensures.told; places = c.in-Err.ensures.placed; stays = c.in-Err.ensures.honest }) in
+    (record { same = c.if-not-keep_place.ensures.told; places = c.if-not-keep_place.ensures.yes; stays = c.if-not-keep_place.ensures.honest })
+    (record { tells = wire_notes_tell _ _ _ c.in-Err.ensures.told; places = c.in-Err.ensures.placed; stays = c.in-Err.ensures.honest }) in
     (none_now _ _ (g.W.Wire.placed c.self.inside.wire) _ c.self.invariant s.more s.tells).placed
 
 pub returns-in-Ok-clause-now : goal.returns-in-Ok-clause-now
 returns-in-Ok-clause-now g c =
     let s = put_then g.W.Wire.told g.W.Wire.placed g.W.Wire.honest c.self.inside.wire _ _ _ _ nothing (record { call = true; adds = added.Nothing }) c.self.invariant
-      (record { same = c.if-not-keep_place.ensures.told; places = c.if-not-keep_place.ensures.yes; stays = c.if-not-keep_place.ensures.honest })
-      (record { tells = wire_notes_tell _ _ _ c.in-Ok.ensures.told; places = c.in-Ok.ensures.placed; stays = c.in-Ok.ensures.honest })
-      (record { same = c.put_place.ensures.told; places = c.put_place.ensures.placed; stays = c.put_place.ensures.honest }) in
+    (record { same = c.if-not-keep_place.ensures.told; places = c.if-not-keep_place.ensures.yes; stays = c.if-not-keep_place.ensures.honest })
+    (record { tells = wire_notes_tell _ _ _ c.in-Ok.ensures.told; places = c.in-Ok.ensures.placed; stays = c.in-Ok.ensures.honest })
+    (record { same = c.put_place.ensures.told; places = c.put_place.ensures.placed; stays = c.put_place.ensures.honest }) in
     rw (← c.self.view_is) (note_now _ _ (g.W.Wire.placed c.self.inside.wire) _ _ c.self.invariant s.more (notes_between _ _ _ _ _ c.if-not-keep_place.ensures.told c.in-Ok.ensures.told c.put_place.ensures.told)).goes
 
 pub returns-in-Err-clause-now : goal.returns-in-Err-clause-now
 returns-in-Err-clause-now g c =
     let s = kept_then g.W.Wire.told g.W.Wire.placed g.W.Wire.honest c.self.inside.wire _ _ _ nothing c.self.invariant
-      (record { same = c.if-not-keep_place.ensures.told; places = c.if-not-keep_place.ensures.yes; stays = c.if-not-keep_place.ensures.honest })
-      (record { tells = wire_notes_tell _ _ _ c.in-Err.ensures.told; places = c.in-Err.ensures.placed; stays = c.in-Err.ensures.honest }) in
+    (record { same = c.if-not-keep_place.ensures.told; places = c.if-not-keep_place.ensures.yes; stays = c.if-not-keep_place.ensures.honest })
+    (record { tells = wire_notes_tell _ _ _ c.in-Err.ensures.told; places = c.in-Err.ensures.placed; stays = c.in-Err.ensures.honest }) in
     rw (← c.self.view_is) (none_now _ _ (g.W.Wire.placed c.self.inside.wire) _ c.self.invariant s.more s.tells).goes
 
 pub returns-in-Ok-clause-honest : goal.returns-in-Ok-clause-honest
 returns-in-Ok-clause-honest g c =
     let s = put_then g.W.Wire.told g.W.Wire.placed g.W.Wire.honest c.self.inside.wire _ _ _ _ nothing (record { call = true; adds = added.Nothing }) c.self.invariant
-      (record { same = c.if-not-keep_place.ensures.told; places = c.if-not-keep_place.ensures.yes; stays = c.if-not-keep_place.ensures.honest })
-      (record { tells = wire_notes_tell _ _ _ c.in-Ok.ensures.told; places = c.in-Ok.ensures.placed; stays = c.in-Ok.ensures.honest })
-      (record { same = c.put_place.ensures.told; places = c.put_place.ensures.placed; stays = c.put_place.ensures.honest }) in
+    (record { same = c.if-not-keep_place.ensures.told; places = c.if-not-keep_place.ensures.yes; stays = c.if-not-keep_place.ensures.honest })
+    (record { tells = wire_notes_tell _ _ _ c.in-Ok.ensures.told; places = c.in-Ok.ensures.placed; stays = c.in-Ok.ensures.honest })
+    (record { same = c.put_place.ensures.told; places = c.put_place.ensures.placed; stays = c.put_place.ensures.honest }) in
     rw (← c.self.view_is) (own_honest g.W.Wire.told g.W.Wire.honest g.met.W.Wire.lawful c.self.inside.wire _ (g.W.Wire.placed c.self.inside.wire) _ _ _ _ added.Nothing c.self.invariant s.more s.tells s.stays tt tt)
 
 pub returns-in-Err-clause-honest : goal.returns-in-Err-clause-honest
 returns-in-Err-clause-honest g c =
     let s = kept_then g.W.Wire.told g.W.Wire.placed g.W.Wire.honest c.self.inside.wire _ _ _ nothing c.self.invariant
-      (record { same = c.if-not-keep_place.ensures.told; places = c.if-not-keep_place.ensures.yes; stays = c.if-not-keep_place.ensures.honest })
-      (record { tells = wire_notes_tell _ _ _ c.in-Err.ensures.told; places = c.in-Err.ensures.placed; stays = c.in-Err.ensures.honest }) in
+    (record { same = c.if-not-keep_place.ensures.told; places = c.if-not-keep_place.ensures.yes; stays = c.if-not-keep_place.ensures.honest })
+    (record { tells = wire_notes_tell _ _ _ c.in-Err.ensures.told; places = c.in-Err.ensures.placed; stays = c.in-Err.ensures.honest }) in
     rw (← c.self.view_is) (none_honest g.W.Wire.told g.W.Wire.honest g.met.W.Wire.lawful c.self.inside.wire _ (g.W.Wire.placed c.self.inside.wire) _ _ _ c.self.invariant s.more s.tells s.stays)
