@@ -15,7 +15,7 @@ use Rattle.outside.specs.Reading.{now_at, goes_on, adds, follows}
 use Rattle.outside.specs.Datagrams.{DatagramCall, Heard, is_aimed, shown, hear_call}
 use Rattle.outside.proofs.Notes.{mark_ours}
 use Rattle.rpc_record.proofs.LawfulAlong.{at_old}
-use Rattle.udp_link.specs.declared.kept.Adds.{Adds as Added}
+use Rattle.outside.specs.declared.places.DatagramAdds.{DatagramAdds as Added}
 use Rattle.outside.specs.declared.places.DatagramAdds.TheVariants as added
 use Rattle.udp_link.specs.Placing.{places, shown_as, placed_as}
 use Rattle.udp_link.proofs.Deliveries.{first_nil, second_nil}
