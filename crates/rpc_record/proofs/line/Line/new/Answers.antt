@@ -1,4 +1,4 @@
-use Rattle.rpc_record.proofs.LineBegins.{fresh_placed, fresh_begun}
+use Rattle.rpc_record.proofs.LineBegins.{fresh_begun}
 use Rattle.rpc_record.proofs.LineStaysHonest.{begins_honest}
 use Rattle.rpc_record.proofs.line.Line.new.Goals as goal
 

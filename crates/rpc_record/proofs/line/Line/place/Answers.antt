@@ -1,4 +1,4 @@
-use Rattle.std.proofs.Common.{true, false}
+use Rattle.std.proofs.Common.{false}
 use Rattle.rpc_record.proofs.LineStaysHonest.{place_stays}
 use Rattle.rpc_record.proofs.Replays.{room_more, place_same}
 use Rattle.rpc_record.proofs.line.Line.place.Goals as goal

@@ -1,4 +1,4 @@
-use Rattle.udp_link.proofs.Begins.{begins_placed, begins_told}
+use Rattle.udp_link.proofs.Begins.{begins_told}
 use Rattle.udp_link.proofs.AfterCalls.{begins_honest}
 use Rattle.udp_link.proofs.link.UdpLink.new.Goals as goal
 
