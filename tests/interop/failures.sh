@@ -219,8 +219,7 @@ await_bytes() {
     return 1
 }
 
-# The server ends by force while so many lanes write, and is away for so many seconds: LANES SECONDS. The lines of lanes are
-# answered in any order.
+# The server ends by force while so many lanes write, and is away for so many seconds: LANES SECONDS.
 try_a_restart() {
     local client
     write_lanes "$1"
@@ -237,8 +236,7 @@ try_a_restart() {
     count $? 'the server starts again'
     wait "$client"
     status=$?
-    sort "$work/said" >"$work/sorted" && mv "$work/sorted" "$work/said"
-    sort "$work/wanted" >"$work/sorted" && mv "$work/sorted" "$work/wanted"
+    sort_answers
     is_answered "a restart after $2 s in $1 lanes" "$status"
     are_lanes_written "$1"
     count $? "after a restart of $2 s the files of $1 lanes have their bytes"

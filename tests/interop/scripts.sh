@@ -35,6 +35,12 @@ lane_line() {
     esac
 }
 
+# Lines of several lanes are answered in any order.
+sort_answers() {
+    sort -o "$work/said" "$work/said"
+    sort -o "$work/wanted" "$work/wanted"
+}
+
 # Runs the script against the server, with these words besides. What it says is in the file `said`.
 run_program() {
     local ports=(--mount-port "$mount_port" --nfs-port "$client_port")
