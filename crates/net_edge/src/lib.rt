@@ -5,8 +5,8 @@
 #![tactic(auto)]
 
 mod again;
-mod burst;
 mod datagram;
+mod flight;
 mod listener;
 mod output;
 mod rounds;

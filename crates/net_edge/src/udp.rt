@@ -4,33 +4,43 @@ ghost use Rattle.std.specs.Prelude.{◌≡◌, ◌≤◌, IfOk};
 ghost use Rattle.outside.specs.Datagrams.{HasCauseArrived};
 ghost use Rattle.net_edge.specs.Counts.{next_count, CountsArrived};
 
-use crate::burst::{Burst, PAUSE_MS};
 use crate::datagram::PeerSocket;
+use crate::flight::{Flight, PAUSE_MS};
 use crate::listener::LOOPBACK;
 use crate::rounds::{MOST_ROUNDS, Rounds};
 use outside::{Arrived, DatagramAdds, Datagrams, Failed, LinkFault};
 use std::io;
 use std::marker::Model;
 use std::net::{Net, SocketAddr, ToSocketAddrs, UdpSocket};
-use std::thread;
-use std::time::{Clock, Duration};
+use std::time::Clock;
 use world_model::Mark;
 use xdr_codec::Memory;
+
+/// The most datagrams that are kept while others are sent.
+const MOST_EARLY: usize = 32;
+
+/// A datagram that came while others were sent, and the port that it came from.
+#[derive(Drop)]
+struct Early {
+    port: u16,
+    bytes: Vec<u8>,
+}
 
 /// Datagrams over UDP to one host, from one port of this machine for as long as the same port of the host is aimed at: a
 /// server knows a call that is sent again by the port that it comes from. Or those at a port of the loopback that others
 /// know. A contract sees the number of calls that failed or were silent.
 #[derive(Drop)]
-pub struct UdpDatagrams<'a, R: Net + Clock> {
+pub struct UdpDatagrams<'a, R: Net + Clock + AllocGlobal> {
     system: &'a R,
     /// The host that is aimed at; None where others know the port of this side, and the loopback is aimed at.
     host: Option<&'a str>,
     current: Option<PeerSocket>,
-    burst: Burst,
+    flight: Flight,
+    early: Vec<Early>,
     faults: u64,
 }
 
-impl<'a, R: Net + Clock> Model for UdpDatagrams<'a, R> {
+impl<'a, R: Net + Clock + AllocGlobal> Model for UdpDatagrams<'a, R> {
     ghost use Rattle.std.specs.Prelude.{ℕ};
 
     ghost Value = { ℕ };
@@ -38,7 +48,7 @@ impl<'a, R: Net + Clock> Model for UdpDatagrams<'a, R> {
     ghost view = { λ d. d.faults };
 }
 
-impl<'a, R: Net + Clock> UdpDatagrams<'a, R> {
+impl<'a, R: Net + Clock + AllocGlobal> UdpDatagrams<'a, R> {
     /// Datagrams to the host of that name or address, not aimed at a port yet. A name is looked up at each aim.
     pub fn new(system: &'a R, host: &'a str) -> UdpDatagrams<'a, R>
         ensures { result ≡ 0 }
@@ -47,7 +57,8 @@ impl<'a, R: Net + Clock> UdpDatagrams<'a, R> {
             system,
             host: Some(host),
             current: None,
-            burst: Burst::new(),
+            flight: Flight::new(),
+            early: Vec::new(system.alloc()),
             faults: 0,
         }
     }
@@ -62,7 +73,8 @@ impl<'a, R: Net + Clock> UdpDatagrams<'a, R> {
                 system,
                 host: None,
                 current: Some(socket),
-                burst: Burst::new(),
+                flight: Flight::new(),
+                early: Vec::new(system.alloc()),
                 faults: 0,
             }),
             Err(_) => Err(Failed),
@@ -79,6 +91,60 @@ impl<'a, R: Net + Clock> UdpDatagrams<'a, R> {
         answer
     }
 
+    /// Waits until a datagram of so many bytes has room beside those that weren't answered yet, and keeps what comes. Where nothing
+    /// comes for 50 ms these count as lost.
+    fn await_room(&mut self, len: usize)
+        ensures { self.new ≡ self.old }
+    {
+        for _ in 0..MOST_EARLY {
+            if self.flight.has_room(len) {
+                return;
+            }
+            if !self.hear() {
+                self.flight = Flight::new();
+                return;
+            }
+        }
+    }
+
+    /// Keeps a datagram that comes while others are sent. False where none comes in time, or where no more can be kept.
+    fn hear(&mut self) -> bool
+        ensures { self.new ≡ self.old }
+    {
+        let Some(current) = self.current.as_ref() else {
+            return false;
+        };
+        if self.early.len() >= MOST_EARLY {
+            return false;
+        }
+        let mut bytes = Vec::new(self.system.alloc());
+        let Arrived::From(port) = current.receive(PAUSE_MS, &mut bytes) else {
+            return false;
+        };
+        self.flight.came();
+        self.early.push(Early { port, bytes }).is_ok()
+    }
+
+    /// The first datagram that was kept, or the next that comes within the wait.
+    fn arrival(&mut self, wait_ms: u32, buf: &mut Vec<u8>) -> Arrived
+        ensures { self.new ≡ self.old }
+    {
+        if !self.early.is_empty() {
+            let early = self.early.remove(0);
+            *buf = early.bytes;
+            return Arrived::From(early.port);
+        }
+        let Some(current) = self.current.as_ref() else {
+            return Arrived::Failed;
+        };
+        let arrived = current.receive(wait_ms, buf);
+        match arrived {
+            Arrived::From(_) => self.flight.came(),
+            _ => self.flight = Flight::new(),
+        }
+        arrived
+    }
+
     /// Counts what came of a wait, where it failed or was silent.
     fn counted(&mut self, arrived: Arrived) -> Arrived
         ensures same { result ≡ arrived }
@@ -86,10 +152,7 @@ impl<'a, R: Net + Clock> UdpDatagrams<'a, R> {
         ensures counts { CountsArrived self.old self.new arrived }
     {
         match arrived {
-            Arrived::From(port) => {
-                self.burst = Burst::new();
-                Arrived::From(port)
-            }
+            Arrived::From(port) => Arrived::From(port),
             Arrived::Silent => self.missed(Arrived::Silent),
             Arrived::Failed => self.missed(Arrived::Failed),
             Arrived::Memory => Arrived::Memory,
@@ -97,7 +160,7 @@ impl<'a, R: Net + Clock> UdpDatagrams<'a, R> {
     }
 }
 
-impl<R: Net + Clock> Datagrams for UdpDatagrams<'_, R> {
+impl<R: Net + Clock + AllocGlobal> Datagrams for UdpDatagrams<'_, R> {
     ghost use Rattle.std.specs.Prelude.{◌≡◌, ◌≤◌, [], true, None, IsOk};
     ghost use Rattle.outside.specs.Causes.{HasCause};
     ghost use Rattle.outside.specs.Datagrams.{DatagramsTell, DatagramsNote, HasCauseArrived, aimed_as, datagram_as, arrived_as, remarked_as};
@@ -136,18 +199,18 @@ impl<R: Net + Clock> Datagrams for UdpDatagrams<'_, R> {
         }
     }
 
-    /// Sends one datagram, after a pause where it begins another burst. Before an aim it is a failure, and so is one that is
-    /// too long.
+    /// Sends one datagram, once enough of those before are answered. Before an aim it is a failure, and so is one that is too long.
     fn send(&mut self, bytes: &[u8]) -> Result<(), LinkFault>
         ensures told { DatagramsTell None None (datagram_as bytes.now result) }
         ensures cause { HasCause self.old self.new result }
         ensures counts { CountsFault self.old self.new result }
     {
-        if !self.burst.takes(bytes.len()) {
-            thread::sleep(self.system, Duration::from_millis(PAUSE_MS));
-        }
+        self.await_room(bytes.len());
         match self.current.as_ref() {
-            Some(current) if current.send(bytes) => Ok(()),
+            Some(current) if current.send(bytes) => {
+                self.flight.sent(bytes.len());
+                Ok(())
+            }
             _ => self.missed(Err(LinkFault::Failed)),
         }
     }
@@ -159,10 +222,7 @@ impl<R: Net + Clock> Datagrams for UdpDatagrams<'_, R> {
         ensures cause { HasCauseArrived self.old self.new result }
         ensures counts { CountsArrived self.old self.new result }
     {
-        let arrived = match self.current.as_ref() {
-            Some(current) => current.receive(wait_ms, buf),
-            None => Arrived::Failed,
-        };
+        let arrived = self.arrival(wait_ms, buf);
         self.counted(arrived)
     }
 
