@@ -253,6 +253,7 @@ try_restarts() {
 }
 
 try_failures() {
+    mkdir -p -- "$work/served/odd"
     try_lost_commits
     try_lost_writes
     try_after_a_crash

@@ -11,6 +11,7 @@ pub(crate) const MOST_ROUNDS: u32 = 20;
 
 /// How many milliseconds the first pause takes. Each further one takes twice as long, up to the longest.
 const FIRST_PAUSE_MS: u64 = 100;
+
 const LONGEST_PAUSE_MS: u64 = 1_000;
 
 /// The time of a dial, which is made in rounds.
