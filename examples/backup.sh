@@ -10,7 +10,7 @@
 # A script has at most 1,048,576 bytes. So a file goes in parts of seven lines of 65,536 bytes, each by a process of its own.
 set -u -o pipefail
 export LC_ALL=C NFS3_QUIET=1
-nfs3=$(dirname -- "$(readlink -f -- "${BASH_SOURCE[0]}")")/../bin/nfs3
+nfs3=${NFS3:-$(dirname -- "$(readlink -f -- "${BASH_SOURCE[0]}")")/../bin/nfs3}
 [ $# -ge 4 ] || {
     sed -n 's/^#     /usage: /p' "${BASH_SOURCE[0]}" >&2
     exit 2

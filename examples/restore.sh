@@ -7,7 +7,7 @@
 # ok and each file came as long as the server said it was.
 set -u -o pipefail
 export LC_ALL=C NFS3_QUIET=1
-nfs3=$(dirname -- "$(readlink -f -- "${BASH_SOURCE[0]}")")/../bin/nfs3
+nfs3=${NFS3:-$(dirname -- "$(readlink -f -- "${BASH_SOURCE[0]}")")/../bin/nfs3}
 [ $# -ge 4 ] || {
     sed -n 's/^#     /usage: /p' "${BASH_SOURCE[0]}" >&2
     exit 2

@@ -6,11 +6,12 @@ mount_port=22048
 server=
 started=()
 
-# Ends what was started, and removes the files.
+# Ends what was started, puts back what the server took of rpcbind's entries, and removes the files.
 end_all() {
     for process in "${started[@]}"; do
         end "$process"
     done
+    [ ! -s "$work/entries" ] || python3 "$here/../rpcbind.py" restore "$work/entries"
     rm -rf -- "$work"
 }
 
@@ -34,9 +35,12 @@ install() {
         stop "the programs can't be installed: $(tail -1 "$work/install.log")"
 }
 
-# nfs-ganesha registers its ports, and doesn't start where it can't.
+# nfs-ganesha registers its ports, and doesn't start where it can't. Where rpcbind runs already its entries are kept.
 start_rpcbind() {
-    rpcinfo -p 127.0.0.1 >/dev/null 2>&1 && return
+    if rpcinfo -p 127.0.0.1 >/dev/null 2>&1; then
+        python3 "$here/../rpcbind.py" save "$work/entries"
+        return
+    fi
     rpcbind -f >"$work/rpcbind.log" 2>&1 &
     started+=($!)
     await rpcinfo -p 127.0.0.1

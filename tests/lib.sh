@@ -42,3 +42,11 @@ await() {
     done
     return 1
 }
+
+# Chooses a port below those that the system gives to connections, at which no one listens over TCP.
+choose_port() {
+    for _ in $(seq 100); do
+        port=$((20000 + RANDOM % 10000))
+        (exec 7<>"/dev/tcp/127.0.0.1/$port") 2>/dev/null || return 0
+    done
+}

@@ -1,5 +1,5 @@
-# A server that crashes, and connections that are cut: source it after sizes.sh. Between the client and the server stands
-# proxy.py, which knows when to cut.
+# A server that crashes, and connections that are cut or go silent: source it after sizes.sh. Between the client and the server
+# stands proxy.py, which knows when to cut. Where the server is away for some seconds nothing stands between them.
 
 proxy_port=22051
 
@@ -162,10 +162,103 @@ try_a_cut() {
     same_file "$name"
 }
 
+# A connection takes no more after half a reply, and stays open: after two waits of 15 seconds the client leaves it.
+try_half_a_record() {
+    local begun=$SECONDS
+    head -c 300 "$bytes" >"$work/served/half"
+    head -c 65536 "$bytes" >"$expected"
+    new_script
+    line 'open 1 rw /half'
+    write_pieces 0 0
+    line 'sync 1'
+    read_line 0 65536
+    line 'close 1'
+    start_proxy stall 40000
+    run_script 'a session with half a record and silence'
+    end_proxy
+    same_file half
+    [ $((SECONDS - begun)) -lt 45 ]
+    count $? "a silent connection is left after two waits: $((SECONDS - begun)) s"
+}
+
+# The files of so many lanes, which share 96 MiB of equal bytes: their script, in pieces that each file is synced after.
+write_lanes() {
+    local lane piece pieces=$((96 / $1))
+    new_script
+    for lane in $(seq "$1"); do
+        : >"$work/served/lane$lane"
+        lane_line "$lane" "open 1 rw /lane$lane"
+    done
+    for piece in $(seq 0 $((pieces - 1))); do
+        for lane in $(seq "$1"); do
+            lane_line "$lane" "fill 1 $((piece * 1048576)) 1048576 $(printf %02x $((lane + piece)))"
+            lane_line "$lane" 'sync 1'
+        done
+    done
+    for lane in $(seq "$1"); do
+        lane_line "$lane" 'close 1'
+    done
+}
+
+# Whether each lane's file has its bytes, in the server's folder.
+are_lanes_written() {
+    local lane piece pieces=$((96 / $1))
+    for lane in $(seq "$1"); do
+        for piece in $(seq 0 $((pieces - 1))); do
+            equal_bytes 1048576 "$(printf %02x $((lane + piece)))"
+        done | cmp -s - "$work/served/lane$lane" || return 1
+    done
+}
+
+# Waits at most 30 seconds until the file of the first lane has some bytes.
+await_bytes() {
+    for _ in $(seq 3000); do
+        [ "$(stat -c %s "$work/served/lane1")" -gt 2000000 ] && return 0
+        sleep 0.01
+    done
+    return 1
+}
+
+# The server ends by force while so many lanes write, and is away for so many seconds: LANES SECONDS.
+try_a_restart() {
+    local client
+    write_lanes "$1"
+    run_program &
+    client=$!
+    await_bytes
+    count $? "the lanes write"
+    kill -9 "$server"
+    wait "$server" 2>/dev/null
+    kill -0 "$client" 2>/dev/null
+    count $? "the session isn't over when the server ends"
+    sleep "$2"
+    start_server
+    count $? 'the server starts again'
+    wait "$client"
+    status=$?
+    sort_answers
+    is_answered "a restart after $2 s in $1 lanes" "$status"
+    are_lanes_written "$1"
+    count $? "after a restart of $2 s the files of $1 lanes have their bytes"
+    rm -f -- "$work"/served/lane*
+}
+
+try_restarts() {
+    local lanes seconds
+    for lanes in 1 16; do
+        for seconds in 1 4 12; do
+            try_a_restart "$lanes" "$seconds"
+        done
+    done
+}
+
 try_failures() {
+    mkdir -p -- "$work/served/odd"
     try_lost_commits
     try_lost_writes
     try_after_a_crash
     try_a_cut up 3 150000 300000
     try_a_cut down 2 500 200000 100001
+    try_half_a_record
+    try_restarts
 }

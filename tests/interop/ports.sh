@@ -47,6 +47,77 @@ try_datagrams() {
     host=(127.0.0.1)
 }
 
+# Writes 4 MiB in so many lanes over UDP, in less than two seconds: a repeat of what is lost would wait for 15. LANES, and words.
+try_four_mebibytes() {
+    local lane piece size=$((4194304 / $1)) count begun took
+    count=$((size < 1048576 ? size : 1048576))
+    rm -f -- "$work"/served/paced*
+    equal_bytes "$size" 5a >"$expected"
+    new_script
+    for lane in $(seq "$1"); do
+        lane_line "$lane" "open 1 c /paced$lane"
+        for ((piece = 0; piece < size; piece += count)); do
+            lane_line "$lane" "fill 1 $piece $count 5a"
+        done
+        lane_line "$lane" 'close 1'
+    done
+    begun=${EPOCHREALTIME/./}
+    run_program "${@:2}"
+    status=$?
+    took=$(((${EPOCHREALTIME/./} - begun) / 1000))
+    sort_answers
+    is_answered "4 MiB over UDP in $1 lanes ${*:2}" "$status"
+    [ "$took" -lt 2000 ]
+    count $? "4 MiB over UDP in $1 lanes ${*:2} take $took ms"
+    for lane in $(seq "$1"); do
+        cmp -s "$expected" "$work/served/paced$lane" || break
+    done
+    count $? "4 MiB over UDP in $1 lanes ${*:2} lie in the server's folder"
+}
+
+try_paced_datagrams() {
+    host=(--udp 127.0.0.1)
+    for _ in {1..10}; do
+        try_four_mebibytes 1
+        try_four_mebibytes 16
+        try_four_mebibytes 1 --wsize 32768
+        try_four_mebibytes 16 --wsize 32768
+    done
+    host=(127.0.0.1)
+}
+
+# Sends the NULL call of NFS to the export from two addresses, and shows how many bytes come back to each.
+ask_from_two() {
+    python3 - "$export_port" <<'END'
+import socket, struct, sys
+
+call = struct.pack(">10I", 1, 0, 2, 100003, 3, 0, 0, 0, 0, 0)
+for address in "127.0.0.2", "127.0.0.1":
+    with socket.socket(socket.AF_INET, socket.SOCK_DGRAM) as asking:
+        asking.bind((address, 0))
+        asking.settimeout(2)
+        asking.sendto(call, ("127.0.0.1", int(sys.argv[1])))
+        try:
+            print(len(asking.recv(100)))
+        except TimeoutError:
+            print("nothing")
+END
+}
+
+# Datagrams of another address than that of the export are passed over.
+try_another_address() {
+    local process came
+    "$nfs3" export --udp "$export_port" 1 >"$work/listening" 2>&1 &
+    process=$!
+    started+=("$process")
+    await grep -qx "listening $export_port" "$work/listening"
+    came=$(ask_from_two)
+    [ "$came" = $'nothing\n24' ]
+    count $? "what another address sends isn't answered: $came"
+    wait "$process"
+    count $? "the export ends after the call of its own address: $?"
+}
+
 read_ports_capture() {
     sleep 1
     end "$capture"
@@ -93,5 +164,7 @@ try_ports() {
     try_found_ports
     try_datagrams
     read_ports_capture
+    try_paced_datagrams
+    try_another_address
     try_missing_ports
 }

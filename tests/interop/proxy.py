@@ -3,6 +3,8 @@
 
 proxy.py PORT SERVER_PORT (up|down) N..: cuts the first connection after N bytes towards the server or the client, the
     second after the second N, and so on. Later ones last.
+proxy.py PORT SERVER_PORT stall N..: passes N bytes towards the client on the first connection, and then nothing more in either
+    direction, while the connection stays open; the same for the second N and the second connection. Later ones last.
 proxy.py PORT SERVER_PORT at PROC N: the N-th NFS call of that procedure isn't passed on. The line `held` is printed in its
     place, and once a line has come on standard input the connection is cut, and later ones last.
 
@@ -31,6 +33,18 @@ class CutAfterBytes:
         data = data[: self.left]
         self.left -= len(data)
         return data, self.left > 0
+
+
+class StallAfterBytes(CutAfterBytes):
+    """Goes silent after so many bytes towards the client, where the others would cut."""
+
+    def __init__(self, limits):
+        super().__init__(False, limits)
+
+    def passes(self, upwards, data):
+        if self.left == 0:
+            return b"", True
+        return super().passes(upwards, data)[0], True
 
 
 class HoldAtCall:
@@ -85,7 +99,12 @@ def pass_on(client, server, rule):
 def main():
     port, server_port, kind, *numbers = sys.argv[1:]
     numbers = [int(number) for number in numbers]
-    rule = HoldAtCall(*numbers) if kind == "at" else CutAfterBytes(kind == "up", numbers)
+    if kind == "at":
+        rule = HoldAtCall(*numbers)
+    elif kind == "stall":
+        rule = StallAfterBytes(numbers)
+    else:
+        rule = CutAfterBytes(kind == "up", numbers)
     listener = socket.create_server(("127.0.0.1", int(port)))
     print("listening", flush=True)
     while True:

@@ -21,13 +21,24 @@ new_script() {
 
 # Adds a line of lane 1, without the lane, and what its answer says: `ok` where none is given.
 line() {
+    lane_line 1 "$@"
+}
+
+# The same for a lane: LANE LINE, and what its answer says.
+lane_line() {
     number=$((number + 1))
-    printf '1 %s\n' "$1" >>"$work/script"
-    printf '1 %s %s\n' "$number" "${2-ok}" >>"$work/wanted"
-    case ${2-ok} in
+    printf '%s %s\n' "$1" "$2" >>"$work/script"
+    printf '%s %s %s\n' "$1" "$number" "${3-ok}" >>"$work/wanted"
+    case ${3-ok} in
         ok | 'ok '*) ;;
         *) wanted_status=1 ;;
     esac
+}
+
+# Lines of several lanes are answered in any order.
+sort_answers() {
+    sort -o "$work/said" "$work/said"
+    sort -o "$work/wanted" "$work/wanted"
 }
 
 # Runs the script against the server, with these words besides. What it says is in the file `said`.

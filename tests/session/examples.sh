@@ -5,10 +5,10 @@
 set -u
 
 here=$(dirname -- "$(readlink -f -- "${BASH_SOURCE[0]}")")
-nfs3=$here/../../bin/nfs3
+nfs3=${NFS3:-$here/../../bin/nfs3}
 examples=$here/../../examples
 . "$here/../lib.sh"
-port=20492
+choose_port
 server=
 
 work=$(mktemp -d -t nfs3-examples.XXXXXX)
@@ -75,11 +75,23 @@ try_a_backup() {
     count $? "a restore of what isn't there fails: $(cat "$work/said")"
     end "$server"
     server=
-    "$examples/backup.sh" "$work/there" /kept "${at[@]}" >"$work/said" 2>&1
-    [ $? -ne 0 ]
-    count $? "a backup without a server fails: $(cat "$work/said")"
 }
 
+# A backup to a port at which no one listens, which takes a minute to fail.
+start_without_a_server() {
+    mkdir "$work/alone"
+    "$examples/backup.sh" "$work/alone" /kept 127.0.0.1 /srv --mount-port 1 --nfs-port 1 >"$work/refused" 2>&1 &
+    alone=$!
+}
+
+end_without_a_server() {
+    wait "$alone"
+    [ $? -ne 0 ]
+    count $? "a backup without a server fails: $(cat "$work/refused")"
+}
+
+start_without_a_server
 try_all_triples
 try_a_backup
+end_without_a_server
 sum_up

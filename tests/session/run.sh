@@ -1,33 +1,47 @@
 #!/usr/bin/env bash
 # Tries `nfs3 run` with `nfs3 export`, on this machine alone: the server is waited for by the line that it writes once it
-# listens, answers the calls of one script, and ends by itself. The last line is 'N passed, M failed', and the status is 0
-# where nothing failed.
+# listens, answers the calls of one script, and ends by itself. The program is that of bin/nfs3, or the one that the variable
+# NFS3 names. The last line is 'N passed, M failed', and the status is 0 where nothing failed.
 set -u
 
 here=$(dirname -- "$(readlink -f -- "${BASH_SOURCE[0]}")")
-nfs3=$here/../../bin/nfs3
+nfs3=${NFS3:-$here/../../bin/nfs3}
 . "$here/../lib.sh"
-port=20491
 
 work=$(mktemp -d -t nfs3-session.XXXXXX)
 server=
+client=
 
 # Ends what is still running, and removes the files.
 end_all() {
-    [ -n "$server" ] && kill "$server" 2>/dev/null
+    local process
+    for process in $server $client; do
+        kill "$process" 2>/dev/null
+    done
     rm -rf -- "$work"
 }
 
-# Serves so many calls, and waits at most 30 seconds until the server listens: `--udp` or nothing, CALLS, and a schedule's
+# Starts a server of so many calls, and waits at most 30 seconds until it listens: `--udp` or nothing, CALLS, and a schedule's
 # file or nothing.
-serve() {
+start_server() {
     mkfifo "$work/listening"
     local over=()
     [ "$1" = --udp ] && over=(--udp) && shift
     "$nfs3" export "${over[@]}" "$port" "$@" >"$work/listening" 2>"$work/warned" &
     server=$!
+    listening=
     read -r -t 30 listening <"$work/listening"
     rm -f -- "$work/listening"
+    [ "$listening" = "listening $port" ]
+}
+
+# The same; where another program has the port, another one is tried.
+serve() {
+    for _ in $(seq 10); do
+        start_server "$@" && break
+        wait "$server"
+        choose_port
+    done
     [ "$listening" = "listening $port" ]
     count $? "the server listens: $listening$(cat "$work/warned")"
 }
@@ -228,6 +242,57 @@ try_datagrams() {
     ended 0
 }
 
+# A server that isn't there yet is waited for: its first connects are refused. Over UDP nothing is refused, and the call goes
+# again after 15 seconds.
+try_a_late_server() {
+    printf 'file /a 6869\n' >"$work/schedule"
+    printf '1 put /a 0 6a6b6c' >"$work/script"
+    "$nfs3" run 127.0.0.1 /srv --mount-port "$port" --nfs-port "$port" <"$work/script" >"$work/said" 2>&1 &
+    client=$!
+    sleep 3
+    start_server 6 "$work/schedule"
+    wait "$client"
+    comes_to 0 '1 1 ok' $? 'a put before the server is there'
+    ended 0
+    "$nfs3" run --udp 127.0.0.1 /srv --mount-port "$port" --nfs-port "$port" <"$work/script" >"$work/said" 2>&1 &
+    client=$!
+    sleep 3
+    start_server --udp 6 "$work/schedule"
+    wait "$client"
+    comes_to 0 '1 1 ok' $? 'a put over UDP before the server is there'
+    client=
+    ended 0
+}
+
+# Where nothing listens the session is lost, after four connects of 15 seconds. Others are tried in the meantime.
+start_without_a_server() {
+    local begun=$SECONDS
+    (
+        printf '1 put /a 0 6a6b6c' | "$nfs3" run 127.0.0.1 /srv --mount-port 1 2>&1
+        echo "$? after $(((SECONDS - begun + 5) / 10))0 s"
+    ) >"$work/alone" &
+    alone=$!
+}
+
+end_without_a_server() {
+    wait "$alone"
+    [ "$(cat "$work/alone")" = $'1 1 lost\nnfs3: link lost\n6 after 60 s' ]
+    count $? "a session without a server is lost: $(cat "$work/alone")"
+}
+
+# A record that doesn't fit in a datagram isn't sent, and loses the session: the WRITE of a put, after MNT, FSINFO, LOOKUP and
+# GETATTR.
+try_a_large_datagram() {
+    printf 'file /a 6869\n' >"$work/schedule"
+    printf '1 put /a 0 %0131072d' 0 >"$work/script"
+    serve --udp 5 "$work/schedule"
+    "$nfs3" run --udp 127.0.0.1 /srv --wsize 65536 --mount-port "$port" --nfs-port "$port" <"$work/script" >"$work/said" 2>&1
+    comes_to 6 $'1 1 lost\nnfs3: link lost' $? 'a put that fits in no datagram'
+    kill "$server"
+    wait "$server" 2>/dev/null
+    server=
+}
+
 # What a command says on standard error, and its status.
 refused() {
     local answer
@@ -281,6 +346,8 @@ trap end_all EXIT
     echo "session: nfs3 can't be built: $(tail -1 "$work/build.log")"
     exit 1
 }
+choose_port
+start_without_a_server
 try_a_put
 try_a_read
 try_an_empty_export
@@ -290,10 +357,13 @@ try_stopped_processes
 try_a_port_mapper
 try_other_ways
 try_datagrams
+try_a_large_datagram
+try_a_late_server
 try_refusals
 try_made_scripts
 for part in launcher examples; do
     "$here/$part.sh"
     count $? "$part.sh"
 done
+end_without_a_server
 sum_up

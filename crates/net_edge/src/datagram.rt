@@ -21,16 +21,17 @@ pub(crate) struct PeerSocket {
 }
 
 impl PeerSocket {
-    /// Whether the system takes the bytes as one datagram to the peer.
+    /// Whether the system takes the bytes as one datagram to the peer. One that can't reach the host now is lost, as others
+    /// are on their way.
     pub(crate) fn send(&self, bytes: &[u8]) -> bool {
         match send_again(&self.socket, bytes, self.peer) {
             Ok(count) => count == bytes.len(),
-            Err(_) => false,
+            Err(error) => is_unreachable(error.kind()),
         }
     }
 
     /// Waits for a datagram from the peer's host, whatever port it comes from, which takes the place of what the buffer held.
-    /// After a datagram of another host the wait begins anew.
+    /// After a datagram of another host, or the word that no one listens, the wait begins anew.
     pub(crate) fn receive(&self, wait_ms: u32, buf: &mut Vec<u8>) -> Arrived {
         let wait = Duration::from_millis(u64::from(wait_ms));
         if self.socket.set_read_timeout(Some(wait)).is_err() {
@@ -61,13 +62,13 @@ impl PeerSocket {
     }
 }
 
-/// Sends a datagram, and does so again as often as the system interrupts it.
+/// Sends a datagram, and does so again as often as the system interrupts it, or tells of an earlier one.
 fn send_again(socket: &UdpSocket, bytes: &[u8], peer: SocketAddr) -> io::Result<usize> {
     for _ in 0..u64::MAX {
         match socket.send_to(bytes, peer) {
             Ok(count) => return Ok(count),
             Err(error) => {
-                if !is_interrupted(&error) {
+                if !is_passing(&error) {
                     return Err(error);
                 }
             }
@@ -76,17 +77,31 @@ fn send_again(socket: &UdpSocket, bytes: &[u8], peer: SocketAddr) -> io::Result<
     Err(io::Error::from(ErrorKind::TimedOut))
 }
 
-/// Waits for a datagram, and begins anew as often as the system interrupts it.
+/// Waits for a datagram, and begins anew as often as the system interrupts it, or tells of one that was sent.
 fn receive_again(socket: &UdpSocket, buf: &mut [u8]) -> io::Result<(usize, SocketAddr)> {
     for _ in 0..u64::MAX {
         match socket.recv_from(buf) {
             Ok(came) => return Ok(came),
             Err(error) => {
-                if !is_interrupted(&error) {
+                if !is_passing(&error) {
                     return Err(error);
                 }
             }
         }
     }
     Err(io::Error::from(ErrorKind::TimedOut))
+}
+
+/// Whether the call may be made again at once: the system interrupted it, or told in its place that no one listened where an
+/// earlier datagram went, as while a server starts again.
+fn is_passing(error: &io::Error) -> bool {
+    is_interrupted(error) || error.kind() == ErrorKind::ConnectionRefused
+}
+
+/// Whether there is no way to the host now.
+fn is_unreachable(kind: ErrorKind) -> bool {
+    matches!(
+        kind,
+        ErrorKind::HostUnreachable | ErrorKind::NetworkUnreachable | ErrorKind::NetworkDown
+    )
 }

@@ -6,20 +6,20 @@
 
 mod again;
 mod datagram;
-mod input;
+mod flight;
 mod listener;
 mod output;
+mod rounds;
+mod source;
 mod stand_ins;
 mod system_clock;
 mod tcp;
-#[cfg(test)]
-mod tests;
 mod udp;
 
 pub use again::{read_again, write_again};
-pub use input::StandardInput;
 pub use listener::LoopbackListener;
 pub use output::StandardOutput;
+pub use source::{ReaderSource, StandardInput, file_source};
 pub use stand_ins::{StandIns, StandardStream};
 pub use system_clock::SystemClock;
 pub use tcp::TcpWire;

@@ -9,19 +9,20 @@ use outside::Failed;
 use std::io::ErrorKind;
 use std::marker::Model;
 use std::net::{Net, OpenListener, TcpListener};
+use std::time::Clock;
 
 /// The address of this machine that no other reaches.
 pub(crate) const LOOPBACK: &str = "127.0.0.1";
 
 /// A port of the loopback at which others connect. A contract sees how often no connection could be taken.
 #[derive(Drop)]
-pub struct LoopbackListener<'a, N: Net> {
-    net: &'a N,
-    listener: N::Listener,
+pub struct LoopbackListener<'a, R: Net + Clock> {
+    system: &'a R,
+    listener: R::Listener,
     faults: u64,
 }
 
-impl<'a, N: Net> Model for LoopbackListener<'a, N> {
+impl<'a, R: Net + Clock> Model for LoopbackListener<'a, R> {
     ghost use Rattle.std.specs.Prelude.{ℕ};
 
     ghost Value = { ℕ };
@@ -29,15 +30,15 @@ impl<'a, N: Net> Model for LoopbackListener<'a, N> {
     ghost view = { λ l. l.faults };
 }
 
-impl<'a, N: Net> LoopbackListener<'a, N> {
+impl<'a, R: Net + Clock> LoopbackListener<'a, R> {
     /// Listens at that port of 127.0.0.1; at 0 the system chooses one. `Failed` where the system refuses it, as where
     /// another program listens there.
-    pub fn bind(net: &'a N, port: u16) -> Result<LoopbackListener<'a, N>, Failed>
+    pub fn bind(system: &'a R, port: u16) -> Result<LoopbackListener<'a, R>, Failed>
         ensures { IfOk result (λ listener. listener ≡ 0) }
     {
-        match TcpListener::bind(net, (LOOPBACK, port)) {
+        match TcpListener::bind(system, (LOOPBACK, port)) {
             Ok(listener) => Ok(LoopbackListener {
-                net,
+                system,
                 listener,
                 faults: 0,
             }),
@@ -47,7 +48,7 @@ impl<'a, N: Net> LoopbackListener<'a, N> {
 
     /// Waits for the next connection, however long that takes. One that is lost before it is taken is handed out too,
     /// and each of its calls fails; any other error of the system is `Failed`.
-    pub fn accept(&mut self) -> Result<TcpWire<'a, N>, Failed>
+    pub fn accept(&mut self) -> Result<TcpWire<'a, R>, Failed>
         ensures fresh { IfOk result (λ wire. wire ≡ 0) }
         ensures cause { HasCauseFailed self.old self.new result }
         ensures counts { CountsFailed self.old self.new result }
@@ -55,10 +56,10 @@ impl<'a, N: Net> LoopbackListener<'a, N> {
         match self.listener.accept() {
             Ok((stream, _)) => {
                 let stream = prepare(&stream).is_ok().then_some(stream);
-                Ok(TcpWire::taken(self.net, stream))
+                Ok(TcpWire::taken(self.system, stream))
             }
             Err(error) if error.kind() == ErrorKind::ConnectionAborted => {
-                Ok(TcpWire::taken(self.net, None))
+                Ok(TcpWire::taken(self.system, None))
             }
             Err(_) => {
                 self.faults = self.faults.saturating_add(1);

@@ -5,29 +5,29 @@ ghost use Rattle.std.specs.Io.{ReadsAtMost};
 ghost use Rattle.net_edge.specs.Counts.{next_count};
 
 use crate::again::{read_again, write_again};
+use crate::rounds::{LIMIT_SECS, MOST_ROUNDS, Rounds};
 use outside::{LinkFault, Wire, WirePlace, WireRead};
 use std::io::{self, ErrorKind, Read};
 use std::marker::Model;
 use std::net::{Net, OpenStream, SocketAddr, TcpStream, ToSocketAddrs};
-use std::time::Duration;
+use std::time::{Clock, Duration};
 use world_model::Mark;
 use xdr_codec::Memory;
-
-/// How many seconds a dial to one address waits, and a write: as long as a reply is waited for.
-const LIMIT_SECS: u64 = 15;
 
 /// Connections over TCP to one host, one at a time; or a connection that another made, which can't be made anew. A
 /// contract sees the number of calls that failed or were silent.
 #[derive(Drop)]
-pub struct TcpWire<'a, N: Net> {
-    net: &'a N,
+pub struct TcpWire<'a, R: Net + Clock> {
+    system: &'a R,
     /// The host that is dialed; None where another dialed.
     host: Option<&'a str>,
-    stream: Option<N::Stream>,
+    stream: Option<R::Stream>,
+    /// Whether the last wait on the connection was silent.
+    was_silent: bool,
     faults: u64,
 }
 
-impl<'a, N: Net> Model for TcpWire<'a, N> {
+impl<'a, R: Net + Clock> Model for TcpWire<'a, R> {
     ghost use Rattle.std.specs.Prelude.{ℕ};
 
     ghost Value = { ℕ };
@@ -35,30 +35,45 @@ impl<'a, N: Net> Model for TcpWire<'a, N> {
     ghost view = { λ w. w.faults };
 }
 
-impl<'a, N: Net> TcpWire<'a, N> {
-    /// A wire to the host of that name or address, not connected yet. A name is looked up at each dial.
-    pub fn new(net: &'a N, host: &'a str) -> TcpWire<'a, N>
+impl<'a, R: Net + Clock> TcpWire<'a, R> {
+    /// A wire to the host of that name or address, not connected yet. A name is looked up in each round of a dial.
+    pub fn new(system: &'a R, host: &'a str) -> TcpWire<'a, R>
         ensures { result ≡ 0 }
     {
         TcpWire {
-            net,
+            system,
             host: Some(host),
             stream: None,
+            was_silent: false,
             faults: 0,
         }
     }
 
     /// A wire over a connection that another made, or over one that is lost already. A dial ends the connection, and is
     /// a failure.
-    pub(crate) fn taken(net: &'a N, stream: Option<N::Stream>) -> TcpWire<'a, N>
+    pub(crate) fn taken(system: &'a R, stream: Option<R::Stream>) -> TcpWire<'a, R>
         ensures { result ≡ 0 }
     {
         TcpWire {
-            net,
+            system,
             host: None,
             stream,
+            was_silent: false,
             faults: 0,
         }
+    }
+
+    /// Notes a silence. True where the wait before was silent too: the connection is given up then, since a server that
+    /// came back without it, or that waits for the rest of a record, never answers on it.
+    fn is_silent_again(&mut self) -> bool
+        ensures { self.new ≡ self.old }
+    {
+        let again = self.was_silent;
+        self.was_silent = true;
+        if again {
+            self.stream = None;
+        }
+        again
     }
 
     /// Counts a call that failed or was silent, and gives its answer.
@@ -72,7 +87,7 @@ impl<'a, N: Net> TcpWire<'a, N> {
     }
 }
 
-impl<N: Net> Wire for TcpWire<'_, N> {
+impl<R: Net + Clock> Wire for TcpWire<'_, R> {
     ghost use Rattle.std.specs.Prelude.{◌≡◌, ◌≤◌, ◌<◌, [], true, None, length, IfOk, IsOk};
     ghost use Rattle.outside.specs.Causes.{HasCause};
     ghost use Rattle.outside.specs.Sink.{TakesSome};
@@ -92,13 +107,15 @@ impl<N: Net> Wire for TcpWire<'_, N> {
 
     ghost lawful = { λ _ h. absurd h };
 
-    /// Dials the host's addresses in turn, each for at most 15 seconds. A name that can't be looked up is a failure.
+    /// Dials the host's addresses in turn, each for at most 15 seconds. Where none of them takes the connection, or the name
+    /// can't be looked up, it does so again after a pause, of 0.1 seconds first and of at most one, until 15 seconds are over.
     fn connect(&mut self, port: u16) -> Result<(), LinkFault>
         ensures told { WireTells None None (connected_as port result) }
         ensures cause { HasCause self.old self.new result }
         ensures counts { CountsFault self.old self.new result }
     {
-        self.stream = dial(self.net, self.host, port);
+        self.was_silent = false;
+        self.stream = dial(self.system, self.host, port);
         if self.stream.is_some() {
             Ok(())
         } else {
@@ -125,7 +142,8 @@ impl<N: Net> Wire for TcpWire<'_, N> {
         self.missed(Err(LinkFault::Failed))
     }
 
-    /// Reads what comes within the wait. An end of the stream is a failure, and so is a wait without a connection.
+    /// Reads what comes within the wait. An end of the stream is a failure, and so are the second silence in a row on one
+    /// connection and a wait without a connection.
     fn read(&mut self, wait_ms: u32, buf: &mut [u8]) -> WireRead
         requires patient { 15000 ≤ wait_ms }
         requires room { 0 < length buf.old }
@@ -138,8 +156,17 @@ impl<N: Net> Wire for TcpWire<'_, N> {
             return self.missed(WireRead::Failed);
         };
         match read_within(stream, wait_ms, buf) {
-            Ok(count) if count > 0 => WireRead::Got(count),
-            Err(error) if is_silence(error.kind()) => self.missed(WireRead::Silent),
+            Ok(count) if count > 0 => {
+                self.was_silent = false;
+                WireRead::Got(count)
+            }
+            Err(error) if is_silence(error.kind()) => {
+                if self.is_silent_again() {
+                    self.missed(WireRead::Failed)
+                } else {
+                    self.missed(WireRead::Silent)
+                }
+            }
             _ => self.missed(WireRead::Failed),
         }
     }
@@ -175,9 +202,22 @@ impl<N: Net> Wire for TcpWire<'_, N> {
     {}
 }
 
-/// A connection to the first of the host's addresses that answers, if there is a host and one does.
-fn dial<N: Net>(net: &N, host: Option<&str>, port: u16) -> Option<N::Stream> {
-    let addresses = (host?, port).to_socket_addrs(net).ok()?;
+/// A connection to the host, if there is a host and one of its addresses takes it within the time of a dial.
+fn dial<R: Net + Clock>(system: &R, host: Option<&str>, port: u16) -> Option<R::Stream> {
+    let host = host?;
+    let mut rounds = Rounds::begin(system)?;
+    for _ in 0..MOST_ROUNDS {
+        if let Some(stream) = dial_once(system, host, port) {
+            return Some(stream);
+        }
+        rounds.pause()?;
+    }
+    None
+}
+
+/// A connection to the first of the host's addresses that takes it, if one does.
+fn dial_once<N: Net>(net: &N, host: &str, port: u16) -> Option<N::Stream> {
+    let addresses = (host, port).to_socket_addrs(net).ok()?;
     for address in addresses {
         if let Ok(stream) = open(net, address) {
             return Some(stream);

@@ -5,27 +5,42 @@ ghost use Rattle.outside.specs.Datagrams.{HasCauseArrived};
 ghost use Rattle.net_edge.specs.Counts.{next_count, CountsArrived};
 
 use crate::datagram::PeerSocket;
+use crate::flight::{Flight, PAUSE_MS};
 use crate::listener::LOOPBACK;
+use crate::rounds::{MOST_ROUNDS, Rounds};
 use outside::{Arrived, DatagramAdds, Datagrams, Failed, LinkFault};
 use std::io;
 use std::marker::Model;
 use std::net::{Net, SocketAddr, ToSocketAddrs, UdpSocket};
+use std::time::Clock;
 use world_model::Mark;
 use xdr_codec::Memory;
+
+/// The most datagrams that are kept while others are sent.
+const MOST_EARLY: usize = 32;
+
+/// A datagram that came while others were sent, and the port that it came from.
+#[derive(Drop)]
+struct Early {
+    port: u16,
+    bytes: Vec<u8>,
+}
 
 /// Datagrams over UDP to one host, from one port of this machine for as long as the same port of the host is aimed at: a
 /// server knows a call that is sent again by the port that it comes from. Or those at a port of the loopback that others
 /// know. A contract sees the number of calls that failed or were silent.
 #[derive(Drop)]
-pub struct UdpDatagrams<'a, N: Net> {
-    net: &'a N,
+pub struct UdpDatagrams<'a, R: Net + Clock + AllocGlobal> {
+    system: &'a R,
     /// The host that is aimed at; None where others know the port of this side, and the loopback is aimed at.
     host: Option<&'a str>,
     current: Option<PeerSocket>,
+    flight: Flight,
+    early: Vec<Early>,
     faults: u64,
 }
 
-impl<'a, N: Net> Model for UdpDatagrams<'a, N> {
+impl<'a, R: Net + Clock + AllocGlobal> Model for UdpDatagrams<'a, R> {
     ghost use Rattle.std.specs.Prelude.{ℕ};
 
     ghost Value = { ℕ };
@@ -33,29 +48,33 @@ impl<'a, N: Net> Model for UdpDatagrams<'a, N> {
     ghost view = { λ d. d.faults };
 }
 
-impl<'a, N: Net> UdpDatagrams<'a, N> {
+impl<'a, R: Net + Clock + AllocGlobal> UdpDatagrams<'a, R> {
     /// Datagrams to the host of that name or address, not aimed at a port yet. A name is looked up at each aim.
-    pub fn new(net: &'a N, host: &'a str) -> UdpDatagrams<'a, N>
+    pub fn new(system: &'a R, host: &'a str) -> UdpDatagrams<'a, R>
         ensures { result ≡ 0 }
     {
         UdpDatagrams {
-            net,
+            system,
             host: Some(host),
             current: None,
+            flight: Flight::new(),
+            early: Vec::new(system.alloc()),
             faults: 0,
         }
     }
 
     /// Datagrams at that port of 127.0.0.1, not aimed at a port yet; at 0 the system chooses one. `Failed` where the system
     /// refuses it, as where another program has the port.
-    pub fn bind(net: &'a N, port: u16) -> Result<UdpDatagrams<'a, N>, Failed>
+    pub fn bind(system: &'a R, port: u16) -> Result<UdpDatagrams<'a, R>, Failed>
         ensures { IfOk result (λ datagrams. datagrams ≡ 0) }
     {
-        match bound(net, port) {
+        match bound(system, port) {
             Ok(socket) => Ok(UdpDatagrams {
-                net,
+                system,
                 host: None,
                 current: Some(socket),
+                flight: Flight::new(),
+                early: Vec::new(system.alloc()),
                 faults: 0,
             }),
             Err(_) => Err(Failed),
@@ -70,6 +89,60 @@ impl<'a, N: Net> UdpDatagrams<'a, N> {
     {
         self.faults = self.faults.saturating_add(1);
         answer
+    }
+
+    /// Waits until a datagram of so many bytes has room beside those that weren't answered yet, and keeps what comes. Where nothing
+    /// comes for 50 ms these count as lost.
+    fn await_room(&mut self, len: usize)
+        ensures { self.new ≡ self.old }
+    {
+        for _ in 0..MOST_EARLY {
+            if self.flight.has_room(len) {
+                return;
+            }
+            if !self.hear() {
+                self.flight = Flight::new();
+                return;
+            }
+        }
+    }
+
+    /// Keeps a datagram that comes while others are sent. False where none comes in time, or where no more can be kept.
+    fn hear(&mut self) -> bool
+        ensures { self.new ≡ self.old }
+    {
+        let Some(current) = self.current.as_ref() else {
+            return false;
+        };
+        if self.early.len() >= MOST_EARLY {
+            return false;
+        }
+        let mut bytes = Vec::new(self.system.alloc());
+        let Arrived::From(port) = current.receive(PAUSE_MS, &mut bytes) else {
+            return false;
+        };
+        self.flight.came();
+        self.early.push(Early { port, bytes }).is_ok()
+    }
+
+    /// The first datagram that was kept, or the next that comes within the wait.
+    fn arrival(&mut self, wait_ms: u32, buf: &mut Vec<u8>) -> Arrived
+        ensures { self.new ≡ self.old }
+    {
+        if !self.early.is_empty() {
+            let early = self.early.remove(0);
+            *buf = early.bytes;
+            return Arrived::From(early.port);
+        }
+        let Some(current) = self.current.as_ref() else {
+            return Arrived::Failed;
+        };
+        let arrived = current.receive(wait_ms, buf);
+        match arrived {
+            Arrived::From(_) => self.flight.came(),
+            _ => self.flight = Flight::new(),
+        }
+        arrived
     }
 
     /// Counts what came of a wait, where it failed or was silent.
@@ -87,7 +160,7 @@ impl<'a, N: Net> UdpDatagrams<'a, N> {
     }
 }
 
-impl<N: Net> Datagrams for UdpDatagrams<'_, N> {
+impl<R: Net + Clock + AllocGlobal> Datagrams for UdpDatagrams<'_, R> {
     ghost use Rattle.std.specs.Prelude.{◌≡◌, ◌≤◌, [], true, None, IsOk};
     ghost use Rattle.outside.specs.Causes.{HasCause};
     ghost use Rattle.outside.specs.Datagrams.{DatagramsTell, DatagramsNote, HasCauseArrived, aimed_as, datagram_as, arrived_as, remarked_as};
@@ -107,7 +180,8 @@ impl<N: Net> Datagrams for UdpDatagrams<'_, N> {
 
     ghost lawful = { λ _ h. absurd h };
 
-    /// Aims at the first of the host's addresses. A name that can't be looked up is a failure.
+    /// Aims at the first of the host's addresses. Where the name can't be looked up, or no datagram could go there, it does so
+    /// again after a pause, until 15 seconds are over.
     fn aim(&mut self, port: u16) -> Result<(), LinkFault>
         ensures told { DatagramsTell None None (aimed_as port result) }
         ensures cause { HasCause self.old self.new result }
@@ -115,7 +189,7 @@ impl<N: Net> Datagrams for UdpDatagrams<'_, N> {
     {
         let current = self.current.take();
         self.current = match self.host {
-            Some(host) => aim_at(self.net, current, host, port),
+            Some(host) => aim_at(self.system, current, host, port),
             None => with_port(current, port),
         };
         if self.current.is_some() {
@@ -125,15 +199,18 @@ impl<N: Net> Datagrams for UdpDatagrams<'_, N> {
         }
     }
 
-    /// Sends one datagram. Before an aim it is a failure, and so is one that is too long, or the word of the host that no one
-    /// listens at the port.
+    /// Sends one datagram, once enough of those before are answered. Before an aim it is a failure, and so is one that is too long.
     fn send(&mut self, bytes: &[u8]) -> Result<(), LinkFault>
         ensures told { DatagramsTell None None (datagram_as bytes.now result) }
         ensures cause { HasCause self.old self.new result }
         ensures counts { CountsFault self.old self.new result }
     {
+        self.await_room(bytes.len());
         match self.current.as_ref() {
-            Some(current) if current.send(bytes) => Ok(()),
+            Some(current) if current.send(bytes) => {
+                self.flight.sent(bytes.len());
+                Ok(())
+            }
             _ => self.missed(Err(LinkFault::Failed)),
         }
     }
@@ -145,10 +222,7 @@ impl<N: Net> Datagrams for UdpDatagrams<'_, N> {
         ensures cause { HasCauseArrived self.old self.new result }
         ensures counts { CountsArrived self.old self.new result }
     {
-        let arrived = match self.current.as_ref() {
-            Some(current) => current.receive(wait_ms, buf),
-            None => Arrived::Failed,
-        };
+        let arrived = self.arrival(wait_ms, buf);
         self.counted(arrived)
     }
 
@@ -205,18 +279,32 @@ fn with_port(current: Option<PeerSocket>, port: u16) -> Option<PeerSocket> {
     Some(current)
 }
 
-/// A socket for that port of the host: the one that is open, where it is aimed there already, or a new one.
-fn aim_at<N: Net>(
-    net: &N,
+/// A socket for that port of the host, if one can be had within the time of a dial: the one that is open, where it is aimed
+/// there already, or a new one.
+fn aim_at<R: Net + Clock>(
+    system: &R,
     current: Option<PeerSocket>,
     host: &str,
     port: u16,
 ) -> Option<PeerSocket> {
-    let peer = (host, port).to_socket_addrs(net).ok()?.next()?;
-    match current {
-        Some(same) if same.peer == peer => Some(same),
-        _ => open_to(net, peer).ok(),
+    let mut rounds = Rounds::begin(system)?;
+    for _ in 0..MOST_ROUNDS {
+        if let Some(peer) = first_address(system, host, port) {
+            if current.as_ref().is_some_and(|current| current.peer == peer) {
+                return current;
+            }
+            if let Ok(socket) = open_to(system, peer) {
+                return Some(socket);
+            }
+        }
+        rounds.pause()?;
     }
+    None
+}
+
+/// The first address of that port of the host.
+fn first_address<N: Net>(net: &N, host: &str, port: u16) -> Option<SocketAddr> {
+    (host, port).to_socket_addrs(net).ok()?.next()
 }
 
 /// A new socket for that peer.

@@ -15,6 +15,7 @@ use rpc_message::read_call;
 use rpc_record::StreamLink;
 use std::alloc::Global;
 use std::net::Net;
+use std::time::Clock;
 use xdr_codec::{Blob, Memory};
 
 /// How many connections are taken at most.
@@ -75,7 +76,7 @@ impl Serving {
 
     /// Serves one connection after another. It ends well once the calls were answered, and else where no connection can
     /// be taken, after 65,536 connections or as many records that are no call, or by lack of memory.
-    pub fn serve_all<N: Net>(&mut self, listener: &mut LoopbackListener<'_, N>) -> Ending
+    pub fn serve_all<R: Net + Clock>(&mut self, listener: &mut LoopbackListener<'_, R>) -> Ending
         ensures served { result ≡ Served → self.new.calls ≡ 0 }
     {
         for _ in 0..MOST_CONNECTIONS {

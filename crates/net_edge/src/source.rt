@@ -1,20 +1,25 @@
-//! Standard input.
+//! Standard input, and files.
 
-ghost use Rattle.std.specs.Prelude.{◌≡◌};
+ghost use Rattle.std.specs.Prelude.{◌≡◌, IfOk};
 
 use crate::again::read_again;
 use outside::{Failed, Source};
-use std::io::Stdin;
+use std::fs::File;
+use std::io::{Read, Stdin};
 use std::marker::Model;
+use std::rt::Files;
 
-/// Standard input as a source. A contract sees the number of reads that failed.
+/// A stream of the system as a source. A contract sees the number of reads that failed.
 #[derive(Drop)]
-pub struct StandardInput {
-    stdin: Stdin,
+pub struct ReaderSource<R: Read + Drop> {
+    reader: R,
     faults: u64,
 }
 
-impl Model for StandardInput {
+/// Standard input as a source.
+pub type StandardInput = ReaderSource<Stdin>;
+
+impl<R: Read + Drop> Model for ReaderSource<R> {
     ghost use Rattle.std.specs.Prelude.{ℕ};
 
     ghost Value = { ℕ };
@@ -22,16 +27,26 @@ impl Model for StandardInput {
     ghost view = { λ s. s.faults };
 }
 
-impl StandardInput {
-    /// Standard input, of which no read has failed.
-    pub fn new(stdin: Stdin) -> StandardInput
+impl<R: Read + Drop> ReaderSource<R> {
+    /// A source over that stream, of which no read has failed.
+    pub fn new(reader: R) -> ReaderSource<R>
         ensures { result ≡ 0 }
     {
-        StandardInput { stdin, faults: 0 }
+        ReaderSource { reader, faults: 0 }
     }
 }
 
-impl Source for StandardInput {
+/// The file at that path as a source. `Failed` where it can't be opened to be read.
+pub fn file_source<R: Files>(files: &R, path: &str) -> Result<ReaderSource<R::File>, Failed>
+    ensures { IfOk result (λ source. source ≡ 0) }
+{
+    match File::open(files, path) {
+        Ok(file) => Ok(ReaderSource::new(file)),
+        Err(_) => Err(Failed),
+    }
+}
+
+impl<R: Read + Drop> Source for ReaderSource<R> {
     ghost use Rattle.std.specs.Prelude.{◌≤◌, ◌<◌, None, length, IfOk};
     ghost use Rattle.outside.specs.Causes.{HasCauseFailed};
     ghost use Rattle.outside.specs.Source.{TakesFrom};
@@ -49,7 +64,7 @@ impl Source for StandardInput {
         ensures cause { HasCauseFailed self.old self.new result }
         ensures counts { CountsFailed self.old self.new result }
     {
-        match read_again(&mut self.stdin, buf) {
+        match read_again(&mut self.reader, buf) {
             Ok(count) => Ok(count),
             Err(_) => {
                 self.faults = self.faults.saturating_add(1);
