@@ -1,0 +1,6 @@
+//! Judges one given history.
+#![tactic(auto)]
+
+mod late;
+
+pub use late::is_once;
