@@ -398,32 +398,36 @@ xid_fits (Does xid call reply t) = nat_lt xid 256
 xid_fits (Comes xid reply) = nat_lt xid 256
 xid_fits e = true
 
--- whether all are so
-abbrev pub all_are : {A : Type 0} → (A → Bool) → List A → Bool
-all_are {A} p [] = true
-all_are {A} p (x ∷ xs) = if p x then all_are p xs else false
+-- whether all events are so
+abbrev pub all_are : (Event → Bool) → List Event → Bool
+all_are p [] = true
+all_are p (e ∷ es) = if p e then all_are p es else false
 
-abbrev does_not : ℕ → Entry → Bool
-does_not x (entries.Executed xid call reply) = if xid == x then false else true
+abbrev does_not : ℕ → Event → Bool
+does_not x (Does xid call reply t) = if xid == x then false else true
 does_not x e = true
-
-abbrev none_after : Event → List Event → Bool
-none_after (Comes xid reply) es = all_are (does_not xid) (entries_of es)
-none_after e es = true
 
 -- whether after the reply to a call none is executed under its xid
 abbrev pub is_once : List Event → Bool
 is_once [] = true
-is_once (e ∷ es) = if none_after e es then is_once es else false
+is_once (Comes xid reply ∷ es) = if all_are (does_not xid) es then is_once es else false
+is_once (Begins lane line op ∷ es) = is_once es
+is_once (Answers lane line answer ∷ es) = is_once es
+is_once (Sends xid call ∷ es) = is_once es
+is_once (Does xid call reply t ∷ es) = is_once es
+is_once (Others call reply t ∷ es) = is_once es
+is_once (Restarts t ∷ es) = is_once es
+is_once (Fails ∷ es) = is_once es
+is_once (Looks ms ∷ es) = is_once es
 
 both : (b c : Bool) → (if b then c else false) ≡ true → (b ≡ true) × (c ≡ true)
 both true c e = (refl, e)
 both false c e = absurd (cc e)
 
-pub all_at : {A : Type 0} (p : A → Bool) (xs : List A) → all_are p xs ≡ true → (i : ℕ) (x : A) → slice_get xs i ≡ Some x → p x ≡ true
-all_at {A} p [] all i x at = absurd (cc at)
-all_at {A} p (y ∷ xs) all zero x at = let is : y ≡ x = cc at in subst (λ (z : A). p z ≡ true) is (both (p y) (all_are p xs) all).0
-all_at {A} p (y ∷ xs) all (suc i) x at = all_at p xs (both (p y) (all_are p xs) all).1 i x at
+pub all_at : (p : Event → Bool) (es : List Event) → all_are p es ≡ true → (i : ℕ) (e : Event) → slice_get es i ≡ Some e → p e ≡ true
+all_at p [] all i e at = absurd (cc at)
+all_at p (x ∷ es) all zero e at = let is : x ≡ e = cc at in subst (λ (z : Event). p z ≡ true) is (both (p x) (all_are p es) all).0
+all_at p (x ∷ es) all (suc i) e at = all_at p es (both (p x) (all_are p es) all).1 i e at
 
 pub one_xid : (bytes : List ℕ) (x y : ℕ) → HasXid bytes x → HasXid bytes y → x ≡ y
 one_xid bytes x y a b = number (sym a ∙ b)
@@ -437,49 +441,58 @@ small_xid x e = let lt = ltb-true x 256 e in omega (arith, lt)
 refutes : (x y : ℕ) → x ≡ y → (if x == y then false else true) ≡ true → ⊥
 refutes x y equal e = let q : false ≡ true = sym (ap (λ (b : Bool). if b then false else true) (eq-eqb x y equal)) ∙ e in absurd (cc q)
 
--- the event behind a record that came
-pub record ReplyBehind (e : Event) (bytes : List ℕ) : Type 0 where
-  pub xid : ℕ
-  pub reply : Reply
-  pub is : e ≡ Comes xid reply
-  pub spelled : reply_record xid reply ≡ bytes
+not_done : (x y : ℕ) (call : Call) (reply : Reply) (e : Event) → x ≡ y → does_not x e ≡ true → entry_of e ≡ entries.Executed y call reply → ⊥
+not_done x y call reply (Does xid call_ reply_ t) equal free is = refutes xid x ((let a : xid ≡ y = cc is in a) ∙ sym equal) free
+not_done x y call reply (Begins lane line op) equal free is = absurd (cc is)
+not_done x y call reply (Answers lane line answer) equal free is = absurd (cc is)
+not_done x y call reply (Sends xid call_) equal free is = absurd (cc is)
+not_done x y call reply (Comes xid reply_) equal free is = absurd (cc is)
+not_done x y call reply (Others call_ reply_ t) equal free is = absurd (cc is)
+not_done x y call reply (Restarts t) equal free is = absurd (cc is)
+not_done x y call reply Fails equal free is = absurd (cc is)
+not_done x y call reply (Looks ms) equal free is = absurd (cc is)
 
-pub reply_behind : (e : Event) (bytes : List ℕ) → entry_of e ≡ entries.Delivered bytes → ReplyBehind e bytes
-reply_behind (Comes xid reply) bytes is = record { xid = xid; reply = reply; is = refl; spelled = cc is }
-reply_behind (Begins lane line op) bytes is = absurd (cc is)
-reply_behind (Answers lane line answer) bytes is = absurd (cc is)
-reply_behind (Sends xid call) bytes is = absurd (cc is)
-reply_behind (Does xid call reply t) bytes is = absurd (cc is)
-reply_behind (Others call reply t) bytes is = absurd (cc is)
-reply_behind (Restarts t) bytes is = absurd (cc is)
-reply_behind Fails bytes is = absurd (cc is)
-reply_behind (Looks ms) bytes is = absurd (cc is)
+none_later : (x y : ℕ) (call : Call) (reply : Reply) (es : List Event) → x ≡ y → all_are (does_not x) es ≡ true → (n : ℕ) → At (entries_of es) n (entries.Executed y call reply) → ⊥
+none_later x y call reply es equal free n at = let b = behind es n (entries.Executed y call reply) at in not_done x y call reply b.event equal (all_at (does_not x) es free n b.event b.at) b.is
 
--- it has the xid under which it was written
-pub reply_xid : (e : Event) (bytes : List ℕ) (y : ℕ) → xid_fits e ≡ true → (r : ReplyBehind e bytes) → HasXid bytes y → r.xid ≡ y
-reply_xid e bytes y fits r under =
-    let small : nat_lt r.xid 256 ≡ true = subst (λ (z : Event). xid_fits z ≡ true) r.is fits in
-    one_xid (reply_record r.xid r.reply) r.xid y (reply_under r.xid r.reply (small_xid r.xid small)) (subst (λ (z : List ℕ). HasXid z y) (sym r.spelled) under)
+record_is : (xid : ℕ) (reply : Reply) (bytes : List ℕ) → Some (entries.Delivered (reply_record xid reply)) ≡ Some (entries.Delivered bytes) → reply_record xid reply ≡ bytes
+record_is xid reply bytes e = cc
 
-head_once : (e : Event) (es : List Event) → xid_fits e ≡ true → none_after e es ≡ true → (n y : ℕ) (bytes : List ℕ) (call : Call) (reply : Reply) → entry_of e ≡ entries.Delivered bytes → HasXid bytes y
+came_under : (xid y : ℕ) (reply : Reply) (bytes : List ℕ) → nat_lt xid 256 ≡ true → reply_record xid reply ≡ bytes → HasXid bytes y → xid ≡ y
+came_under xid y reply bytes fits is under = one_xid (reply_record xid reply) xid y (reply_under xid reply (small_xid xid fits)) (subst (λ (z : List ℕ). HasXid z y) (sym is) under)
+
+tail_once : (e : Event) (es : List Event) → is_once (e ∷ es) ≡ true → is_once es ≡ true
+tail_once (Comes xid reply) es once = (both (all_are (does_not xid) es) (is_once es) once).1
+tail_once (Begins lane line op) es once = once
+tail_once (Answers lane line answer) es once = once
+tail_once (Sends xid call) es once = once
+tail_once (Does xid call reply t) es once = once
+tail_once (Others call reply t) es once = once
+tail_once (Restarts t) es once = once
+tail_once Fails es once = once
+tail_once (Looks ms) es once = once
+
+head_once : (e : Event) (es : List Event) → xid_fits e ≡ true → is_once (e ∷ es) ≡ true → (n y : ℕ) (bytes : List ℕ) (call : Call) (reply : Reply) → Some (entry_of e) ≡ Some (entries.Delivered bytes) → HasXid bytes y
     → At (entries_of es) n (entries.Executed y call reply) → ⊥
-head_once e es fits none n y bytes call reply came under done =
-    let r = reply_behind e bytes came in
-    let free : all_are (does_not r.xid) (entries_of es) ≡ true = subst (λ (z : Event). none_after z es ≡ true) r.is none in
-    refutes y r.xid (sym (reply_xid e bytes y fits r under)) (all_at (does_not r.xid) (entries_of es) free n (entries.Executed y call reply) done)
+head_once (Comes xid told) es fits once n y bytes call reply came under done =
+    none_later xid y call reply es (came_under xid y told bytes fits (record_is xid told bytes came) under) (both (all_are (does_not xid) es) (is_once es) once).0 n done
+head_once (Begins lane line op) es fits once n y bytes call reply came under done = absurd (cc came)
+head_once (Answers lane line answer) es fits once n y bytes call reply came under done = absurd (cc came)
+head_once (Sends xid call_) es fits once n y bytes call reply came under done = absurd (cc came)
+head_once (Does xid call_ reply_ t) es fits once n y bytes call reply came under done = absurd (cc came)
+head_once (Others call_ reply_ t) es fits once n y bytes call reply came under done = absurd (cc came)
+head_once (Restarts t) es fits once n y bytes call reply came under done = absurd (cc came)
+head_once Fails es fits once n y bytes call reply came under done = absurd (cc came)
+head_once (Looks ms) es fits once n y bytes call reply came under done = absurd (cc came)
 
-entry_is : (a b : Entry) → Some a ≡ Some b → a ≡ b
-entry_is a b e = cc
-
-both_ways : (e : Entry) (bytes : List ℕ) (y : ℕ) (call : Call) (reply : Reply) → Some e ≡ Some (entries.Delivered bytes) → Some e ≡ Some (entries.Executed y call reply) → ⊥
+both_ways : (e : Event) (bytes : List ℕ) (y : ℕ) (call : Call) (reply : Reply) → Some (entry_of e) ≡ Some (entries.Delivered bytes) → Some (entry_of e) ≡ Some (entries.Executed y call reply) → ⊥
 both_ways e bytes y call reply a b = absurd (cc (sym a ∙ b))
 
 pub once : (es : List Event) → all_are xid_fits es ≡ true → is_once es ≡ true → Once (entries_of es)
 once [] fits ok i n xid bytes call reply came under done = absurd (cc came)
-once (e ∷ es) fits ok zero zero xid bytes call reply came under done = absurd (both_ways (entry_of e) bytes xid call reply came done)
-once (e ∷ es) fits ok zero (suc n) xid bytes call reply came under done =
-    absurd (head_once e es (both (xid_fits e) (all_are xid_fits es) fits).0 (both (none_after e es) (is_once es) ok).0 n xid bytes call reply (entry_is (entry_of e) (entries.Delivered bytes) came) under done)
+once (e ∷ es) fits ok zero zero xid bytes call reply came under done = absurd (both_ways e bytes xid call reply came done)
+once (e ∷ es) fits ok zero (suc n) xid bytes call reply came under done = absurd (head_once e es (both (xid_fits e) (all_are xid_fits es) fits).0 ok n xid bytes call reply came under done)
 once (e ∷ es) fits ok (suc i) zero xid bytes call reply came under done = omega arith
 once (e ∷ es) fits ok (suc i) (suc n) xid bytes call reply came under done =
-    let before = once es (both (xid_fits e) (all_are xid_fits es) fits).1 (both (none_after e es) (is_once es) ok).1 i n xid bytes call reply came under done in
+    let before = once es (both (xid_fits e) (all_are xid_fits es) fits).1 (tail_once e es ok) i n xid bytes call reply came under done in
     omega (arith, before)

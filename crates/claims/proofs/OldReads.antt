@@ -52,7 +52,7 @@ since_open h r o n (opened not_each le) = le
 since_open h r o n (kept not_each no_open long young) = absurd (cc no_open)
 
 -- none of the operations writes
-unwritten : (m : Modes) (origin : Origin) (es : List Event) (to w i v : ℕ) → quiet (begins is_change) 0 to (entries_of es) ≡ true → w < to → WritesByte m origin (entries_of es) w the_file i v → ⊥
+unwritten : (m : Modes) (origin : Origin) (es : List Event) (to w i v : ℕ) → quiet (begins is_change) 0 to es ≡ true → w < to → WritesByte m origin (entries_of es) w the_file i v → ⊥
 unwritten m origin es to w i v q lt (write slot offset bytes of covers) = let low = begins_outside es is_change 0 to q w of.lane of.line (ops.Write slot offset bytes) of.began refl lt in omega (arith, low)
 unwritten m origin es to w i v q lt (fill slot offset count of low_ high) = let low = begins_outside es is_change 0 to q w of.lane of.line (ops.Fill slot offset count v) of.began refl lt in omega (arith, low)
 unwritten m origin es to w i v q lt (put lane line offset n path bytes began ends leads covers) = let low = begins_outside es is_change 0 to q w lane line (ops.Put path offset bytes) began refl lt in omega (arith, low)
@@ -130,11 +130,21 @@ overwrites = record { serves = may_write one_byte 0 2 (2 ∷ []) (omega arith); 
 
 keeps_stale_right : Right one_byte keeps_stale
 keeps_stale_right = right_from one_byte (opened_by modes.R) (Answers 1 1 ok ∷ stale_rest) one_is_plain (
-    did 17 (omega arith) refl (read_talk 4 (omega arith)) (may_read one_byte 0 1 true refl (λ e. omega arith)) (idle one_byte), (
-    overwrites, (
-    did 22 (omega arith) refl two_attr (may_get_attr two_byte) (idle two_byte), (
-    came 23 get_attr (omega arith) refl two_attr, (
-    came 18 (read_of 0) (omega arith) refl (read_talk 4 (omega arith)), tt)))))
+  did 17 (omega arith) refl (read_talk 4 (omega arith)) (may_read one_byte 0 1 true refl (λ e. omega arith)) (idle one_byte),
+  (
+    overwrites,
+    (
+      did 22 (omega arith) refl two_attr (may_get_attr two_byte) (idle two_byte),
+      (
+        came 23 get_attr (omega arith) refl two_attr,
+        (
+          came 18 (read_of 0) (omega arith) refl (read_talk 4 (omega arith)),
+          tt,
+        ),
+      ),
+    ),
+  ),
+)
 
 keeps_stale_is_lawful : Lawful (made one_byte keeps_stale)
 keeps_stale_is_lawful = lawful one_byte keeps_stale keeps_stale_right
@@ -219,15 +229,33 @@ both_attr = talk_attr 7 both_stable (omega arith) (omega arith) (omega arith)
 
 trusts_wcc_right : Right one_byte trusts_wcc
 trusts_wcc_right = right_from one_byte (opened_by modes.RW) (Answers 1 1 ok ∷ wcc_rest) one_is_plain (
-    did 17 (omega arith) refl (read_talk 4 (omega arith)) (may_read one_byte 0 1 true refl (λ e. omega arith)) (idle one_byte), (
-    came 18 (read_of 0) (omega arith) refl (read_talk 4 (omega arith)), (
-    overwrites, (
-    did 27 (omega arith) refl own_talk (may_write_wcc two_byte 1 3 (3 ∷ []) (omega arith)) (newer refl (omega arith) refl refl (omega arith)), (
-    came 28 own_write (omega arith) refl own_talk, (
-    did 30 (omega arith) refl commit_talk (may_commit both_bytes) (steadier both_bytes both_stable refl refl refl refl refl (omega arith)), (
-    came 31 commit (omega arith) refl commit_talk, (
-    did 36 (omega arith) refl both_attr (may_get_attr both_stable) (idle both_stable), (
-    came 37 get_attr (omega arith) refl both_attr, tt)))))))))
+  did 17 (omega arith) refl (read_talk 4 (omega arith)) (may_read one_byte 0 1 true refl (λ e. omega arith)) (idle one_byte),
+  (
+    came 18 (read_of 0) (omega arith) refl (read_talk 4 (omega arith)),
+    (
+      overwrites,
+      (
+        did 27 (omega arith) refl own_talk (may_write_wcc two_byte 1 3 (3 ∷ []) (omega arith)) (newer refl (omega arith) refl refl (omega arith)),
+        (
+          came 28 own_write (omega arith) refl own_talk,
+          (
+            did 30 (omega arith) refl commit_talk (may_commit both_bytes) (steadier both_bytes both_stable refl refl refl refl refl (omega arith)),
+            (
+              came 31 commit (omega arith) refl commit_talk,
+              (
+                did 36 (omega arith) refl both_attr (may_get_attr both_stable) (idle both_stable),
+                (
+                  came 37 get_attr (omega arith) refl both_attr,
+                  tt,
+                ),
+              ),
+            ),
+          ),
+        ),
+      ),
+    ),
+  ),
+)
 
 trusts_wcc_is_lawful : Lawful (made one_byte trusts_wcc)
 trusts_wcc_is_lawful = lawful one_byte trusts_wcc trusts_wcc_right
@@ -297,8 +325,12 @@ forgets_own = opening one_byte modes.RW own_rest
 
 forgets_own_right : Right one_byte forgets_own
 forgets_own_right = right_from one_byte (opened_by modes.RW) (Answers 1 1 ok ∷ own_rest) one_is_plain (
-    did 20 (omega arith) refl (read_talk 4 (omega arith)) (may_read one_byte 0 1 true refl (λ e. omega arith)) (idle one_byte), (
-    came 21 (read_of 0) (omega arith) refl (read_talk 4 (omega arith)), tt))
+  did 20 (omega arith) refl (read_talk 4 (omega arith)) (may_read one_byte 0 1 true refl (λ e. omega arith)) (idle one_byte),
+  (
+    came 21 (read_of 0) (omega arith) refl (read_talk 4 (omega arith)),
+    tt,
+  ),
+)
 
 forgets_own_is_lawful : Lawful (made one_byte forgets_own)
 forgets_own_is_lawful = lawful one_byte forgets_own forgets_own_right

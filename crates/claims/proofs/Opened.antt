@@ -41,10 +41,28 @@ pub record IsPlain (s : State) : Type 0 where
 pub right_from : (s : State) (op : Op) (rest : List Event) → IsPlain s → AllFit (entries_of (beginning s op rest)) 14 s rest → Right s (beginning s op rest)
 right_from s op rest plain fits = record {
   sound = plain.sound;
-  fits = (did 0 (omega arith) refl (talk_mount 0 (omega arith)) (may_mount s (47 ∷ [])) (idle s), (came 1 (mount_call (47 ∷ [])) (omega arith) refl (talk_mount 0 (omega arith)), (
-  did 3 (omega arith) refl (talk_info 1 (omega arith)) (may_inform s) (idle s), (came 4 (info_call root) (omega arith) refl (talk_info 1 (omega arith)), (
-  did 8 (omega arith) refl (talk_lookup 2 (omega arith)) (may_look_up s plain.letter) (idle s), (came 9 the_lookup (omega arith) refl (talk_lookup 2 (omega arith)), (
-  did 11 (omega arith) refl its_attr (may_get_attr s) (idle s), (came 12 get_attr (omega arith) refl its_attr, fits))))))));
+  fits = (
+    did 0 (omega arith) refl (talk_mount 0 (omega arith)) (may_mount s (47 ∷ [])) (idle s),
+    (
+      came 1 (mount_call (47 ∷ [])) (omega arith) refl (talk_mount 0 (omega arith)),
+      (
+        did 3 (omega arith) refl (talk_info 1 (omega arith)) (may_inform s) (idle s),
+        (
+          came 4 (info_call root) (omega arith) refl (talk_info 1 (omega arith)),
+          (
+            did 8 (omega arith) refl (talk_lookup 2 (omega arith)) (may_look_up s plain.letter) (idle s),
+            (
+              came 9 the_lookup (omega arith) refl (talk_lookup 2 (omega arith)),
+              (
+                did 11 (omega arith) refl its_attr (may_get_attr s) (idle s),
+                (came 12 get_attr (omega arith) refl its_attr, fits),
+              ),
+            ),
+          ),
+        ),
+      ),
+    ),
+  );
 }
   where
     its_attr : Talk 3 get_attr (got_attr s)
@@ -59,7 +77,7 @@ abbrev pub opening : State → Mode → List Event → List Event
 opening s mode rest = beginning s (opened_by mode) (Answers 1 1 ok ∷ rest)
 
 -- where no close is, the slot goes on holding the file
-pub slot_holds : (m : Modes) (s : State) (mode : Mode) (rest : List Event) (n : ℕ) → all_are xid_fits (opening s mode rest) ≡ true → 14 < n → quiet (begins is_close) 0 n (entries_of (opening s mode rest)) ≡ true
+pub slot_holds : (m : Modes) (s : State) (mode : Mode) (rest : List Event) (n : ℕ) → all_are xid_fits (opening s mode rest) ≡ true → 14 < n → quiet (begins is_close) 0 n (opening s mode rest) ≡ true
     → InSlot m (entries_of (opening s mode rest)) n 1 1 7 the_file
 slot_holds m s mode rest n fits after open_still =
     holds m (opening s mode rest) n 1 1 7 14 mode the_path values.Nothing
@@ -68,7 +86,7 @@ slot_holds m s mode rest n fits after open_still =
     after open_still
 
 -- an operation on the slot is of the file
-pub is_of : (m : Modes) (s : State) (mode : Mode) (rest : List Event) (x line : ℕ) (op : Op) → all_are xid_fits (opening s mode rest) ≡ true → 14 < x → quiet (begins is_close) 0 x (entries_of (opening s mode rest)) ≡ true
+pub is_of : (m : Modes) (s : State) (mode : Mode) (rest : List Event) (x line : ℕ) (op : Op) → all_are xid_fits (opening s mode rest) ≡ true → 14 < x → quiet (begins is_close) 0 x (opening s mode rest) ≡ true
     → At (entries_of (opening s mode rest)) x (entries.Began 1 line op) → slot_of op ≡ Some 1 → IsOf m (entries_of (opening s mode rest)) x op the_file
 is_of m s mode rest x line op fits after open_still began works =
     record { lane = 1; line = line; slot = 1; open_at = 7; began = began; works_on = works; holds = slot_holds m s mode rest x fits after open_still }

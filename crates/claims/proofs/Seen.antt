@@ -1,5 +1,5 @@
 -- What a history that is made step by step shows: which answers, replies and slots it has.
-use Rattle.std.proofs.Common.{inl, inr, ◌≡◌, ◌≢◌, ◌<◌, ◌≤◌, ◌^◌, ◌==◌, ◌&&◌, ℕ, zero, suc, Bool, nat_lt, true, false, List, [], ◌∷◌, Some, Result, Ok, refl, sym, ap, subst, ◌∙◌, slice_get, get_or, arith, if◌then◌else◌}
+use Rattle.std.proofs.Common.{inl, inr, ◌≡◌, ◌≢◌, ◌<◌, ◌≤◌, ◌^◌, ◌==◌, ◌&&◌, ℕ, zero, suc, Bool, true, false, List, [], ◌∷◌, Some, Result, Ok, refl, sym, ap, subst, ◌∙◌, slice_get, get_or, arith, if◌then◌else◌}
 use Rattle.std.specs.Prelude.{⊤}
 use Rattle.std.proofs.lemmas.Bool.{cases_lt, eq-eqb}
 use Rattle.nfs_types.specs.declared.mode.Mode.{Mode}
@@ -10,7 +10,6 @@ use Rattle.rpc_message.proofs.CallLaws.{call_again}
 use Rattle.world_model.specs.declared.answer.Answer.{Answer}
 use Rattle.world_model.specs.declared.answer.Answer.TheVariants.{Done}
 use Rattle.world_model.specs.declared.answer.Value.{Value}
-use Rattle.world_model.specs.declared.entry.Entry.{Entry}
 use Rattle.world_model.specs.declared.entry.Entry.TheVariants as entries
 use Rattle.world_model.specs.declared.message.Call.{Call}
 use Rattle.world_model.specs.declared.message.Reply.{Reply}
@@ -27,57 +26,69 @@ use Rattle.claims.specs.Settled.{HoldsStable}
 use Rattle.claims.specs.Slots.{InSlot, asked}
 use Rattle.claims.specs.Touched.{Touched, foreign, written, cut, gone, given_up, write, fill, put, ChangesPlace}
 use Rattle.claims.proofs.SmallServer.{State, the_file, file, serve, get_attr, none_gone}
-use Rattle.claims.proofs.Made.{Event, Begins, Answers, Sends, Does, Comes, Others, Restarts, Fails, Looks, entry_of, entries_of, after, state_at, made, behind, all_are, all_at, xid_fits, one_xid, small_xid, reply_behind, reply_xid}
+use Rattle.claims.proofs.Made.{Event, Begins, Answers, Sends, Does, Comes, Others, Restarts, Fails, Looks, entry_of, entries_of, after, state_at, made, behind, all_are, all_at, xid_fits, one_xid, small_xid}
 use Rattle.claims.proofs.Written.{call_record, reply_record, call_under, reply_under}
 
--- ---- none such in a part of a list
+-- ---- no such event in a part of the list
 
--- Whether from one place up to another none is such.
-abbrev pub quiet : {A : Type 0} → (A → Bool) → ℕ → ℕ → List A → Bool
-quiet {A} p from zero xs = true
-quiet {A} p from (suc to) [] = true
-quiet {A} p zero (suc to) (x ∷ xs) = if p x then false else quiet p zero to xs
-quiet {A} p (suc from) (suc to) (x ∷ xs) = quiet p from to xs
+-- Whether from one place up to another no event is such.
+abbrev pub quiet : (Event → Bool) → ℕ → ℕ → List Event → Bool
+quiet p from zero es = true
+quiet p from (suc to) [] = true
+quiet p zero (suc to) (e ∷ es) = if p e then false else quiet p zero to es
+quiet p (suc from) (suc to) (e ∷ es) = quiet p from to es
 
 kept_quiet : (b c : Bool) → (if b then false else c) ≡ true → (b ≡ false) × (c ≡ true)
 kept_quiet true c e = absurd (cc e)
 kept_quiet false c e = (refl, e)
 
--- one that is such, at a place before `to`, is before `from`
-pub outside : {A : Type 0} (p : A → Bool) (from to : ℕ) (xs : List A) → quiet p from to xs ≡ true → (i : ℕ) (x : A) → slice_get xs i ≡ Some x → p x ≡ true → i < to → i < from
-outside {A} p from zero xs q i x at is lt = absurd (omega (arith, lt))
-outside {A} p from (suc to) [] q i x at is lt = absurd (cc at)
-outside {A} p zero (suc to) (y ∷ xs) q zero x at is lt =
-    let equal : y ≡ x = cc at in
-    let none : p x ≡ false = subst (λ (z : A). p z ≡ false) equal (kept_quiet (p y) (quiet p zero to xs) q).0 in
+-- such an event at a place before `to` is before `from`
+pub outside : (p : Event → Bool) (from to : ℕ) (es : List Event) → quiet p from to es ≡ true → (i : ℕ) (e : Event) → slice_get es i ≡ Some e → p e ≡ true → i < to → i < from
+outside p from zero es q i e at is lt = absurd (omega (arith, lt))
+outside p from (suc to) [] q i e at is lt = absurd (cc at)
+outside p zero (suc to) (x ∷ es) q zero e at is lt =
+    let same : x ≡ e = cc at in
+    let none : p e ≡ false = subst (λ (z : Event). p z ≡ false) same (kept_quiet (p x) (quiet p zero to es) q).0 in
     absurd (cc (sym none ∙ is))
-outside {A} p zero (suc to) (y ∷ xs) q (suc i) x at is lt =
-    let none = outside p zero to xs (kept_quiet (p y) (quiet p zero to xs) q).1 i x at is (omega (arith, lt)) in
+outside p zero (suc to) (x ∷ es) q (suc i) e at is lt =
+    let none = outside p zero to es (kept_quiet (p x) (quiet p zero to es) q).1 i e at is (omega (arith, lt)) in
     absurd (omega (arith, none))
-outside {A} p (suc from) (suc to) (y ∷ xs) q zero x at is lt = omega arith
-outside {A} p (suc from) (suc to) (y ∷ xs) q (suc i) x at is lt = let r = outside p from to xs q i x at is (omega (arith, lt)) in omega (arith, r)
+outside p (suc from) (suc to) (x ∷ es) q zero e at is lt = omega arith
+outside p (suc from) (suc to) (x ∷ es) q (suc i) e at is lt = let r = outside p from to es q i e at is (omega (arith, lt)) in omega (arith, r)
 
--- ---- kinds of entries
+-- ---- kinds of events
 
-abbrev pub is_answer : ℕ → ℕ → Entry → Bool
-is_answer lane line (entries.Answered l n answer) = (l == lane) && (n == line)
+abbrev pub is_answer : ℕ → ℕ → Event → Bool
+is_answer lane line (Answers l n answer) = (l == lane) && (n == line)
 is_answer lane line e = false
 
-abbrev pub is_coming : Entry → Bool
-is_coming (entries.Delivered bytes) = true
+abbrev pub is_sending : ℕ → Event → Bool
+is_sending x (Sends xid call) = xid == x
+is_sending x e = false
+
+abbrev pub is_coming : Event → Bool
+is_coming (Comes xid reply) = true
 is_coming e = false
 
-abbrev pub is_foreign : Entry → Bool
-is_foreign (entries.Foreign call reply) = true
+abbrev pub is_foreign : Event → Bool
+is_foreign (Others call reply t) = true
 is_foreign e = false
 
-abbrev pub is_sent : Entry → Bool
-is_sent (entries.Sent bytes) = true
+abbrev pub is_sent : Event → Bool
+is_sent (Sends xid call) = true
 is_sent e = false
 
+abbrev pub sends_proc : ℕ → Event → Bool
+sends_proc proc (Sends xid call) = proc_of call == proc
+sends_proc proc e = false
+
+abbrev pub comes_under : ℕ → Event → Bool
+comes_under x (Comes xid reply) = xid == x
+comes_under x e = false
+
 -- an operation that such a test takes begins
-abbrev pub begins : (Op → Bool) → Entry → Bool
-begins p (entries.Began lane line op) = p op
+abbrev pub begins : (Op → Bool) → Event → Bool
+begins p (Begins lane line op) = p op
 begins p e = false
 
 abbrev pub is_change : Op → Bool
@@ -91,47 +102,76 @@ abbrev pub is_close : Op → Bool
 is_close (ops.Close slot) = true
 is_close op = false
 
-itself : (lane line : ℕ) → (lane == lane) && (line == line) ≡ true
-itself lane line = rw (eq-eqb lane lane refl, eq-eqb line line refl) refl
+both_same : (a b c d : ℕ) → a ≡ c → b ≡ d → (a == c) && (b == d) ≡ true
+both_same a b c d x y = rw (eq-eqb a c x, eq-eqb b d y) refl
 
--- ---- events that send, or by which a record comes
+answer_is : (e : Event) (lane line : ℕ) (a : Answer) → entry_of e ≡ entries.Answered lane line a → is_answer lane line e ≡ true
+answer_is (Answers l n answer) lane line a is = both_same l n lane line (cc is) (cc is)
+answer_is (Begins l n op) lane line a is = absurd (cc is)
+answer_is (Sends xid call) lane line a is = absurd (cc is)
+answer_is (Does xid call reply t) lane line a is = absurd (cc is)
+answer_is (Comes xid reply) lane line a is = absurd (cc is)
+answer_is (Others call reply t) lane line a is = absurd (cc is)
+answer_is (Restarts t) lane line a is = absurd (cc is)
+answer_is Fails lane line a is = absurd (cc is)
+answer_is (Looks ms) lane line a is = absurd (cc is)
 
-abbrev pub is_sending : ℕ → Event → Bool
-is_sending x (Sends xid call) = xid == x
-is_sending x e = false
+begins_is : (e : Event) (p : Op → Bool) (lane line : ℕ) (op : Op) → entry_of e ≡ entries.Began lane line op → p op ≡ true → begins p e ≡ true
+begins_is (Begins l n op_) p lane line op is such = let same : op_ ≡ op = cc is in subst (λ (z : Op). p z ≡ true) (sym same) such
+begins_is (Answers l n answer) p lane line op is such = absurd (cc is)
+begins_is (Sends xid call) p lane line op is such = absurd (cc is)
+begins_is (Does xid call reply t) p lane line op is such = absurd (cc is)
+begins_is (Comes xid reply) p lane line op is such = absurd (cc is)
+begins_is (Others call reply t) p lane line op is such = absurd (cc is)
+begins_is (Restarts t) p lane line op is such = absurd (cc is)
+begins_is Fails p lane line op is such = absurd (cc is)
+begins_is (Looks ms) p lane line op is such = absurd (cc is)
 
-abbrev pub sends_proc : ℕ → Event → Bool
-sends_proc proc (Sends xid call) = proc_of call == proc
-sends_proc proc e = false
+coming_is : (e : Event) (b : List ℕ) → entry_of e ≡ entries.Delivered b → is_coming e ≡ true
+coming_is (Comes xid reply) b is = refl
+coming_is (Begins l n op) b is = absurd (cc is)
+coming_is (Answers l n answer) b is = absurd (cc is)
+coming_is (Sends xid call) b is = absurd (cc is)
+coming_is (Does xid call reply t) b is = absurd (cc is)
+coming_is (Others call reply t) b is = absurd (cc is)
+coming_is (Restarts t) b is = absurd (cc is)
+coming_is Fails b is = absurd (cc is)
+coming_is (Looks ms) b is = absurd (cc is)
 
-abbrev pub comes_under : ℕ → Event → Bool
-comes_under x (Comes xid reply) = xid == x
-comes_under x e = false
-
--- the event behind a record that was sent
-record CallBehind (e : Event) (bytes : List ℕ) : Type 0 where
-  xid : ℕ
-  call : Call
-  is : e ≡ Sends xid call
-  spelled : call_record xid call ≡ bytes
-
-call_behind : (e : Event) (bytes : List ℕ) → entry_of e ≡ entries.Sent bytes → CallBehind e bytes
-call_behind (Sends xid call) bytes is = record { xid = xid; call = call; is = refl; spelled = cc is }
-call_behind (Begins l n op) bytes is = absurd (cc is)
-call_behind (Answers l n answer) bytes is = absurd (cc is)
-call_behind (Does xid call reply t) bytes is = absurd (cc is)
-call_behind (Comes xid reply) bytes is = absurd (cc is)
-call_behind (Others call reply t) bytes is = absurd (cc is)
-call_behind (Restarts t) bytes is = absurd (cc is)
-call_behind Fails bytes is = absurd (cc is)
-call_behind (Looks ms) bytes is = absurd (cc is)
+foreign_is : (e : Event) (call : Call) (reply : Reply) → entry_of e ≡ entries.Foreign call reply → is_foreign e ≡ true
+foreign_is (Others call_ reply_ t) call reply is = refl
+foreign_is (Begins l n op) call reply is = absurd (cc is)
+foreign_is (Answers l n answer) call reply is = absurd (cc is)
+foreign_is (Sends xid call_) call reply is = absurd (cc is)
+foreign_is (Does xid call_ reply_ t) call reply is = absurd (cc is)
+foreign_is (Comes xid reply_) call reply is = absurd (cc is)
+foreign_is (Restarts t) call reply is = absurd (cc is)
+foreign_is Fails call reply is = absurd (cc is)
+foreign_is (Looks ms) call reply is = absurd (cc is)
 
 sending_is : (e : Event) (b : List ℕ) (x : ℕ) → xid_fits e ≡ true → entry_of e ≡ entries.Sent b → HasXid b x → is_sending x e ≡ true
-sending_is e b x fits is under =
-    let c = call_behind e b is in
-    let small : nat_lt c.xid 256 ≡ true = subst (λ (z : Event). xid_fits z ≡ true) c.is fits in
-    let equal = one_xid (call_record c.xid c.call) c.xid x (call_under c.xid c.call (small_xid c.xid small)) (subst (λ (z : List ℕ). HasXid z x) (sym c.spelled) under) in
-    subst (λ (z : Event). is_sending x z ≡ true) (sym c.is) (eq-eqb c.xid x equal)
+sending_is (Sends xid call) b x fits is under =
+    let same : call_record xid call ≡ b = cc is in
+    eq-eqb xid x (one_xid (call_record xid call) xid x (call_under xid call (small_xid xid fits)) (subst (λ (z : List ℕ). HasXid z x) (sym same) under))
+sending_is (Begins l n op) b x fits is under = absurd (cc is)
+sending_is (Answers l n answer) b x fits is under = absurd (cc is)
+sending_is (Does xid call reply t) b x fits is under = absurd (cc is)
+sending_is (Comes xid reply) b x fits is under = absurd (cc is)
+sending_is (Others call reply t) b x fits is under = absurd (cc is)
+sending_is (Restarts t) b x fits is under = absurd (cc is)
+sending_is Fails b x fits is under = absurd (cc is)
+sending_is (Looks ms) b x fits is under = absurd (cc is)
+
+sent_is : (e : Event) (b : List ℕ) → entry_of e ≡ entries.Sent b → is_sent e ≡ true
+sent_is (Sends xid call) b is = refl
+sent_is (Begins l n op) b is = absurd (cc is)
+sent_is (Answers l n answer) b is = absurd (cc is)
+sent_is (Does xid call reply t) b is = absurd (cc is)
+sent_is (Comes xid reply) b is = absurd (cc is)
+sent_is (Others call reply t) b is = absurd (cc is)
+sent_is (Restarts t) b is = absurd (cc is)
+sent_is Fails b is = absurd (cc is)
+sent_is (Looks ms) b is = absurd (cc is)
 
 abbrev read_as : CallHead × List ℕ → Result (CallHead × List ℕ) CallFault
 read_as head = Ok head
@@ -140,7 +180,8 @@ read_is : (a b : CallHead × List ℕ) → read_as a ≡ read_as b → a ≡ b
 read_is a b e = cc
 
 same_head : (r : Result (CallHead × List ℕ) CallFault) (a b : CallHead × List ℕ) → r ≡ Ok a → r ≡ Ok b → a.0.proc ≡ b.0.proc
-same_head r a b p q = ap (λ (z : CallHead × List ℕ). z.0.proc) (read_is a b (sym p ∙ q))
+same_head r a b p q =
+    ap (λ (z : CallHead × List ℕ). z.0.proc) (read_is a b (sym p ∙ q))
 
 -- two calls that one record spells are of one procedure
 same_proc : (x y : ℕ) (call other : Call) (bytes : List ℕ) → SpellsCall x call bytes → SpellsCall y other bytes → proc_of call ≡ proc_of other
@@ -161,39 +202,60 @@ spells_at (x ∷ es) all zero e at = let is : x ≡ e = cc at in subst SpellsOne
 spells_at (x ∷ es) all (suc i) e at = spells_at es all.1 i e at
 
 proc_is : (e : Event) (b : List ℕ) (x : ℕ) (call : Call) → SpellsOne e → entry_of e ≡ entries.Sent b → SpellsCall x call b → sends_proc (proc_of call) e ≡ true
-proc_is e b x call one is spells =
-    let c = call_behind e b is in
-    let spelled : SpellsCall c.xid c.call (call_record c.xid c.call) = subst SpellsOne c.is one in
-    subst (λ (z : Event). sends_proc (proc_of call) z ≡ true) (sym c.is)
-    (eq-eqb (proc_of c.call) (proc_of call) (same_proc c.xid x c.call call b (subst (λ (z : List ℕ). SpellsCall c.xid c.call z) c.spelled spelled) spells))
+proc_is (Sends xid c) b x call all is spells =
+    let same_record : call_record xid c ≡ b = cc is in
+    eq-eqb (proc_of c) (proc_of call) (same_proc xid x c call b (subst (λ (z : List ℕ). SpellsCall xid c z) same_record all) spells)
+proc_is (Begins l n op) b x call all is spells = absurd (cc is)
+proc_is (Answers l n answer) b x call all is spells = absurd (cc is)
+proc_is (Does xid c reply t) b x call all is spells = absurd (cc is)
+proc_is (Comes xid reply) b x call all is spells = absurd (cc is)
+proc_is (Others c reply t) b x call all is spells = absurd (cc is)
+proc_is (Restarts t) b x call all is spells = absurd (cc is)
+proc_is Fails b x call all is spells = absurd (cc is)
+proc_is (Looks ms) b x call all is spells = absurd (cc is)
 
 under_is : (e : Event) (b : List ℕ) (x : ℕ) → xid_fits e ≡ true → entry_of e ≡ entries.Delivered b → HasXid b x → comes_under x e ≡ true
-under_is e b x fits is under =
-    let r = reply_behind e b is in
-    subst (λ (z : Event). comes_under x z ≡ true) (sym r.is) (eq-eqb r.xid x (reply_xid e b x fits r under))
+under_is (Comes xid reply) b x fits is under =
+    let same_record : reply_record xid reply ≡ b = cc is in
+    eq-eqb xid x (one_xid (reply_record xid reply) xid x (reply_under xid reply (small_xid xid fits)) (subst (λ (z : List ℕ). HasXid z x) (sym same_record) under))
+under_is (Begins l n op) b x fits is under = absurd (cc is)
+under_is (Answers l n answer) b x fits is under = absurd (cc is)
+under_is (Sends xid call) b x fits is under = absurd (cc is)
+under_is (Does xid call reply t) b x fits is under = absurd (cc is)
+under_is (Others call reply t) b x fits is under = absurd (cc is)
+under_is (Restarts t) b x fits is under = absurd (cc is)
+under_is Fails b x fits is under = absurd (cc is)
+under_is (Looks ms) b x fits is under = absurd (cc is)
 
 -- ---- operations and their answers
 
 pub ended : (es : List Event) (lane line x y : ℕ) (op : Op) (answer : Answer) → At (entries_of es) x (entries.Began lane line op) → At (entries_of es) y (entries.Answered lane line answer) → x < y
-    → quiet (is_answer lane line) (suc x) y (entries_of es) ≡ true → Ended (entries_of es) lane x op y answer
+    → quiet (is_answer lane line) (suc x) y es ≡ true → Ended (entries_of es) lane x op y answer
 ended es lane line x y op answer began answered later q = record { line = line; began = began; answered = answered; later = later; first = first }
   where
     first : (j : ℕ) (a : Answer) → At (entries_of es) j (entries.Answered lane line a) → x < j → y ≤ j
     first j a at after =
+        let b = behind es j (entries.Answered lane line a) at in
         elim (cases_lt j y) [
-          | inl lt ↦ (let low = outside (is_answer lane line) (suc x) y (entries_of es) q j (entries.Answered lane line a) at (itself lane line) lt in absurd (omega (arith, low, after)))
+          | inl lt ↦ (let low = outside (is_answer lane line) (suc x) y es q j b.event b.at (answer_is b.event lane line a b.is) lt in absurd (omega (arith, low, after)))
           | inr le ↦ le
         ]
 
 -- no such operation begins from one place up to another
-pub begins_outside : (es : List Event) (p : Op → Bool) (from to : ℕ) → quiet (begins p) from to (entries_of es) ≡ true → (x lane line : ℕ) (op : Op) → At (entries_of es) x (entries.Began lane line op) → p op ≡ true → x < to → x < from
-begins_outside es p from to q x lane line op at such lt = outside (begins p) from to (entries_of es) q x (entries.Began lane line op) at such lt
+pub begins_outside : (es : List Event) (p : Op → Bool) (from to : ℕ) → quiet (begins p) from to es ≡ true → (x lane line : ℕ) (op : Op) → At (entries_of es) x (entries.Began lane line op) → p op ≡ true → x < to → x < from
+begins_outside es p from to q x lane line op at such lt =
+    let b = behind es x (entries.Began lane line op) at in
+    outside (begins p) from to es q x b.event b.at (begins_is b.event p lane line op b.is such) lt
 
-pub none_foreign : (es : List Event) (from to : ℕ) → quiet is_foreign from to (entries_of es) ≡ true → (n : ℕ) (call : Call) (reply : Reply) → At (entries_of es) n (entries.Foreign call reply) → n < to → n < from
-none_foreign es from to q n call reply at lt = outside is_foreign from to (entries_of es) q n (entries.Foreign call reply) at refl lt
+pub none_foreign : (es : List Event) (from to : ℕ) → quiet is_foreign from to es ≡ true → (n : ℕ) (call : Call) (reply : Reply) → At (entries_of es) n (entries.Foreign call reply) → n < to → n < from
+none_foreign es from to q n call reply at lt =
+    let b = behind es n (entries.Foreign call reply) at in
+    outside is_foreign from to es q n b.event b.at (foreign_is b.event call reply b.is) lt
 
-pub none_sent : (es : List Event) (from to : ℕ) → quiet is_sent from to (entries_of es) ≡ true → (n : ℕ) (b : List ℕ) → At (entries_of es) n (entries.Sent b) → n < to → n < from
-none_sent es from to q n b at lt = outside is_sent from to (entries_of es) q n (entries.Sent b) at refl lt
+pub none_sent : (es : List Event) (from to : ℕ) → quiet is_sent from to es ≡ true → (n : ℕ) (b : List ℕ) → At (entries_of es) n (entries.Sent b) → n < to → n < from
+none_sent es from to q n b at lt =
+    let r = behind es n (entries.Sent b) at in
+    outside is_sent from to es q n r.event r.at (sent_is r.event b r.is) lt
 
 -- no call of this procedure is sent
 pub no_proc_sent : (es : List Event) (from to x : ℕ) (call : Call) → SpellsAll es → quiet (sends_proc (proc_of call)) from to es ≡ true → (n : ℕ) (b : List ℕ) → At (entries_of es) n (entries.Sent b) → SpellsCall x call b → n < to → n < from
@@ -207,8 +269,10 @@ none_under es from to x fits q n b at under lt =
     let r = behind es n (entries.Delivered b) at in
     outside (comes_under x) from to es q n r.event r.at (under_is r.event b x (all_at xid_fits es fits n r.event r.at) r.is under) lt
 
-pub none_comes : (es : List Event) (from to : ℕ) → quiet is_coming from to (entries_of es) ≡ true → (n : ℕ) (b : List ℕ) → At (entries_of es) n (entries.Delivered b) → n < to → n < from
-none_comes es from to q n b at lt = outside is_coming from to (entries_of es) q n (entries.Delivered b) at refl lt
+pub none_comes : (es : List Event) (from to : ℕ) → quiet is_coming from to es ≡ true → (n : ℕ) (b : List ℕ) → At (entries_of es) n (entries.Delivered b) → n < to → n < from
+none_comes es from to q n b at lt =
+    let r = behind es n (entries.Delivered b) at in
+    outside is_coming from to es q n r.event r.at (coming_is r.event b r.is) lt
 
 pub first_sent : (es : List Event) (i xid : ℕ) (call : Call) → all_are xid_fits es ≡ true → At (entries_of es) i (entries.Sent (call_record xid call)) → xid < 2 ^ 32 → quiet (is_sending xid) 0 i es ≡ true
     → FirstSent (entries_of es) i xid (call_record xid call)
@@ -224,7 +288,7 @@ first_sent es i xid call fits at small q = record { sent = at; under = call_unde
 
 -- The last reply before the place n is that which came at the place `at`, to the call that was sent at the place `sent`.
 pub last_reply : (es : List Event) (n at sent xid : ℕ) (call : Call) (reply : Reply) → all_are xid_fits es ≡ true → At (entries_of es) sent (entries.Sent (call_record xid call))
-    → At (entries_of es) at (entries.Delivered (reply_record xid reply)) → xid < 2 ^ 32 → sent < at → at < n → quiet (is_sending xid) 0 sent es ≡ true → quiet is_coming (suc at) n (entries_of es) ≡ true
+    → At (entries_of es) at (entries.Delivered (reply_record xid reply)) → xid < 2 ^ 32 → sent < at → at < n → quiet (is_sending xid) 0 sent es ≡ true → quiet is_coming (suc at) n es ≡ true
     → SpellsCall xid call (call_record xid call) → LastReply (entries_of es) n call
 last_reply es n at sent xid call reply fits was_sent came small asked_ before first q spells = record {
   at = at;
@@ -243,7 +307,7 @@ last_reply es n at sent xid call reply fits was_sent came small asked_ before fi
 
 -- ---- slots
 
-no_closes : (es : List Event) (to : ℕ) → quiet (begins is_close) 0 to (entries_of es) ≡ true → (lane c slot k : ℕ) (answer : Answer) → Ended (entries_of es) lane c (ops.Close slot) k answer → k < to → ⊥
+no_closes : (es : List Event) (to : ℕ) → quiet (begins is_close) 0 to es ≡ true → (lane c slot k : ℕ) (answer : Answer) → Ended (entries_of es) lane c (ops.Close slot) k answer → k < to → ⊥
 no_closes es to q lane c slot k answer e lt =
     let later = e.later in
     let low = begins_outside es is_close 0 to q c lane e.line (ops.Close slot) e.began refl (omega (arith, later, lt)) in
@@ -251,7 +315,7 @@ no_closes es to q lane c slot k answer e lt =
 
 -- The slot holds what an open found that was answered at the place y, where none was closed.
 pub holds : (m : Modes) (es : List Event) (n lane slot x y : ℕ) (mode : Mode) (path : List (List ℕ)) (value : Value) → Ended (entries_of es) lane x (ops.OpenFile slot mode path) y (Done value)
-    → LastReply (entries_of es) y get_attr → y < n → quiet (begins is_close) 0 n (entries_of es) ≡ true → InSlot m (entries_of es) n lane slot x the_file
+    → LastReply (entries_of es) y get_attr → y < n → quiet (begins is_close) 0 n es ≡ true → InSlot m (entries_of es) n lane slot x the_file
 holds m es n lane slot x y mode path value e last before q = record {
   y = y;
   opens = record { mode = mode; path = path; value = value; ended = e; finds = asked last };
@@ -285,7 +349,7 @@ sooner es w p q i le a = record {
 }
 
 -- there is one change, and none of another client
-pub only_change : (es : List Event) (w p i : ℕ) → quiet (begins is_change) 0 w (entries_of es) ≡ true → quiet (begins is_change) (suc w) p (entries_of es) ≡ true → quiet is_foreign (suc w) p (entries_of es) ≡ true → quiet (begins is_close) 0 p (entries_of es) ≡ true
+pub only_change : (es : List Event) (w p i : ℕ) → quiet (begins is_change) 0 w es ≡ true → quiet (begins is_change) (suc w) p es ≡ true → quiet is_foreign (suc w) p es ≡ true → quiet (begins is_close) 0 p es ≡ true
     → Alone es w p i
 only_change es w p i earlier later foreign_ close = record {
   others = λ x lane line op at such other before. elim (cases_lt x w) [
@@ -297,8 +361,8 @@ only_change es w p i earlier later foreign_ close = record {
 }
 
 -- there are two, of which the one at the place x was answered before the other began
-pub second_change : (es : List Event) (x w p i : ℕ) → AnsweredBefore (entries_of es) x w → quiet (begins is_change) 0 x (entries_of es) ≡ true → quiet (begins is_change) (suc x) w (entries_of es) ≡ true → quiet (begins is_change) (suc w) p (entries_of es) ≡ true
-    → quiet is_foreign (suc w) p (entries_of es) ≡ true → quiet (begins is_close) 0 p (entries_of es) ≡ true → Alone es w p i
+pub second_change : (es : List Event) (x w p i : ℕ) → AnsweredBefore (entries_of es) x w → quiet (begins is_change) 0 x es ≡ true → quiet (begins is_change) (suc x) w es ≡ true → quiet (begins is_change) (suc w) p es ≡ true
+    → quiet is_foreign (suc w) p es ≡ true → quiet (begins is_close) 0 p es ≡ true → Alone es w p i
 second_change es x w p i answered_ earlier between later foreign_ close = record {
   others = λ y lane line op at such other before. elim (cases_lt y w) [
     | inl lt ↦ (
@@ -322,8 +386,8 @@ foreign_call : (call other : Call) (a b : Reply) → Some (entries.Foreign call 
 foreign_call call other a b e = (cc, cc)
 
 -- there is one change, and one of another client, at the place `at`, which spares the place i
-pub spared_change : (es : List Event) (w p i at : ℕ) (call : Call) (reply : Reply) → quiet (begins is_change) 0 w (entries_of es) ≡ true → quiet (begins is_change) (suc w) p (entries_of es) ≡ true → quiet is_foreign (suc w) at (entries_of es) ≡ true
-    → quiet is_foreign (suc at) p (entries_of es) ≡ true → At (entries_of es) at (entries.Foreign call reply) → ((t : Server) → ChangesPlace t the_file i call reply → ⊥) → quiet (begins is_close) 0 p (entries_of es) ≡ true
+pub spared_change : (es : List Event) (w p i at : ℕ) (call : Call) (reply : Reply) → quiet (begins is_change) 0 w es ≡ true → quiet (begins is_change) (suc w) p es ≡ true → quiet is_foreign (suc w) at es ≡ true
+    → quiet is_foreign (suc at) p es ≡ true → At (entries_of es) at (entries.Foreign call reply) → ((t : Server) → ChangesPlace t the_file i call reply → ⊥) → quiet (begins is_close) 0 p es ≡ true
     → Alone es w p i
 spared_change es w p i at call reply earlier later before_it after_it there spares close = record {
   others = λ x lane line op is such other before. elim (cases_lt x w) [
