@@ -19,7 +19,7 @@ use Rattle.world_model.specs.Mounts.{Origin}
 use Rattle.world_model.specs.Operations.{AnsweredBefore, Ended, LastReply}
 use Rattle.world_model.specs.Server.{Server, Object, Bytes}
 use Rattle.claims.specs.Settled.{Settled, itself}
-use Rattle.claims.specs.Slots.{PutsTo, commits}
+use Rattle.claims.specs.Slots.{IsOf, PutsTo, commits}
 use Rattle.claims.specs.Touched.{Touched, foreign, written, cut, gone, given_up, write, fill, put, Covers}
 use Rattle.world_model.proofs.ServiceExamples.{file, server, wrote}
 use Rattle.claims.proofs.WrongBodies.{ok, path}

@@ -1,6 +1,6 @@
 -- A history of a client that goes on reading what its own truncate cut, over an honest server: lawful, once and fresh; and the
 -- law of reads refuses it.
-use Rattle.std.proofs.Common.{◌≡◌, ◌≤◌, true, List, [], ◌∷◌, length, None, refl, arith}
+use Rattle.std.proofs.Common.{inl, inr, ◌≡◌, ◌<◌, ◌≤◌, ◌^◌, ℕ, zero, suc, true, false, List, [], ◌∷◌, length, Some, None, refl, slice_get, arith}
 use Rattle.xdr_codec.specs.Spelling.{u32_bytes, flag_bytes}
 use Rattle.nfs_types.specs.declared.mode.Mode.TheVariants as modes
 use Rattle.nfs_types.specs.declared.set_attr.SetTime.TheVariants.{Keep}
@@ -49,15 +49,15 @@ no_bytes = record one_byte { now = []; stable = []; changed = 2 }
 
 may_cut : Serves (serve one_byte) the_cut was_cut (serve no_bytes)
 may_cut = done (
-  record {
-    object = file one_byte;
-    later = Bytes [] [];
-    sized = refl;
-    turns = record { has = record { is = refl; there = refl }; new = file no_bytes; is = refl; becomes = record { holds = refl; gone = refl; kind = refl; fileid = refl } };
-    only = record { verf = refl; others = other_places one_byte no_bytes refl };
-  },
-  record { before = tt; after = tt },
-)
+    record {
+      object = file one_byte;
+      later = Bytes [] [];
+      sized = refl;
+      turns = record { has = record { is = refl; there = refl }; new = file no_bytes; is = refl; becomes = record { holds = refl; gone = refl; kind = refl; fileid = refl } };
+      only = record { verf = refl; others = other_places one_byte no_bytes refl };
+    },
+    record { before = tt; after = tt },
+  )
 
 cut_long : length (results_of was_cut) ≤ 1000
 unfolding file_reply_bytes wcc_bytes opt_stamp_bytes opt_attr_bytes flag_bytes u32_bytes
@@ -91,18 +91,10 @@ keeps_cut = opening one_byte modes.RW long_rest
 
 keeps_cut_right : Right one_byte keeps_cut
 keeps_cut_right = right_from one_byte (opened_by modes.RW) (Answers 1 1 ok ∷ long_rest) one_is_plain (
-  did 17 (omega arith) refl (read_talk 4 (omega arith)) (may_read one_byte 0 1 true refl (λ e. omega arith)) (idle one_byte),
-  (
-    came 18 (read_of 0) (omega arith) refl (read_talk 4 (omega arith)),
-    (
-      did 23 (omega arith) refl cut_talk may_cut (newer refl (omega arith) refl refl (omega arith)),
-      (
-        came 24 the_cut (omega arith) refl cut_talk,
-        tt,
-      ),
-    ),
-  ),
-)
+    did 17 (omega arith) refl (read_talk 4 (omega arith)) (may_read one_byte 0 1 true refl (λ e. omega arith)) (idle one_byte), (
+    came 18 (read_of 0) (omega arith) refl (read_talk 4 (omega arith)), (
+    did 23 (omega arith) refl cut_talk may_cut (newer refl (omega arith) refl refl (omega arith)), (
+    came 24 the_cut (omega arith) refl cut_talk, tt))))
 
 keeps_cut_is_lawful : Lawful (made one_byte keeps_cut)
 keeps_cut_is_lawful = lawful one_byte keeps_cut keeps_cut_right
@@ -116,7 +108,7 @@ keeps_cut_is_once = once keeps_cut refl refl
 may_not_keep_cut : (m : Modes) (origin : Origin) → ReadCut m origin (made one_byte keeps_cut) → ⊥
 may_not_keep_cut m origin reads =
     let none : 1 ≡ 0 = reads 28 29 7 the_file 0 1 (1 ∷ []) the_read_is 22 26 0 0 1 the_truncate (omega arith) (omega arith) refl
-    (untouched m origin one_byte keeps_cut 22 29 0 (only_change keeps_cut 22 29 0 refl refl refl refl)) in
+        (untouched m origin one_byte keeps_cut 22 29 0 (only_change keeps_cut 22 29 0 refl refl refl refl)) in
     absurd (cc none)
   where
     the_read_is : ReadsBytes m (entries_of keeps_cut) 28 29 7 the_file 0 1 (1 ∷ [])

@@ -1,5 +1,5 @@
 -- Histories that are made step by step over the small server, and when they are lawful, once and fresh.
-use Rattle.std.proofs.Common.{inl, inr, ◌⊎◌, ◌≡◌, ◌≢◌, ◌<◌, ◌≤◌, ◌+◌, ◌^◌, ◌==◌, ℕ, zero, suc, Bool, true, false, nat_lt, List, [], ◌∷◌, length, Option, Some, refl, sym, ap, subst, ◌∙◌, slice_get, arith, if◌then◌else◌}
+use Rattle.std.proofs.Common.{inl, inr, ◌⊎◌, ◌≡◌, ◌≢◌, ◌<◌, ◌≤◌, ◌+◌, ◌^◌, ◌==◌, ℕ, zero, suc, Bool, true, false, nat_lt, List, [], ◌∷◌, length, Option, Some, None, refl, sym, ap, subst, ◌∙◌, slice_get, arith, if◌then◌else◌}
 use Rattle.std.specs.Prelude.{⊤}
 use Rattle.std.proofs.lemmas.Bool.{cases_lt, ltb-true, eq-eqb}
 use Rattle.nfs_types.specs.declared.wcc.Stamp.{Stamp}
@@ -16,12 +16,14 @@ use Rattle.world_model.specs.Fresh as changes
 use Rattle.world_model.specs.Fresh.{Differs, Fresh}
 use Rattle.world_model.specs.History.{History}
 use Rattle.world_model.specs.Lawful.{WasSent, IsLeft, IsSteady, same, lost, replied, LawfulAt, Lawful}
-use Rattle.world_model.specs.Messages.{HasXid}
+use Rattle.world_model.specs.Messages.{HasXid, SpellsCall, SpellsReply}
 use Rattle.world_model.specs.Once.{Once}
-use Rattle.world_model.specs.Server.{Listed, Bytes, Entries, Object}
+use Rattle.world_model.specs.Rules.{most_bytes}
+use Rattle.world_model.specs.Server.{Listed, Bytes, Entries, Object, Server, IsServer}
 use Rattle.world_model.specs.Service.{Serves}
+use Rattle.world_model.specs.Steps.{Same}
 use Rattle.claims.proofs.SmallServer.{State, directory, file, place, serve, verf, stays, one_of, is_server, IsOne}
-use Rattle.claims.proofs.Written.{call_record, reply_record, reply_under, Talk}
+use Rattle.claims.proofs.Written.{call_record, reply_record, call_under, reply_under, Talk}
 
 -- One step: of the client, as the entry; of the server, with what it holds afterwards.
 pub data Event : Type 0 where

@@ -1,25 +1,28 @@
 -- A history of a client that goes by a name a minute after it was looked up, over an honest server: lawful, once and fresh; and
 -- the law of names and attributes refuses it (nfs(5), acdirmax).
-use Rattle.std.proofs.Common.{inl, inr, ◌⊎◌, ◌≡◌, ◌<◌, ◌≤◌, ◌++◌, ◌==◌, ℕ, zero, suc, Bool, true, false, nat_lt, List, [], ◌∷◌, Option, Some, refl, sym, ap, subst, ◌∙◌, slice_get, arith}
+use Rattle.std.proofs.Common.{inl, inr, ◌⊎◌, ◌≡◌, ◌≢◌, ◌<◌, ◌≤◌, ◌+◌, ◌++◌, ◌==◌, ℕ, zero, suc, Bool, true, false, nat_lt, List, [], ◌∷◌, length, Option, Some, None, refl, sym, ap, subst, ◌∙◌, slice_get, arith}
 use Rattle.std.proofs.lemmas.Bool.{cases_lt, eqb-true, lt-ltb}
 use Rattle.nfs_dir_calls.specs.declared.call.DirCall.TheVariants as dirs
 use Rattle.nfs_dir_calls.specs.declared.keeping.DirKept.TheVariants as found
 use Rattle.world_model.specs.declared.answer.Answer.{Answer}
 use Rattle.world_model.specs.declared.answer.Answer.TheVariants.{Done}
 use Rattle.world_model.specs.declared.answer.Value.TheVariants as values
+use Rattle.world_model.specs.declared.entry.Entry.{Entry}
 use Rattle.world_model.specs.declared.entry.Entry.TheVariants as entries
 use Rattle.world_model.specs.declared.message.Call.{Call}
 use Rattle.world_model.specs.declared.message.Call.TheVariants as calls
 use Rattle.world_model.specs.declared.message.Reply.{Reply}
 use Rattle.world_model.specs.declared.message.Reply.TheVariants as replies
+use Rattle.world_model.specs.declared.op.Op.{Op}
 use Rattle.world_model.specs.declared.op.Op.TheVariants as ops
+use Rattle.world_model.specs.Entries.{At}
 use Rattle.world_model.specs.Fresh.{Fresh}
 use Rattle.world_model.specs.Lawful.{Lawful}
-use Rattle.world_model.specs.Mounts.{Given, info_call}
-use Rattle.world_model.specs.Names.{Lacks, absent}
-use Rattle.world_model.specs.NameService.{within}
+use Rattle.world_model.specs.Mounts.{Origin, Given, info_call}
+use Rattle.world_model.specs.Names.{Lacks, Clears, left, absent}
+use Rattle.world_model.specs.NameService.{Moves, within, across, Replaced}
 use Rattle.world_model.specs.Once.{Once}
-use Rattle.world_model.specs.Server.{Listed, Bytes, Entries, Object, Lists, Names}
+use Rattle.world_model.specs.Server.{Listed, Bytes, Entries, Object, Server, Lists, Names}
 use Rattle.world_model.specs.Service.{Serves, done}
 use Rattle.claims.specs.Modes.{usual_modes}
 use Rattle.claims.specs.Recent.{Recent, during, kept, Walked, step, AttrAge}
@@ -27,7 +30,7 @@ use Rattle.claims.specs.Recent as walks
 use Rattle.claims.proofs.SmallServer.{State, empty_server, root, the_file, file_attr, directory, file, place, serve, info_reply, the_lookup, the_found, get_attr, got_attr, no_wcc, may_inform, may_look_up, may_get_attr}
 use Rattle.claims.proofs.Written.{Talk, talk_info, talk_lookup, talk_attr}
 use Rattle.claims.proofs.Made.{Event, Begins, Answers, Sends, Does, Comes, Others, Looks, entry_of, entries_of, state_at, made, Right, idle, did, came, behind, lawful, fresh, once}
-use Rattle.claims.proofs.Seen.{outside, each_at, ended}
+use Rattle.claims.proofs.Seen.{quiet, outside, each, each_at, ended}
 use Rattle.claims.proofs.Opened.{the_path}
 
 -- ---- another client gives the file another name
@@ -64,29 +67,25 @@ others_stay (zero ∷ c ∷ h) other = refl
 others_stay (suc b ∷ h) other = refl
 
 may_rename : Serves (serve empty_server) the_rename was_renamed (serve renamed)
-may_rename = done (
-  inl (record {
-    object = the_file;
-    target = entry_named 97 ∷ [];
-    moves = within [] [] (entry_named 98 ∷ []) refl
-        (record { before = []; after = []; cookie = 1; was = refl; is = refl })
-        (absent (none_listed (98 ∷ [])) refl)
-        (record { before = []; after = []; cookie = 1; was = refl; is = refl; fresh = none_listed (98 ∷ []) })
-        (record {
-          dir = directory empty_server;
-          held = refl;
-          turns = record { has = record { is = refl; there = refl }; new = directory renamed; is = refl; becomes = record { holds = refl; gone = refl; kind = refl; fileid = refl } };
-        });
-    moved = file empty_server;
-    later = Bytes [] [];
-    holds = refl;
-    turns = record { has = record { is = refl; there = refl }; new = file renamed; is = refl; becomes = record { holds = refl; gone = refl; kind = refl; fileid = refl } };
-    replaced = λ h other e listed named object_is. absurd (other_letter 97 98 e.name (omega arith) (only_listed 97 e listed) named);
-    only = record { verf = refl; others = others_stay };
-  }),
-  record { before = tt; after = tt },
-  record { before = tt; after = tt },
-)
+may_rename = done (inl (record {
+  object = the_file;
+  target = entry_named 97 ∷ [];
+  moves = within [] [] (entry_named 98 ∷ []) refl
+      (record { before = []; after = []; cookie = 1; was = refl; is = refl })
+      (absent (none_listed (98 ∷ [])) refl)
+      (record { before = []; after = []; cookie = 1; was = refl; is = refl; fresh = none_listed (98 ∷ []) })
+      (record {
+        dir = directory empty_server;
+        held = refl;
+        turns = record { has = record { is = refl; there = refl }; new = directory renamed; is = refl; becomes = record { holds = refl; gone = refl; kind = refl; fileid = refl } };
+      });
+  moved = file empty_server;
+  later = Bytes [] [];
+  holds = refl;
+  turns = record { has = record { is = refl; there = refl }; new = file renamed; is = refl; becomes = record { holds = refl; gone = refl; kind = refl; fileid = refl } };
+  replaced = λ h other e listed named object_is. absurd (other_letter 97 98 e.name (omega arith) (only_listed 97 e listed) named);
+  only = record { verf = refl; others = others_stay };
+}), record { before = tt; after = tt }, record { before = tt; after = tt })
 
 -- ---- the history
 
@@ -110,28 +109,10 @@ its_attr = talk_attr 3 empty_server (omega arith) (omega arith) (omega arith)
 walks_right : Right empty_server walks_by_old_name
 walks_right = record {
   sound = omega arith;
-  fits = (
-    did 0 (omega arith) refl (talk_info 1 (omega arith)) (may_inform empty_server) (idle empty_server),
-    (
-      came 1 (info_call root) (omega arith) refl (talk_info 1 (omega arith)),
-      (
-        did 5 (omega arith) refl (talk_lookup 2 (omega arith)) (may_look_up empty_server refl) (idle empty_server),
-        (
-          came 6 the_lookup (omega arith) refl (talk_lookup 2 (omega arith)),
-          (
-            did 8 (omega arith) refl its_attr (may_get_attr empty_server) (idle empty_server),
-            (
-              came 9 get_attr (omega arith) refl its_attr,
-              (
-                record { serves = may_rename; moves = record { verf = omega arith; bytes = inl (refl, refl); names = inr (omega arith); sound = λ le. omega arith } },
-                tt,
-              ),
-            ),
-          ),
-        ),
-      ),
-    ),
-  );
+  fits = (did 0 (omega arith) refl (talk_info 1 (omega arith)) (may_inform empty_server) (idle empty_server), (came 1 (info_call root) (omega arith) refl (talk_info 1 (omega arith)), (
+  did 5 (omega arith) refl (talk_lookup 2 (omega arith)) (may_look_up empty_server refl) (idle empty_server), (came 6 the_lookup (omega arith) refl (talk_lookup 2 (omega arith)), (
+  did 8 (omega arith) refl its_attr (may_get_attr empty_server) (idle empty_server), (came 9 get_attr (omega arith) refl its_attr, (
+  record { serves = may_rename; moves = record { verf = omega arith; bytes = inl (refl, refl); names = inr (omega arith); sound = λ le. omega arith } }, tt)))))));
 }
 
 walks_is_lawful : Lawful (made empty_server walks_by_old_name)

@@ -1,9 +1,10 @@
 -- Histories of wrong clients over an honest server: lawful, once and fresh; and the laws of reads refuse each.
-use Rattle.std.proofs.Common.{inl, inr, ◌≡◌, ◌<◌, ◌≤◌, ℕ, Bool, true, List, [], ◌∷◌, length, Some, refl, sym, ap, subst, slice_get, get_or, arith, ◌==◌}
+use Rattle.std.proofs.Common.{inl, inr, ◌≡◌, ◌≢◌, ◌<◌, ◌≤◌, ◌+◌, ℕ, zero, suc, Bool, true, false, List, [], ◌∷◌, length, Some, refl, sym, ap, subst, ◌∙◌, slice_get, get_or, arith, ◌==◌}
 use Rattle.std.proofs.lemmas.Bool.{cases_lt, eqb-true}
+use Rattle.nfs_types.specs.declared.mode.Mode.{Mode}
 use Rattle.nfs_types.specs.declared.mode.Mode.TheVariants as modes
 use Rattle.world_model.specs.declared.answer.Answer.{Answer}
-use Rattle.world_model.specs.declared.answer.Answer.TheVariants.{Done}
+use Rattle.world_model.specs.declared.answer.Answer.TheVariants.{Done, Refused}
 use Rattle.world_model.specs.declared.answer.Value.TheVariants as values
 use Rattle.world_model.specs.declared.entry.Entry.{Entry}
 use Rattle.world_model.specs.declared.entry.Entry.TheVariants as entries
@@ -16,14 +17,17 @@ use Rattle.world_model.specs.Fresh.{Fresh}
 use Rattle.world_model.specs.Lawful.{Lawful}
 use Rattle.world_model.specs.Mounts.{Origin}
 use Rattle.world_model.specs.Once.{Once}
+use Rattle.world_model.specs.Operations.{AnsweredBefore, Ended}
 use Rattle.claims.specs.Modes.{Modes, usual_modes}
-use Rattle.claims.specs.ReadTrue.{ReadsBytes, ReadCurrent, ReadOwn, ReadShort, IsCurrent, own, held, hole, Since, each_read, opened, kept}
+use Rattle.claims.specs.ReadTrue.{ReadsBytes, ReadCurrent, ReadOwn, ReadCut, ReadShort, IsCurrent, own, held, hole, Since, each_read, opened, kept, HeldByte, HeldSize}
+use Rattle.claims.specs.Slots.{InSlot}
 use Rattle.claims.specs.Touched.{WritesByte, Wrote, write, fill, put, Covers}
-use Rattle.claims.proofs.SmallServer.{State, empty_server, the_file, get_attr, got_attr, no_wcc, write_of, wrote_of, wcc_of, commit, committed, read_of, read_reply, after_write, after_commit, may_write, may_write_wcc, may_commit, may_get_attr, may_read}
-use Rattle.claims.proofs.Written.{Talk, talk_attr, talk_write_wcc, talk_commit, talk_read}
+use Rattle.claims.proofs.SmallServer.{State, empty_server, the_file, the_lookup, the_found, get_attr, got_attr, no_wcc, write_of, wrote_of, wcc_of, commit, committed, read_of, read_reply, after_write, after_commit, may_write, may_write_wcc, may_commit, may_look_up, may_get_attr, may_read}
+use Rattle.claims.proofs.Written.{Talk, talk_lookup, talk_attr, talk_write, talk_write_wcc, talk_commit, talk_read}
 use Rattle.claims.proofs.Made.{Event, Begins, Answers, Sends, Does, Comes, Others, Looks, entries_of, state_at, made, Right, Changed, idle, did, came, newer, steadier, lawful, fresh, once}
-use Rattle.claims.proofs.Seen.{quiet, begins, is_change, begins_outside, ended, last_reply, holds, only_change, untouched, each, each_at, first_byte, has_now}
-use Rattle.claims.proofs.Opened.{ok, the_path, opening, right_from, opened_by, IsPlain, slot_holds, is_of}
+use Rattle.claims.proofs.Seen.{quiet, begins, is_close, is_change, begins_outside, ended, last_reply, holds, only_change, untouched, each, each_at, first_byte, has_now}
+use Rattle.claims.proofs.Opened.{ok, the_path, beginning, opening, right_from, opened_by, IsPlain, slot_holds, is_of}
+use Rattle.claims.proofs.RestartedPut.{empty_is_plain}
 
 -- ---- what a file of one byte holds
 
@@ -130,21 +134,11 @@ overwrites = record { serves = may_write one_byte 0 2 (2 ∷ []) (omega arith); 
 
 keeps_stale_right : Right one_byte keeps_stale
 keeps_stale_right = right_from one_byte (opened_by modes.R) (Answers 1 1 ok ∷ stale_rest) one_is_plain (
-  did 17 (omega arith) refl (read_talk 4 (omega arith)) (may_read one_byte 0 1 true refl (λ e. omega arith)) (idle one_byte),
-  (
-    overwrites,
-    (
-      did 22 (omega arith) refl two_attr (may_get_attr two_byte) (idle two_byte),
-      (
-        came 23 get_attr (omega arith) refl two_attr,
-        (
-          came 18 (read_of 0) (omega arith) refl (read_talk 4 (omega arith)),
-          tt,
-        ),
-      ),
-    ),
-  ),
-)
+    did 17 (omega arith) refl (read_talk 4 (omega arith)) (may_read one_byte 0 1 true refl (λ e. omega arith)) (idle one_byte), (
+    overwrites, (
+    did 22 (omega arith) refl two_attr (may_get_attr two_byte) (idle two_byte), (
+    came 23 get_attr (omega arith) refl two_attr, (
+    came 18 (read_of 0) (omega arith) refl (read_talk 4 (omega arith)), tt)))))
 
 keeps_stale_is_lawful : Lawful (made one_byte keeps_stale)
 keeps_stale_is_lawful = lawful one_byte keeps_stale keeps_stale_right
@@ -229,33 +223,15 @@ both_attr = talk_attr 7 both_stable (omega arith) (omega arith) (omega arith)
 
 trusts_wcc_right : Right one_byte trusts_wcc
 trusts_wcc_right = right_from one_byte (opened_by modes.RW) (Answers 1 1 ok ∷ wcc_rest) one_is_plain (
-  did 17 (omega arith) refl (read_talk 4 (omega arith)) (may_read one_byte 0 1 true refl (λ e. omega arith)) (idle one_byte),
-  (
-    came 18 (read_of 0) (omega arith) refl (read_talk 4 (omega arith)),
-    (
-      overwrites,
-      (
-        did 27 (omega arith) refl own_talk (may_write_wcc two_byte 1 3 (3 ∷ []) (omega arith)) (newer refl (omega arith) refl refl (omega arith)),
-        (
-          came 28 own_write (omega arith) refl own_talk,
-          (
-            did 30 (omega arith) refl commit_talk (may_commit both_bytes) (steadier both_bytes both_stable refl refl refl refl refl (omega arith)),
-            (
-              came 31 commit (omega arith) refl commit_talk,
-              (
-                did 36 (omega arith) refl both_attr (may_get_attr both_stable) (idle both_stable),
-                (
-                  came 37 get_attr (omega arith) refl both_attr,
-                  tt,
-                ),
-              ),
-            ),
-          ),
-        ),
-      ),
-    ),
-  ),
-)
+    did 17 (omega arith) refl (read_talk 4 (omega arith)) (may_read one_byte 0 1 true refl (λ e. omega arith)) (idle one_byte), (
+    came 18 (read_of 0) (omega arith) refl (read_talk 4 (omega arith)), (
+    overwrites, (
+    did 27 (omega arith) refl own_talk (may_write_wcc two_byte 1 3 (3 ∷ []) (omega arith)) (newer refl (omega arith) refl refl (omega arith)), (
+    came 28 own_write (omega arith) refl own_talk, (
+    did 30 (omega arith) refl commit_talk (may_commit both_bytes) (steadier both_bytes both_stable refl refl refl refl refl (omega arith)), (
+    came 31 commit (omega arith) refl commit_talk, (
+    did 36 (omega arith) refl both_attr (may_get_attr both_stable) (idle both_stable), (
+    came 37 get_attr (omega arith) refl both_attr, tt)))))))))
 
 trusts_wcc_is_lawful : Lawful (made one_byte trusts_wcc)
 trusts_wcc_is_lawful = lawful one_byte trusts_wcc trusts_wcc_right
@@ -325,12 +301,8 @@ forgets_own = opening one_byte modes.RW own_rest
 
 forgets_own_right : Right one_byte forgets_own
 forgets_own_right = right_from one_byte (opened_by modes.RW) (Answers 1 1 ok ∷ own_rest) one_is_plain (
-  did 20 (omega arith) refl (read_talk 4 (omega arith)) (may_read one_byte 0 1 true refl (λ e. omega arith)) (idle one_byte),
-  (
-    came 21 (read_of 0) (omega arith) refl (read_talk 4 (omega arith)),
-    tt,
-  ),
-)
+    did 20 (omega arith) refl (read_talk 4 (omega arith)) (may_read one_byte 0 1 true refl (λ e. omega arith)) (idle one_byte), (
+    came 21 (read_of 0) (omega arith) refl (read_talk 4 (omega arith)), tt))
 
 forgets_own_is_lawful : Lawful (made one_byte forgets_own)
 forgets_own_is_lawful = lawful one_byte forgets_own forgets_own_right

@@ -1,14 +1,16 @@
 -- How the made histories begin: MNT and FSINFO, and then an open or a put that looks up its file.
-use Rattle.std.proofs.Common.{◌≡◌, ◌<◌, ◌≤◌, ℕ, true, List, [], ◌∷◌, length, Some, refl, arith}
+use Rattle.std.proofs.Common.{◌≡◌, ◌<◌, ◌≤◌, ℕ, zero, suc, Bool, true, false, List, [], ◌∷◌, length, Some, refl, arith}
 use Rattle.nfs_types.specs.declared.mode.Mode.{Mode}
 use Rattle.world_model.specs.declared.answer.Answer.{Answer}
 use Rattle.world_model.specs.declared.answer.Answer.TheVariants.{Done}
 use Rattle.world_model.specs.declared.answer.Value.TheVariants as values
+use Rattle.world_model.specs.declared.entry.Entry.{Entry}
 use Rattle.world_model.specs.declared.entry.Entry.TheVariants as entries
 use Rattle.world_model.specs.declared.op.Op.{Op}
 use Rattle.world_model.specs.declared.op.Op.TheVariants as ops
 use Rattle.world_model.specs.Entries.{At}
 use Rattle.world_model.specs.Mounts.{mount_call, info_call}
+use Rattle.world_model.specs.Operations.{Ended, LastReply}
 use Rattle.claims.specs.Modes.{Modes}
 use Rattle.claims.specs.Slots.{InSlot, IsOf, slot_of}
 use Rattle.claims.proofs.SmallServer.{State, empty_server, root, the_file, mounted_reply, info_reply, the_lookup, the_found, get_attr, got_attr, may_mount, may_inform, may_look_up, may_get_attr}
@@ -41,28 +43,10 @@ pub record IsPlain (s : State) : Type 0 where
 pub right_from : (s : State) (op : Op) (rest : List Event) → IsPlain s → AllFit (entries_of (beginning s op rest)) 14 s rest → Right s (beginning s op rest)
 right_from s op rest plain fits = record {
   sound = plain.sound;
-  fits = (
-    did 0 (omega arith) refl (talk_mount 0 (omega arith)) (may_mount s (47 ∷ [])) (idle s),
-    (
-      came 1 (mount_call (47 ∷ [])) (omega arith) refl (talk_mount 0 (omega arith)),
-      (
-        did 3 (omega arith) refl (talk_info 1 (omega arith)) (may_inform s) (idle s),
-        (
-          came 4 (info_call root) (omega arith) refl (talk_info 1 (omega arith)),
-          (
-            did 8 (omega arith) refl (talk_lookup 2 (omega arith)) (may_look_up s plain.letter) (idle s),
-            (
-              came 9 the_lookup (omega arith) refl (talk_lookup 2 (omega arith)),
-              (
-                did 11 (omega arith) refl its_attr (may_get_attr s) (idle s),
-                (came 12 get_attr (omega arith) refl its_attr, fits),
-              ),
-            ),
-          ),
-        ),
-      ),
-    ),
-  );
+  fits = (did 0 (omega arith) refl (talk_mount 0 (omega arith)) (may_mount s (47 ∷ [])) (idle s), (came 1 (mount_call (47 ∷ [])) (omega arith) refl (talk_mount 0 (omega arith)), (
+  did 3 (omega arith) refl (talk_info 1 (omega arith)) (may_inform s) (idle s), (came 4 (info_call root) (omega arith) refl (talk_info 1 (omega arith)), (
+  did 8 (omega arith) refl (talk_lookup 2 (omega arith)) (may_look_up s plain.letter) (idle s), (came 9 the_lookup (omega arith) refl (talk_lookup 2 (omega arith)), (
+  did 11 (omega arith) refl its_attr (may_get_attr s) (idle s), (came 12 get_attr (omega arith) refl its_attr, fits))))))));
 }
   where
     its_attr : Talk 3 get_attr (got_attr s)

@@ -1,5 +1,5 @@
 -- A read that leaves out what this client wrote before it: the definition of reads refuses it.
-use Rattle.std.proofs.Common.{inl, inr, ◌⊎◌, ◌≡◌, ◌<◌, ◌≤◌, ℕ, zero, suc, List, [], ◌∷◌, Some, refl, slice_get, arith}
+use Rattle.std.proofs.Common.{inl, inr, ◌⊎◌, ◌≡◌, ◌<◌, ◌≤◌, ◌+◌, ℕ, zero, suc, List, [], ◌∷◌, length, Option, Some, refl, slice_get, arith}
 use Rattle.nfs_types.specs.declared.mode.Mode.TheVariants as modes
 use Rattle.world_model.specs.declared.answer.Answer.{Answer}
 use Rattle.world_model.specs.declared.answer.Answer.TheVariants.{Done}
@@ -17,7 +17,7 @@ use Rattle.claims.specs.Modes.{Modes}
 use Rattle.world_model.specs.Mounts.{Origin}
 use Rattle.world_model.specs.Operations.{Ended, LastReply}
 use Rattle.claims.specs.ReadTrue.{ReadsBytes, ReadOwn}
-use Rattle.claims.specs.Slots.{IsOf, Opens, asked}
+use Rattle.claims.specs.Slots.{IsOf, InSlot, Opens, asked}
 use Rattle.claims.specs.Touched.{Touched, foreign, written, cut, gone, given_up, write, fill, put, Wrote, Covers}
 use Rattle.claims.proofs.WrongBodies.{ok, path, get_attr, always}
 

@@ -1,6 +1,6 @@
 -- A history of a client that makes one call again and again under new xids, until it may make no more, over an honest server:
 -- lawful, once and fresh; and the counts of calls refuse it.
-use Rattle.std.proofs.Common.{inl, inr, ◌≡◌, ◌≢◌, ◌<◌, ◌≤◌, ◌+◌, ◌^◌, ℕ, zero, suc, Bool, true, false, nat_lt, List, [], ◌∷◌, length, get_or, All, AllPairs, sum_by, Some, refl, sym, ap, subst, ◌∙◌, arith, if◌then◌else◌}
+use Rattle.std.proofs.Common.{inl, inr, ◌≡◌, ◌≢◌, ◌<◌, ◌≤◌, ◌+◌, ◌*◌, ◌^◌, ℕ, zero, suc, Bool, true, false, nat_lt, List, [], ◌∷◌, length, get_or, All, AllPairs, sum_by, Some, refl, sym, ap, subst, ◌∙◌, slice_get, arith, if◌then◌else◌}
 use Rattle.std.proofs.lemmas.Bool.{cases_lt, ltb-true}
 use Rattle.std.proofs.lemmas.List.Elements.{All-nil, All-cons}
 use Rattle.world_model.specs.declared.answer.Answer.TheVariants.{Refused}
@@ -18,12 +18,13 @@ use Rattle.world_model.specs.Once.{Once}
 use Rattle.world_model.proofs.Places.{At-below}
 use Rattle.claims.specs.Asks.{Placed}
 use Rattle.claims.specs.CallCounts.{CallCounts, Asking, Carries, IsPlain}
+use Rattle.claims.specs.Caused.{Caused}
 use Rattle.claims.specs.Paths.{names_in}
 use Rattle.claims.specs.Terms.{Terms}
 use Rattle.claims.proofs.SmallServer.{empty_server, root, info_reply, the_lookup, may_inform}
 use Rattle.claims.proofs.Written.{call_record, talk_info, talk_lookup}
 use Rattle.claims.proofs.Made.{Event, Begins, Answers, Sends, Does, Comes, Looks, entries_of, made, Right, idle, did, came, lawful, fresh, once}
-use Rattle.claims.proofs.Seen.{quiet, begins_outside, is_sending, first_sent}
+use Rattle.claims.proofs.Seen.{quiet, begins, begins_outside, is_sending, first_sent}
 use Rattle.claims.proofs.Opened.{the_path}
 
 -- a stat sends LOOKUP of its name under seventeen xids, though one operation of one name asks for it

@@ -1,25 +1,30 @@
 -- A put over a restart of the server: its WRITE is lost, COMMIT tells by another verifier, WRITE and COMMIT are sent again
 -- (RFC 1813, section 4.8). Then another client writes another place, and the byte is read. The history is lawful, once and
 -- fresh, and the laws of settled bytes and of reads say something of it.
-use Rattle.std.proofs.Common.{◌≡◌, ◌<◌, ◌≤◌, ℕ, false, List, [], ◌∷◌, Some, refl, slice_get, arith}
+use Rattle.std.proofs.Common.{inl, inr, ◌≡◌, ◌≢◌, ◌<◌, ◌≤◌, ℕ, zero, suc, true, false, List, [], ◌∷◌, length, Some, refl, sym, ◌∙◌, slice_get, arith}
 use Rattle.nfs_types.specs.declared.mode.Mode.TheVariants as modes
+use Rattle.nfs_file_calls.specs.declared.call.FileCall.TheVariants as files
 use Rattle.world_model.specs.declared.answer.Answer.TheVariants.{Done}
 use Rattle.world_model.specs.declared.answer.Value.TheVariants as values
+use Rattle.world_model.specs.declared.entry.Entry.TheVariants as entries
 use Rattle.world_model.specs.declared.message.Call.{Call}
+use Rattle.world_model.specs.declared.message.Call.TheVariants as calls
 use Rattle.world_model.specs.declared.message.Reply.{Reply}
 use Rattle.world_model.specs.declared.op.Op.{Op}
 use Rattle.world_model.specs.declared.op.Op.TheVariants as ops
+use Rattle.world_model.specs.Entries.{At}
 use Rattle.world_model.specs.Fresh.{Fresh}
 use Rattle.world_model.specs.History.{History}
 use Rattle.world_model.specs.Lawful.{Lawful}
 use Rattle.world_model.specs.Mounts.{Origin}
 use Rattle.world_model.specs.Once.{Once}
+use Rattle.world_model.specs.Operations.{LastReply}
 use Rattle.world_model.specs.Server.{Server}
 use Rattle.claims.specs.Modes.{Modes}
 use Rattle.claims.specs.ReadTrue.{ReadsBytes, ReadOwn}
 use Rattle.claims.specs.Settled.{Settled, SettledBy, itself, HoldsStable}
 use Rattle.claims.specs.Slots.{PutsTo, commits}
-use Rattle.claims.specs.Touched.{Wrote, put, Touched, ChangesPlace, writes, sizes, makes}
+use Rattle.claims.specs.Touched.{Wrote, put, Touched, Covers, ChangesPlace, writes, sizes, makes}
 use Rattle.claims.proofs.SmallServer.{State, file, empty_server, the_file, the_lookup, the_found, get_attr, got_attr, no_wcc, write_of, wrote_of, commit, committed, read_of, read_reply, after_write, after_commit, may_write, may_commit, may_look_up, may_get_attr, may_read}
 use Rattle.claims.proofs.Written.{Talk, talk_lookup, talk_attr, talk_write, talk_commit, talk_read}
 use Rattle.claims.proofs.Made.{Event, Begins, Answers, Sends, Does, Comes, Others, Restarts, Looks, entries_of, made, AllFit, Right, idle, did, came, newer, steadier, restarted, lawful, fresh, once}
@@ -103,55 +108,23 @@ its_read : Talk 10 (read_of 0) (read_reply 1 false)
 its_read = talk_read 10 0 1 false (omega arith) (omega arith)
 
 the_open_fits : AllFit (entries_of restarted_put) 28 stable after_put
-the_open_fits = (
-  record { serves = may_write stable 1 5 (2 ∷ []) (omega arith); moves = newer refl (omega arith) refl refl (omega arith) },
-  (
-    did 31 (omega arith) refl (talk_lookup 8 (omega arith)) (may_look_up longer refl) (idle longer),
-    (
-      came 32 the_lookup (omega arith) refl (talk_lookup 8 (omega arith)),
-      (
-        did 34 (omega arith) refl its_attr (may_get_attr longer) (idle longer),
-        (
-          came 35 get_attr (omega arith) refl its_attr,
-          (
-            did 40 (omega arith) refl its_read (may_read longer 0 1 false refl (λ e. absurd (cc e))) (idle longer),
-            (came 41 (read_of 0) (omega arith) refl its_read, tt),
-          ),
-        ),
-      ),
-    ),
-  ),
-)
+the_open_fits =
+    (record { serves = may_write stable 1 5 (2 ∷ []) (omega arith); moves = newer refl (omega arith) refl refl (omega arith) }, (
+    did 31 (omega arith) refl (talk_lookup 8 (omega arith)) (may_look_up longer refl) (idle longer), (came 32 the_lookup (omega arith) refl (talk_lookup 8 (omega arith)), (
+    did 34 (omega arith) refl its_attr (may_get_attr longer) (idle longer), (came 35 get_attr (omega arith) refl its_attr, (
+    did 40 (omega arith) refl its_read (may_read longer 0 1 false refl (λ e. absurd (cc e))) (idle longer), (came 41 (read_of 0) (omega arith) refl its_read, tt)))))))
 
 pub restarted_right : Right empty_server restarted_put
 restarted_right = right_from empty_server the_put put_rest empty_is_plain (
-  did 14 (omega arith) refl (its_write 4 1 (omega arith)) (may_write empty_server 0 2 (1 ∷ []) (omega arith)) (newer refl (omega arith) refl refl (omega arith)),
-  (
-    came 15 the_write (omega arith) refl (its_write 4 1 (omega arith)),
-    (
-      restarted unstable 2 3 (omega arith) (omega arith) (λ e. absurd (cc e)),
-      (
-        did 18 (omega arith) refl (its_commit 5 (omega arith)) (may_commit lost_it) (steadier lost_it (after_commit lost_it) refl refl refl refl refl (omega arith)),
-        (
-          came 19 commit (omega arith) refl (its_commit 5 (omega arith)),
-          (
-            did 21 (omega arith) refl (its_write 6 2 (omega arith)) (may_write lost_it 0 4 (1 ∷ []) (omega arith)) (newer refl (omega arith) refl refl (omega arith)),
-            (
-              came 22 the_write (omega arith) refl (its_write 6 2 (omega arith)),
-              (
-                did 24 (omega arith) refl (its_commit 7 (omega arith)) (may_commit again) (steadier again stable refl refl refl refl refl (omega arith)),
-                (
-                  came 25 commit (omega arith) refl (its_commit 7 (omega arith)),
-                  the_open_fits,
-                ),
-              ),
-            ),
-          ),
-        ),
-      ),
-    ),
-  ),
-)
+    did 14 (omega arith) refl (its_write 4 1 (omega arith)) (may_write empty_server 0 2 (1 ∷ []) (omega arith)) (newer refl (omega arith) refl refl (omega arith)), (
+    came 15 the_write (omega arith) refl (its_write 4 1 (omega arith)), (
+    restarted unstable 2 3 (omega arith) (omega arith) (λ e. absurd (cc e)), (
+    did 18 (omega arith) refl (its_commit 5 (omega arith)) (may_commit lost_it) (steadier lost_it (after_commit lost_it) refl refl refl refl refl (omega arith)), (
+    came 19 commit (omega arith) refl (its_commit 5 (omega arith)), (
+    did 21 (omega arith) refl (its_write 6 2 (omega arith)) (may_write lost_it 0 4 (1 ∷ []) (omega arith)) (newer refl (omega arith) refl refl (omega arith)), (
+    came 22 the_write (omega arith) refl (its_write 6 2 (omega arith)), (
+    did 24 (omega arith) refl (its_commit 7 (omega arith)) (may_commit again) (steadier again stable refl refl refl refl refl (omega arith)), (
+    came 25 commit (omega arith) refl (its_commit 7 (omega arith)), the_open_fits)))))))))
 
 restarted_is_lawful : Lawful restarted_history
 restarted_is_lawful = lawful empty_server restarted_put restarted_right

@@ -1,32 +1,37 @@
 -- What a history that is made step by step shows: which answers, replies and slots it has.
-use Rattle.std.proofs.Common.{inl, inr, ◌≡◌, ◌≢◌, ◌<◌, ◌≤◌, ◌^◌, ◌==◌, ◌&&◌, ℕ, zero, suc, Bool, true, false, List, [], ◌∷◌, Some, Result, Ok, refl, sym, ap, subst, ◌∙◌, slice_get, get_or, arith, if◌then◌else◌}
+use Rattle.std.proofs.Common.{inl, inr, ◌⊎◌, ◌≡◌, ◌≢◌, ◌<◌, ◌≤◌, ◌+◌, ◌^◌, ◌==◌, ◌&&◌, ℕ, zero, suc, Bool, true, false, nat_lt, List, [], ◌∷◌, length, Option, Some, None, Result, Ok, refl, sym, ap, subst, ◌∙◌, slice_get, get_or, arith, if◌then◌else◌}
 use Rattle.std.specs.Prelude.{⊤}
 use Rattle.std.proofs.lemmas.Bool.{cases_lt, eq-eqb}
 use Rattle.nfs_types.specs.declared.mode.Mode.{Mode}
+use Rattle.nfs_file_calls.specs.declared.call.FileCall.TheVariants as files
 use Rattle.rpc_message.specs.declared.call.CallHead.{CallHead}
 use Rattle.rpc_message.specs.declared.call.CallFault.{CallFault}
 use Rattle.rpc_message.specs.Call.{call_at}
 use Rattle.rpc_message.proofs.CallLaws.{call_again}
 use Rattle.world_model.specs.declared.answer.Answer.{Answer}
-use Rattle.world_model.specs.declared.answer.Answer.TheVariants.{Done}
+use Rattle.world_model.specs.declared.answer.Answer.TheVariants.{Done, Refused}
 use Rattle.world_model.specs.declared.answer.Value.{Value}
+use Rattle.world_model.specs.declared.answer.Value.TheVariants as values
+use Rattle.world_model.specs.declared.entry.Entry.{Entry}
 use Rattle.world_model.specs.declared.entry.Entry.TheVariants as entries
 use Rattle.world_model.specs.declared.message.Call.{Call}
+use Rattle.world_model.specs.declared.message.Call.TheVariants as calls
 use Rattle.world_model.specs.declared.message.Reply.{Reply}
 use Rattle.world_model.specs.declared.op.Op.{Op}
 use Rattle.world_model.specs.declared.op.Op.TheVariants as ops
 use Rattle.world_model.specs.Entries.{At}
+use Rattle.world_model.specs.History.{History}
 use Rattle.world_model.specs.Messages.{HasXid, SpellsCall, proc_of, head_of}
 use Rattle.world_model.specs.Mounts.{Origin}
-use Rattle.world_model.specs.Operations.{Ended, AnsweredBefore, LastReply}
+use Rattle.world_model.specs.Operations.{Ended, AnsweredBefore, LastReply, NoneCame}
 use Rattle.world_model.specs.Server.{Bytes, Object, Server, HasBytes}
-use Rattle.world_model.specs.Waiting.{FirstSent}
+use Rattle.world_model.specs.Waiting.{FirstSent, Waits}
 use Rattle.claims.specs.Modes.{Modes}
 use Rattle.claims.specs.Settled.{HoldsStable}
-use Rattle.claims.specs.Slots.{InSlot, asked}
-use Rattle.claims.specs.Touched.{Touched, foreign, written, cut, gone, given_up, write, fill, put, ChangesPlace}
+use Rattle.claims.specs.Slots.{Opens, InSlot, IsOf, slot_of, asked}
+use Rattle.claims.specs.Touched.{Touched, foreign, written, cut, gone, given_up, WritesByte, write, fill, put, ChangesPlace}
 use Rattle.claims.proofs.SmallServer.{State, the_file, file, serve, get_attr, none_gone}
-use Rattle.claims.proofs.Made.{Event, Begins, Answers, Sends, Does, Comes, Others, Restarts, Fails, Looks, entry_of, entries_of, after, state_at, made, behind, all_are, all_at, xid_fits, one_xid, small_xid}
+use Rattle.claims.proofs.Made.{Event, Begins, Answers, Sends, Does, Comes, Others, Restarts, Fails, Looks, entry_of, entries_of, after, state_at, made, Behind, behind, all_are, all_at, xid_fits, one_xid, small_xid}
 use Rattle.claims.proofs.Written.{call_record, reply_record, call_under, reply_under}
 
 -- ---- no such event in a part of the list

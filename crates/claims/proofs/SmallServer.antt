@@ -1,25 +1,30 @@
 -- A small server, and what it may do: a directory under the empty handle, with one name for one file.
-use Rattle.std.proofs.Common.{inl, inr, ◌⊎◌, ◌≡◌, ◌≤◌, ◌+◌, ℕ, zero, suc, Bool, true, false, List, [], ◌∷◌, length, take, Option, Some, None, refl, ap, subst, ◌∙◌, arith}
+use Rattle.std.proofs.Common.{inl, inr, ◌⊎◌, ◌≡◌, ◌≢◌, ◌<◌, ◌≤◌, ◌+◌, ◌==◌, ℕ, zero, suc, Bool, true, false, List, [], ◌∷◌, length, take, Option, Some, None, refl, sym, ap, subst, ◌∙◌, slice_get, arith, if◌then◌else◌}
 use Rattle.std.proofs.lemmas.List.Elements.{All-nil, All-cons}
 use Rattle.nfs_types.specs.declared.attr.Attr.{Attr}
+use Rattle.nfs_types.specs.declared.status.Status.{Status}
 use Rattle.nfs_types.specs.declared.time.Time.{Time}
 use Rattle.nfs_types.specs.declared.verf.Verf.{Verf}
 use Rattle.nfs_types.specs.declared.wcc.Wcc.{Wcc}
+use Rattle.nfs_types.specs.declared.wcc.Stamp.{Stamp}
 use Rattle.nfs_types.specs.Stamps.{stamp_of}
 use Rattle.mount_calls.specs.declared.reply.MountReply.TheVariants as mounted
+use Rattle.nfs_dir_calls.specs.declared.call.DirCall.TheVariants as dirs
+use Rattle.nfs_dir_calls.specs.declared.keeping.DirKept.TheVariants as found
 use Rattle.nfs_file_calls.specs.declared.call.FileCall.TheVariants as files
 use Rattle.nfs_file_calls.specs.declared.owned.FileKept.TheVariants as kept
 use Rattle.world_model.specs.declared.message.Call.{Call}
 use Rattle.world_model.specs.declared.message.Call.TheVariants as calls
 use Rattle.world_model.specs.declared.message.Reply.{Reply}
 use Rattle.world_model.specs.declared.message.Reply.TheVariants as replies
-use Rattle.world_model.specs.Bytes.{put_at, part, committed_part}
-use Rattle.world_model.specs.FileService.{Puts}
+use Rattle.world_model.specs.Bytes.{put_at, part, committed_part, resized}
+use Rattle.world_model.specs.FileService.{Puts, steady_after}
+use Rattle.world_model.specs.Lawful.{IsLeft, same, lost}
 use Rattle.world_model.specs.Mounts.{mount_call, info_call}
 use Rattle.world_model.specs.Server as servers
 use Rattle.world_model.specs.Server.{Listed, Bytes, Entries, Object, Server, IsServer, IsSound, Names, HasName}
 use Rattle.world_model.specs.Service.{Serves, refused, done}
-use Rattle.world_model.specs.Steps.{Same, Turns, Reads, TrueWcc}
+use Rattle.world_model.specs.Steps.{Same, Only, Becomes, Turns, Reads, Looks, TrueWcc}
 use Rattle.claims.specs.Asks.{look_up, looked_up}
 
 abbrev pub root : List ℕ

@@ -1,9 +1,10 @@
 -- Histories of wrong clients over an honest server: lawful, once and fresh; and the causes of calls and answers refuse each.
-use Rattle.std.proofs.Common.{inl, inr, ◌≡◌, ◌<◌, ◌≤◌, ℕ, Bool, true, List, [], ◌∷◌, Some, refl, sym, subst, arith}
+use Rattle.std.proofs.Common.{inl, inr, ◌⊎◌, ◌≡◌, ◌≢◌, ◌<◌, ◌≤◌, ℕ, zero, suc, Bool, true, false, List, [], ◌∷◌, length, Some, refl, sym, ap, subst, ◌∙◌, slice_get, arith}
 use Rattle.std.proofs.lemmas.Bool.{cases_lt}
 use Rattle.nfs_types.specs.declared.mode.Mode.TheVariants as modes
 use Rattle.nfs_dir_calls.specs.declared.call.DirCall.TheVariants as dirs
-use Rattle.world_model.specs.declared.answer.Answer.TheVariants.{Refused}
+use Rattle.world_model.specs.declared.answer.Answer.{Answer}
+use Rattle.world_model.specs.declared.answer.Answer.TheVariants.{Done, Refused}
 use Rattle.world_model.specs.declared.answer.Fault.TheVariants as faults
 use Rattle.world_model.specs.declared.answer.Value.TheVariants as values
 use Rattle.world_model.specs.declared.entry.Entry.{Entry}
@@ -18,14 +19,14 @@ use Rattle.world_model.specs.Fresh.{Fresh}
 use Rattle.world_model.specs.Lawful.{Lawful}
 use Rattle.world_model.specs.Messages.{HasXid, SpellsCall}
 use Rattle.world_model.specs.Once.{Once}
-use Rattle.world_model.specs.Operations.{AnsweredBefore}
+use Rattle.world_model.specs.Operations.{AnsweredBefore, Ended, UnderWay}
 use Rattle.claims.specs.CallsAsked.{CallsAsked, IsCause, mounts, informs, asked, NoneBegan}
 use Rattle.claims.specs.Caused.{Caused}
 use Rattle.claims.specs.Terms.{Terms}
-use Rattle.claims.proofs.SmallServer.{empty_server, root, commit, may_write}
+use Rattle.claims.proofs.SmallServer.{State, empty_server, root, commit, the_file, may_write}
 use Rattle.claims.proofs.Written.{call_record, call_under, talk_mount, talk_info, talk_lookup, talk_attr}
 use Rattle.claims.proofs.Made.{Event, Begins, Answers, Sends, Does, Comes, Looks, entries_of, made, Right, did, came, newer, lawful, fresh, once, one_xid}
-use Rattle.claims.proofs.Seen.{begins_outside, ended, none_sent, no_proc_sent, none_under, SpellsAll}
+use Rattle.claims.proofs.Seen.{quiet, begins, begins_outside, ended, none_sent, no_proc_sent, none_under, SpellsAll}
 use Rattle.claims.proofs.Opened.{ok, the_path, beginning, opening, right_from, opened_by}
 use Rattle.claims.proofs.RestartedPut.{the_put, the_write, wrote_by, unstable, empty_is_plain, its_write, its_commit}
 
@@ -152,15 +153,9 @@ takes_any = beginning empty_server the_put taking_rest
 
 takes_any_right : Right empty_server takes_any
 takes_any_right = right_from empty_server the_put taking_rest empty_is_plain (
-  did 14 (omega arith) refl (its_write 4 1 (omega arith)) (may_write empty_server 0 2 (1 ∷ []) (omega arith)) (newer refl (omega arith) refl refl (omega arith)),
-  (
-    came 15 the_write (omega arith) refl (its_write 4 1 (omega arith)),
-    (
-      came 15 the_write (omega arith) refl (its_write 4 1 (omega arith)),
-      tt,
-    ),
-  ),
-)
+    did 14 (omega arith) refl (its_write 4 1 (omega arith)) (may_write empty_server 0 2 (1 ∷ []) (omega arith)) (newer refl (omega arith) refl refl (omega arith)), (
+    came 15 the_write (omega arith) refl (its_write 4 1 (omega arith)), (
+    came 15 the_write (omega arith) refl (its_write 4 1 (omega arith)), tt)))
 
 takes_any_is_lawful : Lawful (made empty_server takes_any)
 takes_any_is_lawful = lawful empty_server takes_any takes_any_right
@@ -172,52 +167,10 @@ takes_any_is_once : Once (entries_of takes_any)
 takes_any_is_once = once takes_any refl refl
 
 its_calls : SpellsAll takes_any
-its_calls = (
-  (talk_mount 0 (omega arith)).call_is,
-  (
-    tt,
-    (
-      tt,
-      (
-        (talk_info 1 (omega arith)).call_is,
-        (
-          tt,
-          (
-            tt,
-            (
-              tt,
-              (
-                tt,
-                (
-                  (talk_lookup 2 (omega arith)).call_is,
-                  (
-                    tt,
-                    (
-                      tt,
-                      (
-                        (talk_attr 3 empty_server (omega arith) (omega arith) (omega arith)).call_is,
-                        (
-                          tt,
-                          (
-                            tt,
-                            (
-                              (its_write 4 1 (omega arith)).call_is,
-                              (tt, (tt, ((its_commit 5 (omega arith)).call_is, (tt, (tt, tt))))),
-                            ),
-                          ),
-                        ),
-                      ),
-                    ),
-                  ),
-                ),
-              ),
-            ),
-          ),
-        ),
-      ),
-    ),
-  ),
-)
+its_calls =
+    ((talk_mount 0 (omega arith)).call_is, (tt, (tt, ((talk_info 1 (omega arith)).call_is, (tt, (tt, (tt, (tt, (
+    (talk_lookup 2 (omega arith)).call_is, (tt, (tt, ((talk_attr 3 empty_server (omega arith) (omega arith) (omega arith)).call_is, (tt, (tt, (
+    (its_write 4 1 (omega arith)).call_is, (tt, (tt, ((its_commit 5 (omega arith)).call_is, (tt, (tt, tt))))))))))))))))))))
 
 record_is : (bytes : List ℕ) → Some (entries.Sent (call_record 5 commit)) ≡ Some (entries.Sent bytes) → call_record 5 commit ≡ bytes
 record_is bytes e = cc

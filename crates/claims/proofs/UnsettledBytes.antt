@@ -1,25 +1,27 @@
 -- Histories of wrong clients over an honest server: lawful, once and fresh; and the law of settled bytes refuses each.
-use Rattle.std.proofs.Common.{◌≡◌, ◌<◌, ℕ, List, [], ◌∷◌, Some, refl, slice_get, arith}
+use Rattle.std.proofs.Common.{inl, inr, ◌≡◌, ◌≢◌, ◌<◌, ◌≤◌, ℕ, zero, suc, true, false, List, [], ◌∷◌, length, Some, refl, sym, ◌∙◌, slice_get, arith}
 use Rattle.nfs_types.specs.declared.mode.Mode.TheVariants as modes
-use Rattle.world_model.specs.declared.answer.Answer.TheVariants.{Refused}
+use Rattle.world_model.specs.declared.answer.Answer.{Answer}
+use Rattle.world_model.specs.declared.answer.Answer.TheVariants.{Done, Refused}
 use Rattle.world_model.specs.declared.answer.Fault.TheVariants as faults
 use Rattle.world_model.specs.declared.answer.Value.TheVariants as values
 use Rattle.world_model.specs.declared.message.Call.{Call}
+use Rattle.world_model.specs.declared.message.Reply.{Reply}
 use Rattle.world_model.specs.declared.op.Op.{Op}
 use Rattle.world_model.specs.declared.op.Op.TheVariants as ops
 use Rattle.world_model.specs.Fresh.{Fresh}
 use Rattle.world_model.specs.Lawful.{Lawful}
 use Rattle.world_model.specs.Mounts.{Origin}
 use Rattle.world_model.specs.Once.{Once}
-use Rattle.world_model.specs.Operations.{Ended}
+use Rattle.world_model.specs.Operations.{AnsweredBefore, Ended}
 use Rattle.claims.specs.Modes.{Modes}
-use Rattle.claims.specs.Settled.{Settled, itself, later}
+use Rattle.claims.specs.Settled.{Settled, SettledBy, itself, later}
 use Rattle.claims.specs.Slots.{PutsTo, commits}
 use Rattle.claims.specs.Touched.{Wrote, put, write, MadeStable, sync}
-use Rattle.claims.proofs.SmallServer.{State, empty_server, the_file, get_attr, got_attr, no_space, write_of, commit, committed, after_write, after_commit, may_write, may_refuse_write, may_commit, may_get_attr}
+use Rattle.claims.proofs.SmallServer.{State, empty_server, the_file, get_attr, got_attr, no_wcc, no_space, write_of, wrote_of, commit, committed, after_write, after_commit, may_write, may_refuse_write, may_commit, may_get_attr}
 use Rattle.claims.proofs.Written.{Talk, talk_attr, talk_write, talk_commit, talk_no_space}
-use Rattle.claims.proofs.Made.{Event, Begins, Answers, Sends, Does, Comes, Restarts, Fails, Looks, entries_of, made, Right, idle, did, came, newer, steadier, restarted, lawful, fresh, once}
-use Rattle.claims.proofs.Seen.{ended, last_reply, only_change, second_change, untouched, held_now}
+use Rattle.claims.proofs.Made.{Event, Begins, Answers, Sends, Does, Comes, Restarts, Fails, Looks, entries_of, state_at, made, Right, idle, did, came, newer, steadier, restarted, lawful, fresh, once}
+use Rattle.claims.proofs.Seen.{ended, last_reply, Alone, only_change, second_change, untouched, held_now}
 use Rattle.claims.proofs.Opened.{ok, the_path, beginning, opening, right_from, opened_by, is_of}
 use Rattle.claims.proofs.RestartedPut.{the_put, unstable, lost_it, the_write, wrote_by, empty_is_plain, its_write, its_commit}
 
@@ -43,21 +45,11 @@ skips_verifier =
 
 skips_verifier_right : Right empty_server skips_verifier
 skips_verifier_right = right_from empty_server the_put _ empty_is_plain (
-  did 14 (omega arith) refl (its_write 4 1 (omega arith)) (may_write empty_server 0 2 (1 ∷ []) (omega arith)) (newer refl (omega arith) refl refl (omega arith)),
-  (
-    came 15 the_write (omega arith) refl (its_write 4 1 (omega arith)),
-    (
-      restarted unstable 2 3 (omega arith) (omega arith) (λ e. absurd (cc e)),
-      (
-        did 18 (omega arith) refl (its_commit 5 (omega arith)) (may_commit lost_it) (steadier lost_it (after_commit lost_it) refl refl refl refl refl (omega arith)),
-        (
-          came 19 commit (omega arith) refl (its_commit 5 (omega arith)),
-          tt,
-        ),
-      ),
-    ),
-  ),
-)
+    did 14 (omega arith) refl (its_write 4 1 (omega arith)) (may_write empty_server 0 2 (1 ∷ []) (omega arith)) (newer refl (omega arith) refl refl (omega arith)), (
+    came 15 the_write (omega arith) refl (its_write 4 1 (omega arith)), (
+    restarted unstable 2 3 (omega arith) (omega arith) (λ e. absurd (cc e)), (
+    did 18 (omega arith) refl (its_commit 5 (omega arith)) (may_commit lost_it) (steadier lost_it (after_commit lost_it) refl refl refl refl refl (omega arith)), (
+    came 19 commit (omega arith) refl (its_commit 5 (omega arith)), tt)))))
 
 skips_verifier_is_lawful : Lawful (made empty_server skips_verifier)
 skips_verifier_is_lawful = lawful empty_server skips_verifier skips_verifier_right
@@ -124,24 +116,12 @@ commit_talk xid fits = talk_commit xid 1 (omega (arith, fits))
 
 overlaps_right : Right empty_server overlaps
 overlaps_right = right_from empty_server (opened_by modes.W) (Answers 1 1 ok ∷ overlap_rest) empty_is_plain (
-  did 24 (omega arith) refl second_talk (may_write empty_server 0 2 (2 ∷ []) (omega arith)) (newer refl (omega arith) refl refl (omega arith)),
-  (
-    came 25 second_write (omega arith) refl second_talk,
-    (
-      did 23 (omega arith) refl (its_write 4 1 (omega arith)) (may_write newer_first 0 3 (1 ∷ []) (omega arith)) (newer refl (omega arith) refl refl (omega arith)),
-      (
-        came 27 the_write (omega arith) refl (its_write 4 1 (omega arith)),
-        (
-          did 29 (omega arith) refl (commit_talk 6 (omega arith)) (may_commit older_last) (steadier older_last (after_commit older_last) refl refl refl refl refl (omega arith)),
-          (
-            came 30 commit (omega arith) refl (commit_talk 6 (omega arith)),
-            tt,
-          ),
-        ),
-      ),
-    ),
-  ),
-)
+    did 24 (omega arith) refl second_talk (may_write empty_server 0 2 (2 ∷ []) (omega arith)) (newer refl (omega arith) refl refl (omega arith)), (
+    came 25 second_write (omega arith) refl second_talk, (
+    did 23 (omega arith) refl (its_write 4 1 (omega arith)) (may_write newer_first 0 3 (1 ∷ []) (omega arith)) (newer refl (omega arith) refl refl (omega arith)), (
+    came 27 the_write (omega arith) refl (its_write 4 1 (omega arith)), (
+    did 29 (omega arith) refl (commit_talk 6 (omega arith)) (may_commit older_last) (steadier older_last (after_commit older_last) refl refl refl refl refl (omega arith)), (
+    came 30 commit (omega arith) refl (commit_talk 6 (omega arith)), tt))))))
 
 overlaps_is_lawful : Lawful (made empty_server overlaps)
 overlaps_is_lawful = lawful empty_server overlaps overlaps_right
@@ -191,18 +171,10 @@ refused_talk = talk_no_space 4 0 (1 ∷ []) (omega arith) (omega arith) (omega a
 
 drops_bytes_right : Right empty_server drops_bytes
 drops_bytes_right = right_from empty_server (opened_by modes.W) (Answers 1 1 ok ∷ dropping_rest) empty_is_plain (
-  did 20 (omega arith) refl refused_talk (may_refuse_write empty_server 0 (1 ∷ [])) (idle empty_server),
-  (
-    came 21 the_write (omega arith) refl refused_talk,
-    (
-      did 26 (omega arith) refl (commit_talk 5 (omega arith)) (may_commit empty_server) (idle empty_server),
-      (
-        came 27 commit (omega arith) refl (commit_talk 5 (omega arith)),
-        tt,
-      ),
-    ),
-  ),
-)
+    did 20 (omega arith) refl refused_talk (may_refuse_write empty_server 0 (1 ∷ [])) (idle empty_server), (
+    came 21 the_write (omega arith) refl refused_talk, (
+    did 26 (omega arith) refl (commit_talk 5 (omega arith)) (may_commit empty_server) (idle empty_server), (
+    came 27 commit (omega arith) refl (commit_talk 5 (omega arith)), tt))))
 
 drops_bytes_is_lawful : Lawful (made empty_server drops_bytes)
 drops_bytes_is_lawful = lawful empty_server drops_bytes drops_bytes_right
@@ -270,39 +242,17 @@ attr_talk = talk_attr 7 first_stable (omega arith) (omega arith) (omega arith)
 
 copies_calls_right : Right empty_server copies_calls
 copies_calls_right = right_from empty_server the_put copy_rest empty_is_plain (
-  did 16 (omega arith) refl (its_write 5 1 (omega arith)) (may_write empty_server 0 2 (1 ∷ []) (omega arith)) (newer refl (omega arith) refl refl (omega arith)),
-  (
-    came 17 the_write (omega arith) refl (its_write 5 1 (omega arith)),
-    (
-      did 19 (omega arith) refl (commit_talk 6 (omega arith)) (may_commit unstable) (steadier unstable first_stable refl refl refl refl refl (omega arith)),
-      (
-        came 20 commit (omega arith) refl (commit_talk 6 (omega arith)),
-        (
-          did 25 (omega arith) refl attr_talk (may_get_attr first_stable) (idle first_stable),
-          (
-            came 26 get_attr (omega arith) refl attr_talk,
-            (
-              did 28 (omega arith) refl newer_talk (may_write first_stable 0 3 (2 ∷ []) (omega arith)) (newer refl (omega arith) refl refl (omega arith)),
-              (
-                came 29 second_write (omega arith) refl newer_talk,
-                (
-                  did 31 (omega arith) refl (commit_talk 9 (omega arith)) (may_commit newer_byte) (steadier newer_byte newer_stable refl refl refl refl refl (omega arith)),
-                  (
-                    came 32 commit (omega arith) refl (commit_talk 9 (omega arith)),
-                    (
-                      did 14 (omega arith) refl (its_write 4 1 (omega arith)) (may_write newer_stable 0 4 (1 ∷ []) (omega arith)) (newer refl (omega arith) refl refl (omega arith)),
-                      tt,
-                    ),
-                  ),
-                ),
-              ),
-            ),
-          ),
-        ),
-      ),
-    ),
-  ),
-)
+    did 16 (omega arith) refl (its_write 5 1 (omega arith)) (may_write empty_server 0 2 (1 ∷ []) (omega arith)) (newer refl (omega arith) refl refl (omega arith)), (
+    came 17 the_write (omega arith) refl (its_write 5 1 (omega arith)), (
+    did 19 (omega arith) refl (commit_talk 6 (omega arith)) (may_commit unstable) (steadier unstable first_stable refl refl refl refl refl (omega arith)), (
+    came 20 commit (omega arith) refl (commit_talk 6 (omega arith)), (
+    did 25 (omega arith) refl attr_talk (may_get_attr first_stable) (idle first_stable), (
+    came 26 get_attr (omega arith) refl attr_talk, (
+    did 28 (omega arith) refl newer_talk (may_write first_stable 0 3 (2 ∷ []) (omega arith)) (newer refl (omega arith) refl refl (omega arith)), (
+    came 29 second_write (omega arith) refl newer_talk, (
+    did 31 (omega arith) refl (commit_talk 9 (omega arith)) (may_commit newer_byte) (steadier newer_byte newer_stable refl refl refl refl refl (omega arith)), (
+    came 32 commit (omega arith) refl (commit_talk 9 (omega arith)), (
+    did 14 (omega arith) refl (its_write 4 1 (omega arith)) (may_write newer_stable 0 4 (1 ∷ []) (omega arith)) (newer refl (omega arith) refl refl (omega arith)), tt)))))))))))
 
 copies_calls_is_lawful : Lawful (made empty_server copies_calls)
 copies_calls_is_lawful = lawful empty_server copies_calls copies_calls_right

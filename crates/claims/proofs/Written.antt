@@ -1,30 +1,46 @@
 -- The records of a call and of a reply, as they are written: they spell what they are written for (RFC 5531, section 9).
-use Rattle.std.proofs.Common.{◌≡◌, ◌<◌, ◌≤◌, ◌^◌, ℕ, suc, zero, Bool, true, false, List, [], ◌∷◌, ◌++◌, length, get_or, None, refl, append_assoc, arith}
+use Rattle.std.proofs.Common.{◌≡◌, ◌<◌, ◌≤◌, ◌^◌, ◌+◌, ℕ, suc, zero, Bool, true, false, List, [], ◌∷◌, ◌++◌, length, get_or, Option, Some, None, refl, sym, ap, subst, ◌∙◌, append_assoc, arith}
 use Rattle.std.proofs.lemmas.List.{length-append}
 use Rattle.xdr_codec.specs.Spelling.{u32_bytes, u64_bytes, opaque_bytes, fixed_bytes, flag_bytes}
+use Rattle.xdr_codec.specs.Spells.{◌⨾◌, SpellsU32}
 use Rattle.xdr_codec.proofs.Laws.{u32_codec}
+use Rattle.xdr_codec.proofs.MoreLaws.{opaque_written}
 use Rattle.xdr_codec.proofs.Written.{joined, u32_written}
-use Rattle.nfs_types.specs.Fields.{handle_bytes, opt_attr_bytes, wcc_bytes, verf_bytes, time_bytes, attr_bytes, owner_bytes, place_bytes as parts_bytes, opt_stamp_bytes, stamp_bytes}
+use Rattle.nfs_types.specs.declared.attr.Attr.{Attr}
+use Rattle.nfs_types.specs.declared.set_attr.SetAttr.{SetAttr}
+use Rattle.nfs_types.specs.declared.set_attr.SetTime.TheVariants.{Keep}
+use Rattle.nfs_types.specs.declared.time.Time.{Time}
+use Rattle.nfs_types.specs.declared.verf.Verf.{Verf}
+use Rattle.nfs_types.specs.declared.wcc.Wcc.{Wcc}
+use Rattle.nfs_types.specs.declared.wcc.Stamp.{Stamp}
+use Rattle.nfs_types.specs.Fields.{handle_bytes, name_bytes, opt_attr_bytes, wcc_bytes, verf_bytes, time_bytes, attr_bytes, owner_bytes, place_bytes as parts_bytes, opt_stamp_bytes, stamp_bytes}
+use Rattle.nfs_types.specs.Names.{IsName, is_no_name}
 use Rattle.nfs_types.specs.Stamps.{stamp_of}
-use Rattle.nfs_types.specs.Spells.{SpellsHandle, SpellsAttr, SpellsTime, SpellsVerf, SpellsWcc}
+use Rattle.nfs_types.specs.Spells.{SpellsHandle, SpellsAttr, SpellsTime, SpellsOptAttr, SpellsVerf, SpellsWcc}
 use Rattle.nfs_types.proofs.Names.{name_of_test}
 use Rattle.nfs_types.proofs.Written.{handle_written, name_written, verf_written, time_written, attr_written, none_attr_written, some_attr_written, none_stamp_written, some_stamp_written, stamp_written, wcc_written}
 use Rattle.rpc_message.specs.declared.cred.Cred.TheVariants as creds
-use Rattle.rpc_message.specs.Call.{call_head_bytes, opening_bytes, program_bytes}
+use Rattle.rpc_message.specs.Call.{xid_at, call_head_bytes, opening_bytes, program_bytes, SpellsCallHead}
 use Rattle.rpc_message.specs.Cred.{none_bytes, cred_bytes}
 use Rattle.rpc_message.specs.Reply.{Accepted, accepted_bytes, verified_bytes}
+use Rattle.rpc_message.proofs.CallLaws.{call_xid}
 use Rattle.rpc_message.proofs.Creds.{cred_none}
 use Rattle.rpc_message.proofs.ReplyLaws.{reply_first}
 use Rattle.rpc_message.proofs.Written.{opening_written, program_written, call_written, accepted_written}
 use Rattle.mount_calls.specs.declared.call.MountCall.TheVariants as mounts
+use Rattle.mount_calls.specs.declared.reply.MountReply.TheVariants as mounted
 use Rattle.mount_calls.specs.Calls.{mount_call_bytes}
 use Rattle.mount_calls.specs.Flavors.{flavors_bytes, words_bytes}
 use Rattle.mount_calls.specs.Replies.{mount_reply_bytes, mnt_ok_bytes}
 use Rattle.mount_calls.proofs.Laws.{call_written as mount_call_written, words_written, flavors_written, mnt_ok_written}
+use Rattle.nfs_dir_calls.specs.declared.call.DirCall.TheVariants as dirs
+use Rattle.nfs_dir_calls.specs.declared.keeping.DirKept.TheVariants as found
 use Rattle.nfs_dir_calls.specs.Calls.{dir_call_bytes}
 use Rattle.nfs_dir_calls.specs.Lookup.{lookup_bytes}
 use Rattle.nfs_dir_calls.specs.Places.{place_bytes}
 use Rattle.nfs_dir_calls.specs.Replies.{dir_reply_bytes}
+use Rattle.nfs_file_calls.specs.declared.call.FileCall.TheVariants as files
+use Rattle.nfs_file_calls.specs.declared.owned.FileKept.TheVariants as kept
 use Rattle.nfs_file_calls.specs.Calls.{file_call_bytes}
 use Rattle.nfs_file_calls.specs.FileSystem.{fs_info_done_bytes, sizes_bytes, limits_bytes}
 use Rattle.nfs_file_calls.specs.Replies.{file_reply_bytes}

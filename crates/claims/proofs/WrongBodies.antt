@@ -1,6 +1,6 @@
 -- Histories that a wrong client makes, and that the definitions of stable bytes and of reads refuse. The records are any that
 -- spell the call; the server has one file, under the empty handle.
-use Rattle.std.proofs.Common.{◌≡◌, ◌<◌, ◌≤◌, ℕ, zero, suc, List, [], ◌∷◌, length, Some, refl, slice_get, arith}
+use Rattle.std.proofs.Common.{inl, inr, ◌≡◌, ◌≢◌, ◌<◌, ◌≤◌, ◌+◌, ℕ, zero, suc, true, false, List, [], ◌∷◌, length, Option, Some, refl, slice_get, arith}
 use Rattle.nfs_types.specs.declared.mode.Mode.TheVariants as modes
 use Rattle.nfs_file_calls.specs.declared.call.FileCall.TheVariants as files
 use Rattle.world_model.specs.declared.answer.Answer.{Answer}
@@ -22,8 +22,9 @@ use Rattle.world_model.specs.Operations.{Ended, LastReply}
 use Rattle.claims.specs.ReadTrue.{ReadsBytes, ReadCurrent, ReadShort, IsCurrent, own, held, hole}
 use Rattle.world_model.specs.Server.{Server, Object, Bytes}
 use Rattle.claims.specs.Settled.{Settled, itself}
-use Rattle.claims.specs.Slots.{Opens, asked, PutsTo, commits}
-use Rattle.claims.specs.Touched.{Touched, foreign, written, cut, gone, given_up, WritesByte, write, fill, put, Covers}
+use Rattle.claims.specs.Slots.{IsOf, InSlot, Opens, asked, PutsTo, commits}
+use Rattle.claims.specs.Touched.{Touched, foreign, written, cut, gone, given_up, WritesByte, write, fill, put, Wrote, Covers}
+use Rattle.world_model.specs.Waiting.{FirstSent}
 use Rattle.world_model.proofs.ServiceExamples.{file, verf, server}
 
 abbrev pub ok : Answer
