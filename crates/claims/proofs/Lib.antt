@@ -8,15 +8,3 @@ pub mod StaleBodies
 pub mod ThriftExamples
 pub mod WrongBodies
 pub mod OwnReads
-pub mod SmallServer
-pub mod Written
-pub mod Made
-pub mod Seen
-pub mod Opened
-pub mod RestartedPut
-pub mod UnsettledBytes
-pub mod OldReads
-pub mod UncausedAnswers
-pub mod LongPages
-pub mod OldNames
-pub mod RepeatedCalls
