@@ -1,0 +1,13 @@
+pub mod SmallServer
+pub mod Written
+pub mod Made
+pub mod Seen
+pub mod Opened
+pub mod RestartedPut
+pub mod UnsettledBytes
+pub mod OldReads
+pub mod LongPages
+pub mod OldNames
+pub mod UncausedAnswers
+pub mod RepeatedCalls
+pub mod CopyAfterReply
