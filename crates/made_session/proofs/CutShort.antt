@@ -5,8 +5,9 @@ use Rattle.world_model.specs.declared.entry.Entry.{Entry}
 use Rattle.world_model.specs.declared.tally.Tally.{Tally}
 use Rattle.nfs_script.specs.declared.script.ScriptLine.{ScriptLine}
 use Rattle.session_words.specs.declared.settings.Settings.{Settings}
-use Rattle.lane_session.specs.Sessions.{EndsAs, TextOf, NotesAll, SessionIs}
-use Rattle.lane_session.specs.Sessions as sessions
+use Rattle.lane_session.specs.Endings.{EndsAs, TextOf, NotesAll}
+use Rattle.lane_session.specs.Endings as sessions
+use Rattle.lane_session.specs.Sessions.{SessionIs}
 use Rattle.nfs_client.specs.LaneRuns.{SetUpAndRun, TellsMount}
 use Rattle.nfs_client.specs.LaneRuns as runs
 use Rattle.nfs_client.specs.Run.{IsCutOff, RefusesWith, Unbegun, SessionBy, RunIs}

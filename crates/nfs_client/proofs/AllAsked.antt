@@ -9,7 +9,8 @@ use Rattle.world_model.specs.Entries.{At}
 use Rattle.world_model.proofs.Places.{At-back}
 use Rattle.session_words.specs.declared.settings.Settings.{Settings}
 use Rattle.session_setup.specs.declared.opening.SetUp.{SetUp}
-use Rattle.session_setup.specs.Outcomes.{SetsUp, FitsSession, origin_of}
+use Rattle.session_setup.specs.Origins.{origin_of}
+use Rattle.session_setup.specs.Outcomes.{SetsUp, FitsSession}
 use Rattle.session_setup.specs.Sendings.{IsSetUpCall, mounts, informs}
 use Rattle.lane_session.specs.Bonds.{HasCore, SentSince}
 use Rattle.lane_session.specs.Running.{mounted_by}

@@ -101,10 +101,11 @@ use Rattle.core_answers.proofs.writes.PiecesCarried.{pieces-carried}
 use Rattle.core_answers.proofs.writes.WholeWrites.{writes-whole}
 use Rattle.session_words.specs.declared.settings.Settings.{Settings}
 use Rattle.session_setup.specs.declared.opening.SetUp.{SetUp}
-use Rattle.session_setup.specs.Outcomes.{FitsSession, SetsUp, origin_of}
+use Rattle.session_setup.specs.Origins.{origin_of}
+use Rattle.session_setup.specs.Outcomes.{FitsSession, SetsUp}
 use Rattle.lane_session.specs.Bonds.{HasCore, SentSince}
+use Rattle.lane_session.specs.Endings.{entries_of}
 use Rattle.lane_session.specs.Going.{AllTimed, Grows}
-use Rattle.lane_session.specs.Places.{entries_of}
 use Rattle.lane_session.specs.Running.{mounted_by}
 use Rattle.core_counts.proofs.coarse.Along.{writes-were-long}
 use Rattle.bond_calls.proofs.CallsWait.{xid_of_call}

@@ -11,7 +11,8 @@ use Rattle.session_words.specs.declared.settings.Settings.{Settings}
 use Rattle.session_setup.specs.declared.opening.SetUp.{SetUp}
 use Rattle.session_setup.specs.declared.opening.SetUpFault.TheVariants.{Refused, Lost, Memory}
 use Rattle.session_setup.specs.Outcomes.{SetsUp}
-use Rattle.lane_session.specs.Sessions.{SessionIs, TextOf}
+use Rattle.lane_session.specs.Endings.{TextOf}
+use Rattle.lane_session.specs.Sessions.{SessionIs}
 use Rattle.lane_session.specs.Statuses.{IsCutOff}
 use Rattle.nfs_client.specs.Shown.{RunShows}
 use Rattle.nfs_client.specs.Streams.{IsFront}

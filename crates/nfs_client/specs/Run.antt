@@ -8,7 +8,8 @@ use Rattle.nfs_script.specs.Script.{script_of}
 use Rattle.nfs_script.specs.RefusalText.{refusal_text}
 use Rattle.session_words.specs.declared.settings.Settings.{Settings}
 use Rattle.session_words.specs.Words.{IsCommand}
-use Rattle.lane_session.specs.Sessions.{SessionIs, TextOf}
+use Rattle.lane_session.specs.Endings.{TextOf}
+use Rattle.lane_session.specs.Sessions.{SessionIs}
 use Rattle.nfs_client.specs.LaneRuns.{SetUpAndRun}
 use Rattle.nfs_client.specs.Streams.{script_limit, IsFront, Appends}
 

@@ -86,11 +86,10 @@ use Rattle.nfs_script.specs.declared.script.ScriptLine.{ScriptLine}
 use Rattle.session_words.specs.declared.settings.Settings.{Settings}
 use Rattle.session_words.specs.Words.{IsCommand}
 use Rattle.session_setup.specs.declared.opening.SetUp.{SetUp}
-use Rattle.session_setup.specs.Outcomes.{origin_of}
+use Rattle.session_setup.specs.Origins.{origin_of}
 use Rattle.lane_session.specs.Bonds.{HasCore}
-use Rattle.lane_session.specs.Places.{entries_of}
 use Rattle.lane_session.specs.Running.{mounted_by}
-use Rattle.lane_session.specs.Sessions.{EndsAs}
+use Rattle.lane_session.specs.Endings.{EndsAs, entries_of}
 
 -- ---- what a session is given
 

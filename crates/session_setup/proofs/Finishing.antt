@@ -18,7 +18,8 @@ use Rattle.session_setup.specs.declared.opening.SetUpFault.TheVariants.{Refused,
 use Rattle.session_setup.specs.declared.sizes.Sizes.{Sizes}
 use Rattle.session_setup.specs.Along.{Extends}
 use Rattle.session_setup.specs.Exchanges.{IsBase, IsIdle}
-use Rattle.session_setup.specs.Outcomes.{IsOptions, origin_of, rooted, unheard, SetsUp, EndsSo}
+use Rattle.session_setup.specs.Origins.{origin_of}
+use Rattle.session_setup.specs.Outcomes.{IsOptions, rooted, unheard, SetsUp, EndsSo}
 use Rattle.session_setup.specs.Phases.{KeepsTerms, tally_after, Mounts, MountsTo, Informs, FinishesTo, Finishes}
 use Rattle.session_setup.specs.Sendings.{IsSetUpCall, mounts, informs, IsSetUpRecord, info_xid, Single}
 use Rattle.session_setup.proofs.Phases.{rooted_later, idle_first}
