@@ -110,7 +110,9 @@ use Rattle.lane_session.specs.Running.{mounted_by}
 use Rattle.core_counts.proofs.coarse.Along.{writes-were-long}
 use Rattle.bond_calls.proofs.CallsWait.{xid_of_call}
 use Rattle.core_counts.specs.coarse.WereLong.{write_call}
-use Rattle.nfs_client.specs.Shown.{AllRowed, CallsShown, CountsShown, OksShown, SlotsShown, PutsShown, CompleteShown, FaultsShown, KeptShown, RestShown, StableShown, HonestShown, RunShows, NeverBack, NoneUnderWay, longest_of, modes_of, setup_of, terms_by}
+use Rattle.script_runs.specs.LaneRuns.{setup_of}
+use Rattle.nfs_client.specs.Given.{NeverBack, longest_of, modes_of, terms_by}
+use Rattle.nfs_client.specs.Shown.{AllRowed, CallsShown, CountsShown, OksShown, SlotsShown, PutsShown, CompleteShown, FaultsShown, KeptShown, RestShown, StableShown, HonestShown, RunShows, NoneUnderWay}
 use Rattle.nfs_client.proofs.AllAsked.{goes-from, only-sets-up}
 use Rattle.nfs_client.proofs.AllOks.{all-oks, keeps-them}
 use Rattle.nfs_client.proofs.Causes.{all-caused}
