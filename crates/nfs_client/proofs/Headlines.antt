@@ -7,6 +7,7 @@ use Rattle.world_model.specs.declared.tally.Tally.{Tally}
 use Rattle.world_model.specs.Clocked.{clocks}
 use Rattle.world_model.specs.Counts.{tally_of}
 use Rattle.world_model.specs.History.{History}
+use Rattle.world_model.specs.Transcript.{transcript}
 use Rattle.nfs_script.specs.declared.script.ScriptLine.{ScriptLine}
 use Rattle.session_words.specs.declared.settings.Settings.{Settings}
 use Rattle.session_setup.specs.declared.opening.SetUp.{SetUp}
@@ -14,7 +15,7 @@ use Rattle.session_setup.specs.declared.opening.SetUpFault.TheVariants.{Refused,
 use Rattle.session_setup.specs.Origins.{origin_of}
 use Rattle.session_setup.specs.Outcomes.{SetsUp}
 use Rattle.session_setup.specs.Sendings.{IsUnmarked}
-use Rattle.lane_session.specs.Endings.{cut, TextOf, front_text, NotesAll}
+use Rattle.lane_session.specs.Endings.{cut, counts_text, TextOf, front_text, NotesAll}
 use Rattle.lane_session.specs.Going.{AllTimed}
 use Rattle.lane_session.specs.Losing.{LosesOnly}
 use Rattle.lane_session.specs.Sessions.{SessionIs}
@@ -64,12 +65,12 @@ ready-promises s first v before h shows t is = record {
   completes = (shows.complete t is).completes;
   settled = λ lawful once. (shows.stable t is lawful once).settled;
   cuts_stay = λ lawful once. (shows.stable t is lawful once).cuts_stay;
-  read_true = λ lawful once fresh never. (shows.stable t is lawful once).reads fresh never;
-  read_short = λ lawful once fresh never. (shows.stable t is lawful once).ends fresh never;
-  read_current = λ lawful fresh never. (shows.honest t is lawful fresh).read_true never;
-  names_true = λ lawful fresh never. (shows.honest t is lawful fresh).names never;
-  attr_age = λ lawful fresh never. (shows.honest t is lawful fresh).ages never;
-  list_true = λ lawful fresh never rising. (shows.honest t is lawful fresh).lists never rising;
+  read_true = λ lawful once anew never. (shows.stable t is lawful once).reads anew never;
+  read_short = λ lawful once anew never. (shows.stable t is lawful once).ends anew never;
+  read_current = λ lawful anew never. (shows.honest t is lawful anew).read_true never;
+  names_true = λ lawful anew never. (shows.honest t is lawful anew).names never;
+  attr_age = λ lawful anew never. (shows.honest t is lawful anew).ages never;
+  list_true = λ lawful anew never rising. (shows.honest t is lawful anew).lists never rising;
 }
 
 ready-headline : (s : Settings) (lines : List ScriptLine) (first ms : ℕ) (rest : List ℕ) (v : SetUp) (before h : List Entry) (status : ℕ) (text : List ℕ) → IsUnmarked before
@@ -94,12 +95,12 @@ quiet-promises s first h quiet t is =
       completes = quiet-completes (terms_by s first) t q;
       settled = λ lawful once. quiet-settled (terms_by s first) t q (modes_of s) (origin_of s.export);
       cuts_stay = λ lawful once. quiet-cuts (terms_by s first) t q (modes_of s) (origin_of s.export);
-      read_true = λ lawful once fresh never. quiet-read (terms_by s first) t q (modes_of s) (origin_of s.export);
-      read_short = λ lawful once fresh never. quiet-short (terms_by s first) t q (modes_of s) (origin_of s.export);
-      read_current = λ lawful fresh never. quiet-current (terms_by s first) t q (modes_of s) (origin_of s.export);
-      names_true = λ lawful fresh never. quiet-names (terms_by s first) t q (modes_of s) (origin_of s.export);
-      attr_age = λ lawful fresh never. quiet-ages (terms_by s first) t q (modes_of s) (origin_of s.export);
-      list_true = λ lawful fresh never rising. quiet-lists (terms_by s first) t q (modes_of s) (origin_of s.export);
+      read_true = λ lawful once anew never. quiet-read (terms_by s first) t q (modes_of s) (origin_of s.export);
+      read_short = λ lawful once anew never. quiet-short (terms_by s first) t q (modes_of s) (origin_of s.export);
+      read_current = λ lawful anew never. quiet-current (terms_by s first) t q (modes_of s) (origin_of s.export);
+      names_true = λ lawful anew never. quiet-names (terms_by s first) t q (modes_of s) (origin_of s.export);
+      attr_age = λ lawful anew never. quiet-ages (terms_by s first) t q (modes_of s) (origin_of s.export);
+      list_true = λ lawful anew never rising. quiet-lists (terms_by s first) t q (modes_of s) (origin_of s.export);
     }
 
 -- its lines were answered that it is lost
@@ -148,7 +149,7 @@ refused-ends : (s : Settings) (lines : List ScriptLine) (first : ℕ) (fault : F
 refused-ends s lines first fault h status text so tells = unmounted so.ends.path fault so.ends.mounting so.ends.refused so.unmarked.began tells
 
 unready-ends : (s : Settings) (lines : List ScriptLine) (h : List Entry) (status : ℕ) (text : List ℕ) → status ≡ 7 → text ≡ [] → EndsSo s lines h status text
-unready-ends s lines h status text seven none = ran (cut (inr seven)) (front_text (inr seven) (record { rest = _; is = ap (λ (t : List ℕ). t ++ _) (sym none) }))
+unready-ends s lines h status text seven none = ran (cut (inr seven)) (front_text (inr seven) (record { rest = transcript h ++ counts_text s.count (tally_of h); is = ap (λ (t : List ℕ). t ++ (transcript h ++ counts_text s.count (tally_of h))) (sym none) }))
 
 -- there were no lines
 empty-headline : (s : Settings) (given : List ℕ) (h : List Entry) (status : ℕ) (text : List ℕ) → h ≡ [] → SessionIs s.count [] given [] h status text → TextOf s.count (tally_of h) h status text

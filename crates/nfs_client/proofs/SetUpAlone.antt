@@ -9,7 +9,6 @@ use Rattle.world_model.specs.declared.entry.Entry.TheVariants.{Began, Answered, 
 use Rattle.world_model.specs.declared.message.Call.{Call}
 use Rattle.world_model.specs.declared.tally.Tally.{Tally}
 use Rattle.world_model.specs.Entries.{At}
-use Rattle.world_model.specs.Lost.{IsLost}
 use Rattle.world_model.specs.Waiting.{Answers}
 use Rattle.world_model.proofs.Growth.{Rooted-grow, Waits-back}
 use Rattle.world_model.proofs.Places.{At-back, At-below}

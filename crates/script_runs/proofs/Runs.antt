@@ -60,7 +60,7 @@ run_says v w a b old new left s lines status read said = record {
 }
 
 relates_none : (old : Option History) (s : Settings) (left : Option (List ℕ)) (status : ℕ) (text : List ℕ) → Unbegun left status text
-    → Relates old old (λ before h. before ≡ [] → RunsWith [] s left h status text)
+    → Relates old old (λ before h. before ≡ [] → LeavesWith [] s left h status text)
 relates_none None s left status text u = tt
 relates_none (Some x) s left status text u = λ e. unbegun_with e u
 
@@ -115,7 +115,7 @@ words_say Is v w a b old new words left s status c said = record {
 }
 
 relates_unread : (old : Option History) (words : List (List ℕ)) (left : Option (List ℕ)) (status : ℕ) → Unbegun left status []
-    → Relates old old (λ before h. before ≡ [] → RunIs [] words left h status [])
+    → Relates old old (λ before h. before ≡ [] → RunLeaves [] words left h status [])
 relates_unread None words left status u = tt
 relates_unread (Some x) words left status u = λ e. unbegun e u
 

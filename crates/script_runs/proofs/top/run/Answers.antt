@@ -3,6 +3,7 @@ use Rattle.session_words.specs.declared.settings.Settings.{Settings}
 use Rattle.link_dials.specs.Dials.{DialsInTurn}
 use Rattle.link_dials.proofs.Dialing.{dials_same}
 use Rattle.link_dials.proofs.Ports.{turn_nfs}
+use Rattle.script_runs.specs.LaneRuns.{Leaves, SessionBy}
 use Rattle.script_runs.specs.Run.{no_words, cut_before}
 use Rattle.script_runs.proofs.Runs.{words_say, unread_says}
 use Rattle.script_runs.proofs.top.run.Goals as goal
@@ -27,7 +28,7 @@ pub returns-in-Err-Memory-clause-dials : goal.returns-in-Err-Memory-clause-dials
 returns-in-Err-Memory-clause-dials g c = λ s is. turn_nfs _ _ _ _ (dials_same _ _)
 
 pub returns-in-Ok-clause-shown : goal.returns-in-Ok-clause-shown
-returns-in-Ok-clause-shown g c = words_say _ _ _ _ _ _ _ _ _ _ _ c.in-Ok.ensures.found c.run_with.ensures.shown
+returns-in-Ok-clause-shown g c = words_say (SessionBy Leaves) _ _ _ _ _ _ _ _ _ _ c.in-Ok.ensures.found c.run_with.ensures.shown
 
 pub returns-in-Err-Refused-clause-shown : goal.returns-in-Err-Refused-clause-shown
 returns-in-Err-Refused-clause-shown g c = unread_says _ _ _ _ _ _ (no_words refl refl)
