@@ -68,7 +68,7 @@ unbegun left ran status text c (tops.no_script fault f (tops.cut off front)) = t
 pub session_by : (s : Settings) (lines : List ScriptLine) (given : List ℕ) (h : List Entry) (ran status : ℕ) (text : List ℕ) → Cuts ran status → SessionBy Shows s lines given h ran text
     → SessionBy Shows s lines given h status text
 session_by s lines given h ran status text c (runs.no_lines none empty is says) = runs.no_lines none empty (session_is s.count [] given [] h ran status text c is) (texts s.count _ h ran status text c says)
-session_by s lines given h ran status text c (runs.some_lines ms first rest is by run) = runs.some_lines ms first rest is by (set_up s lines first rest h ran status text c run)
+session_by s lines given h ran status text c (runs.some_lines some ms first rest is by run) = runs.some_lines some ms first rest is by (set_up s lines first rest h ran status text c run)
 
 -- ---- in the words of the model
 
@@ -109,6 +109,7 @@ pub headline_by : (s : Settings) (lines : List ScriptLine) (given : List ℕ) (h
     → Headline s lines given h status text
 headline_by s lines given h ran status text c k = record {
   first = k.first;
+  idle = k.idle;
   follows = k.follows;
   together = k.together;
   clock = clocked ran status given h c k.clock;

@@ -73,10 +73,11 @@ ready-promises s first v before h shows t is = record {
   list_true = λ lawful anew never rising. (shows.honest t is lawful anew).lists never rising;
 }
 
-ready-headline : (s : Settings) (lines : List ScriptLine) (first ms : ℕ) (rest : List ℕ) (v : SetUp) (before h : List Entry) (status : ℕ) (text : List ℕ) → IsUnmarked before
+ready-headline : (s : Settings) (lines : List ScriptLine) (first ms : ℕ) (rest : List ℕ) (v : SetUp) (before h : List Entry) (status : ℕ) (text : List ℕ) → lines ≢ [] → IsUnmarked before
     → SessionIs s.count lines rest before h status text → RunShows s first v before h → TextOf s.count (tally_of h) h status text → Headline s lines (ms ∷ rest) h status text
-ready-headline s lines first ms rest v before h status text unmarked is shows says = record {
+ready-headline s lines first ms rest v before h status text some unmarked is shows says = record {
   first = first;
+  idle = λ none. absurd (some none);
   follows = is.follows;
   together = is.together;
   clock = clocked status ms rest before h unmarked is.clock is.timed;
@@ -105,12 +106,13 @@ quiet-promises s first h quiet t is =
 
 -- its lines were answered that it is lost
 lost-headline : (s : Settings) (lines : List ScriptLine) (first ms : ℕ) (rest : List ℕ) (tally : Tally) (before h : List Entry) (status : ℕ) (text : List ℕ)
-    → SetsUp s first (Err (Lost tally)) before → SessionIs s.count lines rest before h status text → LosesOnly lines before h → TextOf s.count (tally_of h) h status text
+    → lines ≢ [] → SetsUp s first (Err (Lost tally)) before → SessionIs s.count lines rest before h status text → LosesOnly lines before h → TextOf s.count (tally_of h) h status text
     → Headline s lines (ms ∷ rest) h status text
-lost-headline s lines first ms rest tally before h status text so is only says =
+lost-headline s lines first ms rest tally before h status text some so is only says =
     let quiet : IsQuiet (terms_by s first) h = subst (IsQuiet (terms_by s first)) (sym only.is) (lost-quiet s first tally before only.more so only.each) in
     record {
       first = first;
+      idle = λ none_left. absurd (some none_left);
       follows = is.follows;
       together = is.together;
       clock = clocked status ms rest before h so.unmarked is.clock is.timed;
@@ -121,12 +123,13 @@ lost-headline s lines first ms rest tally before h status text so is only says =
     }
 
 -- no line was begun, as memory ran out in the set-up or the mount was refused
-early-headline : (s : Settings) (lines : List ScriptLine) (first ms : ℕ) (h : List Entry) (status : ℕ) (text : List ℕ) → IsUnmarked h → IsQuiet (terms_by s first) h → EndsSo s lines h status text
+early-headline : (s : Settings) (lines : List ScriptLine) (first ms : ℕ) (h : List Entry) (status : ℕ) (text : List ℕ) → lines ≢ [] → IsUnmarked h → IsQuiet (terms_by s first) h → EndsSo s lines h status text
     → Headline s lines (ms ∷ []) h status text
-early-headline s lines first ms h status text unmarked quiet ends =
+early-headline s lines first ms h status text some unmarked quiet ends =
     let none = broken-none lines h (fresh h unmarked) in
     record {
       first = first;
+      idle = λ none_left. absurd (some none_left);
       follows = none.follows;
       together = none.together;
       clock = record {
@@ -158,6 +161,7 @@ empty-headline s given h status text none is says =
     let quiet : IsQuiet (terms_by s 1) h = subst (IsQuiet (terms_by s 1)) (sym none) (empty-quiet (terms_by s 1)) in
     record {
       first = 1;
+      idle = λ none_left. none;
       follows = is.follows;
       together = is.together;
       clock = record {
@@ -177,20 +181,20 @@ empty-headline s given h status text none is says =
 
 -- ---- any session
 
-set-up-headline : (s : Settings) (lines : List ScriptLine) (first ms : ℕ) (rest : List ℕ) (h : List Entry) (status : ℕ) (text : List ℕ) → SetUpAndRun Shows s lines first rest h status text
+set-up-headline : (s : Settings) (lines : List ScriptLine) (first ms : ℕ) (rest : List ℕ) (h : List Entry) (status : ℕ) (text : List ℕ) → lines ≢ [] → SetUpAndRun Shows s lines first rest h status text
     → Headline s lines (ms ∷ rest) h status text
-set-up-headline s lines first ms rest h status text (ready v before so is shows says) = ready-headline s lines first ms rest v before h status text so.unmarked is shows says
-set-up-headline s lines first ms rest h status text (lost tally before so is only gone says) = lost-headline s lines first ms rest tally before h status text so is only says
-set-up-headline s lines first ms rest h status text (refused fault none so tells) =
+set-up-headline s lines first ms rest h status text some (ready v before so is shows says) = ready-headline s lines first ms rest v before h status text some so.unmarked is shows says
+set-up-headline s lines first ms rest h status text some (lost tally before so is only gone says) = lost-headline s lines first ms rest tally before h status text some so is only says
+set-up-headline s lines first ms rest h status text some (refused fault none so tells) =
     subst (λ (g : List ℕ). Headline s lines (ms ∷ g) h status text) (sym none)
-    (early-headline s lines first ms h status text so.unmarked (early-quiet s first _ h so) (refused-ends s lines first fault h status text so tells))
-set-up-headline s lines first ms rest h status text (unready none so seven empty) =
+    (early-headline s lines first ms h status text some so.unmarked (early-quiet s first _ h so) (refused-ends s lines first fault h status text so tells))
+set-up-headline s lines first ms rest h status text some (unready none so seven empty) =
     subst (λ (g : List ℕ). Headline s lines (ms ∷ g) h status text) (sym none)
-    (early-headline s lines first ms h status text so.unmarked (early-quiet s first _ h so) (unready-ends s lines h status text seven empty))
+    (early-headline s lines first ms h status text some so.unmarked (early-quiet s first _ h so) (unready-ends s lines h status text seven empty))
 
 pub session-headline : (s : Settings) (lines : List ScriptLine) (given : List ℕ) (h : List Entry) (status : ℕ) (text : List ℕ) → SessionBy Shows s lines given h status text
     → Headline s lines given h status text
 session-headline s lines given h status text (no_lines empty none is says) =
     subst (λ (l : List ScriptLine). Headline s l given h status text) (sym empty) (empty-headline s given h status text none is says)
-session-headline s lines given h status text (some_lines ms first rest is by run) =
-    subst (λ (g : List ℕ). Headline s lines g h status text) (sym is) (set-up-headline s lines first ms rest h status text run)
+session-headline s lines given h status text (some_lines some ms first rest is by run) =
+    subst (λ (g : List ℕ). Headline s lines g h status text) (sym is) (set-up-headline s lines first ms rest h status text some run)

@@ -7,4 +7,5 @@ pub mod Showing
 pub mod Quiet
 pub mod SetUpAlone
 pub mod Headlines
+pub mod UnheardOk
 pub mod Whole

@@ -27,7 +27,7 @@ set-up-shows s lines first given h status text (unready none so seven empty) = u
 session-shows : (s : Settings) (lines : List ScriptLine) (given : List ℕ) (h : List Entry) (status : ℕ) (text : List ℕ) → SessionBy Leaves s lines given h status text
     → SessionBy Shows s lines given h status text
 session-shows s lines given h status text (no_lines empty none is says) = no_lines empty none is says
-session-shows s lines given h status text (some_lines ms first rest is by run) = some_lines ms first rest is by (set-up-shows s lines first rest h status text run)
+session-shows s lines given h status text (some_lines some ms first rest is by run) = some_lines some ms first rest is by (set-up-shows s lines first rest h status text run)
 
 session-heads : (s : Settings) (lines : List ScriptLine) (given : List ℕ) (h : List Entry) (status : ℕ) (text : List ℕ) → SessionBy Leaves s lines given h status text
     → Headline s lines given h status text

@@ -1,5 +1,5 @@
 -- What a session promises, in the words of the model alone.
-use Rattle.std.specs.Prelude.{◌≡◌, ℕ, List, true, false}
+use Rattle.std.specs.Prelude.{◌≡◌, ℕ, List, [], true, false}
 use Rattle.world_model.specs.declared.entry.Entry.{Entry}
 use Rattle.world_model.specs.Follows.{Follows}
 use Rattle.world_model.specs.Fresh.{Fresh}
@@ -38,6 +38,7 @@ pub record Promises (s : Settings) (first : ℕ) (t : History) : Type 0 where
 -- A session of these lines, by these settings. The clock gave these readings, the history is what the link tells, and the text is what was written.
 pub record Headline (s : Settings) (lines : List ScriptLine) (given : List ℕ) (h : List Entry) (status : ℕ) (text : List ℕ) : Type 0 where
   pub first : ℕ
+  pub idle : lines ≡ [] → h ≡ []
   pub follows : Follows (entries_of lines) h
   pub together : LanesTogether (entries_of lines) h
   pub clock : IsClocked status given h

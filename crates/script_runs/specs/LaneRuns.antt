@@ -1,5 +1,5 @@
 -- A session: what its set-up came to, and then what came of its lines.
-use Rattle.std.specs.Prelude.{◌≡◌, ◌⊎◌, ℕ, List, [], ◌∷◌, All, length, Option, Ok, Err}
+use Rattle.std.specs.Prelude.{◌≡◌, ◌≢◌, ◌⊎◌, ℕ, List, [], ◌∷◌, All, length, Option, Ok, Err}
 use Rattle.world_model.specs.declared.answer.Fault.{Fault}
 use Rattle.world_model.specs.declared.entry.Entry.{Entry}
 use Rattle.world_model.specs.declared.tally.Tally.{Tally}
@@ -49,8 +49,8 @@ pub data SessionBy (R : Settings → List ScriptLine → ℕ → SetUp → List 
     (h : List Entry) (status : ℕ) (text : List ℕ) : Type 0 where
   no_lines : lines ≡ [] → h ≡ [] → SessionIs s.count [] given [] h status text → TextOf s.count (tally_of h) h status text
       → SessionBy R s lines given h status text
-  some_lines : (ms first : ℕ) (rest : List ℕ) → given ≡ ms ∷ rest → IsFirst given s.xid first → SetUpAndRun R s lines first rest h status text
-      → SessionBy R s lines given h status text
+  some_lines : lines ≢ [] → (ms first : ℕ) (rest : List ℕ) → given ≡ ms ∷ rest → IsFirst given s.xid first
+      → SetUpAndRun R s lines first rest h status text → SessionBy R s lines given h status text
 
 -- a session ends with one of these: each operation went well, or one was refused, the link was lost, the mount was refused, or it was cut off
 abbrev pub IsEnding : ℕ → Type 0
