@@ -11,7 +11,8 @@ use Rattle.nfs_script.specs.declared.script.ScriptLine.{ScriptLine}
 use Rattle.lane_session.specs.declared.halt.Halt.{Halt}
 use Rattle.lane_session.specs.declared.halt.Halt.TheVariants as halts
 use Rattle.lane_session.specs.declared.top.End.{End}
-use Rattle.lane_session.specs.Sessions.{SessionIs, SessionCounts, whole, cut, TextOf, whole_text, front_text, IsDone, IsBroken, counts_text, TellsEnd, tells, tells_front}
+use Rattle.lane_session.specs.Endings.{whole, cut, TextOf, whole_text, front_text, counts_text}
+use Rattle.lane_session.specs.Sessions.{SessionIs, SessionCounts, IsDone, IsBroken, TellsEnd, tells, tells_front}
 use Rattle.lane_session.specs.Statuses.{of_halt, IsCutOff, IsLeft, HasStatus, IsEnding, CausedBy}
 use Rattle.lane_session.specs.Streams.{Says, Passes}
 use Rattle.lane_session.proofs.Passing.{appends_then, relates_less}

@@ -64,7 +64,7 @@ module _ (h more : List Entry) where
   dialed-within : (at to : ℕ) → FailedDial h at to → at ≤ length h
   dialed-within at to d = let below = At-below h at (Dialed d.port) d.dialed in omega (arith, below)
 
-  loses-more : (to : ℕ) → to ≤ length h → Loses h to → Loses (h ++ more) to
+  pub loses-more : (to : ℕ) → to ≤ length h → Loses h to → Loses (h ++ more) to
   loses-more to within (given_up xid a b c d first second third fourth unheard) =
       given_up xid a b c d (attempt-more xid a b first) (attempt-more xid b c second) (attempt-more xid c d third) (attempt-more xid d to fourth)
       (λ j bytes there has after before. unheard j bytes (At-back h more j (Delivered bytes) there (omega (arith, before, within))) has after before)

@@ -23,7 +23,8 @@ use Rattle.lane_session.specs.declared.top.End.{End}
 use Rattle.lane_session.specs.Going.{Goes, Went, GoesOn, CutsOff}
 use Rattle.lane_session.specs.Holding.{AreQuiet, IsHeld, TriedSo}
 use Rattle.lane_session.specs.LaneMarks.{IsResting}
-use Rattle.lane_session.specs.Places.{entries_of, IsOpen, IsPlaced, AreIdle}
+use Rattle.lane_session.specs.Endings.{entries_of}
+use Rattle.lane_session.specs.Places.{IsOpen, IsPlaced, AreIdle}
 use Rattle.lane_session.specs.Sessions.{IsUnmarked, IsDone, IsBroken}
 use Rattle.lane_session.specs.Statuses.{HasStatus}
 use Rattle.lane_session.specs.Running.{IsFreshFor, first_place}

@@ -29,6 +29,7 @@ pub mod Bonding
 pub mod Reaching
 pub mod CoreEnds
 pub mod LostAnswers
+pub mod LostAdds
 pub mod Telling
 pub mod Starting
 pub mod Counted

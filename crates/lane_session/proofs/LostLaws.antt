@@ -22,7 +22,7 @@ use Rattle.lane_session.specs.declared.top.End.{End}
 use Rattle.lane_session.specs.Going.{AllTimed}
 use Rattle.lane_session.specs.LaneMarks.{IsRunning, IsResting, closed_none}
 use Rattle.lane_session.specs.Losing.{lost_line, LostLines, no_line, one_line, LostPart, nothing, timed, begun as part_begun, answered as part_answered, IsToldOf, LosesBy, status_of}
-use Rattle.lane_session.specs.Places.{entries_of}
+use Rattle.lane_session.specs.Endings.{entries_of}
 use Rattle.lane_session.specs.Sessions.{IsUnmarked, IsDone, IsBroken}
 use Rattle.lane_session.specs.Statuses.{HasStatus, well, IsSessionStatus}
 use Rattle.lane_session.proofs.LaneLaws.{running-alternates, resting-alternates, resting-grow, begins-now, answers-now}

@@ -22,7 +22,8 @@ use Rattle.lane_session.specs.declared.running.Session.{Session}
 use Rattle.lane_session.specs.Bonds.{CoreGoes, CoreWent}
 use Rattle.lane_session.specs.Going.{Goes, Went, GoesOn, CutsOff, TellsAnswer}
 use Rattle.lane_session.specs.LaneMarks.{IsRunning}
-use Rattle.lane_session.specs.Places.{entries_of, IsOpen, IsPlaced, Seeks, Ends}
+use Rattle.lane_session.specs.Endings.{entries_of}
+use Rattle.lane_session.specs.Places.{IsOpen, IsPlaced, Seeks, Ends}
 use Rattle.lane_session.specs.Running.{LineIs}
 use Rattle.lane_session.specs.Statuses.{after_answer, IsLeft}
 use Rattle.lane_session.proofs.LaneLaws.{resting-grow, begins-now, answers-now}

@@ -18,7 +18,8 @@ use Rattle.world_model.proofs.Places.{At-grow, At-last, At-cases, length_last}
 use Rattle.nfs_script.specs.declared.script.ScriptLine.{ScriptLine}
 use Rattle.lane_session.specs.declared.lanes.Place.{Place}
 use Rattle.lane_session.specs.Going.{AllTimed}
-use Rattle.lane_session.specs.Places.{entries_of, IsOpen, IsPlaced, IsNext}
+use Rattle.lane_session.specs.Endings.{entries_of}
+use Rattle.lane_session.specs.Places.{IsOpen, IsPlaced, IsNext}
 use Rattle.lane_session.specs.Running.{marks}
 use Rattle.lane_session.specs.Statuses.{after_answer, IsAnswered, HasStatus, lost, refused, well}
 use Rattle.lane_session.proofs.LaneLaws.{running-grow, resting-grow}

@@ -14,7 +14,8 @@ use Rattle.lane_session.specs.declared.lanes.Place.{Place}
 use Rattle.lane_session.specs.declared.running.Session.{Session}
 use Rattle.lane_session.specs.Holding.{AreQuiet}
 use Rattle.lane_session.specs.LaneMarks.{IsRunning, IsResting}
-use Rattle.lane_session.specs.Places.{entries_of, IsOpen, IsPlaced}
+use Rattle.lane_session.specs.Endings.{entries_of}
+use Rattle.lane_session.specs.Places.{IsOpen, IsPlaced}
 use Rattle.lane_session.proofs.Asking.{asked-at}
 
 -- ---- places among the lines of a lane

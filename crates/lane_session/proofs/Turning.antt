@@ -16,7 +16,8 @@ use Rattle.lane_session.specs.declared.running.Session.{Session}
 use Rattle.lane_session.specs.Bonds.{CoreGoes, CoreWent}
 use Rattle.lane_session.specs.Going.{Grows, Goes, Went, GoesOn, CutsOff, GoesBy}
 use Rattle.lane_session.specs.Holding.{AreQuiet}
-use Rattle.lane_session.specs.Places.{entries_of, IsOpen, IsPlaced}
+use Rattle.lane_session.specs.Endings.{entries_of}
+use Rattle.lane_session.specs.Places.{IsOpen, IsPlaced}
 use Rattle.lane_session.specs.Running.{marks, Quietly}
 use Rattle.lane_session.specs.Statuses.{IsLeft, HasStatus}
 use Rattle.lane_session.proofs.LaneLaws.{resting-grow, running-alternates, resting-alternates}

@@ -14,6 +14,7 @@ use Rattle.world_model.specs.LanesTogether.{HasBegun}
 use Rattle.world_model.specs.Lost.{Loses, IsLost}
 use Rattle.world_model.specs.Rows.{DropRun}
 use Rattle.world_model.specs.Waiting.{Waits}
+use Rattle.nfs_script.specs.declared.script.ScriptLine.{ScriptLine}
 use Rattle.session_words.specs.declared.settings.Settings.{Settings}
 use Rattle.op_machines.specs.Begun.{machine_of}
 use Rattle.op_machines.specs.declared.begun.Mounted.{Mounted}
@@ -26,6 +27,7 @@ use Rattle.core_facts.specs.Notes.{Notes}
 use Rattle.lane_session.specs.declared.halt.Halt.{Halt}
 use Rattle.lane_session.specs.declared.running.Session.{Session}
 use Rattle.lane_session.specs.declared.top.End.{End}
+use Rattle.lane_session.specs.Losing.{LosesOnly}
 use Rattle.lane_session.specs.Running.{mounted_by}
 use Rattle.lane_session.specs.Tallies.{Tallied}
 
@@ -128,6 +130,11 @@ CanCount None h = Unit {0}
 abbrev pub EndsWith : Settings → Option Setup → List Entry → List Entry → Type 0
 EndsWith settings (Some setup) h k = HasCore (mounted_by settings setup) setup h k
 EndsWith settings None h k = IsLost k (length k)
+
+-- Without a set-up nothing but the loss is noted.
+abbrev pub LosesAll : Option Setup → List ScriptLine → List Entry → List Entry → Type 0
+LosesAll (Some setup) script h k = Unit {0}
+LosesAll None script h k = LosesOnly script h k
 
 -- The calls were counted as the history shows them, unless the session was cut off.
 abbrev pub AreCounted : Result End Halt → List Entry → Type 0

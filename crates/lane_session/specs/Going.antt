@@ -16,7 +16,8 @@ use Rattle.lane_session.specs.declared.halt.Halt.{Halt}
 use Rattle.lane_session.specs.declared.running.Session.{Session}
 use Rattle.lane_session.specs.Bonds.{CoreGoes, CoreWent}
 use Rattle.lane_session.specs.LaneMarks.{IsResting}
-use Rattle.lane_session.specs.Places.{IsPlaced, entries_of}
+use Rattle.lane_session.specs.Endings.{entries_of}
+use Rattle.lane_session.specs.Places.{IsPlaced}
 use Rattle.lane_session.specs.Statuses.{HasStatus, IsLeft}
 use Rattle.lane_session.specs.Streams.{IsFrontOf}
 

@@ -3,6 +3,7 @@ pub mod LaneMarks
 pub mod Places
 pub mod Ports
 pub mod Statuses
+pub mod Endings
 pub mod Holding
 pub mod Running
 pub mod Tallies

@@ -5,6 +5,7 @@ use Rattle.world_model.specs.declared.answer.Fault.TheVariants as faults
 use Rattle.world_model.specs.declared.entry.Entry.{Entry}
 use Rattle.world_model.specs.declared.entry.Entry.TheVariants.{Began, Answered, Clock}
 use Rattle.world_model.specs.Clocked.{clocks}
+use Rattle.world_model.specs.Entries.{At}
 use Rattle.world_model.specs.Transcript.{transcript}
 use Rattle.nfs_script.specs.declared.script.ScriptLine.{ScriptLine}
 use Rattle.lane_session.specs.declared.halt.Halt.{Halt}
@@ -51,3 +52,19 @@ LosesBy script (Err halt) given text h k = (n : ℕ) × (l : ScriptLine) × (sli
 abbrev pub status_of : List ScriptLine → ℕ
 status_of [] = 0
 status_of (l ∷ ls) = 6
+
+-- ---- what such a session adds to its history
+
+-- a reading of the clock, the beginning of a line, or an answer that the session is lost
+abbrev pub IsLosing : Entry → Type 0
+IsLosing (Clock ms) = Unit {0}
+IsLosing (Began lane line op) = Unit {0}
+IsLosing (Answered lane line answer) = answer ≡ answers.Refused faults.Lost
+IsLosing e = ⊥
+
+-- The history goes on with such entries alone; of a script without lines with none.
+pub record LosesOnly (script : List ScriptLine) (h k : List Entry) : Type 0 where
+  pub more : List Entry
+  pub is : k ≡ h ++ more
+  pub each : (i : ℕ) (e : Entry) → At more i e → IsLosing e
+  pub none : script ≡ [] → more ≡ []

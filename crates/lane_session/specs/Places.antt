@@ -1,15 +1,11 @@
 -- Where the lanes are in the script.
-use Rattle.std.specs.Prelude.{◌≡◌, ◌≤◌, ◌<◌, ◌+◌, ◌-◌, ◌*◌, ℕ, List, [], ◌∷◌, length, map, take, slice_get, slice_set, Option, Some, None}
+use Rattle.std.specs.Prelude.{◌≡◌, ◌≤◌, ◌<◌, ◌+◌, ◌-◌, ◌*◌, ℕ, List, [], ◌∷◌, length, take, slice_get, slice_set, Option, Some, None}
 use Rattle.world_model.specs.declared.entry.Entry.{Entry}
-use Rattle.world_model.specs.declared.entry.Entry.TheVariants.{Began}
 use Rattle.world_model.specs.Follows.{begun}
 use Rattle.nfs_script.specs.declared.script.ScriptLine.{ScriptLine}
 use Rattle.lane_session.specs.declared.lanes.Place.{Place}
+use Rattle.lane_session.specs.Endings.{entries_of}
 use Rattle.lane_session.specs.LaneMarks.{IsRunning, IsResting}
-
--- the entries that begin the lines of a script
-abbrev pub entries_of : List ScriptLine → List Entry
-entries_of script = map (λ l. Began l.lane l.line l.op) script
 
 -- a lane's place
 abbrev pub PlaceAt : List Place → ℕ → Place → Type 0

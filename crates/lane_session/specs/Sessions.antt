@@ -1,9 +1,9 @@
 -- What a session promises.
-use Rattle.std.specs.Prelude.{◌≡◌, ◌≢◌, ◌≤◌, ℕ, Bool, List, [], ◌++◌, length, Option, Some, None, Result, Ok, Err, if◌then◌else◌}
+use Rattle.std.specs.Prelude.{◌≡◌, ℕ, Bool, List, [], ◌++◌, Option, Some, None, Result, Ok, Err}
 use Rattle.world_model.specs.declared.entry.Entry.{Entry}
 use Rattle.world_model.specs.declared.tally.Tally.{Tally}
 use Rattle.world_model.specs.Clocked.{clocks}
-use Rattle.world_model.specs.Counts.{tally_of, tally_text}
+use Rattle.world_model.specs.Counts.{tally_of}
 use Rattle.world_model.specs.Follows.{Follows, Finishes, marks_of}
 use Rattle.world_model.specs.LanesTogether.{LanesTogether}
 use Rattle.world_model.specs.Transcript.{transcript}
@@ -12,8 +12,8 @@ use Rattle.client_core.specs.declared.setup.Setup.{Setup}
 use Rattle.core_facts.specs.Reaches.{MaySetUp}
 use Rattle.lane_session.specs.declared.halt.Halt.{Halt}
 use Rattle.lane_session.specs.declared.top.End.{End}
+use Rattle.lane_session.specs.Endings.{entries_of, EndsAs, counts_text, TextOf, NotesAll}
 use Rattle.lane_session.specs.Going.{AllTimed, Grows}
-use Rattle.lane_session.specs.Places.{entries_of}
 use Rattle.lane_session.specs.Statuses.{HasStatus, IsCutOff, IsLeft}
 use Rattle.lane_session.specs.Streams.{IsFrontOf}
 
@@ -25,27 +25,6 @@ MayGo (Some setup) = MaySetUp setup
 -- no operation has begun or was answered
 abbrev pub IsUnmarked : List Entry → Type 0
 IsUnmarked h = (lane : ℕ) → marks_of lane h ≡ []
-
--- Each line was begun and answered, and the status is that of the answers; or the session was cut off.
-pub data EndsAs (script : List ScriptLine) (k : List Entry) (status : ℕ) : Type 0 where
-  whole : Finishes (entries_of script) k → HasStatus k status → EndsAs script k status
-  cut : IsCutOff status → EndsAs script k status
-
--- the line of counts, where it is wanted
-abbrev pub counts_text : Bool → Tally → List ℕ
-counts_text count tally = if count then tally_text tally else []
-
--- The answers and the counts were written; or a front of that, where the session was cut off.
-pub data TextOf (count : Bool) (tally : Tally) (k : List Entry) (status : ℕ) (text : List ℕ) : Type 0 where
-  whole_text : text ≡ transcript k ++ counts_text count tally → TextOf count tally k status text
-  front_text : IsCutOff status → IsFrontOf (transcript k ++ counts_text count tally) text → TextOf count tally k status text
-
--- The readings that the clock gave were noted, in order, but at status 7 perhaps the last.
-pub record NotesAll (status : ℕ) (given : List ℕ) (h k : List Entry) : Type 0 where
-  pub last : List ℕ
-  pub is : clocks h ++ given ≡ clocks k ++ last
-  pub few : length last ≤ 1
-  pub whole : status ≢ 7 → last ≡ []
 
 -- The session of a script, before which the history is h and at whose end it is k.
 pub record SessionIs (count : Bool) (script : List ScriptLine) (given : List ℕ) (h k : List Entry) (status : ℕ) (text : List ℕ) : Type 0 where

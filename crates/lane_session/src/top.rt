@@ -8,8 +8,8 @@ ghost use Rattle.world_model.specs.Lost.{IsLost};
 ghost use Rattle.world_model.specs.Told.{Relates};
 ghost use Rattle.link_dials.specs.Dials.{DialsOnly};
 ghost use Rattle.core_facts.specs.Reaches.{MaySetUp};
-ghost use Rattle.lane_session.specs.Bonds.{IsOpened, CanCount, EndsWith, StaysLost, AreCounted};
-ghost use Rattle.lane_session.specs.Losing.{status_of};
+ghost use Rattle.lane_session.specs.Bonds.{IsOpened, CanCount, EndsWith, LosesAll, StaysLost, AreCounted};
+ghost use Rattle.lane_session.specs.Losing.{LosesOnly, status_of};
 ghost use Rattle.lane_session.specs.Sessions.{MayGo, IsUnmarked, SessionCounts, EndsBy, TellsEnd};
 ghost use Rattle.lane_session.specs.Statuses.{IsEnding, IsSessionStatus, CausedBy};
 ghost use Rattle.lane_session.specs.Streams.{Passes, Says};
@@ -55,6 +55,7 @@ pub fn session<L: Link, C: Clock, K: Sink>(
     ensures core { Relates (L.told link.old) (L.told link.new)
         (λ h k. IsOpened (option_map (λ s. s.now) setup.entry) h → EndsWith settings.now (option_map (λ s. s.now) setup.entry) h k) }
     ensures stays { Relates (L.told link.old) (L.told link.new) (λ h k. IsUnmarked h → IsOpened (option_map (λ s. s.now) setup.entry) h → StaysLost k) }
+    ensures loses { Relates (L.told link.old) (L.told link.new) (LosesAll (option_map (λ s. s.now) setup.entry) script.now) }
     ensures dials { DialsOnly settings.now.nfs_port (L.told link.old) (L.told link.new) }
     ensures honest { L.honest link.old → L.honest link.new }
     ensures shown { Passes (C.readings clock.old) (C.readings clock.new) (L.told link.old) (L.told link.new) (K.written out.old) (K.written out.new)
@@ -87,6 +88,7 @@ fn all_lines<L: Link, C: Clock, K: Sink>(
     ensures core { Relates (L.told link.old) (L.told link.new)
         (λ h k. IsOpened (option_map (λ s. s.now) setup.entry) h → EndsWith settings.now (option_map (λ s. s.now) setup.entry) h k) }
     ensures stays { Relates (L.told link.old) (L.told link.new) (λ h k. IsUnmarked h → IsOpened (option_map (λ s. s.now) setup.entry) h → StaysLost k) }
+    ensures loses { Relates (L.told link.old) (L.told link.new) (LosesAll (option_map (λ s. s.now) setup.entry) script.now) }
     ensures counted { Relates (L.told link.old) (L.told link.new)
         (λ h k. CanCount (option_map (λ s. s.now) setup.entry) h → tally ≡ tally_of h → AreCounted result k) }
     ensures dials { DialsOnly settings.now.nfs_port (L.told link.old) (L.told link.new) }
@@ -152,6 +154,7 @@ fn lose_all<L: Link, C: Clock, K: Sink>(
         (λ given text h k. IsUnmarked h → EndsBy script.now result given text h k) }
     ensures core { Relates (L.told link.old) (L.told link.new) (λ h k. IsLost h (length h) → IsLost k (length k)) }
     ensures stays { Relates (L.told link.old) (L.told link.new) (λ h k. IsUnmarked h → IsLost h (length h) → StaysLost k) }
+    ensures loses { Relates (L.told link.old) (L.told link.new) (LosesOnly script.now) }
     ensures counted { Relates (L.told link.old) (L.told link.new) (λ h k. CanCount None h → tally ≡ tally_of h → AreCounted result k) }
     ensures dials { (port : ℕ) → DialsOnly port (L.told link.old) (L.told link.new) }
     ensures honest { L.honest link.old → L.honest link.new }

@@ -1,10 +1,14 @@
 -- What a run of a script that was made promises.
 use Rattle.std.specs.Prelude.{◌≡◌, ◌==◌, ◌||◌, ℕ, Bool, List, Some, if◌then◌else◌}
 use Rattle.world_model.specs.declared.entry.Entry.{Entry}
+use Rattle.nfs_script.specs.declared.script.ScriptLine.{ScriptLine}
+use Rattle.session_words.specs.declared.settings.Settings.{Settings}
 use Rattle.made_script.specs.Made.{made_text}
 use Rattle.made_script.specs.Summaries.{summary_text}
-use Rattle.nfs_client.specs.Run.{IsCutOff, RunIs}
-use Rattle.nfs_client.specs.Streams.{IsFront}
+use Rattle.script_runs.specs.LaneRuns.{SessionBy}
+use Rattle.script_runs.specs.Run.{IsCutOff, RunOf}
+use Rattle.nfs_client.specs.Run.{Shows}
+use Rattle.world_model.specs.Follows.{IsFront}
 
 -- each operation went well, one was refused, or the link was lost
 abbrev pub is_summed : ℕ → Bool
@@ -20,11 +24,16 @@ pub data Tells (whole : List ℕ) (ran status : ℕ) (said : List ℕ) : Type 0 
   told : status ≡ ran → said ≡ whole → Tells whole ran status said
   cut : IsCutOff status → (ran ≡ 7 → status ≡ 7) → IsFront said whole → Tells whole ran status said
 
--- The run of the script that was made wrote a text and ended in a status, both by the history h; and of these it was told. So the
--- history is one of a run that ends in the status here.
-pub record MadeRunIs (given : List ℕ) (words : List (List ℕ)) (n : ℕ) (h : List Entry) (status : ℕ) (said : List ℕ) : Type 0 where
+-- The run of the script that was made wrote a text and ended in a status, both by the history h, with a session that is so; and of these it was told. So
+-- the history is one of a run that ends in the status here.
+pub record MadeRunOf (Is : Settings → List ScriptLine → List ℕ → List Entry → ℕ → List ℕ → Type 0) (given : List ℕ) (words : List (List ℕ)) (n : ℕ)
+    (h : List Entry) (status : ℕ) (said : List ℕ) : Type 0 where
   pub text : List ℕ
   pub ran : ℕ
-  pub runs : RunIs given words (Some (made_text n)) h ran text
+  pub runs : RunOf Is given words (Some (made_text n)) h ran text
   pub tells : Tells (said_of ran text) ran status said
-  pub ends : RunIs given words (Some (made_text n)) h status text
+  pub ends : RunOf Is given words (Some (made_text n)) h status text
+
+-- a session that was set up shows what its core does
+abbrev pub MadeRunIs : List ℕ → List (List ℕ) → ℕ → List Entry → ℕ → List ℕ → Type 0
+MadeRunIs given words n h status said = MadeRunOf (SessionBy Shows) given words n h status said

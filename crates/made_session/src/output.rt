@@ -2,7 +2,7 @@
 
 ghost use Rattle.std.specs.Prelude.{◌≡◌, ◌≤◌, OnOk, OnErr};
 ghost use Rattle.outside.specs.Causes.{HasCause};
-ghost use Rattle.nfs_client.specs.Streams.{Appends, AppendsFront};
+ghost use Rattle.script_runs.specs.Streams.{Appends, AppendsFront};
 
 use outside::{LinkFault, Sink};
 

@@ -9,10 +9,11 @@ ghost use Rattle.made_script.specs.Made.{IsSize, made_text};
 ghost use Rattle.made_script.specs.Summaries.{summary_text};
 ghost use Rattle.session_words.specs.declared.settings.Settings.{Settings as SettingsOf};
 ghost use Rattle.session_words.specs.Words.{IsCommand};
-ghost use Rattle.nfs_client.specs.Streams.{script_limit};
-ghost use Rattle.nfs_client.specs.Readings.{Reads};
-ghost use Rattle.nfs_client.specs.Run.{IsCutOff, IsScript, Refuses, RefusalIs, Says};
-ghost use Rattle.made_session.specs.MadeRuns.{said_of, Tells, MadeRunIs};
+ghost use Rattle.script_runs.specs.Streams.{script_limit};
+ghost use Rattle.script_runs.specs.Readings.{Reads};
+ghost use Rattle.script_runs.specs.Run.{IsCutOff, IsScript, Refuses, RefusalIs, Says};
+ghost use Rattle.nfs_client.specs.Headline.{Headline};
+ghost use Rattle.made_session.specs.MadeRuns.{said_of, Tells, MadeRunOf, MadeRunIs};
 
 use crate::output::write_all;
 use crate::status;
@@ -60,7 +61,13 @@ pub fn run_made<L: Link, C: Clock, K: Sink>(
     // Before FSINFO is sent only the port of MOUNT is dialed, and from then on only that of NFS.
     ensures dials { (s : SettingsOf) → IsCommand (map string_bytes words.now) s → DialsInTurn s.mount_port s.nfs_port (L.told link.old) (L.told link.new) }
 
-    // What was written is the summary of what the history says, and the clock gave these readings.
+    // What a session of that script promises, in the words of the model alone: `Headline` of nfs_client/specs/Headline. Of what it writes this tells.
+    ensures headline { Says (K.written out.old) (K.written out.new) (λ said.
+        Reads (C.readings clock.old) (C.readings clock.new) (λ given.
+        Relates (L.told link.old) (L.told link.new) (λ before h. before ≡ [] →
+        MadeRunOf Headline given (map string_bytes words.now) n h result said))) }
+
+    // What was written is the summary of what the history says, and the clock gave these readings; and what else the core shows.
     ensures shown { Says (K.written out.old) (K.written out.new) (λ said.
         Reads (C.readings clock.old) (C.readings clock.new) (λ given.
         Relates (L.told link.old) (L.told link.new) (λ before h. before ≡ [] →

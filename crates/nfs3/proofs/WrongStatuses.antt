@@ -11,7 +11,7 @@ use Rattle.world_model.specs.declared.entry.Entry.TheVariants.{Clock, Began, Ans
 use Rattle.world_model.specs.declared.op.Op.{Op}
 use Rattle.world_model.specs.Entries.{At}
 use Rattle.nfs_script.specs.declared.script.ScriptLine.{ScriptLine}
-use Rattle.lane_session.specs.Sessions.{EndsAs, whole, cut}
+use Rattle.lane_session.specs.Endings.{EndsAs, whole, cut}
 use Rattle.lane_session.specs.Statuses.{HasStatus, IsAnswered, IsCutOff, lost, refused, well}
 
 -- the operation began at 5 ms, and was answered so

@@ -25,7 +25,8 @@ use Rattle.core_session.proofs.outcomes.OpenRows.{opens-well}
 use Rattle.core_session.proofs.outcomes.RemoveRows.{removes-well}
 use Rattle.session_words.specs.declared.settings.Settings.{Settings}
 use Rattle.session_words.specs.Words.{IsNocto}
-use Rattle.nfs_client.specs.Shown.{AreGiven, by_words, by_modes, IsOpen, OksShown, terms_by}
+use Rattle.nfs_client.specs.Given.{terms_by}
+use Rattle.nfs_client.specs.Shown.{AreGiven, by_words, by_modes, IsOpen, OksShown}
 use Rattle.core_session.specs.outcomes.Opened.{KeepsThem}
 
 -- words never give both (nfs(5), noac)

@@ -1,11 +1,11 @@
-pub mod Readings
-pub mod StreamLaws
-pub mod ScriptLines
 pub mod ScriptAsked
 pub mod AllAsked
 pub mod AllOks
 pub mod Spent
 pub mod Causes
 pub mod Showing
-pub mod LaneRuns
-pub mod Runs
+pub mod Quiet
+pub mod SetUpAlone
+pub mod Headlines
+pub mod UnheardOk
+pub mod Whole

@@ -10,7 +10,7 @@ use Rattle.world_model.specs.Follows.{Follows, begun}
 use Rattle.nfs_script.specs.declared.script.ScriptLine.{ScriptLine}
 use Rattle.nfs_script.specs.Asked.{IsAskedLine}
 use Rattle.op_machines.specs.Begun.{IsAsked}
-use Rattle.lane_session.specs.Places.{entries_of}
+use Rattle.lane_session.specs.Endings.{entries_of}
 use Rattle.lane_session.proofs.Asking.{may-begin}
 use Rattle.core_session.specs.calls.Sessions.{AreAsked}
 

@@ -101,15 +101,18 @@ use Rattle.core_answers.proofs.writes.PiecesCarried.{pieces-carried}
 use Rattle.core_answers.proofs.writes.WholeWrites.{writes-whole}
 use Rattle.session_words.specs.declared.settings.Settings.{Settings}
 use Rattle.session_setup.specs.declared.opening.SetUp.{SetUp}
-use Rattle.session_setup.specs.Outcomes.{FitsSession, SetsUp, origin_of}
+use Rattle.session_setup.specs.Origins.{origin_of}
+use Rattle.session_setup.specs.Outcomes.{FitsSession, SetsUp}
 use Rattle.lane_session.specs.Bonds.{HasCore, SentSince}
+use Rattle.lane_session.specs.Endings.{entries_of}
 use Rattle.lane_session.specs.Going.{AllTimed, Grows}
-use Rattle.lane_session.specs.Places.{entries_of}
 use Rattle.lane_session.specs.Running.{mounted_by}
 use Rattle.core_counts.proofs.coarse.Along.{writes-were-long}
 use Rattle.bond_calls.proofs.CallsWait.{xid_of_call}
 use Rattle.core_counts.specs.coarse.WereLong.{write_call}
-use Rattle.nfs_client.specs.Shown.{AllRowed, CallsShown, CountsShown, OksShown, SlotsShown, PutsShown, CompleteShown, FaultsShown, KeptShown, RestShown, StableShown, HonestShown, RunShows, NeverBack, NoneUnderWay, longest_of, modes_of, setup_of, terms_by}
+use Rattle.script_runs.specs.LaneRuns.{setup_of}
+use Rattle.nfs_client.specs.Given.{NeverBack, longest_of, modes_of, terms_by}
+use Rattle.nfs_client.specs.Shown.{AllRowed, CallsShown, CountsShown, OksShown, SlotsShown, PutsShown, CompleteShown, FaultsShown, KeptShown, RestShown, StableShown, HonestShown, RunShows, NoneUnderWay}
 use Rattle.nfs_client.proofs.AllAsked.{goes-from, only-sets-up}
 use Rattle.nfs_client.proofs.AllOks.{all-oks, keeps-them}
 use Rattle.nfs_client.proofs.Causes.{all-caused}

@@ -34,9 +34,8 @@ use Rattle.core_facts.proofs.Counting.{reached-known}
 use Rattle.core_facts.proofs.LaneMarks.{lanes-under-way, reached-lanes}
 use Rattle.core_facts.proofs.Lists.{at-push, still-there, to-map}
 use Rattle.core_facts.proofs.Walks.{Stays, begins-stay, hears-for-stay}
-use Rattle.lane_session.specs.Places.{entries_of}
-use Rattle.lane_session.specs.Sessions.{EndsAs}
-use Rattle.lane_session.specs.Sessions as sessions
+use Rattle.lane_session.specs.Endings.{EndsAs, entries_of}
+use Rattle.lane_session.specs.Endings as sessions
 use Rattle.lane_session.specs.Statuses.{IsAnswered, HasStatus}
 use Rattle.lane_session.specs.Statuses as statuses
 

@@ -1,5 +1,4 @@
-pub mod Readings
-pub mod Streams
+pub mod Given
+pub mod Headline
 pub mod Shown
-pub mod LaneRuns
 pub mod Run

@@ -86,29 +86,14 @@ use Rattle.nfs_script.specs.declared.script.ScriptLine.{ScriptLine}
 use Rattle.session_words.specs.declared.settings.Settings.{Settings}
 use Rattle.session_words.specs.Words.{IsCommand}
 use Rattle.session_setup.specs.declared.opening.SetUp.{SetUp}
-use Rattle.session_setup.specs.Outcomes.{origin_of}
+use Rattle.script_runs.specs.LaneRuns.{setup_of}
+use Rattle.nfs_client.specs.Given.{longest_of, modes_of, terms_by, NeverBack}
+use Rattle.session_setup.specs.Origins.{origin_of}
 use Rattle.lane_session.specs.Bonds.{HasCore}
-use Rattle.lane_session.specs.Places.{entries_of}
 use Rattle.lane_session.specs.Running.{mounted_by}
-use Rattle.lane_session.specs.Sessions.{EndsAs}
+use Rattle.lane_session.specs.Endings.{EndsAs, entries_of}
 
 -- ---- what a session is given
-
--- what it goes by after its set-up
-abbrev pub setup_of : Settings → SetUp → Setup
-setup_of s v = record { root = v.root; rsize = v.rsize; wsize = v.wsize; first_xid = v.next_xid; limit = v.left; cred = s.cred; lives = s.lives }
-
--- the longest that an attribute is believed
-abbrev pub longest_of : Lives → ℕ
-longest_of l = max (max l.reg_min l.reg_max) (max l.dir_min l.dir_max)
-
-abbrev pub modes_of : Settings → Modes
-modes_of s = record { longest = longest_of s.lives; noac = s.noac; nocto = s.nocto }
-
--- the terms of a session whose calls have xids from the first one on
-abbrev pub terms_by : Settings → ℕ → Terms
-terms_by s first =
-    record { origin = origin_of s.export; cred = s.cred; first = first; calls = s.calls; rsize = s.rsize; wsize = s.wsize; modes = modes_of s }
 
 -- The settings of a command; or others by which opens go by kept attributes only where attributes are kept (nfs(5), nocto and noac).
 pub data AreGiven (s : Settings) : Type 0 where
@@ -230,10 +215,6 @@ CausedShown s terms h = AreGiven s → (lines : List ScriptLine) (status : ℕ) 
     → Caused terms (entries_of lines) status h
 
 -- ---- an honest server
-
--- the readings of the clock that were noted don't go back
-abbrev pub NeverBack : List Entry → Type 0
-NeverBack h = (i j a b : ℕ) → At h i (Clock a) → At h j (Clock b) → i ≤ j → a ≤ b
 
 -- Of a history with the server at each of its moments: a stat's path leads by names that stood in their directories at recent moments, to an object
 -- that had the attributes that the stat shows; each byte that a read answers is one that an operation gave to its place, or one that the file had, or

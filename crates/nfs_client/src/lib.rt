@@ -1,12 +1,7 @@
 //! The client of NFS version 3: `run` takes a script of file operations and a link to a server, answers each operation
-//! and ends in a status.
+//! and ends in a status. The code stands in `script_runs`; here is said what it promises.
 #![tactic(auto)]
 
-mod input;
-mod lanes;
-mod mount;
-mod output;
-mod status;
 mod top;
 
 pub use top::{run, run_with};

@@ -1,27 +1,22 @@
-//! The top call.
+//! The top call, and what it promises.
 
-ghost use Rattle.std.specs.Prelude.{◌≡◌, ◌≢◌, ◌≤◌, ◌<◌, ◌^◌, ◌⊎◌, [], map, take, IfOk, IfSome};
+ghost use Rattle.std.specs.Prelude.{◌≡◌, ◌≢◌, ◌≤◌, ◌<◌, ◌^◌, ◌⊎◌, [], map, take, IfSome};
 ghost use Rattle.std.specs.String.{string_bytes};
 ghost use Rattle.world_model.specs.Told.{Relates};
 ghost use Rattle.outside.specs.Causes.{Rose};
 ghost use Rattle.link_dials.specs.Dials.{DialsInTurn};
-ghost use Rattle.nfs_script.specs.RefusalText.{refusal_text};
 ghost use Rattle.session_words.specs.declared.settings.Settings.{Settings as SettingsOf};
 ghost use Rattle.session_words.specs.Words.{IsCommand};
 ghost use Rattle.session_setup.specs.Outcomes.{IsOptions};
-ghost use Rattle.nfs_client.specs.Streams.{script_limit};
-ghost use Rattle.nfs_client.specs.Readings.{Reads};
-ghost use Rattle.nfs_client.specs.Run.{IsXidOption, IsCutOff, IsScript, Refuses, RefusesWith, RefusalIs, RunIs, RunsWith, Says};
+ghost use Rattle.script_runs.specs.Streams.{script_limit};
+ghost use Rattle.script_runs.specs.Readings.{Reads};
+ghost use Rattle.script_runs.specs.Run.{IsXidOption, IsScript, Refuses, RefusalIs, RunOf, RunWith, Says};
+ghost use Rattle.nfs_client.specs.Headline.{Headline};
+ghost use Rattle.nfs_client.specs.Run.{RunIs, RunsWith};
 
-use crate::input::{ReadFault, read_script};
-use crate::lanes::run_lanes;
-use crate::output::write_all;
-use crate::status;
-use nfs_script::{ParseFault, ScriptFault, parse, refusal_line};
-use outside::{Clock, Link, LinkFault, Sink, Source};
-use session_words::{Settings, WordsFault, read_words};
+use outside::{Clock, Link, Sink, Source};
+use session_words::Settings;
 use std::alloc::Global;
-use xdr_codec::{Blob, Memory, Writer};
 
 /// Runs the script that the source gives, and writes an answer line for each operation. The words say where the files
 /// are and how they are asked for. It answers the status of the session: 0 where each operation went well, 1 where one
@@ -59,17 +54,19 @@ pub fn run<S: Source, L: Link, C: Clock, K: Sink>(
     // Before FSINFO is sent only the port of MOUNT is dialed, and from then on only that of NFS.
     ensures dials { (s : SettingsOf) → IsCommand (map string_bytes words.now) s → DialsInTurn s.mount_port s.nfs_port (L.told link.old) (L.told link.new) }
 
-    // What was written is what the history says, and so are the readings that the clock gave.
+    // What a session promises, in the words of the model alone: `Headline` of specs/Headline.
+    ensures headline { Says (K.written out.old) (K.written out.new) (λ text.
+        Reads (C.readings clock.old) (C.readings clock.new) (λ given.
+        Relates (L.told link.old) (L.told link.new) (λ before h. before ≡ [] →
+        RunOf Headline given (map string_bytes words.now) (S.left script.old) h result text))) }
+
+    // What was written is what the history says, and so are the readings that the clock gave; and what else the core shows.
     ensures shown { Says (K.written out.old) (K.written out.new) (λ text.
         Reads (C.readings clock.old) (C.readings clock.new) (λ given.
         Relates (L.told link.old) (L.told link.new) (λ before h. before ≡ [] →
         RunIs given (map string_bytes words.now) (S.left script.old) h result text))) }
 {
-    match read_words(alloc, words) {
-        Ok(settings) => run_with(alloc, &settings, script, link, clock, out),
-        Err(WordsFault::Refused) => status::WORDS_REFUSED,
-        Err(WordsFault::Memory) => status::NO_MEMORY,
-    }
+    script_runs::run(alloc, words, script, link, clock, out)
 }
 
 /// Runs the script that the source gives as `run` does, by settings that are known.
@@ -94,44 +91,14 @@ pub fn run_with<S: Source, L: Link, C: Clock, K: Sink>(
     ensures sink { result ≡ 5 → Rose (K.faults out.old) (K.faults out.new) }
     ensures honest { L.honest link.old → L.honest link.new }
     ensures dials { DialsInTurn settings.now.mount_port settings.now.nfs_port (L.told link.old) (L.told link.new) }
+    ensures headline { Says (K.written out.old) (K.written out.new) (λ text.
+        Reads (C.readings clock.old) (C.readings clock.new) (λ given.
+        Relates (L.told link.old) (L.told link.new) (λ before h. before ≡ [] →
+        RunWith Headline given settings.now (S.left script.old) h result text))) }
     ensures shown { Says (K.written out.old) (K.written out.new) (λ text.
         Reads (C.readings clock.old) (C.readings clock.new) (λ given.
         Relates (L.told link.old) (L.told link.new) (λ before h. before ≡ [] →
         RunsWith given settings.now (S.left script.old) h result text))) }
 {
-    let text = match read_script(alloc, script) {
-        Ok(text) => text,
-        Err(ReadFault::Failed) => return status::READ_FAULT,
-        Err(ReadFault::Memory) => return status::NO_MEMORY,
-    };
-    match parse(alloc, text.as_slice()) {
-        Ok(script) => run_lanes(alloc, settings, &script, link, clock, out),
-        Err(ParseFault::Script(fault)) => refuse(alloc, &fault, out),
-        Err(ParseFault::Memory) => status::NO_MEMORY,
-    }
-}
-
-/// Writes why the script is refused.
-fn refuse<K: Sink>(alloc: Global, fault: &ScriptFault, out: &mut K) -> u8
-    ensures status { (result ≡ 3) ⊎ IsCutOff result }
-    ensures sink { result ≡ 5 → Rose (K.faults out.old) (K.faults out.new) }
-    ensures said { Says (K.written out.old) (K.written out.new) (RefusesWith fault.now result) }
-{
-    let Ok(text) = refusal(alloc, fault) else {
-        return status::NO_MEMORY;
-    };
-    match write_all(out, text.bytes()) {
-        Ok(()) => status::SCRIPT_REFUSED,
-        Err(LinkFault::Failed) => status::WRITE_FAULT,
-        Err(LinkFault::Memory) => status::NO_MEMORY,
-    }
-}
-
-/// The line that refuses a script.
-fn refusal(alloc: Global, fault: &ScriptFault) -> Result<Blob, Memory>
-    ensures { IfOk result (λ text. text ≡ refusal_text fault.now) }
-{
-    let mut text = Writer::new(alloc);
-    refusal_line(&mut text, fault)?;
-    Ok(text.finish())
+    script_runs::run_with(alloc, settings, script, link, clock, out)
 }

@@ -6,7 +6,7 @@ use Rattle.session_words.specs.declared.settings.Export.{Export}
 use Rattle.session_words.specs.declared.settings.Export.TheVariants as exports
 use Rattle.session_words.specs.declared.settings.Settings.{Settings}
 use Rattle.session_words.specs.Words.{IsCommand, IsExport, IsXid}
-use Rattle.nfs_client.specs.Run.{IsXidOption}
+use Rattle.script_runs.specs.Run.{IsXidOption}
 use Rattle.port_finder.specs.declared.finder.Ports.{Ports}
 use Rattle.port_session.specs.Sessions.{at_ports}
 

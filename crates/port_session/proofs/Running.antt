@@ -7,10 +7,13 @@ use Rattle.link_dials.specs.Dials.{DialsInTurn}
 use Rattle.session_words.proofs.Single.{one_settings}
 use Rattle.session_words.specs.declared.settings.Settings.{Settings}
 use Rattle.session_words.specs.Words.{IsCommand}
-use Rattle.nfs_client.proofs.Runs.{words_say}
-use Rattle.nfs_client.specs.Readings.{Reads}
-use Rattle.nfs_client.specs.Run.{IsScript, Refuses, RefusalIs, RunsWith, Says}
-use Rattle.nfs_client.specs.Streams.{script_limit}
+use Rattle.script_runs.proofs.Runs.{words_say}
+use Rattle.script_runs.specs.Readings.{Reads}
+use Rattle.script_runs.specs.LaneRuns.{SessionBy}
+use Rattle.script_runs.specs.Run.{IsScript, Refuses, RefusalIs, RunWith, Says}
+use Rattle.nfs_client.specs.Headline.{Headline}
+use Rattle.nfs_client.specs.Run.{Shows, RunsWith}
+use Rattle.script_runs.specs.Streams.{script_limit}
 use Rattle.port_finder.specs.Replies.{IsPort}
 use Rattle.port_finder.specs.declared.finder.Ports.{Ports}
 use Rattle.port_words.specs.Portmaps.{with_ports}
@@ -28,6 +31,7 @@ pub record RunsSo (s : Settings) (left : Option (List ℕ)) (a b : Outside) (sta
   pub source : status ≡ 4 → Rose a.source_faults b.source_faults
   pub sink : status ≡ 5 → Rose a.sink_faults b.sink_faults
   pub dials : DialsInTurn s.mount_port s.nfs_port a.told b.told
+  pub headline : Says a.written b.written (λ text. Reads a.readings b.readings (λ given. Relates a.told b.told (λ before h. before ≡ [] → RunWith Headline given s left h status text)))
   pub shown : Says a.written b.written (λ text. Reads a.readings b.readings (λ given. Relates a.told b.told (λ before h. before ≡ [] → RunsWith given s left h status text)))
 
 by_settings : (words : List (List ℕ)) (s : Settings) (left : Option (List ℕ)) (a b : Outside) (status : ℕ) → IsCommand words s → RunsSo s left a b status → RunsBy words left a b status
@@ -42,7 +46,8 @@ by_settings words s left a b status is r = record {
   source = r.source;
   sink = r.sink;
   dials = λ t too. subst (λ (z : Settings). DialsInTurn z.mount_port z.nfs_port a.told b.told) (one_settings _ s t is.gives too.gives) r.dials;
-  shown = words_say _ _ _ _ _ _ words left s status is r.shown;
+  headline = words_say Headline _ _ _ _ _ _ words left s status is r.headline;
+  shown = words_say (SessionBy Shows) _ _ _ _ _ _ words left s status is r.shown;
 }
 
 -- with the ports that were told

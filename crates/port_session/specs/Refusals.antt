@@ -2,8 +2,8 @@
 use Rattle.std.specs.Prelude.{◌≡◌, ◌≤◌, ◌⊎◌, ℕ, List, [], ◌++◌, codes, decimal}
 use Rattle.port_finder.specs.declared.finder.PortFault.{PortFault}
 use Rattle.port_finder.specs.declared.finder.PortFault.TheVariants as faults
-use Rattle.nfs_client.specs.Run.{IsCutOff}
-use Rattle.nfs_client.specs.Streams.{IsFront}
+use Rattle.script_runs.specs.Run.{IsCutOff}
+use Rattle.world_model.specs.Follows.{IsFront}
 use Rattle.port_session.specs.declared.reason.Reason.{Reason}
 use Rattle.port_session.specs.declared.reason.Reason.TheVariants as reasons
 

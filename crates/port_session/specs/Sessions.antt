@@ -6,9 +6,11 @@ use Rattle.outside.specs.Causes.{Rose}
 use Rattle.link_dials.specs.Dials.{DialsInTurn}
 use Rattle.session_words.specs.declared.settings.Settings.{Settings}
 use Rattle.session_words.specs.Words.{IsCommand}
-use Rattle.nfs_client.specs.Streams.{script_limit}
-use Rattle.nfs_client.specs.Readings.{Reads}
-use Rattle.nfs_client.specs.Run.{IsScript, Refuses, RefusalIs, RunIs, Says}
+use Rattle.script_runs.specs.Streams.{script_limit}
+use Rattle.script_runs.specs.Readings.{Reads}
+use Rattle.script_runs.specs.Run.{IsScript, Refuses, RefusalIs, RunOf, Says}
+use Rattle.nfs_client.specs.Headline.{Headline}
+use Rattle.nfs_client.specs.Run.{RunIs}
 use Rattle.port_finder.specs.declared.finder.Ports.{Ports}
 use Rattle.port_finder.specs.declared.finder.PortFault.{PortFault}
 use Rattle.port_finder.specs.Does.{Does}
@@ -60,6 +62,8 @@ pub record RunsBy (words : List (List ℕ)) (left : Option (List ℕ)) (a b : Ou
   pub source : status ≡ 4 → Rose a.source_faults b.source_faults
   pub sink : status ≡ 5 → Rose a.sink_faults b.sink_faults
   pub dials : (s : Settings) → IsCommand words s → DialsInTurn s.mount_port s.nfs_port a.told b.told
+  pub headline : Says a.written b.written (λ text. Reads a.readings b.readings (λ given. Relates a.told b.told (λ before h. before ≡ []
+      → RunOf Headline given words left h status text)))
   pub shown : Says a.written b.written (λ text. Reads a.readings b.readings (λ given. Relates a.told b.told (λ before h. before ≡ []
       → RunIs given words left h status text)))
 

@@ -4,7 +4,7 @@ ghost use Rattle.std.specs.Prelude.{◌≡◌, ◌≤◌, ◌⊎◌, None, IfOk,
 ghost use Rattle.outside.specs.Causes.{Rose};
 ghost use Rattle.session_words.specs.Words.{IsCommand};
 ghost use Rattle.port_words.specs.Portmaps.{Names};
-ghost use Rattle.nfs_client.specs.Run.{Says};
+ghost use Rattle.script_runs.specs.Run.{Says};
 ghost use Rattle.port_session.specs.Refusals.{IsStatus, Ends, Tells};
 ghost use Rattle.port_session.specs.Sessions.{finder_at, outside_at, usual_words, at_ports, IsNamed, IsTaken, ByPortmap, SessionIs};
 

@@ -2,10 +2,10 @@
 
 use crate::case::Case;
 use crate::link::{show_bytes, wire};
-use nfs_client::run;
 use nfs_script::{ParseFault, parse};
 use outside::{HostileLink, Link, MemSink, MemSource, TickClock, WireEntry};
 use rpc_record::StreamLink;
+use script_runs::run;
 use std::alloc::Global;
 use std::io;
 use world_link::{ScheduleFault, parse_schedule};

@@ -18,7 +18,8 @@ use Rattle.session_setup.specs.declared.opening.SetUpFault.TheVariants.{Refused,
 use Rattle.session_setup.specs.declared.sizes.Sizes.{Sizes}
 use Rattle.session_setup.specs.Along.{Extends}
 use Rattle.session_setup.specs.Exchanges.{IsBase, IsIdle}
-use Rattle.session_setup.specs.Outcomes.{IsOptions, origin_of, rooted, unheard, SetsUp, EndsSo}
+use Rattle.session_setup.specs.Origins.{origin_of}
+use Rattle.session_setup.specs.Outcomes.{IsOptions, rooted, unheard, SetsUp, EndsSo}
 use Rattle.session_setup.specs.Phases.{KeepsTerms, tally_after, Mounts, MountsTo, Informs, FinishesTo, Finishes}
 use Rattle.session_setup.specs.Sendings.{IsSetUpCall, mounts, informs, IsSetUpRecord, info_xid, Single}
 use Rattle.session_setup.proofs.Phases.{rooted_later, idle_first}
@@ -36,7 +37,7 @@ head_is : (a b : CallHead) (m n : List ℕ) → found_call a m ≡ found_call b 
 unfolding head_or found_call
 head_is a b m n e = ap (head_or a) e
 
-heads_same : (x y : ℕ) (c d : Call) (b : List ℕ) → SpellsCall x c b → SpellsCall y d b → head_of x c ≡ head_of y d
+pub heads_same : (x y : ℕ) (c d : Call) (b : List ℕ) → SpellsCall x c b → SpellsCall y d b → head_of x c ≡ head_of y d
 unfolding found_call
 heads_same x y c d b s t = head_is (head_of x c) (head_of y d) s.args t.args (sym (call_again (head_of x c) s.args b s.head) ∙ call_again (head_of y d) t.args b t.head)
 

@@ -1,4 +1,5 @@
 pub mod Along
+pub mod Origins
 pub mod Sendings
 pub mod Outcomes
 pub mod Takings

@@ -6,7 +6,7 @@ use Rattle.world_model.specs.declared.tally.Tally.{Tally}
 use Rattle.world_model.specs.Counts.{tally_of}
 use Rattle.world_model.specs.Heard.{Heard, Refused as WasRefused}
 use Rattle.world_model.specs.Lost.{Loses}
-use Rattle.world_model.specs.Mounts.{Origin, Mounting, Given, Rooted, Sized, mount_call}
+use Rattle.world_model.specs.Mounts.{Origin, Rooted, Sized, mount_call}
 use Rattle.world_model.specs.ReadSize.{ReadSized, page_bytes}
 use Rattle.world_model.specs.Rows.{WasSent}
 use Rattle.world_model.specs.Waiting.{Waits}
@@ -16,14 +16,10 @@ use Rattle.session_words.specs.declared.settings.Settings.{Settings}
 use Rattle.session_setup.specs.declared.opening.SetUp.{SetUp}
 use Rattle.session_setup.specs.declared.opening.SetUpFault.{SetUpFault}
 use Rattle.session_setup.specs.declared.opening.SetUpFault.TheVariants.{Refused, Lost, Memory}
+use Rattle.session_setup.specs.Origins.{origin_of}
 use Rattle.session_setup.specs.Sendings.{SentSo, Single, IsUnmarked}
 
 -- ---- what it is given
-
--- where the root comes from
-abbrev pub origin_of : Export → Origin
-origin_of (exports.Path path) = Mounting path
-origin_of (exports.Root root) = Given root
 
 -- a path that MNT can carry
 abbrev pub IsMountable : Export → Type 0

@@ -1,3 +1,4 @@
+use Rattle.lane_session.proofs.LostAdds.{told-set-up}
 use Rattle.lane_session.proofs.LostAnswers.{told-stays}
 use Rattle.lane_session.proofs.top.all_lines.Goals as goal
 
@@ -12,3 +13,9 @@ returns-in-None-clause-counted g c = rw c.in-None.is c.lose_all.ensures.counted
 
 pub returns-in-None-clause-dials : goal.returns-in-None-clause-dials
 returns-in-None-clause-dials g c = c.lose_all.ensures.dials c.args.settings.now.nfs_port
+
+pub returns-in-Some-clause-loses : goal.returns-in-Some-clause-loses
+returns-in-Some-clause-loses g c = rw c.in-Some.is (told-set-up _ _ c.in-Some.setup.now c.args.script.now _ c.run_lines.ensures.core)
+
+pub returns-in-None-clause-loses : goal.returns-in-None-clause-loses
+returns-in-None-clause-loses g c = rw c.in-None.is c.lose_all.ensures.loses

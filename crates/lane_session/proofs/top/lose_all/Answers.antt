@@ -1,6 +1,7 @@
 use Rattle.std.proofs.Common.{Ok, Err, refl}
 use Rattle.lane_session.specs.declared.top.End.{End}
 use Rattle.lane_session.proofs.CoreEnds.{told-lost, told-lost-counted}
+use Rattle.lane_session.proofs.LostAdds.{told-loses}
 use Rattle.lane_session.proofs.LostAnswers.{told-lost-stays}
 use Rattle.lane_session.proofs.LostLaws.{lost-ends, lost-breaks, status-ends}
 use Rattle.lane_session.proofs.Passing.{passes_less}
@@ -28,6 +29,12 @@ returns-in-Ok-clause-stays g c = let p = c.in-Ok.ensures.goes in told-lost-stays
 
 pub returns-in-Err-clause-stays : goal.returns-in-Err-clause-stays
 returns-in-Err-clause-stays g c = let p = c.in-Err.ensures.goes in told-lost-stays _ _ c.args.script.now (Err c.in-Err.halt) p.given p.text p.told
+
+pub returns-in-Ok-clause-loses : goal.returns-in-Ok-clause-loses
+returns-in-Ok-clause-loses g c = let p = c.in-Ok.ensures.goes in told-loses _ _ c.args.script.now (Ok tt) p.given p.text p.told
+
+pub returns-in-Err-clause-loses : goal.returns-in-Err-clause-loses
+returns-in-Err-clause-loses g c = let p = c.in-Err.ensures.goes in told-loses _ _ c.args.script.now (Err c.in-Err.halt) p.given p.text p.told
 
 pub returns-in-Ok-clause-counted : goal.returns-in-Ok-clause-counted
 returns-in-Ok-clause-counted g c =

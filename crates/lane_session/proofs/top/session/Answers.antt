@@ -21,6 +21,12 @@ returns-in-Ok-clause-stays g c = c.in-Ok.ensures.stays
 pub returns-in-Err-clause-stays : goal.returns-in-Err-clause-stays
 returns-in-Err-clause-stays g c = c.in-Err.ensures.stays
 
+pub returns-in-Ok-clause-loses : goal.returns-in-Ok-clause-loses
+returns-in-Ok-clause-loses g c = c.in-Ok.ensures.loses
+
+pub returns-in-Err-clause-loses : goal.returns-in-Err-clause-loses
+returns-in-Err-clause-loses g c = c.in-Err.ensures.loses
+
 pub returns-in-Err-clause-ending : goal.returns-in-Err-clause-ending
 returns-in-Err-clause-ending g c = halted c.in-Err.halt c.of_halt.result c.of_halt.ensures
 

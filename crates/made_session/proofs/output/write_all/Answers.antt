@@ -1,6 +1,6 @@
 use Rattle.std.proofs.Common.{List, ℕ, Ok, Err, subst, arith}
 use Rattle.outside.specs.Sink.{WritesTo}
-use Rattle.nfs_client.proofs.StreamLaws.{appends_none, appends_more, appends_all, appends_front, cause_on}
+use Rattle.script_runs.proofs.StreamLaws.{appends_none, appends_more, appends_all, appends_front, cause_on}
 use Rattle.made_session.proofs.output.write_all.Goals as goal
 
 pub loop-done-init : goal.loop-done-init

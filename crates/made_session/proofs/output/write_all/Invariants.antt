@@ -1,5 +1,5 @@
 use Rattle.std.proofs.Common.{length, take, ◌-◌, ◌≤◌}
-use Rattle.nfs_client.specs.Streams.{Appends}
+use Rattle.script_runs.specs.Streams.{Appends}
 use Rattle.made_session.proofs.output.write_all.Given as goal
 
 abbrev pub invariant-loop-done : goal.invariant-loop-done

@@ -1,47 +1,8 @@
-use Rattle.std.proofs.Common.{inr, refl}
-use Rattle.nfs_client.specs.Run.{no_source, cut_before}
-use Rattle.nfs_client.proofs.Runs.{unscripted, scripted, faulty, spells, read_for, run_says, refuse_says, none_says, refused_text}
-use Rattle.nfs_client.proofs.ScriptLines.{few_lines}
-use Rattle.link_dials.proofs.Dialing.{dials_same}
-use Rattle.link_dials.proofs.Ports.{turn_nfs}
+use Rattle.nfs_client.proofs.Whole.{with-shown, with-heads}
 use Rattle.nfs_client.proofs.top.run_with.Goals as goal
 
-pub returns-in-Ok-parse-clause-unspelled : goal.returns-in-Ok-parse-clause-unspelled
-returns-in-Ok-parse-clause-unspelled g c = scripted _ _ _ _ (spells _ _ c.in-Ok-parse.ensures.read) c.as_slice.ensures.value c.in-Ok.ensures.text
+pub returns-clause-headline : goal.returns-clause-headline
+returns-clause-headline g c = with-heads _ _ _ _ _ _ _ _ _ c.run_with.ensures.shown
 
-pub returns-in-Ok-parse-clause-shown : goal.returns-in-Ok-parse-clause-shown
-returns-in-Ok-parse-clause-shown g c =
-    run_says _ _ _ _ _ _ _ _ _ _ (read_for _ _ _ _ c.in-Ok-parse.ensures.read c.as_slice.ensures.value c.in-Ok.ensures.text) c.run_lanes.ensures.shown
-
-pub run_lanes-requires-clause-few : goal.run_lanes-requires-clause-few
-run_lanes-requires-clause-few g c = few_lines _ _ c.in-Ok-parse.ensures.read
-
-pub returns-in-Err-Script-clause-script : goal.returns-in-Err-Script-clause-script
-returns-in-Err-Script-clause-script g c =
-    let e = rw c.in-Err-Script.field-0-is at c.in-Err-Script.ensures.read in
-    unscripted _ _ _ _ (faulty _ _ e) c.as_slice.ensures.value c.in-Ok.ensures.text
-
-pub returns-in-Err-Script-clause-shown : goal.returns-in-Err-Script-clause-shown
-returns-in-Err-Script-clause-shown g c =
-    let e = rw c.in-Err-Script.field-0-is at c.in-Err-Script.ensures.read in
-    refuse_says _ _ _ _ _ _ _ _ (read_for _ _ _ _ e c.as_slice.ensures.value c.in-Ok.ensures.text) c.refuse.ensures.said
-
-pub returns-in-Err-Script-clause-refused : goal.returns-in-Err-Script-clause-refused
-returns-in-Err-Script-clause-refused g c =
-    let e = rw c.in-Err-Script.field-0-is at c.in-Err-Script.ensures.read in
-    refused_text _ _ _ _ _ (read_for _ _ _ _ e c.as_slice.ensures.value c.in-Ok.ensures.text) c.refuse.ensures.said
-
-pub returns-in-Err-Failed-clause-shown : goal.returns-in-Err-Failed-clause-shown
-returns-in-Err-Failed-clause-shown g c = none_says _ _ _ _ _ _ (no_source refl refl)
-
-pub returns-in-Err-Memory-clause-shown : goal.returns-in-Err-Memory-clause-shown
-returns-in-Err-Memory-clause-shown g c = none_says _ _ _ _ _ _ (cut_before (inr refl) refl)
-
-pub returns-in-Err-Failed-clause-dials : goal.returns-in-Err-Failed-clause-dials
-returns-in-Err-Failed-clause-dials g c = turn_nfs _ _ _ _ (dials_same _ _)
-
-pub returns-in-Err-Memory-clause-dials : goal.returns-in-Err-Memory-clause-dials
-returns-in-Err-Memory-clause-dials g c = turn_nfs _ _ _ _ (dials_same _ _)
-
-pub returns-in-Err-Script-clause-dials : goal.returns-in-Err-Script-clause-dials
-returns-in-Err-Script-clause-dials g c = turn_nfs _ _ _ _ (dials_same _ _)
+pub returns-clause-shown : goal.returns-clause-shown
+returns-clause-shown g c = with-shown _ _ _ _ _ _ _ _ _ c.run_with.ensures.shown

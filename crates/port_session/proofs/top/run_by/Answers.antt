@@ -18,6 +18,7 @@ returns-in-Ok-find_ports-clause-session g c =
       source = c.run_with.ensures.source;
       sink = c.run_with.ensures.sink;
       dials = c.run_with.ensures.dials;
+      headline = c.run_with.ensures.headline;
       shown = c.run_with.ensures.shown;
     }))
 

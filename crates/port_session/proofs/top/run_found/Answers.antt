@@ -14,6 +14,7 @@ returns-in-Ok-None-clause-session g c = unnamed (rw c.in-Ok-None.field-0-is at c
   source = c.run.ensures.source;
   sink = c.run.ensures.sink;
   dials = c.run.ensures.dials;
+  headline = c.run.ensures.headline;
   shown = c.run.ensures.shown;
 })
 

@@ -1,0 +1,26 @@
+-- What a session is given by its settings, and what may be asked of its clock.
+use Rattle.std.specs.Prelude.{◌≡◌, ◌≤◌, ℕ, List, max}
+use Rattle.attr_cache.specs.declared.lives.Lives.{Lives}
+use Rattle.world_model.specs.declared.entry.Entry.{Entry}
+use Rattle.world_model.specs.declared.entry.Entry.TheVariants.{Clock}
+use Rattle.world_model.specs.Entries.{At}
+use Rattle.claims.specs.Modes.{Modes}
+use Rattle.claims.specs.Terms.{Terms}
+use Rattle.session_words.specs.declared.settings.Settings.{Settings}
+use Rattle.session_setup.specs.Origins.{origin_of}
+
+-- the longest that an attribute is believed
+abbrev pub longest_of : Lives → ℕ
+longest_of l = max (max l.reg_min l.reg_max) (max l.dir_min l.dir_max)
+
+abbrev pub modes_of : Settings → Modes
+modes_of s = record { longest = longest_of s.lives; noac = s.noac; nocto = s.nocto }
+
+-- the terms of a session whose calls have xids from the first one on
+abbrev pub terms_by : Settings → ℕ → Terms
+terms_by s first =
+    record { origin = origin_of s.export; cred = s.cred; first = first; calls = s.calls; rsize = s.rsize; wsize = s.wsize; modes = modes_of s }
+
+-- the readings of the clock that were noted don't go back
+abbrev pub NeverBack : List Entry → Type 0
+NeverBack h = (i j a b : ℕ) → At h i (Clock a) → At h j (Clock b) → i ≤ j → a ≤ b

@@ -1,0 +1,66 @@
+-- A session: what its set-up came to, and then what came of its lines.
+use Rattle.std.specs.Prelude.{◌≡◌, ◌≢◌, ◌⊎◌, ℕ, List, [], ◌∷◌, All, length, Option, Ok, Err}
+use Rattle.world_model.specs.declared.answer.Fault.{Fault}
+use Rattle.world_model.specs.declared.entry.Entry.{Entry}
+use Rattle.world_model.specs.declared.tally.Tally.{Tally}
+use Rattle.world_model.specs.Counts.{tally_of}
+use Rattle.world_model.specs.Lost.{IsLost}
+use Rattle.world_model.specs.Transcript.{mount_text}
+use Rattle.nfs_script.specs.declared.script.ScriptLine.{ScriptLine}
+use Rattle.nfs_script.specs.Asked.{IsAskedLine}
+use Rattle.session_words.specs.declared.settings.Settings.{Settings}
+use Rattle.client_core.specs.declared.setup.Setup.{Setup}
+use Rattle.session_setup.specs.declared.opening.SetUp.{SetUp}
+use Rattle.session_setup.specs.declared.opening.SetUpFault.TheVariants.{Refused, Lost, Memory}
+use Rattle.session_setup.specs.Outcomes.{FitsSession, SetsUp}
+use Rattle.lane_session.specs.Bonds.{HasCore}
+use Rattle.lane_session.specs.Losing.{LosesOnly}
+use Rattle.lane_session.specs.Running.{mounted_by}
+use Rattle.lane_session.specs.Sessions.{SessionIs}
+use Rattle.lane_session.specs.Endings.{TextOf}
+use Rattle.lane_session.specs.Statuses.{IsCutOff}
+use Rattle.script_runs.specs.Ends.{TellsMount}
+use Rattle.script_runs.specs.Run.{IsFirst, RunOf, RunWith}
+
+-- what the core goes by after its set-up
+abbrev pub setup_of : Settings → SetUp → Setup
+setup_of s v = record { root = v.root; rsize = v.rsize; wsize = v.wsize; first_xid = v.next_xid; limit = v.left; cred = s.cred; lives = s.lives }
+
+-- Of a session that was set up with the history before: a core goes with the whole history, which was so set up, and each line of its script may be run.
+pub record Leaves (s : Settings) (lines : List ScriptLine) (first : ℕ) (v : SetUp) (before h : List Entry) : Type 0 where
+  pub fits : FitsSession s first v
+  pub asked : All IsAskedLine lines
+  pub core : HasCore (mounted_by s (setup_of s v)) (setup_of s v) before h
+
+-- The session was set up with the history before, its lines were run, and this is so of the whole history. Or it was lost in its set-up: then each line is
+-- answered so, and nothing is sent. Or the mount was refused, or memory ran out, and no line began. The counts are those of the whole history.
+pub data SetUpAndRun (R : Settings → List ScriptLine → ℕ → SetUp → List Entry → List Entry → Type 0) (s : Settings) (lines : List ScriptLine) (first : ℕ)
+    (given : List ℕ) (h : List Entry) (status : ℕ) (text : List ℕ) : Type 0 where
+  ready : (v : SetUp) (before : List Entry) → SetsUp s first (Ok v) before → SessionIs s.count lines given before h status text
+      → R s lines first v before h → TextOf s.count (tally_of h) h status text → SetUpAndRun R s lines first given h status text
+  lost : (tally : Tally) (before : List Entry) → SetsUp s first (Err (Lost tally)) before → SessionIs s.count lines given before h status text
+      → LosesOnly lines before h → IsLost h (length h) → TextOf s.count (tally_of h) h status text → SetUpAndRun R s lines first given h status text
+  refused : (fault : Fault) → given ≡ [] → SetsUp s first (Err (Refused fault)) h → TellsMount fault status text
+      → SetUpAndRun R s lines first given h status text
+  unready : given ≡ [] → SetsUp s first (Err Memory) h → status ≡ 7 → text ≡ [] → SetUpAndRun R s lines first given h status text
+
+-- A session of these lines. Without lines no call is made, and nothing is noted; else the first reading of the clock, for the first xid, isn't noted.
+pub data SessionBy (R : Settings → List ScriptLine → ℕ → SetUp → List Entry → List Entry → Type 0) (s : Settings) (lines : List ScriptLine) (given : List ℕ)
+    (h : List Entry) (status : ℕ) (text : List ℕ) : Type 0 where
+  no_lines : lines ≡ [] → h ≡ [] → SessionIs s.count [] given [] h status text → TextOf s.count (tally_of h) h status text
+      → SessionBy R s lines given h status text
+  some_lines : lines ≢ [] → (ms first : ℕ) (rest : List ℕ) → given ≡ ms ∷ rest → IsFirst given s.xid first
+      → SetUpAndRun R s lines first rest h status text → SessionBy R s lines given h status text
+
+-- a session ends with one of these: each operation went well, or one was refused, the link was lost, the mount was refused, or it was cut off
+abbrev pub IsEnding : ℕ → Type 0
+IsEnding status = (status ≡ 0) ⊎ (status ≡ 1) ⊎ (status ≡ 6) ⊎ (status ≡ 8) ⊎ IsCutOff status
+
+-- ---- a run
+
+-- what a run comes to, whose session leaves a core behind
+abbrev pub RunLeaves : List ℕ → List (List ℕ) → Option (List ℕ) → List Entry → ℕ → List ℕ → Type 0
+RunLeaves given words left h status text = RunOf (SessionBy Leaves) given words left h status text
+
+abbrev pub LeavesWith : List ℕ → Settings → Option (List ℕ) → List Entry → ℕ → List ℕ → Type 0
+LeavesWith given s left h status text = RunWith (SessionBy Leaves) given s left h status text

@@ -1,0 +1,5 @@
+pub mod Readings
+pub mod Streams
+pub mod Run
+pub mod Ends
+pub mod LaneRuns

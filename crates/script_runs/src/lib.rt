@@ -1,0 +1,12 @@
+//! A run of a script: what the words and the source give is read, a session is set up, and its lines are run in their lanes. What a
+//! run shows of the files is said by the crate above, `nfs_client`.
+#![tactic(auto)]
+
+mod input;
+mod lanes;
+mod mount;
+mod output;
+mod status;
+mod top;
+
+pub use top::{run, run_with};
