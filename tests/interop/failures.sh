@@ -181,9 +181,9 @@ try_half_a_record() {
     count $? "a silent connection is left after two waits: $((SECONDS - begun)) s"
 }
 
-# The files of so many lanes, which share 96 MiB of equal bytes: their script, in pieces that each file is synced after.
+# The files of so many lanes, which share 48 MiB of equal bytes: their script, in pieces that each file is synced after.
 write_lanes() {
-    local lane piece pieces=$((96 / $1))
+    local lane piece pieces=$((48 / $1))
     new_script
     for lane in $(seq "$1"); do
         : >"$work/served/lane$lane"
@@ -202,7 +202,7 @@ write_lanes() {
 
 # Whether each lane's file has its bytes, in the server's folder.
 are_lanes_written() {
-    local lane piece pieces=$((96 / $1))
+    local lane piece pieces=$((48 / $1))
     for lane in $(seq "$1"); do
         for piece in $(seq 0 $((pieces - 1))); do
             equal_bytes 1048576 "$(printf %02x $((lane + piece)))"
