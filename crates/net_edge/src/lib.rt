@@ -9,6 +9,7 @@ mod datagram;
 mod flight;
 mod listener;
 mod output;
+mod paced;
 mod rounds;
 mod source;
 mod stand_ins;

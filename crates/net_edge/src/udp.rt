@@ -5,8 +5,8 @@ ghost use Rattle.outside.specs.Datagrams.{HasCauseArrived};
 ghost use Rattle.net_edge.specs.Counts.{next_count, CountsArrived};
 
 use crate::datagram::PeerSocket;
-use crate::flight::{Flight, PAUSE_MS};
 use crate::listener::LOOPBACK;
+use crate::paced::PacedSocket;
 use crate::rounds::{MOST_ROUNDS, Rounds};
 use outside::{Arrived, DatagramAdds, Datagrams, Failed, LinkFault};
 use std::io;
@@ -16,16 +16,6 @@ use std::time::Clock;
 use world_model::Mark;
 use xdr_codec::Memory;
 
-/// The most datagrams that are kept while others are sent.
-const MOST_EARLY: usize = 32;
-
-/// A datagram that came while others were sent, and the port that it came from.
-#[derive(Drop)]
-struct Early {
-    port: u16,
-    bytes: Vec<u8>,
-}
-
 /// Datagrams over UDP to one host, from one port of this machine for as long as the same port of the host is aimed at: a
 /// server knows a call that is sent again by the port that it comes from. Or those at a port of the loopback that others
 /// know. A contract sees the number of calls that failed or were silent.
@@ -34,9 +24,7 @@ pub struct UdpDatagrams<'a, R: Net + Clock + AllocGlobal> {
     system: &'a R,
     /// The host that is aimed at; None where others know the port of this side, and the loopback is aimed at.
     host: Option<&'a str>,
-    current: Option<PeerSocket>,
-    flight: Flight,
-    early: Vec<Early>,
+    current: Option<PacedSocket>,
     faults: u64,
 }
 
@@ -57,8 +45,6 @@ impl<'a, R: Net + Clock + AllocGlobal> UdpDatagrams<'a, R> {
             system,
             host: Some(host),
             current: None,
-            flight: Flight::new(),
-            early: Vec::new(system.alloc()),
             faults: 0,
         }
     }
@@ -72,9 +58,7 @@ impl<'a, R: Net + Clock + AllocGlobal> UdpDatagrams<'a, R> {
             Ok(socket) => Ok(UdpDatagrams {
                 system,
                 host: None,
-                current: Some(socket),
-                flight: Flight::new(),
-                early: Vec::new(system.alloc()),
+                current: Some(PacedSocket::new(system.alloc(), socket)),
                 faults: 0,
             }),
             Err(_) => Err(Failed),
@@ -89,60 +73,6 @@ impl<'a, R: Net + Clock + AllocGlobal> UdpDatagrams<'a, R> {
     {
         self.faults = self.faults.saturating_add(1);
         answer
-    }
-
-    /// Waits until a datagram of so many bytes has room beside those that weren't answered yet, and keeps what comes. Where nothing
-    /// comes for 50 ms these count as lost.
-    fn await_room(&mut self, len: usize)
-        ensures { self.new ≡ self.old }
-    {
-        for _ in 0..MOST_EARLY {
-            if self.flight.has_room(len) {
-                return;
-            }
-            if !self.hear() {
-                self.flight = Flight::new();
-                return;
-            }
-        }
-    }
-
-    /// Keeps a datagram that comes while others are sent. False where none comes in time, or where no more can be kept.
-    fn hear(&mut self) -> bool
-        ensures { self.new ≡ self.old }
-    {
-        let Some(current) = self.current.as_ref() else {
-            return false;
-        };
-        if self.early.len() >= MOST_EARLY {
-            return false;
-        }
-        let mut bytes = Vec::new(self.system.alloc());
-        let Arrived::From(port) = current.receive(PAUSE_MS, &mut bytes) else {
-            return false;
-        };
-        self.flight.came();
-        self.early.push(Early { port, bytes }).is_ok()
-    }
-
-    /// The first datagram that was kept, or the next that comes within the wait.
-    fn arrival(&mut self, wait_ms: u32, buf: &mut Vec<u8>) -> Arrived
-        ensures { self.new ≡ self.old }
-    {
-        if !self.early.is_empty() {
-            let early = self.early.remove(0);
-            *buf = early.bytes;
-            return Arrived::From(early.port);
-        }
-        let Some(current) = self.current.as_ref() else {
-            return Arrived::Failed;
-        };
-        let arrived = current.receive(wait_ms, buf);
-        match arrived {
-            Arrived::From(_) => self.flight.came(),
-            _ => self.flight = Flight::new(),
-        }
-        arrived
     }
 
     /// Counts what came of a wait, where it failed or was silent.
@@ -205,13 +135,14 @@ impl<R: Net + Clock + AllocGlobal> Datagrams for UdpDatagrams<'_, R> {
         ensures cause { HasCause self.old self.new result }
         ensures counts { CountsFault self.old self.new result }
     {
-        self.await_room(bytes.len());
-        match self.current.as_ref() {
-            Some(current) if current.send(bytes) => {
-                self.flight.sent(bytes.len());
-                Ok(())
-            }
-            _ => self.missed(Err(LinkFault::Failed)),
+        let is_sent = match self.current.as_mut() {
+            Some(current) => current.send(bytes),
+            None => false,
+        };
+        if is_sent {
+            Ok(())
+        } else {
+            self.missed(Err(LinkFault::Failed))
         }
     }
 
@@ -222,7 +153,10 @@ impl<R: Net + Clock + AllocGlobal> Datagrams for UdpDatagrams<'_, R> {
         ensures cause { HasCauseArrived self.old self.new result }
         ensures counts { CountsArrived self.old self.new result }
     {
-        let arrived = self.arrival(wait_ms, buf);
+        let arrived = match self.current.as_mut() {
+            Some(current) => current.receive(wait_ms, buf),
+            None => Arrived::Failed,
+        };
         self.counted(arrived)
     }
 
@@ -273,33 +207,41 @@ impl<R: Net + Clock + AllocGlobal> Datagrams for UdpDatagrams<'_, R> {
 }
 
 /// The socket, aimed at that port.
-fn with_port(current: Option<PeerSocket>, port: u16) -> Option<PeerSocket> {
+fn with_port(current: Option<PacedSocket>, port: u16) -> Option<PacedSocket> {
     let mut current = current?;
-    current.peer.set_port(port);
+    current.socket.peer.set_port(port);
     Some(current)
 }
 
 /// A socket for that port of the host, if one can be had within the time of a dial: the one that is open, where it is aimed
 /// there already, or a new one.
-fn aim_at<R: Net + Clock>(
+fn aim_at<R: Net + Clock + AllocGlobal>(
     system: &R,
-    current: Option<PeerSocket>,
+    current: Option<PacedSocket>,
     host: &str,
     port: u16,
-) -> Option<PeerSocket> {
+) -> Option<PacedSocket> {
     let mut rounds = Rounds::begin(system)?;
     for _ in 0..MOST_ROUNDS {
         if let Some(peer) = first_address(system, host, port) {
-            if current.as_ref().is_some_and(|current| current.peer == peer) {
+            if is_aimed(&current, peer) {
                 return current;
             }
             if let Ok(socket) = open_to(system, peer) {
-                return Some(socket);
+                return Some(PacedSocket::new(system.alloc(), socket));
             }
         }
         rounds.pause()?;
     }
     None
+}
+
+/// Whether there is a socket, and it is aimed at that peer.
+fn is_aimed(current: &Option<PacedSocket>, peer: SocketAddr) -> bool {
+    match current {
+        Some(current) => current.socket.peer == peer,
+        None => false,
+    }
 }
 
 /// The first address of that port of the host.
