@@ -210,13 +210,9 @@ are_lanes_written() {
     done
 }
 
-# Waits at most 30 seconds until the file of the first lane has some bytes.
-await_bytes() {
-    for _ in $(seq 3000); do
-        [ "$(stat -c %s "$work/served/lane1")" -gt 2000000 ] && return 0
-        sleep 0.01
-    done
-    return 1
+# Whether more than 2,000,000 bytes lie in the lanes' files.
+are_lanes_begun() {
+    stat -c %s "$work"/served/lane* | awk '{ sum += $1 } END { exit sum <= 2000000 }'
 }
 
 # The server ends by force while so many lanes write, and is away for so many seconds: LANES SECONDS.
@@ -225,8 +221,9 @@ try_a_restart() {
     write_lanes "$1"
     run_program &
     client=$!
-    await_bytes
-    count $? "the lanes write"
+    until are_lanes_begun || ! kill -0 "$client" 2>/dev/null; do
+        sleep 0.01
+    done
     kill -9 "$server"
     wait "$server" 2>/dev/null
     kill -0 "$client" 2>/dev/null
