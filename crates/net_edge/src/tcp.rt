@@ -88,11 +88,12 @@ impl<'a, R: Net + Clock> TcpWire<'a, R> {
 }
 
 impl<R: Net + Clock> Wire for TcpWire<'_, R> {
-    ghost use Rattle.std.specs.Prelude.{◌≡◌, ◌≤◌, ◌<◌, [], true, None, length, IfOk, IsOk};
+    ghost use Rattle.std.specs.Prelude.{◌≡◌, ◌≤◌, ◌<◌, [], None, length, IfOk, IsOk};
+    ghost use Rattle.std.specs.Bool.{OnTrue, OnFalse};
     ghost use Rattle.outside.specs.Causes.{HasCause};
     ghost use Rattle.outside.specs.Sink.{TakesSome};
-    ghost use Rattle.outside.specs.Wire.{WireTells, WireNotes, GetsSome, IfGot, HasCauseRead, connected_as, wrote_as, read_as, marked_as};
-    ghost use Rattle.outside.specs.Places.{PutsLast};
+    ghost use Rattle.outside.specs.Wire.{WireTold, WireTells, WireNotes, GetsSome, IfGot, HasCauseRead, connected_as, wrote_as, read_as, marked_as};
+    ghost use Rattle.outside.specs.Places.{KeepsPlace, PutsLast};
     ghost use Rattle.net_edge.specs.Counts.{CountsFault, CountsRead};
 
     // No contract can say what a connection gives or takes.
@@ -188,8 +189,9 @@ impl<R: Net + Clock> Wire for TcpWire<'_, R> {
 
     /// Keeps nothing.
     fn keep_place(&mut self, _place: WirePlace) -> bool
+        ensures yes { OnTrue result (KeepsPlace {T = WireTold} None [] [] _place) }
+        ensures no { OnFalse result (KeepsPlace {T = WireTold} None [] [] _place) }
         ensures cause { self.new ≡ self.old }
-        ensures ok { result ≡ true }
     {
         true
     }

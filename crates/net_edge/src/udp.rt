@@ -91,11 +91,13 @@ impl<'a, R: Net + Clock + AllocGlobal> UdpDatagrams<'a, R> {
 }
 
 impl<R: Net + Clock + AllocGlobal> Datagrams for UdpDatagrams<'_, R> {
-    ghost use Rattle.std.specs.Prelude.{◌≡◌, ◌≤◌, [], true, None, IsOk};
+    ghost use Rattle.std.specs.Prelude.{◌≡◌, ◌≤◌, [], None, IsOk};
+    ghost use Rattle.std.specs.Bool.{OnTrue, OnFalse};
     ghost use Rattle.outside.specs.Causes.{HasCause};
-    ghost use Rattle.outside.specs.Datagrams.{DatagramsTell, DatagramsNote, HasCauseArrived, aimed_as, datagram_as, arrived_as, remarked_as};
+    ghost use Rattle.outside.specs.Datagrams.{DatagramsTold, DatagramsTell, DatagramsNote, HasCauseArrived, aimed_as, datagram_as, arrived_as, remarked_as};
     ghost use Rattle.outside.specs.declared.places.DatagramAdds.{DatagramAdds};
-    ghost use Rattle.outside.specs.Places.{PutsLast, TakesLast};
+    ghost use Rattle.outside.specs.declared.places.DatagramAdds.TheVariants as added;
+    ghost use Rattle.outside.specs.Places.{KeepsPlace, PutsLast, TakesLast};
     ghost use Rattle.net_edge.specs.Counts.{CountsFault, CountsArrived};
 
     // No contract can say what a socket gives or takes.
@@ -177,16 +179,18 @@ impl<R: Net + Clock + AllocGlobal> Datagrams for UdpDatagrams<'_, R> {
 
     /// Keeps nothing.
     fn keep_place(&mut self, _place: DatagramAdds) -> bool
+        ensures yes { OnTrue result (KeepsPlace {T = DatagramsTold} None [] [] _place) }
+        ensures no { OnFalse result (KeepsPlace {T = DatagramsTold} None [] [] _place) }
         ensures cause { self.new ≡ self.old }
-        ensures ok { result ≡ true }
     {
         true
     }
 
     /// Keeps nothing, and copies nothing.
     fn keep_unsent(&mut self, _rec: &[u8]) -> bool
+        ensures yes { OnTrue result (KeepsPlace {T = DatagramsTold} None [] [] (added.Unsent _rec.now)) }
+        ensures no { OnFalse result (KeepsPlace {T = DatagramsTold} None [] [] (added.Unsent _rec.now)) }
         ensures cause { self.new ≡ self.old }
-        ensures ok { result ≡ true }
     {
         true
     }
