@@ -3,6 +3,7 @@ pub mod CallExamples
 pub mod LateCopies
 pub mod OperationExamples
 pub mod PutExamples
+pub mod PutReads
 pub mod ReadExamples
 pub mod StaleBodies
 pub mod ThriftExamples

@@ -19,7 +19,7 @@ use Rattle.world_model.specs.Server.{Object, Server}
 use Rattle.world_model.specs.Operations.{Ended, AnsweredBefore, unanswered, UnderWay, LastReply}
 use Rattle.claims.specs.Slots.{Opens, InSlot}
 use Rattle.claims.specs.Touched.{Covers, WritesByte, write, fill, put, Cuts, RefusedWrite, IsAnsweredPut, Touched, foreign, written, cut, gone, given_up, Wrote, Truncated, MadeStable}
-use Rattle.claims.specs.Pending.{NoPutAt, LeftAlone, Pending}
+use Rattle.claims.specs.Pending.{NoPutAt, PutSucceeded, LeftAlone, Pending}
 use Rattle.world_model.proofs.ServiceExamples.{server}
 
 -- a put of one byte at the place 0 of the root's own file, whose file handle has no byte
@@ -123,6 +123,7 @@ is_pending = record {
   before = omega arith;
   writes = writes_its_byte;
   unrefused = not_refused;
+  unput = λ d. never_answered 0 1 (record { lane = d.lane; op = ops.Put d.path d.offset d.bytes; y = d.y; answer = Done d.value; ended = d.ended; before = d.before });
   uncovered = λ x y u a. absurd (never_answered 0 x a);
   uncut = λ x y size a. absurd (never_answered 0 x a);
   unsettled = λ x y a. absurd (never_answered 0 x a);
@@ -152,15 +153,16 @@ pending_is h (suc x) i v (write slot offset bytes of c) = absurd (cc of.began)
 pending_is h (suc x) i v (fill slot offset count of low high) = absurd (cc of.began)
 pending_is h (suc x) i v (put lane line offset n path bytes at ends leads c) = absurd (cc at)
 
--- A byte is pending until the answer that settles, covers, cuts or gives it up, also at the place of that answer.
+-- A byte is pending until the answer that settles, covers, cuts or gives it up, or that ends its own put, also at the place of that answer.
 pending_until : (m : Modes) (from : Origin) (h : List Entry) (w a i v : ℕ) (f : List ℕ) → w < a → WritesByte m from h w f i v → (RefusedWrite h w → ⊥)
-    → ((x y u : ℕ) → AnsweredBefore h w x → Wrote m h x y f i u → a ≤ y) → ((x y size : ℕ) → AnsweredBefore h w x → Truncated m h x y f size → a ≤ y)
+    → ((d : PutSucceeded h w a) → a ≤ d.y) → ((x y u : ℕ) → AnsweredBefore h w x → Wrote m h x y f i u → a ≤ y) → ((x y size : ℕ) → AnsweredBefore h w x → Truncated m h x y f size → a ≤ y)
     → ((x y : ℕ) → AnsweredBefore h w x → MadeStable m h x y f → a ≤ y) → ((k : ℕ) → LeftAlone m h k f → a ≤ k) → Pending m from h f i a v
-pending_until m from h w a i v f lt writes unrefused covers cuts settles leaves = record {
+pending_until m from h w a i v f lt writes unrefused ends covers cuts settles leaves = record {
   w = w;
   before = lt;
   writes = writes;
   unrefused = unrefused;
+  unput = λ d. omega (arith, ends d, d.before);
   uncovered = λ x y u b e soon. omega (arith, covers x y u b e, soon);
   uncut = λ x y size b e low soon. omega (arith, cuts x y size b e, soon);
   unsettled = λ x y b e soon. omega (arith, settles x y b e, soon);

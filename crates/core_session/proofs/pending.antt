@@ -4,7 +4,9 @@ pub mod Begins
 pub mod Contents
 pub mod Cuttings
 pub mod Dropped
+pub mod Entering
 pub mod Entries
+pub mod Givers
 pub mod LaneCuts
 pub mod LaneSettles
 pub mod Letting

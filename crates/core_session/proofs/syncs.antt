@@ -28,6 +28,7 @@ pub mod Plans
 pub mod PutAdding
 pub mod PutEnds
 pub mod PutGoes
+pub mod PutPart
 pub mod PutPlaced
 pub mod PutSeats
 pub mod PutsBring

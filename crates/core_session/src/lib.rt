@@ -160,14 +160,14 @@ pub fn calls_are_asked_or_needed()
 
 // What is held back.
 
-/// As long as the session isn't lost: the newest byte that is pending at a place of a file was given to it by a write, fill or put, which isn't a refused
-/// write. Since that was answered no write, fill or put that began then and went well covers the place, no truncate cut the file there, and no sync, close or
-/// put of the file went well.
+/// As long as the session isn't lost: the newest byte that is pending at a place of a file was given to it by a write, fill or put, which is neither a write
+/// that was refused nor a put that succeeded. Since that was answered no write, fill or put that began then and succeeded covers the place, no truncate cut
+/// the file there, and no sync, close or put of the file succeeded.
 pub fn pending_bytes_are_unsettled()
     ensures { PendingUnsettled }
 {}
 
-/// And where each answer that is ready was noted, it is `Pending` by world_model: no last close left the file alone since a write or fill gave it.
+/// And where each answer that is ready was noted, it is `Pending` by `claims`: no last close left the file alone since, unless a put gave it that was refused.
 pub fn pending_bytes_are_held_back()
     ensures { PendingHeldBack }
 {}

@@ -40,6 +40,7 @@ use Rattle.core_session.proofs.syncs.AllJobs.{JobBegins}
 use Rattle.core_facts.specs.Naming.{KnowsRoot}
 use Rattle.core_facts.proofs.Leading.{LeadsTo}
 use Rattle.core_session.proofs.syncs.Causes.{IsWriter, IsSaver, OfOp, Saving_}
+use Rattle.core_session.proofs.syncs.Fates.{job_kind}
 use Rattle.core_session.proofs.syncs.PutAdding.{began-fits}
 use Rattle.core_session.proofs.syncs.PutsBring.{put-byte}
 use Rattle.core_session.proofs.syncs.Jobs.{Job}
@@ -247,44 +248,51 @@ module _ (m : Mounted) (terms : Terms) (setup : Setup) (H : List Entry) (V : Vie
 
     -- ---- any operation
 
-    -- As it begins, its bytes come in so, and it saves its file.
+    -- As it begins, its bytes come in so, and it saves its file; a put does neither yet.
+    pub begins-unput : (h rest : List Entry) (old : View) (lane line : ℕ) (op : Op) → h ++ Began lane line op ∷ rest ≡ H → Reaches (machine_of m) setup h old → old.lost ≡ false → IsIdle lane old.lanes
+        → Fits (machine_of m lane op) → (j : Job) → ((file : List ℕ) (offset : ℕ) (bytes : List ℕ) → (job_kind (machine_of m lane op) ≡ 3 → ⊥) → Giving terms.modes terms.origin H f i (length h) file offset bytes → j.A file offset bytes)
+        → ((file : List ℕ) → (job_kind (machine_of m lane op) ≡ 3 → ⊥) → Saving_ terms.modes H (length h) file → j.B file)
+        → ((file : List ℕ) (size upto slot : ℕ) → IsOf terms.modes H (length h) (ops.Truncate slot size) file → j.C file size upto) → JobBegins j (machine_of m lane op) old.shelf.opens
+    begins-unput h rest old lane line (ops.Write slot offset bytes) is r found idle fits j a b c = λ file there.
+        a file offset bytes (λ is. omega (arith, is))
+        (write-gives h rest old lane line slot offset bytes is r found idle file fits
+        (of-slot h rest old lane line (ops.Write slot offset bytes) is r found idle slot file refl
+        (finds-to-write (ops.Write slot offset bytes) (finite.get old.shelf.opens (lane, slot)) file (λ mode. refl) there)))
+    begins-unput h rest old lane line (ops.Fill slot offset count v) is r found idle fits j a b c = λ file there.
+        a file offset (replicate count v) (λ is. omega (arith, is))
+        (fill-gives h rest old lane line slot offset count v is r found idle file fits
+        (of-slot h rest old lane line (ops.Fill slot offset count v) is r found idle slot file refl
+        (finds-to-write (ops.Fill slot offset count v) (finite.get old.shelf.opens (lane, slot)) file (λ mode. refl) there)))
+    begins-unput h rest old lane line (ops.Put path offset bytes) is r found idle fits j a b c = tt
+    begins-unput h rest old lane line (ops.Sync slot) is r found idle fits j a b c = λ file there.
+        b file (λ is. omega (arith, is)) (λ n k other at saver. is-op h rest old lane line (ops.Sync slot) is r found idle (λ (o : Op). IsOf terms.modes H (length h) o file)
+        (of-slot h rest old lane line (ops.Sync slot) is r found idle slot file refl (finds-file (ops.Sync slot) (finite.get old.shelf.opens (lane, slot)) file (λ mode. refl) there)) n k other at)
+    begins-unput h rest old lane line (ops.Close slot) is r found idle fits j a b c = λ file there.
+        b file (λ is. omega (arith, is)) (λ n k other at saver. is-op h rest old lane line (ops.Close slot) is r found idle (λ (o : Op). IsOf terms.modes H (length h) o file)
+        (of-slot h rest old lane line (ops.Close slot) is r found idle slot file refl (finds-file (ops.Close slot) (finite.get old.shelf.opens (lane, slot)) file (λ mode. refl) there)) n k other at)
+    begins-unput h rest old lane line (ops.Truncate slot size) is r found idle fits j a b c = λ file upto there.
+        c file size upto slot
+        (of-slot h rest old lane line (ops.Truncate slot size) is r found idle slot file refl
+        (finds-to-write (ops.Truncate slot size) (finite.get old.shelf.opens (lane, slot)) file (λ mode. refl) there))
+    begins-unput h rest old lane line (ops.OpenFile slot mode path) is r found idle fits j a b c = tt
+    begins-unput h rest old lane line (ops.Read slot offset count) is r found idle fits j a b c = tt
+    begins-unput h rest old lane line (ops.Stat path) is r found idle fits j a b c = tt
+    begins-unput h rest old lane line (ops.Access path bits) is r found idle fits j a b c = tt
+    begins-unput h rest old lane line (ops.MakeDir path) is r found idle fits j a b c = tt
+    begins-unput h rest old lane line (ops.RemoveDir path) is r found idle fits j a b c = tt
+    begins-unput h rest old lane line (ops.Remove path) is r found idle fits j a b c = tt
+    begins-unput h rest old lane line (ops.Rename from to) is r found idle fits j a b c = tt
+    begins-unput h rest old lane line (ops.Link from to) is r found idle fits j a b c = tt
+    begins-unput h rest old lane line (ops.SymLink path target) is r found idle fits j a b c = tt
+    begins-unput h rest old lane line (ops.ReadLink path) is r found idle fits j a b c = tt
+    begins-unput h rest old lane line (ops.List path) is r found idle fits j a b c = tt
+
     pub begins : (h rest : List Entry) (old : View) (lane line : ℕ) (op : Op) → h ++ Began lane line op ∷ rest ≡ H → Reaches (machine_of m) setup h old → old.lost ≡ false → IsIdle lane old.lanes
         → Fits (machine_of m lane op) → (j : Job) → ((file : List ℕ) (offset : ℕ) (bytes : List ℕ) → Giving terms.modes terms.origin H f i (length h) file offset bytes → j.A file offset bytes)
         → ((file : List ℕ) → Saving_ terms.modes H (length h) file → j.B file)
         → ((file : List ℕ) (size upto slot : ℕ) → IsOf terms.modes H (length h) (ops.Truncate slot size) file → j.C file size upto) → JobBegins j (machine_of m lane op) old.shelf.opens
-    begins h rest old lane line (ops.Write slot offset bytes) is r found idle fits j a b c = λ file there.
-        a file offset bytes
-        (write-gives h rest old lane line slot offset bytes is r found idle file fits
-        (of-slot h rest old lane line (ops.Write slot offset bytes) is r found idle slot file refl
-        (finds-to-write (ops.Write slot offset bytes) (finite.get old.shelf.opens (lane, slot)) file (λ mode. refl) there)))
-    begins h rest old lane line (ops.Fill slot offset count v) is r found idle fits j a b c = λ file there.
-        a file offset (replicate count v)
-        (fill-gives h rest old lane line slot offset count v is r found idle file fits
-        (of-slot h rest old lane line (ops.Fill slot offset count v) is r found idle slot file refl
-        (finds-to-write (ops.Fill slot offset count v) (finite.get old.shelf.opens (lane, slot)) file (λ mode. refl) there)))
-    begins h rest old lane line (ops.Put path offset bytes) is r found idle fits j a b c = tt
-    begins h rest old lane line (ops.Sync slot) is r found idle fits j a b c = λ file there.
-        b file (λ n k other at saver. is-op h rest old lane line (ops.Sync slot) is r found idle (λ (o : Op). IsOf terms.modes H (length h) o file)
-        (of-slot h rest old lane line (ops.Sync slot) is r found idle slot file refl (finds-file (ops.Sync slot) (finite.get old.shelf.opens (lane, slot)) file (λ mode. refl) there)) n k other at)
-    begins h rest old lane line (ops.Close slot) is r found idle fits j a b c = λ file there.
-        b file (λ n k other at saver. is-op h rest old lane line (ops.Close slot) is r found idle (λ (o : Op). IsOf terms.modes H (length h) o file)
-        (of-slot h rest old lane line (ops.Close slot) is r found idle slot file refl (finds-file (ops.Close slot) (finite.get old.shelf.opens (lane, slot)) file (λ mode. refl) there)) n k other at)
-    begins h rest old lane line (ops.Truncate slot size) is r found idle fits j a b c = λ file upto there.
-        c file size upto slot
-        (of-slot h rest old lane line (ops.Truncate slot size) is r found idle slot file refl
-        (finds-to-write (ops.Truncate slot size) (finite.get old.shelf.opens (lane, slot)) file (λ mode. refl) there))
-    begins h rest old lane line (ops.OpenFile slot mode path) is r found idle fits j a b c = tt
-    begins h rest old lane line (ops.Read slot offset count) is r found idle fits j a b c = tt
-    begins h rest old lane line (ops.Stat path) is r found idle fits j a b c = tt
-    begins h rest old lane line (ops.Access path bits) is r found idle fits j a b c = tt
-    begins h rest old lane line (ops.MakeDir path) is r found idle fits j a b c = tt
-    begins h rest old lane line (ops.RemoveDir path) is r found idle fits j a b c = tt
-    begins h rest old lane line (ops.Remove path) is r found idle fits j a b c = tt
-    begins h rest old lane line (ops.Rename from to) is r found idle fits j a b c = tt
-    begins h rest old lane line (ops.Link from to) is r found idle fits j a b c = tt
-    begins h rest old lane line (ops.SymLink path target) is r found idle fits j a b c = tt
-    begins h rest old lane line (ops.ReadLink path) is r found idle fits j a b c = tt
-    begins h rest old lane line (ops.List path) is r found idle fits j a b c = tt
+    begins h rest old lane line op is r found idle fits j a b c =
+        begins-unput h rest old lane line op is r found idle fits j (λ file offset bytes nay z. a file offset bytes z) (λ file nay z. b file z) c
 
     -- the file of a sync or a close that begins
     pub begins-of : (h rest : List Entry) (old : View) (lane line slot : ℕ) (op : Op) → h ++ Began lane line op ∷ rest ≡ H → Reaches (machine_of m) setup h old → old.lost ≡ false → IsIdle lane old.lanes

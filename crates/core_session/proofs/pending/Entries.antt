@@ -165,6 +165,8 @@ module _ (mt : Mounted) (terms : Terms) (setup : Setup) (H : List Entry) (f : Li
       ];
       guard = λ writer. guards_ number (k.guard writer);
       unleft = λ writer. unleft_ k.w number (k.guard writer) (k.unleft writer);
+      saves_ = λ put j n machine op there under. (let b = busy_was j n k.w machine op there under in k.saves_ put b.0 n machine op b.1 b.2);
+      unput = λ put value ended. k.unput put value (fixed_was k.w (answers.Done value) ended);
     }
 
     marked-was : (x : ℕ) → Marked mt terms setup H f i more new x → Marked mt terms setup H f i h old x

@@ -1,5 +1,5 @@
 -- What holds at each moment of a history of the newest bytes at a place of a file: who gave each, and which operations since then have left none older.
-use Rattle.std.proofs.Common.{◌≡◌, ◌≤◌, ◌<◌, ◌+◌, ◌-◌, ◌⊎◌, inl, inr, ℕ, true, false, List, ◌++◌, length, Result, Some, slice_get, sym, subst, arith}
+use Rattle.std.proofs.Common.{◌≡◌, ◌≤◌, ◌<◌, ◌+◌, ◌-◌, ◌⊎◌, inl, inr, ℕ, true, false, List, ◌++◌, length, Option, Result, Some, None, slice_get, sym, subst, ◌∙◌, arith}
 use Rattle.std.specs.Prelude.{slice_index}
 use Rattle.world_model.specs.declared.answer.Answer.{Answer}
 use Rattle.world_model.specs.declared.answer.Answer.TheVariants as answers
@@ -20,6 +20,7 @@ use Rattle.write_back.specs.Files.{Pending, of_file, OnFile, with_bytes}
 use Rattle.write_back.specs.Segments.{covers}
 use Rattle.client_shelf.specs.declared.shelf.Shelf.{Shelf}
 use Rattle.client_shelf.specs.declared.turn.Turn.{Turn}
+use Rattle.file_ops.specs.declared.saving.Saving.{Saving}
 use Rattle.file_ops.specs.Adding.{is_full}
 use Rattle.op_machines.specs.declared.begun.Mounted.{Mounted}
 use Rattle.op_machines.specs.declared.machine.Machine.{Machine}
@@ -33,7 +34,9 @@ use Rattle.core_session.proofs.syncs.Causes.{IsWriter, IsSaver, IsPut, OfOp, Sav
 use Rattle.core_session.proofs.syncs.Contents.{Common, Anything}
 use Rattle.core_session.proofs.syncs.Fate.{Story}
 use Rattle.core_session.proofs.syncs.Fates.{job_kind}
+use Rattle.core_session.proofs.syncs.Aims.{aimed}
 use Rattle.core_session.proofs.syncs.Passing.{Tale}
+use Rattle.core_session.proofs.syncs.PutGoes.{OwnAt, Names, own_save}
 use Rattle.core_session.proofs.syncs.Levels.{Content, ContentReplies}
 use Rattle.core_session.proofs.syncs.Plans.{Plan}
 use Rattle.core_session.proofs.syncs.Seen.{Owned}
@@ -76,7 +79,13 @@ module _ (mt : Mounted) (terms : Terms) (setup : Setup) (H : List Entry) (f : Li
     left_ : Apart f h v x → PutEnd h v x mark
     never : ((lane j : ℕ) (op : Op) (a : Answer) → Ended H lane x op j a → (call : Call) → NamesFile f call → LastReply H j call → ⊥) → PutEnd h v x mark
 
-  -- Who gave a byte: none that was answered before an operation began of whose mark the byte's number is above. What a write or fill gave is guarded.
+  -- What a put that is under way gave is in its own save.
+  abbrev pub PutSaves : List Entry → View → ℕ → ℕ → Type 0
+  PutSaves h v w number = (k n : ℕ) (machine : Machine) (op : Op) → slice_get v.lanes k ≡ Some (record { number = n; state = Busy machine }) → UnderWay h n w (length h) op
+      → OwnAt (Names f number) (own_save machine)
+
+  -- Who gave a byte: none that was answered before an operation began of whose mark the byte's number is above, and no put that has ended well. What a write or
+  -- fill gave is guarded.
   pub record IsGiven (h : List Entry) (v : View) (u : ℕ → ℕ) (byte number : ℕ) : Type 0 where
     pub w : ℕ
     pub began : w < length h
@@ -85,6 +94,8 @@ module _ (mt : Mounted) (terms : Terms) (setup : Setup) (H : List Entry) (f : Li
     pub late : (x lane line : ℕ) (op : Op) → At H x (Began lane line op) → x < length h → u x < number → AnsweredBefore H w x → ⊥
     pub guard : OfOp H w IsWriter → IsGuarded number v f
     pub unleft : OfOp H w IsWriter → UnleftTo terms.modes H f (length h) w
+    pub saves_ : OfOp H w IsPut → PutSaves h v w number
+    pub unput : OfOp H w IsPut → (value : Value) → IsFixed h v w (answers.Done value) → ⊥
 
   -- of a byte of the place
   abbrev pub Here : (ℕ → ℕ → Type 0) → List ℕ → ℕ → ℕ → ℕ → Type 0
@@ -124,13 +135,18 @@ module _ (mt : Mounted) (terms : Terms) (setup : Setup) (H : List Entry) (f : Li
 
   -- ---- a step of the operation at x, as it is planned
 
-  module _ (h : List Entry) (old : View) (u : ℕ → ℕ) (x mark q0 : ℕ) where
+  -- It is of this kind, has this save of its own, and a put is of the file `tgt`.
+  module _ (h : List Entry) (old : View) (u : ℕ → ℕ) (x mark q0 kind : ℕ) (own : Option Saving) (tgt : List ℕ) where
+    -- a put whose bytes aren't there yet
+    abbrev pub Unsaved : Type 0
+    Unsaved = (kind ≡ 3) × (own ≡ None)
+
     -- a byte that was there, or one that comes in
     abbrev pub Was : ℕ → ℕ → Type 0
     Was byte number = IsGiven h old u byte number × (number ≤ q0) × ((y : ℕ) → OfNewest (Above f i (u y)) old.shelf.back → u y < number)
 
     abbrev pub IsNew : ℕ → ℕ → Type 0
-    IsNew byte number = (q0 < number) × WritesByte terms.modes terms.origin H x f i byte
+    IsNew byte number = (number ≡ q0 + 1) × WritesByte terms.modes terms.origin H x f i byte × (kind ≡ 3 → (own ≡ None) × (f ≡ tgt))
 
     abbrev pub Now : ℕ → ℕ → Type 0
     Now byte number = Was byte number ⊎ IsNew byte number
@@ -139,17 +155,33 @@ module _ (mt : Mounted) (terms : Terms) (setup : Setup) (H : List Entry) (f : Li
     abbrev pub Covered : Pending → Type 0
     Covered b = OfOp H x IsWriter → (byte : ℕ) → WritesByte terms.modes terms.origin H x f i byte → OfNewest (Above f i q0) b
 
+    -- until its bytes come in, no number is given
     abbrev pub C : ℕ → Pending → Type 0
-    C q b = Known (Here Was) q0 q b
+    C q b = Common q0 q b × OfNewest (Here Was) b × (q ≡ q0)
 
     abbrev pub E : ℕ → Pending → Type 0
     E q b = Known (Here Now) q0 q b
 
     abbrev pub D : ℕ → Pending → Type 0
-    D q b = E q b × Covered b
+    D q b = E q b × Covered b × (Unsaved → q0 + 1 ≤ q)
 
     pub c-e : (q : ℕ) (b : Pending) → C q b → E q b
     c-e q b c = (c.0, newest-map (Here Was) (Here Now) (λ file place byte number k same here. inl (k same here)) b c.1)
+
+    pub c-content : (wsize : ℕ) (turn : Turn) → Content wsize turn C
+    c-content wsize turn = record {
+      sound = λ q b c. c.0.sound;
+      goes = λ s q b next new after g free c.
+          let k = (known (Here Was) q0 wsize turn).goes s q b next new after g free (c.0, c.1) in
+          (k.0, k.1, c.2);
+    }
+
+    pub c-replies : (wsize : ℕ) (sent turn : Turn) (came : Result Reply Fault) → ContentReplies wsize sent turn came Anything C
+    c-replies wsize sent turn came = record {
+      takes = λ repeats later s q b next new after t n free c.
+          let k = (known-replies (Here Was) q0 wsize sent turn came).takes repeats later s q b next new after t n free (c.0, c.1) in
+          (k.0, k.1, c.2);
+    }
 
     pub d-content : (wsize : ℕ) (turn : Turn) → Content wsize turn D
     d-content wsize turn = record {
@@ -157,6 +189,7 @@ module _ (mt : Mounted) (terms : Terms) (setup : Setup) (H : List Entry) (f : Li
       goes = λ s q b next new after g free d. (
         (known (Here Now) q0 wsize turn).goes s q b next new after g free d.0,
         λ writer byte writes. ((known (Above f i q0) q0 wsize turn).goes s q b next new after g free (d.0.0, d.1 writer byte writes)).1,
+        d.2,
       );
     }
 
@@ -165,44 +198,56 @@ module _ (mt : Mounted) (terms : Terms) (setup : Setup) (H : List Entry) (f : Li
       takes = λ repeats later s q b next new after t n free d. (
         (known-replies (Here Now) q0 wsize sent turn came).takes repeats later s q b next new after t n free d.0,
         λ writer byte writes. ((known-replies (Above f i q0) q0 wsize sent turn came).takes repeats later s q b next new after t n free (d.0.0, d.1 writer byte writes)).1,
+        d.2,
       );
     }
 
-    pub d-adds : (file : List ℕ) (offset : ℕ) (bytes : List ℕ) (q : ℕ) (b after : Pending) → Giving terms.modes terms.origin H f i x file offset bytes → is_full bytes b ≡ false
+    -- what is told of it: its bytes come in where it has no save of its own, and such a save is of their number
+    abbrev pub base : Tale
+    base = record {
+      T = λ n. (mark ≤ n) × (Unsaved → q0 + 1 ≤ n);
+      X = Unit {0};
+      A = λ file offset bytes. Giving terms.modes terms.origin H f i x file offset bytes × (kind ≡ 3 → own ≡ None);
+      B = Saving_ terms.modes H x;
+      Cut = λ file size upto. (slot : ℕ) × IsOf terms.modes H x (ops.Truncate slot size) file;
+    }
+
+    pub d-adds : (file : List ℕ) (offset : ℕ) (bytes : List ℕ) (q : ℕ) (b after : Pending) → (aimed kind tgt base).A file offset bytes → is_full bytes b ≡ false
         → OnFile b after file (with_bytes offset bytes (q + 1) (of_file file b)) → C q b → D (q + 1) after
-    d-adds file offset bytes q b after given full on c = (whole, covered)
+    d-adds file offset bytes q b after given full on c = (whole, covered, λ unsaved. (let same = c.2 in omega (arith, same)))
       where
         more : q0 < q + 1
         more = let low = c.0.since in omega (arith, low)
 
-        own : (place : ℕ) → covers offset (length bytes) place ≡ true → Here Now file place (slice_index bytes (place - offset)) (q + 1)
-        own place inside same here =
+        own_ : (place : ℕ) → covers offset (length bytes) place ≡ true → Here Now file place (slice_index bytes (place - offset)) (q + 1)
+        own_ place inside same here =
             inr (
-              more,
+              (let last = c.2 in omega (arith, last)),
               subst (λ (p : ℕ). WritesByte terms.modes terms.origin H x f i (slice_index bytes (p - offset))) (sym here)
-                  (given.gives same (subst (λ (p : ℕ). covers offset (length bytes) p ≡ true) here inside)),
+                  (given.0.0.gives same (subst (λ (p : ℕ). covers offset (length bytes) p ≡ true) here inside)),
+              λ three. (given.0.1 three, sym same ∙ given.1 three),
             )
 
         whole : E (q + 1) after
-        whole = known-adds (Here Now) q0 file offset bytes q b after given.fits full on own (c-e q b c)
+        whole = known-adds (Here Now) q0 file offset bytes q b after given.0.0.fits full on own_ (c-e q b c)
 
         covered : Covered after
         covered writer byte writes =
-            let k = given.all writer byte writes in
+            let k = given.0.0.all writer byte writes in
             adds-above f i q0 (q + 1) offset bytes b after more k.1 c.0.sound whole.0.sound
             (subst (λ (z : List ℕ). OnFile b after z (with_bytes offset bytes (q + 1) (of_file z b))) k.0 on)
 
-    abbrev pub plan : (wsize kind : ℕ) (tables : Shelf) → mark ≤ q0 → Plan f wsize kind q0 (λ z. Unit {0})
-    plan wsize kind tables low = record {
+    abbrev pub plan : (wsize : ℕ) (tables : Shelf) → mark ≤ q0 → Plan f wsize kind q0 (λ z. Unit {0})
+    plan wsize tables low = record {
       C = C;
       D = D;
       E = E;
-      t = tale x mark;
+      t = aimed kind tgt base;
       ways = λ turn turned. record {
-        c = known (Here Was) q0 wsize turn;
+        c = c-content wsize turn;
         d = d-content wsize turn;
         e = known (Here Now) q0 wsize turn;
-        mark = λ q b d. (let since = d.0.0.since in omega (arith, low, since));
+        mark = λ q b d. ((let since = d.0.0.since in omega (arith, low, since)), d.2);
         apart_ends = λ file apart of. tt;
         settles = λ upto q b t clear d. tt;
         enough = c-e;
@@ -210,16 +255,19 @@ module _ (mt : Mounted) (terms : Terms) (setup : Setup) (H : List Entry) (f : Li
       };
       tables = tables;
       moves = λ next. record {
-        adds = λ file offset bytes q b after is given full on c. (d-adds file offset bytes q b after given full on c, λ lane line op at saver. absurd (given.no_saver lane line op at saver));
+        adds = λ file offset bytes q b after is given full on c. (
+          d-adds file offset bytes q b after given full on c,
+          (λ lane line op at saver. absurd (given.0.0.no_saver lane line op at saver), given.1),
+        );
         enough = c-e;
         less = λ q b d. d.0;
-        cuts = λ file size upto q b after short quiet on c. c-e q after (known-cuts (Here Was) q0 file size upto q b after quiet on c);
+        cuts = λ file size upto q b after short quiet on c. known-cuts (Here Now) q0 file size upto q b after quiet on (c-e q b c);
         gives = λ final z file fault q b after is of shut on d. known-gives (Here Now) q0 file q b after on d.0;
       };
       Lone = Unit {0};
       puts = λ next final z file fault q b after is shut alone on e. known-gives (Here Now) q0 file q b after on e;
       M = λ sent came. Anything;
-      replies = λ sent turn came turned. known-replies (Here Was) q0 wsize sent turn came;
+      replies = λ sent turn came turned. c-replies wsize sent turn came;
       more = λ sent turn came turned. d-replies wsize sent turn came;
       unsaid = λ sent fault s b. tt;
       low_c = λ q b c. c.0.since;

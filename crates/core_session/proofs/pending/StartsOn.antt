@@ -1,5 +1,5 @@
 -- An operation begins: what stands of the newest bytes goes on standing.
-use Rattle.std.proofs.Common.{◌≡◌, ◌≢◌, ◌≤◌, ◌<◌, ◌+◌, ◌⊎◌, inl, inr, ℕ, Bool, true, false, nat_eq, List, [], ◌∷◌, ◌++◌, length, refl, sym, subst, ◌∙◌, append_assoc, arith}
+use Rattle.std.proofs.Common.{◌≡◌, ◌≢◌, ◌≤◌, ◌<◌, ◌+◌, ◌⊎◌, inl, inr, ℕ, Bool, true, false, nat_eq, List, [], ◌∷◌, ◌++◌, length, None, refl, sym, subst, ◌∙◌, append_assoc, arith}
 use Rattle.std.specs.Prelude.{if◌then◌else◌}
 use Rattle.std.proofs.lemmas.Bool.{eqb-true, eqb-false}
 use Rattle.world_model.specs.declared.answer.Answer.{Answer}
@@ -45,13 +45,13 @@ use Rattle.core_session.proofs.pending.Letting.{starts-lets}
 use Rattle.core_session.proofs.syncs.SlotHeld.{HoldsSlot}
 use Rattle.core_session.proofs.pending.Above.{Above}
 use Rattle.core_session.proofs.syncs.Aparts.{apart-turns, names-next}
-use Rattle.core_session.proofs.pending.Begins.{begins, begins-of, one-file}
+use Rattle.core_session.proofs.pending.Begins.{begins-unput, begins-of, one-file}
 use Rattle.core_session.proofs.pending.Cuttings.{IsTruncate, IsCutter, cutter-starts, cutter-starts-not, cutter-takes, cutter-takes-err, leads-keeps, leads-done}
 use Rattle.core_session.proofs.pending.LaneSettles.{starts-sync-good, starts-close-good}
 use Rattle.core_session.proofs.pending.Newest.{OfNewest}
 use Rattle.core_session.proofs.syncs.PutGoes.{starts-not}
 use Rattle.core_session.proofs.pending.Settles.{IsGood, StateGood}
-use Rattle.core_session.proofs.pending.Standing.{IsSaverOf, PutEnd, Phase, C, c-e, plan}
+use Rattle.core_session.proofs.pending.Standing.{IsSaverOf, Phase, C, c-e, plan}
 use Rattle.core_session.proofs.pending.Stepping.{was-all, writer-here, put-kind, truncate-here, next-phase}
 use Rattle.core_session.proofs.pending.TakesOn.{ended-was}
 
@@ -139,10 +139,10 @@ module _ (mt : Mounted) (terms : Terms) (setup : Setup) (H : List Entry) (V : Vi
   ended_ = ended-was h (Began lane line op) (λ n l answer e. cc)
 
   abbrev plan_ : Plan f old.wsize kind old.shelf.seq (λ z. Unit {0})
-  plan_ = plan mt terms setup H f i h old p.u (length h) (u2 (length h)) old.shelf.seq old.wsize kind new.shelf (low2 (length h))
+  plan_ = plan mt terms setup H f i h old p.u (length h) (u2 (length h)) old.shelf.seq kind None [] old.wsize new.shelf (low2 (length h))
 
-  was : C mt terms setup H f i h old p.u (length h) (u2 (length h)) old.shelf.seq old.shelf.seq old.shelf.back
-  was = was-all mt terms setup H V g f i h old p (length h) (u2 (length h))
+  was : C mt terms setup H f i h old p.u (length h) (u2 (length h)) old.shelf.seq kind None [] old.shelf.seq old.shelf.back
+  was = was-all mt terms setup H V g f i h old p (length h) (u2 (length h)) kind None []
 
   writer : OfOp H (length h) IsWriter → kind ≡ 1
   writer =
@@ -151,18 +151,23 @@ module _ (mt : Mounted) (terms : Terms) (setup : Setup) (H : List Entry) (V : Vi
 
   came : Came_ f old.wsize some lane idle.least idle.most (bases f old.lanes) kind old.shelf.seq (λ z. Unit {0}) plan_ old.lanes (length old.lanes) new
   came = starts-came mt setup h old k wholly placed some f p.owned (λ z. Unit {0}) tt tt new lane op now idle t plan_ refl (λ alone. tt)
-      (λ owner. begins mt terms setup H V g f i h rest old lane line op is r found idle fits
+      (λ owner. begins-unput mt terms setup H V g f i h rest old lane line op is r found idle fits
       (job-in f old.wsize some lane idle.least idle.most (bases f old.lanes) owner plan_.C plan_.D plan_.E plan_.t (turn_at (counted old now)) (plan_.ways (turn_at (counted old now)) tt))
-      (λ file offset bytes a. a) (λ file a. a) (λ file size upto slot of. (slot, of)))
+      (λ file offset bytes nay a. ((a, λ three. absurd (nay three)), λ three. absurd (nay three))) (λ file nay a. (a, λ three. absurd (nay three))) (λ file size upto slot of. (slot, of)))
       was
       (λ saver. (
-        c-e mt terms setup H f i h old p.u (length h) (u2 (length h)) old.shelf.seq old.shelf.seq old.shelf.back was,
+        c-e mt terms setup H f i h old p.u (length h) (u2 (length h)) old.shelf.seq kind None [] old.shelf.seq old.shelf.back was,
         λ of byte writes. absurd (not-saver saver (writer of)),
+        λ waits. absurd (not-put saver waits.0),
       ))
     where
       not-saver : (kind ≡ 2) ⊎ (kind ≡ 5) → kind ≡ 1 → ⊥
       not-saver (inl a) b = omega (arith, a, b)
       not-saver (inr a) b = omega (arith, a, b)
+
+      not-put : (kind ≡ 2) ⊎ (kind ≡ 5) → kind ≡ 3 → ⊥
+      not-put (inl a) b = omega (arith, a, b)
+      not-put (inr a) b = omega (arith, a, b)
 
   -- a sync or a close that has saved its file at once
   settled-by : (o : Op) → op ≡ o → IsSaver o → IsSaverOf mt terms setup H f i (length h) → StateGood came.state → OfNewest (Above f i (u2 (length h))) new.shelf.back
@@ -264,8 +269,8 @@ module _ (mt : Mounted) (terms : Terms) (setup : Setup) (H : List Entry) (V : Vi
           truncate-here mt terms setup H V g f i h h2 rest split_ old new (length old.lanes) lane (length h) op old.wsize some idle.least idle.most (bases f old.lanes) kind refl runs under shorter
           ended_ p u2 same low2 fresh c
 
-  put-done : (value : Value) → came.state ≡ Over (answers.Done value) → OfOp H (length h) IsPut → PutEnd mt terms setup H f i h2 new (length h) (u2 (length h))
-  put-done value is_ puts = absurd (starts-not (counted old now) new lane (machine_of mt lane op) t (put-kind mt lane op (puts lane line op began-at)) lane came.state came.but.here value is_)
+  put-not : OfOp H (length h) IsPut → (value : Value) → came.state ≡ Over (answers.Done value) → ⊥
+  put-not puts value is_ = starts-not (counted old now) new lane (machine_of mt lane op) t (put-kind mt lane op (puts lane line op began-at)) lane came.state came.but.here value is_
 
   turns_ : Turns f h h2 old new (length old.lanes) lane (length h) op came.state
   turns_ = turns-starts f h old new lane line op came.state idle came.but
@@ -276,7 +281,8 @@ module _ (mt : Mounted) (terms : Terms) (setup : Setup) (H : List Entry) (V : Vi
   pub starts-phase : Phase mt terms setup H f i h2 new
   starts-phase =
       next-phase mt terms setup H V g f i h h2 rest split_ old new (length old.lanes) lane (length h) op old.wsize some idle.least idle.most (bases f old.lanes) kind refl runs under shorter
-      ended_ p u2 same low2 fresh came turns_ settled marks done put-done
+      ended_ p u2 same low2 fresh None [] came turns_ settled marks done (λ value is_ puts. absurd (put-not puts value is_)) (λ low. absurd (omega (arith, low)))
+      (λ low number saves puts value is_. absurd (put-not puts value is_)) (λ puts none. put-not puts)
       (λ y a. apart-turns f h h2 old new (length old.lanes) lane (length h) op came.state turns_ (λ z l. names-next h (Began lane line op) z began-not l) y a)
       (λ sound number few guard. starts-lets mt terms.modes g.nocto setup h old new lane line op now r found k idle t gk.drops gk2.drops gk.ranked f i number few came.state came.but p.common.sound sound p.owned came.owned_ guard)
       (slots2 (length h))

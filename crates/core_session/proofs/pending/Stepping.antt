@@ -45,6 +45,7 @@ use Rattle.core_session.proofs.syncs.Jobs.{SyncHas, CloseHas, syncing_save, clos
 use Rattle.core_session.proofs.syncs.Nexts.{at-on, common-from, has-map, not-before, tale-map}
 use Rattle.core_session.proofs.syncs.Passing.{Tale, told, Shown}
 use Rattle.core_session.proofs.syncs.Plans.{Plan, Came_}
+use Rattle.core_session.proofs.syncs.PutGoes.{OwnAt, Names, own_save, own-has}
 use Rattle.core_session.proofs.syncs.Turning.{IsFixed, ready, gone, Turns, fixed-turns}
 use Rattle.core_session.proofs.pending.Above.{Above}
 use Rattle.core_session.proofs.syncs.Aparts.{Apart}
@@ -62,8 +63,8 @@ use Rattle.write_back.specs.Segments.{Cell, cell_at}
 use Rattle.file_ops.specs.declared.close_file.CloseFile.{CloseFile}
 use Rattle.claims.specs.Touched as touched
 use Rattle.core_session.proofs.pending.Settles as settles
-use Rattle.core_session.proofs.pending.Settles.{StateGood, IsPast}
-use Rattle.core_session.proofs.pending.Standing.{IsSaverOf, Marked, wrote, cut, saved, past, PutEnd, settled_, left_, never, IsGiven, Here, tale, Told, Phase, Was, IsNew, Now, C, E, c-e, plan}
+use Rattle.core_session.proofs.pending.Settles.{StateGood}
+use Rattle.core_session.proofs.pending.Standing.{IsSaverOf, Marked, wrote, cut, saved, past, PutEnd, settled_, left_, never, PutSaves, IsGiven, Here, tale, Told, Phase, Was, IsNew, Now, C, E, c-e, plan}
 
 -- ---- which operation it is
 
@@ -153,6 +154,9 @@ machine-saver (machines.Path m) k = absurd (by m.opener k)
 machine-saver (machines.Name m) (inl k) = absurd (omega (arith, k))
 machine-saver (machines.Name m) (inr k) = absurd (omega (arith, k))
 
+busy-one : (a b : Machine) → Busy a ≡ Busy b → a ≡ b
+busy-one a b e = cc
+
 -- what is told of the save of a sync or a close
 some-save : (a b : Saving) → Some a ≡ Some b → a ≡ b
 some-save a b e = cc
@@ -216,13 +220,15 @@ module _ (mt : Mounted) (terms : Terms) (setup : Setup) (H : List Entry) (V : Vi
   marked-low h v x (past k n machine op there u is sv) = u.before
 
   -- all that is known of each byte before a step
-  pub was-all : (h : List Entry) (v : View) (p : Phase_ h v) (x mark : ℕ) → C mt terms setup H f i h v p.u x mark v.shelf.seq v.shelf.seq v.shelf.back
-  was-all h v p x mark = (
+  pub was-all : (h : List Entry) (v : View) (p : Phase_ h v) (x mark kind : ℕ) (own : Option Saving) (tgt : List ℕ)
+      → C mt terms setup H f i h v p.u x mark v.shelf.seq kind own tgt v.shelf.seq v.shelf.back
+  was-all h v p x mark kind own tgt = (
     common-from 0 v.shelf.seq v.shelf.seq v.shelf.back (omega arith) p.common,
-    newest-zip (Here mt terms setup H f i (Given_ h v p.u)) Rest (Here mt terms setup H f i (Was mt terms setup H f i h v p.u x mark v.shelf.seq))
+    newest-zip (Here mt terms setup H f i (Given_ h v p.u)) Rest (Here mt terms setup H f i (Was mt terms setup H f i h v p.u x mark v.shelf.seq kind own tgt))
         (λ file place byte number k r same here. (k same here, r.0, λ y m. r.1 (y, m) same here)) v.shelf.back p.given
         (newest-zip Low Each Rest (λ file place byte number low each. (low, each)) v.shelf.back (newest-low v.shelf.seq v.shelf.back p.common.upto)
         (newest-each Those (λ a. Above f i (p.u a.0)) v.shelf.back (λ a. a.1))),
+    refl,
   )
     where
       Those : Type 0
@@ -273,39 +279,83 @@ module _ (mt : Mounted) (terms : Terms) (setup : Setup) (H : List Entry) (V : Vi
         by (inl k) = inl (kind_is ∙ k)
         by (inr k) = inr (kind_is ∙ k)
 
-    abbrev pub Plan_ : Plan f wsize kind old.shelf.seq (λ z. Unit {0})
-    Plan_ = plan mt terms setup H f i h old p.u x (u2 x) old.shelf.seq wsize kind new.shelf (low2 x)
+    abbrev pub Plan_ : Option Saving → List ℕ → Plan f wsize kind old.shelf.seq (λ z. Unit {0})
+    Plan_ own tgt = plan mt terms setup H f i h old p.u x (u2 x) old.shelf.seq kind own tgt wsize new.shelf (low2 x)
 
-    abbrev Now_ : ℕ → ℕ → Type 0
-    Now_ = Now mt terms setup H f i h old p.u x (u2 x) old.shelf.seq
-
-    abbrev Was_ : ℕ → ℕ → Type 0
-    Was_ = Was mt terms setup H f i h old p.u x (u2 x) old.shelf.seq
-
-    abbrev E_ : ℕ → Pending → Type 0
-    E_ = E mt terms setup H f i h old p.u x (u2 x) old.shelf.seq
-
-    module _ (came : Came_ f wsize some number least most base kind old.shelf.seq (λ z. Unit {0}) Plan_ old.lanes at new) (t : Turns f h h2 old new at number x op came.state)
-        (settled : StateGood came.state → SaverOf x → OfNewest (Above f i (u2 x)) new.shelf.back)
+    module _ (own : Option Saving) (tgt : List ℕ) (came : Came_ f wsize some number least most base kind old.shelf.seq (λ z. Unit {0}) (Plan_ own tgt) old.lanes at new)
+        (t : Turns f h h2 old new at number x op came.state) (settled : StateGood came.state → SaverOf x → OfNewest (Above f i (u2 x)) new.shelf.back)
         (cut_marks : IsTruncate op → (machine : Machine) → came.state ≡ Busy machine → IsCutter (u2 x) machine)
         (cut_done : (value : Value) → came.state ≡ Over (answers.Done value) → Cuts terms.modes H x f i → OfNewest (Above f i (u2 x)) new.shelf.back)
         (put_done : (value : Value) → came.state ≡ Over (answers.Done value) → OfOp H x IsPut → PutEnd mt terms setup H f i h2 new x (u2 x))
+        (own_on : x < length h → (number_ : ℕ) → PutSaves mt terms setup H f i h old x number_ → (machine : Machine) → came.state ≡ Busy machine → OwnAt (Names f number_) (own_save machine))
+        (own_done : x < length h → (number_ : ℕ) → PutSaves mt terms setup H f i h old x number_ → OfOp H x IsPut → (value : Value) → came.state ≡ Over (answers.Done value)
+        → OfNewest (Above f i number_) new.shelf.back)
+        (new_done : OfOp H x IsPut → own ≡ None → (value : Value) → came.state ≡ Over (answers.Done value) → ⊥)
         (apart_on : (y : ℕ) → Apart f h old y → Apart f h2 new y)
         (guards_ : EachSound new.shelf.back → (number_ : ℕ) → number_ ≤ old.shelf.seq → IsGuarded number_ old f → IsGuarded number_ new f ⊎ OfNewest (Above f i number_) new.shelf.back)
         (slots2 : HoldsSlot terms.modes H x f h2 new) (unleft_ : (w number_ : ℕ) → IsGuarded number_ old f → UnleftTo terms.modes H f (length h) w → UnleftTo terms.modes H f (length h2) w) where
+      abbrev ThePlan : Plan f wsize kind old.shelf.seq (λ z. Unit {0})
+      ThePlan = Plan_ own tgt
+
+      abbrev Now_ : ℕ → ℕ → Type 0
+      Now_ = Now mt terms setup H f i h old p.u x (u2 x) old.shelf.seq kind own tgt
+
+      abbrev Was_ : ℕ → ℕ → Type 0
+      Was_ = Was mt terms setup H f i h old p.u x (u2 x) old.shelf.seq kind own tgt
+
+      abbrev New_ : ℕ → ℕ → Type 0
+      New_ = IsNew mt terms setup H f i h old p.u x (u2 x) old.shelf.seq kind own tgt
+
+      abbrev E_ : ℕ → Pending → Type 0
+      E_ = E mt terms setup H f i h old p.u x (u2 x) old.shelf.seq kind own tgt
+
       abbrev ShownN : State → Type 0
-      ShownN st = Shown f wsize some number least most base came.owner Plan_.C Plan_.D Plan_.E Plan_.t kind st new.shelf.seq new.shelf.back new.shelf.order
+      ShownN st = Shown f wsize some number least most base came.owner ThePlan.C ThePlan.D ThePlan.E ThePlan.t kind st new.shelf.seq new.shelf.back new.shelf.order
 
       e-of : (st : State) → ShownN st → E_ new.shelf.seq new.shelf.back
       e-of (Busy m) sh = of sh.1.content
         where
-          of : Plan_.C new.shelf.seq new.shelf.back ⊎ Plan_.D new.shelf.seq new.shelf.back → E_ new.shelf.seq new.shelf.back
-          of (inl c) = c-e mt terms setup H f i h old p.u x (u2 x) old.shelf.seq new.shelf.seq new.shelf.back c
+          of : ThePlan.C new.shelf.seq new.shelf.back ⊎ ThePlan.D new.shelf.seq new.shelf.back → E_ new.shelf.seq new.shelf.back
+          of (inl c) = c-e mt terms setup H f i h old p.u x (u2 x) old.shelf.seq kind own tgt new.shelf.seq new.shelf.back c
           of (inr d) = d.0
       e-of (Over answer) sh = sh.content
 
       content : E_ new.shelf.seq new.shelf.back
       content = e-of came.state came.shown
+
+      -- ---- which lane it is
+
+      lane-there : (k n : ℕ) (st : State) → slice_get new.lanes k ≡ Some (record { number = n; state = st }) → k ≡ at → (n ≡ number) × (st ≡ came.state)
+      lane-there k n st there here =
+          let e = sym there ∙ ap (slice_get new.lanes) here ∙ came.but.here in
+          (number-is st came.state n number e, state-is st came.state n number e)
+
+      other-under : (k n y : ℕ) (o : Op) (st : State) → slice_get new.lanes k ≡ Some (record { number = n; state = st }) → UnderWay h2 n y (length h2) o → y ≢ x → k ≢ at
+      other-under k n y o st there u off here =
+          let is = lane-there k n st there here in
+          off (one-under h2 number x y op o runs under (subst (λ (m : ℕ). UnderWay h2 m y (length h2) o) is.0 u)).0
+
+      fixed-was : (y : ℕ) (a : Answer) → y ≢ x → IsFixed h2 new y a → IsFixed h old y a
+      fixed-was y a off (gone lane z o d) = gone lane z o (ended_was lane y z o a d)
+      fixed-was y a off (ready k n o there u) =
+          let apart = other-under k n y o (Over a) there u off in
+          let was = came.but.was k (record { number = n; state = Over a }) there apart in
+          ready k n o was (t.was n y o (t.apart k (record { number = n; state = Over a }) was apart) u)
+
+      own-lane : (k n : ℕ) (st : State) (o : Op) → slice_get new.lanes k ≡ Some (record { number = n; state = st }) → UnderWay h2 n x (length h2) o → came.state ≡ st
+      own-lane k n st o there u = by (nat_eq k at) refl
+        where
+          by : (b : Bool) → nat_eq k at ≡ b → came.state ≡ st
+          by true d = sym (lane-there k n st there (eqb-true k at d)).1
+          by false d =
+              let off = eqb-false k at d in
+              let was = came.but.was k (record { number = n; state = st }) there off in
+              absurd (t.apart k (record { number = n; state = st }) was off
+              (began-same n u.line number under.line o op (At-one h2 x (Began n u.line o) (Began number under.line op) u.began under.began)).0)
+
+      own-fixed : (a : Answer) → IsFixed h2 new x a → came.state ≡ Over a
+      own-fixed a (ready k n o there u) = own-lane k n (Over a) o there u
+      own-fixed a (gone lane y o d) = absurd (under.unanswered (record { lane = lane; op = o; y = y; answer = a; ended = d; before = At-below h2 y (Answered lane d.line a) d.answered }))
 
       -- ---- who gave each byte
 
@@ -322,8 +372,29 @@ module _ (mt : Mounted) (terms : Terms) (setup : Setup) (H : List Entry) (V : Vi
         late = λ y lane line o at_y within above before. by y lane line o at_y within above before (cases_lt y (length h));
         guard = λ writer. still (guards_ sound2 number_ was.1 (was.0.guard writer));
         unleft = λ writer. unleft_ was.0.w number_ (was.0.guard writer) (was.0.unleft writer);
+        saves_ = λ put k n machine o lane u. saved_by put k n machine o lane u (nat_eq was.0.w x) refl;
+        unput = λ put value fixed. ended_by put value fixed (nat_eq was.0.w x) refl;
       }
         where
+          saved_by : OfOp H was.0.w IsPut → (k n : ℕ) (machine : Machine) (o : Op) → slice_get new.lanes k ≡ Some (record { number = n; state = Busy machine }) → UnderWay h2 n was.0.w (length h2) o → (b : Bool)
+              → nat_eq was.0.w x ≡ b → OwnAt (Names f number_) (own_save machine)
+          saved_by put k n machine o lane u true d =
+              let same = eqb-true was.0.w x d in
+              own_on (subst (λ (z : ℕ). z < length h) same was.0.began) number_ (subst (λ (z : ℕ). PutSaves mt terms setup H f i h old z number_) same (was.0.saves_ put)) machine
+              (own-lane k n (Busy machine) o lane (subst (λ (z : ℕ). UnderWay h2 n z (length h2) o) same u))
+          saved_by put k n machine o lane u false d =
+              let apart = other-under k n was.0.w o (Busy machine) lane u (eqb-false was.0.w x d) in
+              let before = came.but.was k (record { number = n; state = Busy machine }) lane apart in
+              was.0.saves_ put k n machine o before (t.was n was.0.w o (t.apart k (record { number = n; state = Busy machine }) before apart) u)
+
+          ended_by : OfOp H was.0.w IsPut → (value : Value) → IsFixed h2 new was.0.w (answers.Done value) → (b : Bool) → nat_eq was.0.w x ≡ b → ⊥
+          ended_by put value fixed true d =
+              let same = eqb-true was.0.w x d in
+              there
+              (own_done (subst (λ (z : ℕ). z < length h) same was.0.began) number_ (subst (λ (z : ℕ). PutSaves mt terms setup H f i h old z number_) same (was.0.saves_ put))
+              (subst (λ (z : ℕ). OfOp H z IsPut) same put) value (own-fixed (answers.Done value) (subst (λ (z : ℕ). IsFixed h2 new z (answers.Done value)) same fixed)))
+          ended_by put value fixed false d = was.0.unput put value (fixed-was was.0.w (answers.Done value) (eqb-false was.0.w x d) fixed)
+
           still : IsGuarded number_ new f ⊎ OfNewest (Above f i number_) new.shelf.back → IsGuarded number_ new f
           still (inl guard) = guard
           still (inr above) = absurd (there above)
@@ -361,9 +432,18 @@ module _ (mt : Mounted) (terms : Terms) (setup : Setup) (H : List Entry) (V : Vi
           by (touched.fill slot offset count of low high) = of-slot (ops.Fill slot offset count byte) slot of.lane of.line refl refl of.began of
           by (touched.put lane line offset n path bytes at_x ends leads c) = absurd (writer lane line (ops.Put path offset bytes) at_x)
 
-      new-on : (OfOp H x IsWriter → (value : Value) × IsFixed h2 new x (answers.Done value)) → (OfOp H x IsWriter → (answer : Answer) × (came.state ≡ Over answer)) → (byte number_ : ℕ)
-          → IsNew mt terms setup H f i h old p.u x (u2 x) old.shelf.seq byte number_ → Given_ h2 new u2 byte number_
-      new-on well over byte number_ is = record {
+      -- what is known of the operation whose byte it is
+      abbrev Well : Type 0
+      Well = OfOp H x IsWriter → (value : Value) × IsFixed h2 new x (answers.Done value)
+
+      abbrev HasEnded : Type 0
+      HasEnded = OfOp H x IsWriter → (answer : Answer) × (came.state ≡ Over answer)
+
+      abbrev Keeps : Type 0
+      Keeps = OfOp H x IsPut → (byte number_ : ℕ) → New_ byte number_ → (machine : Machine) → came.state ≡ Busy machine → OwnAt (Names f number_) (own_save machine)
+
+      new-on : Well → HasEnded → Keeps → (byte number_ : ℕ) → New_ byte number_ → Given_ h2 new u2 byte number_
+      new-on well over keeps byte number_ is = record {
         w = x;
         began = under.before;
         writes = is.1;
@@ -371,12 +451,13 @@ module _ (mt : Mounted) (terms : Terms) (setup : Setup) (H : List Entry) (V : Vi
         late = λ y lane line o at_y within above before. not-before H h2 rest split_ y number x op within under before;
         guard = λ writer. (let o = over writer in own-guard o.0 o.1 writer byte number_ is.1);
         unleft = λ writer k before left r b at_r low high. not-before H h2 rest split_ k number x op (omega (arith, low, high)) under before;
+        saves_ = λ put k n machine o lane u. keeps put byte number_ is machine (own-lane k n (Busy machine) o lane u);
+        unput = λ put value fixed. new_done put (is.2 (put-here put)).0 value (own-fixed (answers.Done value) fixed);
       }
 
-      now-on : (OfOp H x IsWriter → (value : Value) × IsFixed h2 new x (answers.Done value)) → (OfOp H x IsWriter → (answer : Answer) × (came.state ≡ Over answer)) → (byte number_ : ℕ)
-          → (OfNewest (Above f i number_) new.shelf.back → ⊥) → Now_ byte number_ → Given_ h2 new u2 byte number_
-      now-on well over byte number_ there (inl was) = was-on byte number_ there was
-      now-on well over byte number_ there (inr is) = new-on well over byte number_ is
+      now-on : Well → HasEnded → Keeps → (byte number_ : ℕ) → (OfNewest (Above f i number_) new.shelf.back → ⊥) → Now_ byte number_ → Given_ h2 new u2 byte number_
+      now-on well over keeps byte number_ there (inl was) = was-on byte number_ there was
+      now-on well over keeps byte number_ there (inr is) = new-on well over keeps byte number_ is
 
       abbrev GivenNow : Type 0
       GivenNow = OfNewest (Here mt terms setup H f i (Given_ h2 new u2)) new.shelf.back
@@ -387,41 +468,54 @@ module _ (mt : Mounted) (terms : Terms) (setup : Setup) (H : List Entry) (V : Vi
           let more : cell.number < cell.number = cell-of (Above f i cell.number file) (of_file file new.shelf.back).segments place cell (above.file file) at_ same_ here in
           omega (arith, more)
 
-      c-given : Plan_.C new.shelf.seq new.shelf.back → GivenNow
+      c-given : ThePlan.C new.shelf.seq new.shelf.back → GivenNow
       c-given c =
           newest-there (Here mt terms setup H f i Was_) (Here mt terms setup H f i (Given_ h2 new u2)) new.shelf.back sound2
           (λ file place cell at_ k same_ here. was-on cell.byte cell.number (there-not file place cell at_ same_ here) (k same_ here)) c.1
 
-      e-given : (OfOp H x IsWriter → (value : Value) × IsFixed h2 new x (answers.Done value)) → (OfOp H x IsWriter → (answer : Answer) × (came.state ≡ Over answer)) → E_ new.shelf.seq new.shelf.back → GivenNow
-      e-given well over e =
+      e-given : Well → HasEnded → Keeps → E_ new.shelf.seq new.shelf.back → GivenNow
+      e-given well over keeps e =
           newest-there (Here mt terms setup H f i Now_) (Here mt terms setup H f i (Given_ h2 new u2)) new.shelf.back sound2
-          (λ file place cell at_ k same_ here. now-on well over cell.byte cell.number (there-not file place cell at_ same_ here) (k same_ here)) e.1
+          (λ file place cell at_ k same_ here. now-on well over keeps cell.byte cell.number (there-not file place cell at_ same_ here) (k same_ here)) e.1
+
+      -- where it has its answer
+      over-keeps : (a : Answer) → came.state ≡ Over a → Keeps
+      over-keeps a is put byte number_ new_ machine busy = absurd (busy-over machine a (sym busy ∙ is))
+
+      -- where it is no write
+      module _ (other : kind ≡ 1 → ⊥) where
+        unwritten-well : Well
+        unwritten-well writer = absurd (other (writer-here writer))
+
+        unwritten-ends : HasEnded
+        unwritten-ends writer = absurd (other (writer-here writer))
+
+        -- a put that has its own save has its bytes in it
+        busy-keeps : (m : Machine) → came.state ≡ Busy m → ShownN (Busy m) → kind ≡ 3 → (z : Saving) → own_save m ≡ Some z → Keeps
+        busy-keeps m is sh three z its put byte number_ new_ machine busy =
+            let k = own-has (told f (Unit {0}) ThePlan.t) m z its new.shelf.seq new.shelf.back new.shelf.order sh.1.tale in
+            let aim = new_.2 three in
+            let file : z.file ≡ f = k.1.1 three ∙ sym aim.1 in
+            let low = (k.2 (sym file)).1 (three, aim.0) in
+            let number_is = new_.0 in
+            let same : m ≡ machine = busy-one m machine (sym is ∙ busy) in
+            subst (λ (y : Machine). OwnAt (Names f number_) (own_save y)) same (z, its, (file, omega (arith, low, number_is)))
+
+        busy-given : (m : Machine) → came.state ≡ Busy m → ShownN (Busy m) → (b : Bool) → nat_eq kind 3 ≡ b → (o : Option Saving) → own_save m ≡ o → GivenNow
+        busy-given m is sh false d o its = e-given unwritten-well unwritten-ends (λ put. absurd (eqb-false kind 3 d (put-here put))) (e-of (Busy m) sh)
+        busy-given m is sh true d None none = c-given (sh.1.unsaved (sh.0 ∙ eqb-true kind 3 d) none)
+        busy-given m is sh true d (Some z) its = e-given unwritten-well unwritten-ends (busy-keeps m is sh (eqb-true kind 3 d) z its) (e-of (Busy m) sh)
 
       given-of : (st : State) → came.state ≡ st → ShownN st → (b : Bool) → nat_eq kind 1 ≡ b → GivenNow
       given-of (Busy m) is sh true d = c-given (sh.1.plain (sh.0 ∙ eqb-true kind 1 d))
       given-of (Over (answers.Refused fault)) is sh true d = c-given (sh.unwritten (eqb-true kind 1 d) fault refl)
-      given-of (Over (answers.Done value)) is sh b d = e-given (λ writer. (value, ready-is f h h2 old new at number x op came.state t (answers.Done value) is)) (λ writer. (answers.Done value, is)) sh.content
-      given-of (Busy m) is sh false d = e-given (λ writer. absurd (eqb-false kind 1 d (writer-here writer))) (λ writer. absurd (eqb-false kind 1 d (writer-here writer))) (e-of (Busy m) sh)
-      given-of (Over (answers.Refused fault)) is sh false d = e-given (λ writer. absurd (eqb-false kind 1 d (writer-here writer))) (λ writer. absurd (eqb-false kind 1 d (writer-here writer))) sh.content
+      given-of (Over (answers.Done value)) is sh b d =
+          e-given (λ writer. (value, ready-is f h h2 old new at number x op came.state t (answers.Done value) is)) (λ writer. (answers.Done value, is)) (over-keeps (answers.Done value) is) sh.content
+      given-of (Busy m) is sh false d = busy-given (eqb-false kind 1 d) m is sh (nat_eq kind 3) refl (own_save m) refl
+      given-of (Over (answers.Refused fault)) is sh false d =
+          e-given (unwritten-well (eqb-false kind 1 d)) (unwritten-ends (eqb-false kind 1 d)) (over-keeps (answers.Refused fault) is) sh.content
 
       -- ---- another operation
-
-      lane-there : (k n : ℕ) (st : State) → slice_get new.lanes k ≡ Some (record { number = n; state = st }) → k ≡ at → (n ≡ number) × (st ≡ came.state)
-      lane-there k n st there here =
-          let e = sym there ∙ ap (slice_get new.lanes) here ∙ came.but.here in
-          (number-is st came.state n number e, state-is st came.state n number e)
-
-      other-under : (k n y : ℕ) (o : Op) (st : State) → slice_get new.lanes k ≡ Some (record { number = n; state = st }) → UnderWay h2 n y (length h2) o → y ≢ x → k ≢ at
-      other-under k n y o st there u off here =
-          let is = lane-there k n st there here in
-          off (one-under h2 number x y op o runs under (subst (λ (m : ℕ). UnderWay h2 m y (length h2) o) is.0 u)).0
-
-      fixed-was : (y : ℕ) (a : Answer) → y ≢ x → IsFixed h2 new y a → IsFixed h old y a
-      fixed-was y a off (gone lane z o d) = gone lane z o (ended_was lane y z o a d)
-      fixed-was y a off (ready k n o there u) =
-          let apart = other-under k n y o (Over a) there u off in
-          let was = came.but.was k (record { number = n; state = Over a }) there apart in
-          ready k n o was (t.was n y o (t.apart k (record { number = n; state = Over a }) was apart) u)
 
       marked-was : (y : ℕ) → y ≢ x → Marked_ h2 new y → Marked_ h old y
       marked-was y off (wrote byte value fixed w b) = wrote byte value (fixed-was y (answers.Done value) off fixed) w b
@@ -440,21 +534,6 @@ module _ (mt : Mounted) (terms : Terms) (setup : Setup) (H : List Entry) (V : Vi
           by byte number_ (inr is) = let low = low2 y in let more = is.0 in omega (arith, low, more)
 
       -- ---- its own
-
-      own-lane : (k n : ℕ) (st : State) (o : Op) → slice_get new.lanes k ≡ Some (record { number = n; state = st }) → UnderWay h2 n x (length h2) o → came.state ≡ st
-      own-lane k n st o there u = by (nat_eq k at) refl
-        where
-          by : (b : Bool) → nat_eq k at ≡ b → came.state ≡ st
-          by true d = sym (lane-there k n st there (eqb-true k at d)).1
-          by false d =
-              let off = eqb-false k at d in
-              let was = came.but.was k (record { number = n; state = st }) there off in
-              absurd (t.apart k (record { number = n; state = st }) was off
-              (began-same n u.line number under.line o op (At-one h2 x (Began n u.line o) (Began number under.line op) u.began under.began)).0)
-
-      own-fixed : (a : Answer) → IsFixed h2 new x a → came.state ≡ Over a
-      own-fixed a (ready k n o there u) = own-lane k n (Over a) o there u
-      own-fixed a (gone lane y o d) = absurd (under.unanswered (record { lane = lane; op = o; y = y; answer = a; ended = d; before = At-below h2 y (Answered lane d.line a) d.answered }))
 
       own-above : Marked_ h2 new x → OfNewest (Above f i (u2 x)) new.shelf.back
       own-above (wrote byte value fixed w b) =
@@ -501,7 +580,7 @@ module _ (mt : Mounted) (terms : Terms) (setup : Setup) (H : List Entry) (V : Vi
             (λ machine is. (
             let now = subst ShownN is came.shown in (
               now.0 ∙ kind_is,
-              tale-map f (Tale_ x (u2 x)) (Tale_ x (u2 x)) machine (λ n z. z) (λ z. z) (λ file offset bytes z. z) (λ file z. z) (λ file size upto z. z) new.shelf.seq new.shelf.back new.shelf.order now.1.tale,
+              tale-map f ThePlan.t (Tale_ x (u2 x)) machine (λ n z. z.0) (λ z. z) (λ file offset bytes z. z.0.0) (λ file z. z.0) (λ file size upto z. z) new.shelf.seq new.shelf.back new.shelf.order now.1.tale,
               λ truncates. cut_marks truncates machine is,
             )))
             (λ n z machine o other uw told_. (

@@ -1,6 +1,5 @@
 -- A lane goes on: what stands of the newest bytes goes on standing.
-use Rattle.std.proofs.Common.{◌≡◌, ◌≤◌, ◌<◌, ℕ, Bool, true, false, nat_eq, List, ◌++◌, length, refl, arith}
-use Rattle.std.proofs.lemmas.Bool.{eqb-true, eqb-false}
+use Rattle.std.proofs.Common.{◌≡◌, ◌≤◌, ◌<◌, ℕ, List, ◌++◌, length, refl, arith}
 use Rattle.world_model.specs.declared.answer.Answer.TheVariants as answers
 use Rattle.world_model.specs.declared.answer.Value.{Value}
 use Rattle.world_model.specs.declared.entry.Entry.{Entry}
@@ -26,7 +25,7 @@ use Rattle.core_session.proofs.syncs.Causes.{IsWriter, IsPut, OfOp}
 use Rattle.core_session.proofs.syncs.Fates.{job_kind}
 use Rattle.core_session.proofs.syncs.Plans.{Plan, Came_, stirs-came}
 use Rattle.core_session.proofs.syncs.Seen.{bases}
-use Rattle.core_session.proofs.syncs.Aims.{write-has}
+use Rattle.core_session.proofs.syncs.Aims.{JobAims, some-aim}
 use Rattle.core_session.proofs.syncs.Turning.{turns-stir}
 use Rattle.core_session.proofs.drops.Along.{GuardsKnown}
 use Rattle.core_session.proofs.pending.Letting.{stirs-lets}
@@ -36,10 +35,11 @@ use Rattle.core_session.proofs.syncs.Aparts.{apart-turns}
 use Rattle.core_session.proofs.pending.Cuttings.{IsTruncate, IsCutter, cutter-resumes, cutter-resumes-not, cutter-takes, cutter-takes-err, leads-keeps, leads-done}
 use Rattle.core_session.proofs.pending.LaneSettles.{stirs-good}
 use Rattle.core_session.proofs.pending.Newest.{OfNewest}
-use Rattle.core_session.proofs.syncs.PutGoes.{stirs-not}
+use Rattle.core_session.proofs.syncs.PutGoes.{OwnAt, Names, names-keep, own_save, stirs-not, stirs-at-save}
 use Rattle.core_session.proofs.pending.Settles as settles
-use Rattle.core_session.proofs.pending.Settles.{StateGood, IsPast}
-use Rattle.core_session.proofs.pending.Standing.{IsSaverOf, past, PutEnd, tale, Told, Phase, C, c-e, plan}
+use Rattle.core_session.proofs.pending.Settles.{StateGood}
+use Rattle.core_session.proofs.pending.Entering.{entering}
+use Rattle.core_session.proofs.pending.Standing.{IsSaverOf, past, PutSaves, Told, Phase, C, plan}
 use Rattle.core_session.proofs.pending.Stepping.{machine-saver, was-all, save-file, writer-here, saver-here, put-here, truncate-here, next-phase}
 
 module _ (mt : Mounted) (terms : Terms) (setup : Setup) (H : List Entry) (V : View) (g : GoesWith mt terms setup H V) (f : List ℕ) (i : ℕ) (h rest : List Entry) (split_ : h ++ rest ≡ H) (old new : View) (at : ℕ)
@@ -63,29 +63,25 @@ module _ (mt : Mounted) (terms : Terms) (setup : Setup) (H : List Entry) (V : Vi
   none-late : (y lane line : ℕ) (o : Op) → At H y (Began lane line o) → length h ≤ y → y < length h → p.u y ≡ old.shelf.seq
   none-late y lane line o at_y low high = absurd (omega (arith, low, high))
 
-  abbrev plan_ : Plan f old.wsize (job_kind t.machine) old.shelf.seq (λ z. Unit {0})
-  plan_ = plan mt terms setup H f i h old p.u run.x (p.u run.x) old.shelf.seq old.wsize (job_kind t.machine) new.shelf (p.low run.x)
-
-  was : C mt terms setup H f i h old p.u run.x (p.u run.x) old.shelf.seq old.shelf.seq old.shelf.back
-  was = was-all mt terms setup H V g f i h old p run.x (p.u run.x)
-
   writer : OfOp H run.x IsWriter → job_kind t.machine ≡ 1
   writer =
       writer-here mt terms setup H V g f i h h rest split_ old new at t.number run.x run.op old.wsize some least most (bases f old.lanes) (job_kind t.machine) told_.0 runs run.under_way (omega arith)
       (λ lane y z o a d. d) p p.u (λ y low. refl) p.low none-late
 
+  -- the file that a put has found
+  aim : (tgt : List ℕ) × JobAims t.machine tgt
+  aim = some-aim t.machine
+
+  abbrev plan_ : Plan f old.wsize (job_kind t.machine) old.shelf.seq (λ z. Unit {0})
+  plan_ = plan mt terms setup H f i h old p.u run.x (p.u run.x) old.shelf.seq (job_kind t.machine) (own_save t.machine) aim.0 old.wsize new.shelf (p.low run.x)
+
+  was : C mt terms setup H f i h old p.u run.x (p.u run.x) old.shelf.seq (job_kind t.machine) (own_save t.machine) aim.0 old.shelf.seq old.shelf.back
+  was = was-all mt terms setup H V g f i h old p run.x (p.u run.x) (job_kind t.machine) (own_save t.machine) aim.0
+
   came : Came_ f old.wsize some t.number least most (bases f old.lanes) (job_kind t.machine) old.shelf.seq (λ z. Unit {0}) plan_ old.lanes at new
-  came = by (nat_eq (job_kind t.machine) 1) refl
-    where
-      by : (b : Bool) → nat_eq (job_kind t.machine) 1 ≡ b → Came_ f old.wsize some t.number least most (bases f old.lanes) (job_kind t.machine) old.shelf.seq (λ z. Unit {0}) plan_ old.lanes at new
-      by true d =
-          stirs-came mt setup h old k wholly placed some f p.owned (λ z. Unit {0}) tt tt new at t plan_ refl (λ alone. tt) ⊥ (λ none c. absurd none) was
-          (write-has f (Unit {0}) ⊥ (tale mt terms setup H f i run.x (p.u run.x)) (tale mt terms setup H f i run.x (p.u run.x)) old.shelf.seq old.shelf.back old.shelf.order old.shelf.seq old.shelf.back
-          old.shelf.order t.machine (eqb-true (job_kind t.machine) 1 d) (λ file offset bytes z. z) (told_.1 old.shelf.seq old.shelf.back old.shelf.order))
-      by false d =
-          stirs-came mt setup h old k wholly placed some f p.owned (λ z. Unit {0}) tt tt new at t plan_ refl (λ alone. tt) (Unit {0})
-          (λ u c. (c-e mt terms setup H f i h old p.u run.x (p.u run.x) old.shelf.seq old.shelf.seq old.shelf.back c, λ of byte writes. absurd (eqb-false (job_kind t.machine) 1 d (writer of)))) was
-          (told_.1 old.shelf.seq old.shelf.back old.shelf.order)
+  came =
+      let e = entering mt terms setup H f i h old p.u run.x (p.u run.x) old.shelf.seq t.machine aim.0 aim.1 writer told_.1 old.shelf.seq old.shelf.back old.shelf.order in
+      stirs-came mt setup h old k wholly placed some f p.owned (λ z. Unit {0}) tt tt new at t plan_ refl (λ alone. tt) e.Whole e.whole was e.says
 
   settled : StateGood came.state → IsSaverOf mt terms setup H f i run.x → OfNewest (Above f i (p.u run.x)) new.shelf.back
   settled good sv =
@@ -121,15 +117,22 @@ module _ (mt : Mounted) (terms : Terms) (setup : Setup) (H : List Entry) (V : Vi
           (λ lane y z o a d. d) p p.u (λ y low. refl) p.low none-late c)
 
   -- nor does a put
-  put-done : (value : Value) → came.state ≡ Over (answers.Done value) → OfOp H run.x IsPut → PutEnd mt terms setup H f i h new run.x (p.u run.x)
-  put-done value is puts = absurd (stirs-not old new at t
+  put-not : OfOp H run.x IsPut → (value : Value) → came.state ≡ Over (answers.Done value) → ⊥
+  put-not puts value is = stirs-not old new at t
       (put-here mt terms setup H V g f i h h rest split_ old new at t.number run.x run.op old.wsize some least most (bases f old.lanes) (job_kind t.machine) told_.0 runs run.under_way (omega arith)
-      (λ lane y z o a d. d) p p.u (λ y low. refl) p.low none-late puts) t.number came.state came.but.here value is)
+      (λ lane y z o a d. d) p p.u (λ y low. refl) p.low none-late puts) t.number came.state came.but.here value is
+
+  -- what is in its own save stays there
+  own-on : (number : ℕ) → PutSaves mt terms setup H f i h old run.x number → (machine : Machine) → came.state ≡ Busy machine → OwnAt (Names f number) (own_save machine)
+  own-on number saves machine is =
+      stirs-at-save (Names f number) (names-keep f number) old new at t (saves at t.number t.machine run.op t.there run.under_way) t.number came.state came.but.here machine is
 
   pub stirs-phase : Phase mt terms setup H f i h new
   stirs-phase =
       next-phase mt terms setup H V g f i h h rest split_ old new at t.number run.x run.op old.wsize some least most (bases f old.lanes) (job_kind t.machine) told_.0 runs run.under_way (omega arith)
-      (λ lane y z o a d. d) p p.u (λ y low. refl) p.low none-late came (turns-stir f setup h old new at t.number t.machine came.state k t.there came.but run.x run.op run.under_way) settled marks done put-done
+      (λ lane y z o a d. d) p p.u (λ y low. refl) p.low none-late (own_save t.machine) aim.0 came
+      (turns-stir f setup h old new at t.number t.machine came.state k t.there came.but run.x run.op run.under_way) settled marks done (λ value is puts. absurd (put-not puts value is))
+      (λ low. own-on) (λ low number saves puts value is. absurd (put-not puts value is)) (λ puts none. put-not puts)
       (λ y a. apart-turns f h h old new at t.number run.x run.op came.state (turns-stir f setup h old new at t.number t.machine came.state k t.there came.but run.x run.op run.under_way) (λ z l. l) y a)
       (λ sound number few guard. stirs-lets setup terms.modes h old new at k t gk.drops gk2.drops gk.ranked f i number came.state came.but p.common.sound sound p.owned came.owned_ guard)
       (slots2 run.x) (λ w number guard u. u)

@@ -1,6 +1,5 @@
 -- A lane takes what came of its call: what stands of the newest bytes goes on standing.
-use Rattle.std.proofs.Common.{◌≡◌, ◌≢◌, ◌≤◌, ◌<◌, ◌⊎◌, inl, inr, ℕ, Bool, true, false, nat_eq, List, [], ◌∷◌, ◌++◌, length, Some, position, slice_get, refl, sym, ap, subst, ◌∙◌, append_assoc, arith}
-use Rattle.std.proofs.lemmas.Bool.{eqb-true, eqb-false}
+use Rattle.std.proofs.Common.{◌≡◌, ◌≢◌, ◌≤◌, ◌<◌, ◌⊎◌, inl, inr, ℕ, false, List, [], ◌∷◌, ◌++◌, length, Option, Some, None, position, slice_get, refl, sym, ap, subst, ◌∙◌, append_assoc, arith}
 use Rattle.rpc_message.specs.Call.{xid_at}
 use Rattle.rpc_retry.specs.declared.waiting.Waiting.{Waiting}
 use Rattle.rpc_retry.specs.Waiting.{waiting_at}
@@ -19,6 +18,7 @@ use Rattle.claims.specs.Touched.{Cuts}
 use Rattle.world_model.proofs.Places.{At-one, At-grow, At-back, At-cases, At-last, At-below, length_last}
 use Rattle.call_replies.specs.Says.{said_of}
 use Rattle.write_back.proofs.WritesByFile.{same-or}
+use Rattle.file_ops.specs.declared.saving.Saving.{Saving}
 use Rattle.op_machines.specs.declared.begun.Mounted.{Mounted}
 use Rattle.op_machines.specs.declared.machine.Machine.{Machine}
 use Rattle.op_machines.specs.Begun.{machine_of}
@@ -54,7 +54,7 @@ use Rattle.core_session.proofs.syncs.Plans.{Plan, Came_, takes-came}
 use Rattle.core_session.proofs.syncs.PutEnds.{LastNames, own-last}
 use Rattle.core_session.proofs.syncs.PutsBring.{PutGiven, puts-bring}
 use Rattle.core_session.proofs.syncs.Seen.{Sees, sees, bases}
-use Rattle.core_session.proofs.syncs.Aims.{write-has}
+use Rattle.core_session.proofs.syncs.Aims.{JobAims, AimedAt, takes-aim, saves-opens, opens-as}
 use Rattle.core_session.proofs.syncs.Turning.{turns-take, under-on}
 use Rattle.core_session.proofs.drops.Along.{GuardsKnown}
 use Rattle.core_session.proofs.pending.Alone.{at-once, unleft-step}
@@ -67,12 +67,16 @@ use Rattle.core_session.proofs.pending.Cuttings.{IsTruncate, IsCutter, cutter-ta
 use Rattle.core_session.proofs.pending.LaneCuts.{cut-lane}
 use Rattle.core_session.proofs.pending.LaneSettles.{takes-lane-good, lane-ends}
 use Rattle.core_session.proofs.pending.Newest.{OfNewest}
-use Rattle.core_session.proofs.syncs.PutGoes.{AtSave, own_save, own-has, takes-at-save, unmade-end}
+use Rattle.core_session.proofs.syncs.PutGoes.{AtSave, OwnAt, Names, names-keep, own_save, own-has, takes-at-save, takes-still, unmade-end}
 use Rattle.core_session.proofs.pending.Puts.{own-job, put-takes-good}
 use Rattle.core_session.proofs.pending.Settles as settles
-use Rattle.core_session.proofs.pending.Settles.{StateGood, IsPast, not-good}
-use Rattle.core_session.proofs.pending.Standing.{IsSaverOf, past, PutEnd, settled_, left_, tale, Told, Phase, C, c-e, plan}
+use Rattle.core_session.proofs.pending.Settles.{StateGood, not-good}
+use Rattle.core_session.proofs.pending.Entering.{entering}
+use Rattle.core_session.proofs.pending.Standing.{IsSaverOf, past, PutEnd, settled_, left_, PutSaves, tale, Told, Phase, C, plan}
 use Rattle.core_session.proofs.pending.Stepping.{machine-saver, was-all, save-file, writer-here, saver-here, put-here, truncate-here, next-phase}
+
+none-saved : (z : Saving) → None ≡ Some z → ⊥
+none-saved z e = cc
 
 -- what was answered before the last entry
 pub ended-early : (h : List Entry) (e : Entry) (lane y z : ℕ) (o : Op) (a : Answer) → z < length h → Ended (h ++ e ∷ []) lane y o z a → Ended h lane y o z a
@@ -147,12 +151,6 @@ module _ (mt : Mounted) (terms : Terms) (setup : Setup) (H : List Entry) (V : Vi
   none-late : (y lane line : ℕ) (o : Op) → At H y (Began lane line o) → length h ≤ y → y < length h2 → p.u y ≡ old.shelf.seq
   none-late y lane line o at_y low high = absurd (none-begins H h rest (Delivered rec) split0 (λ n l q is. cc) y lane line o at_y low high)
 
-  abbrev plan_ : Plan f old.wsize (job_kind t.machine) old.shelf.seq (λ z. Unit {0})
-  plan_ = plan mt terms setup H f i h old p.u run.x (p.u run.x) old.shelf.seq old.wsize (job_kind t.machine) new.shelf (p.low run.x)
-
-  was : C mt terms setup H f i h old p.u run.x (p.u run.x) old.shelf.seq old.shelf.seq old.shelf.back
-  was = was-all mt terms setup H V g f i h old p run.x (p.u run.x)
-
   writer : OfOp H run.x IsWriter → job_kind t.machine ≡ 1
   writer =
       writer-here mt terms setup H V g f i h h2 rest split_ old new at t.number run.x run.op old.wsize some least most (bases f old.lanes) (job_kind t.machine) told_.0 runs2 under2 shorter
@@ -178,21 +176,38 @@ module _ (mt : Mounted) (terms : Terms) (setup : Setup) (H : List Entry) (V : Vi
       puts-bring mt setup h old rec fin xid call at t.machine r found hears named waits there_ (Giving terms.modes terms.origin H f i run.x) run.x run.op its-lane given
       old.wsize call.purpose.sent (turn_at (taken_one old xid)) t.next t.after t.shelf t.takes
 
-  abbrev Came : Type 1
-  Came = Came_ f old.wsize some t.number least most (bases f old.lanes) (job_kind t.machine) old.shelf.seq (λ z. Unit {0}) plan_ old.lanes at new
+  -- what brings its bytes in has no save of its own yet
+  abbrev Brings : List ℕ → ℕ → List ℕ → Type 0
+  Brings file offset bytes = Giving terms.modes terms.origin H f i run.x file offset bytes × (job_kind t.machine ≡ 3 → own_save t.machine ≡ None)
 
-  came : Came
-  came = by (nat_eq (job_kind t.machine) 1) refl
+  brings : JobOpens Brings old.wsize t.machine call.purpose.sent (turn_at (taken_one old xid)) (said_of call.purpose.proc rec) old.shelf t.next t.after t.shelf t.takes
+  brings = by (own_save t.machine) refl
     where
-      by : (b : Bool) → nat_eq (job_kind t.machine) 1 ≡ b → Came
-      by true d =
-          takes-came mt setup h old k wholly placed some f p.owned (λ z. Unit {0}) tt tt rec xid call at r found waits place new t plan_ refl (λ alone. tt) (λ z saved. tt) opens ⊥ (λ none c. absurd none) was
-          (write-has f (Unit {0}) ⊥ (tale mt terms setup H f i run.x (p.u run.x)) (tale mt terms setup H f i run.x (p.u run.x)) old.shelf.seq old.shelf.back old.shelf.order old.shelf.seq old.shelf.back
-          old.shelf.order t.machine (eqb-true (job_kind t.machine) 1 d) (λ file offset bytes z. z) (told_.1 old.shelf.seq old.shelf.back old.shelf.order))
-      by false d =
-          takes-came mt setup h old k wholly placed some f p.owned (λ z. Unit {0}) tt tt rec xid call at r found waits place new t plan_ refl (λ alone. tt) (λ z saved. tt) opens (Unit {0})
-          (λ u c. (c-e mt terms setup H f i h old p.u run.x (p.u run.x) old.shelf.seq old.shelf.seq old.shelf.back c, λ of byte writes. absurd (eqb-false (job_kind t.machine) 1 d (writer of)))) was
-          (told_.1 old.shelf.seq old.shelf.back old.shelf.order)
+      by : (own : Option Saving) → own_save t.machine ≡ own
+          → JobOpens Brings old.wsize t.machine call.purpose.sent (turn_at (taken_one old xid)) (said_of call.purpose.proc rec) old.shelf t.next t.after t.shelf t.takes
+      by None is =
+          opens-as (Giving terms.modes terms.origin H f i run.x) (job_kind t.machine) old.wsize call.purpose.sent (turn_at (taken_one old xid)) (said_of call.purpose.proc rec) old.shelf t.next Brings
+          (λ file offset bytes gives. (gives, λ three. is)) t.machine t.after t.shelf t.takes opens
+      by (Some z) is =
+          saves-opens Brings (job_kind t.machine) old.wsize call.purpose.sent (turn_at (taken_one old xid)) (said_of call.purpose.proc rec) old.shelf t.next t.machine (z, is) t.after t.shelf t.takes
+
+  -- the file that a put has found, or finds
+  aim : (tgt : List ℕ) × JobAims t.machine tgt
+      × (JobOpens Brings old.wsize t.machine call.purpose.sent (turn_at (taken_one old xid)) (said_of call.purpose.proc rec) old.shelf t.next t.after t.shelf t.takes
+      → JobOpens (AimedAt Brings (job_kind t.machine) old.wsize call.purpose.sent (turn_at (taken_one old xid)) (said_of call.purpose.proc rec) old.shelf t.next tgt) old.wsize t.machine call.purpose.sent
+      (turn_at (taken_one old xid)) (said_of call.purpose.proc rec) old.shelf t.next t.after t.shelf t.takes)
+  aim = takes-aim Brings (job_kind t.machine) old.wsize call.purpose.sent (turn_at (taken_one old xid)) (said_of call.purpose.proc rec) old.shelf t.next t.machine t.after t.shelf t.takes
+
+  abbrev plan_ : Plan f old.wsize (job_kind t.machine) old.shelf.seq (λ z. Unit {0})
+  plan_ = plan mt terms setup H f i h old p.u run.x (p.u run.x) old.shelf.seq (job_kind t.machine) (own_save t.machine) aim.0 old.wsize new.shelf (p.low run.x)
+
+  was : C mt terms setup H f i h old p.u run.x (p.u run.x) old.shelf.seq (job_kind t.machine) (own_save t.machine) aim.0 old.shelf.seq old.shelf.back
+  was = was-all mt terms setup H V g f i h old p run.x (p.u run.x) (job_kind t.machine) (own_save t.machine) aim.0
+
+  came : Came_ f old.wsize some t.number least most (bases f old.lanes) (job_kind t.machine) old.shelf.seq (λ z. Unit {0}) plan_ old.lanes at new
+  came =
+      let e = entering mt terms setup H f i h old p.u run.x (p.u run.x) old.shelf.seq t.machine aim.0 aim.1 writer told_.1 old.shelf.seq old.shelf.back old.shelf.order in
+      takes-came mt setup h old k wholly placed some f p.owned (λ z. Unit {0}) tt tt rec xid call at r found waits place new t plan_ refl (λ alone. tt) (λ z saved. tt) (aim.2 brings) e.Whole e.whole was e.says
 
   see : Sees f old.lanes at t.number (job_save t.machine) old.shelf.seq old.shelf.back old.shelf.order
   see = sees f old.lanes at t.number t.machine old.shelf.seq old.shelf.back old.shelf.order all-apart t.there p.owned
@@ -258,14 +273,15 @@ module _ (mt : Mounted) (terms : Terms) (setup : Setup) (H : List Entry) (V : Vi
     last-of : LastNames h2 (length h2) own.0.file
     last-of = own-last mt setup h old rec fin xid call at r found hears named waits t.machine there_ own.0 own.1
 
-    put-above : f ≡ own.0.file → OfNewest (Above f i (p.u run.x)) new.shelf.back
-    put-above here =
+    -- of the file that it saved only later bytes are left
+    put-above : (z : Saving) → own_save t.machine ≡ Some z → f ≡ z.file → (u : ℕ) → u ≤ z.upto → OfNewest (Above f i u) new.shelf.back
+    put-above z its here u low =
         leads-done (with_state (taken_one old xid) at t.number (Busy t.after) t.shelf) new at t.number t.after t.next
         (at-set old.lanes at (record { number = t.number; state = Busy t.machine }) (record { number = t.number; state = Busy t.after }) t.there) t.leads came.state came.but.here value is_done
-        (OfNewest (Above f i (p.u run.x)))
-        (λ good. put-takes-good f i (p.u run.x) old.wsize call.purpose.sent (turn_at (taken_one old xid)) (said_of call.purpose.proc rec) t.machine own.0 old.shelf t.next t.after t.shelf own.1 t.takes
-        (lane-ends mt setup h old k wholly rec xid call at r found waits place new t f i (p.u run.x) (bases f old.lanes) see.owner old.shelf.seq old.shelf.order some p.common.sound own.0 (own-job t.machine own.0 own.1) here
-        (own-low here) (see.saves_ own.0 (own-job t.machine own.0 own.1))) good)
+        (OfNewest (Above f i u))
+        (λ good. put-takes-good f i u old.wsize call.purpose.sent (turn_at (taken_one old xid)) (said_of call.purpose.proc rec) t.machine z old.shelf t.next t.after t.shelf its t.takes
+        (lane-ends mt setup h old k wholly rec xid call at r found waits place new t f i u (bases f old.lanes) see.owner old.shelf.seq old.shelf.order some p.common.sound z (own-job t.machine z its) here low
+        (see.saves_ z (own-job t.machine z its))) good)
         (λ fault n after left k_ good. absurd (not-good n
         (unmade-end old.wsize (unmade_turn (with_state (taken_one old xid) at t.number (Busy t.after) t.shelf)) (turn_at (with_state (taken_one old xid) at t.number (Busy t.after) t.shelf)) fault t.after
         (take-kind old.wsize (turn_at (taken_one old xid)) call.purpose.sent (said_of call.purpose.proc rec) t.machine old.shelf t.next t.after t.shelf t.takes ∙ put_kind) t.shelf n after left k_) good))
@@ -274,7 +290,7 @@ module _ (mt : Mounted) (terms : Terms) (setup : Setup) (H : List Entry) (V : Vi
     put-end = by (same-or own.0.file f)
       where
         by : (f ≡ own.0.file) ⊎ (f ≢ own.0.file) → PutEnd mt terms setup H f i h2 new run.x (p.u run.x)
-        by (inl here) = settled_ (put-above here)
+        by (inl here) = settled_ (put-above own.0 own.1 here (p.u run.x) (own-low here))
         by (inr off) = left_ (record {
           k = at;
           number = t.number;
@@ -288,10 +304,25 @@ module _ (mt : Mounted) (terms : Terms) (setup : Setup) (H : List Entry) (V : Vi
           last = last-of;
         })
 
+    -- it had its own save before
+    put-new : own_save t.machine ≡ None → ⊥
+    put-new none = none-saved own.0 (sym none ∙ own.1)
+
+  -- what is in its own save stays there, and is gone where it ends well
+  own-on : (number : ℕ) → PutSaves mt terms setup H f i h old run.x number → (machine : Machine) → came.state ≡ Busy machine → OwnAt (Names f number) (own_save machine)
+  own-on number saves machine is =
+      takes-still (Names f number) (names-keep f number) (taken_one old xid) new at call.purpose.sent (said_of call.purpose.proc rec) t (saves at t.number t.machine run.op t.there run.under_way)
+      t.number came.state came.but.here machine is
+
+  own-done : (number : ℕ) → PutSaves mt terms setup H f i h old run.x number → OfOp H run.x IsPut → (value : Value) → came.state ≡ Over (answers.Done value) → OfNewest (Above f i number) new.shelf.back
+  own-done number saves puts value is =
+      let o = saves at t.number t.machine run.op t.there run.under_way in put-above value is puts o.0 o.1 (sym o.2.0) number o.2.1
+
   pub takes-phase : Phase mt terms setup H f i h2 new
   takes-phase =
       next-phase mt terms setup H V g f i h h2 rest split_ old new at t.number run.x run.op old.wsize some least most (bases f old.lanes) (job_kind t.machine) told_.0 runs2 under2 shorter
-      ended_ p p.u (λ y low. refl) p.low none-late came (turns-take f setup h old new at t.number t.machine came.state k t.there came.but rec run.x run.op under2) settled marks done put-end
+      ended_ p p.u (λ y low. refl) p.low none-late (own_save t.machine) aim.0 came (turns-take f setup h old new at t.number t.machine came.state k t.there came.but rec run.x run.op under2)
+      settled marks done put-end (λ low. own-on) (λ low. own-done) (λ puts none value is. put-new value is puts none)
       (λ y a. absurd (apart-heard f h old y hears.may a))
       (λ sound number few guard. takes-lets mt setup terms.modes h old k wholly rec xid call at r found waits place new t gk.drops gk2.drops gk.ranked f i number came.state came.but some p.common.sound sound p.owned
       came.owned_ see guard)

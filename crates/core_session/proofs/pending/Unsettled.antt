@@ -14,7 +14,7 @@ use Rattle.world_model.specs.Entries.{At}
 use Rattle.world_model.specs.Operations.{AnsweredBefore, Ended}
 use Rattle.claims.specs.Slots.{PutsTo}
 use Rattle.claims.specs.Terms.{Terms}
-use Rattle.claims.specs.Touched.{MadeStable, RefusedWrite, Truncated, WritesByte, Wrote}
+use Rattle.claims.specs.Touched.{MadeStable, RefusedWrite, Truncated, Wrote}
 use Rattle.claims.specs.Touched as touched
 use Rattle.world_model.proofs.Places.{At-grow, At-back, At-one}
 use Rattle.call_replies.specs.Says.{said_of}
@@ -44,7 +44,7 @@ use Rattle.core_session.proofs.syncs.Turning.{IsFixed, gone, under-was, under-an
 use Rattle.core_session.proofs.syncs.WatchingAlong.{KeepsWatching, reached-watching}
 use Rattle.core_session.specs.pending.Held.{IsUnsettled, PendingUnsettled, PendingHeldBack}
 use Rattle.core_session.proofs.pending.Entries.{answers-phase, same-phase, fresh-phase}
-use Rattle.claims.specs.Pending.{BeganPut, LeftAlone, Pending}
+use Rattle.claims.specs.Pending.{PutRefused, PutSucceeded, LeftAlone, Pending}
 use Rattle.client_shelf.specs.declared.shelf.Shelf.{Shelf}
 use Rattle.op_machines.specs.declared.file_machine.FileMachine.TheVariants as files
 use Rattle.op_machines.specs.declared.machine.Machine.TheVariants as machines
@@ -64,6 +64,7 @@ use Rattle.core_session.proofs.pending.Alone.{HeldSoon, at-once, alone-not, unle
 use Rattle.core_session.proofs.syncs.Guard.{starts-plain}
 use Rattle.core_session.proofs.syncs.SlotHeld.{HoldsSlot, holds-step, holds-starts, holds-same, holds-unbegun}
 use Rattle.core_session.proofs.syncs.Aparts.{apart-done}
+use Rattle.core_session.proofs.pending.Givers.{answered-writer}
 use Rattle.core_session.proofs.pending.Newest.{OfNewest, cell-of}
 use Rattle.core_session.proofs.pending.Onwards.{refused-not, never-refused}
 use Rattle.core_session.proofs.room.Onward.{Onward}
@@ -308,18 +309,16 @@ module _ (mt : Mounted) (terms : Terms) (setup : Setup) (H : List Entry) (V : Vi
         unmarked x t.of.lane t.of.line (ops.Truncate t.slot size) t.of.began (within t.lane x y (ops.Truncate t.slot size) (answers.Done t.value) t.ended low)
         (cut t.value (fixed t.lane x y (ops.Truncate t.slot size) (answers.Done t.value) t.ended low) (record { slot = t.slot; size = size; of = t.of; low = least })) before
 
+    -- the giver is no put that succeeded
+    unput-by : PutSucceeded H given.w (length h) → ⊥
+    unput-by d =
+        given.unput (of-write IsPut given.w d.lane d.ended.line (ops.Put d.path d.offset d.bytes) d.ended.began tt) d.value
+        (fixed d.lane given.w d.y (ops.Put d.path d.offset d.bytes) (answers.Done d.value) d.ended d.before)
+
     -- no last close left the file alone since
-    abbrev pub NoPut : Type 0
-    NoPut = BeganPut H given.w → ⊥
-
-    writer-of : NoPut → WritesByte terms.modes terms.origin H given.w f i cell.byte → OfOp H given.w IsWriter
-    writer-of none (touched.write slot offset bytes of c) = of-write IsWriter given.w of.lane of.line (ops.Write slot offset bytes) of.began tt
-    writer-of none (touched.fill slot offset count of low high) = of-write IsWriter given.w of.lane of.line (ops.Fill slot offset count cell.byte) of.began tt
-    writer-of none (touched.put lane line offset n path bytes at ends leads c) = absurd (none (record { lane = lane; line = line; path = path; offset = offset; bytes = bytes; began = at }))
-
-    pub unleft-by : DropsKnown terms.modes h v → HeldSoon mt terms setup H V g f h rest is v → NoPut → (k : ℕ) → AnsweredBefore H given.w k → LeftAlone terms.modes H k f → k < length h → ⊥
+    pub unleft-by : DropsKnown terms.modes h v → HeldSoon mt terms setup H V g f h rest is v → (PutRefused H given.w → ⊥) → (k : ℕ) → AnsweredBefore H given.w k → LeftAlone terms.modes H k f → k < length h → ⊥
     unleft-by d soon none k before left low =
-        let writer = writer-of none given.writes in
+        let writer = answered-writer H given.w (length h) unput-by none k before low terms.modes terms.origin f i cell.byte given.writes in
         alone-not mt terms setup H V g f h rest is k low left (λ j bytes at from to. given.unleft writer k before left j bytes at from to) v d soon cell.number (given.guard writer)
 
     -- where what has a good answer isn't refused later
@@ -329,6 +328,7 @@ module _ (mt : Mounted) (terms : Terms) (setup : Setup) (H : List Entry) (V : Vi
       before = given.began;
       writes = given.writes;
       unrefused = λ r. refused r;
+      unput = λ d. unput-by d;
       uncovered = λ x y u before wrote_ low. uncovered-by x y u before wrote_ low;
       uncut = λ x y size before t least low. uncut-by x y size before t least low;
       unsettled = λ x y before made low. unsettled-by x y before made low;
@@ -345,6 +345,7 @@ module _ (mt : Mounted) (terms : Terms) (setup : Setup) (H : List Entry) (V : Vi
       before = given.began;
       writes = given.writes;
       unrefused = λ r. refused r;
+      unput = λ d. unput-by d;
       uncovered = λ x y u before wrote_ low. uncovered-by x y u before wrote_ low;
       uncut = λ x y size before t least low. uncut-by x y size before t least low;
       unsettled = λ x y before made low. unsettled-by x y before made low;

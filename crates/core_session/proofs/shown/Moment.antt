@@ -13,11 +13,11 @@ use Rattle.world_model.specs.declared.op.Op.{Op}
 use Rattle.world_model.specs.declared.op.Op.TheVariants as ops
 use Rattle.world_model.specs.Entries.{At}
 use Rattle.world_model.specs.Operations.{AnsweredBefore, Ended}
-use Rattle.claims.specs.Pending.{BeganPut, LeftAlone, Pending}
+use Rattle.claims.specs.Pending.{PutRefused, PutSucceeded, LeftAlone, Pending}
 use Rattle.claims.specs.ReadTrue.{ReadsBytes}
 use Rattle.claims.specs.Slots.{PutsTo}
 use Rattle.claims.specs.Terms.{Terms}
-use Rattle.claims.specs.Touched.{MadeStable, RefusedWrite, Truncated, WritesByte, Wrote}
+use Rattle.claims.specs.Touched.{MadeStable, RefusedWrite, Truncated, Wrote}
 use Rattle.claims.specs.Touched as touched
 use Rattle.world_model.proofs.Places.{At-grow, At-back, At-one}
 use Rattle.write_back.specs.Files.{of_file}
@@ -39,6 +39,7 @@ use Rattle.core_session.proofs.syncs.Aparts.{apart-done}
 use Rattle.core_session.proofs.syncs.Causes.{IsWriter, IsPut, OfOp}
 use Rattle.core_session.proofs.syncs.Turning.{IsFixed, ready, gone}
 use Rattle.core_session.proofs.pending.Above.{Above}
+use Rattle.core_session.proofs.pending.Givers.{answered-writer}
 use Rattle.core_session.proofs.pending.Newest.{OfNewest, cell-of}
 use Rattle.core_session.proofs.pending.Onwards.{never-refused}
 use Rattle.core_session.proofs.pending.Standing.{IsGiven, Marked, wrote, cut, saved, PutEnd, settled_, left_, never, Here, Phase}
@@ -169,14 +170,11 @@ module _ (mt : Mounted) (terms : Terms) (setup : Setup) (H : List Entry) (V : Vi
         unmarked x t.of.lane t.of.line (ops.Truncate t.slot size) t.of.began (within t.lane x y (ops.Truncate t.slot size) (answers.Done t.value) t.ended low)
         (cut t.value (fixed t.lane x y (ops.Truncate t.slot size) (answers.Done t.value) t.ended low) (record { slot = t.slot; size = size; of = t.of; low = least })) before
 
-    -- the giver is no put
-    abbrev NoPut : Type 0
-    NoPut = BeganPut H given.w → ⊥
-
-    writer-of : NoPut → WritesByte terms.modes terms.origin H given.w f i cell.byte → OfOp H given.w IsWriter
-    writer-of none (touched.write slot offset bytes of c) = of-write IsWriter given.w of.lane of.line (ops.Write slot offset bytes) of.began tt
-    writer-of none (touched.fill slot offset count of low high) = of-write IsWriter given.w of.lane of.line (ops.Fill slot offset count cell.byte) of.began tt
-    writer-of none (touched.put lane line offset n path bytes at ends leads c) = absurd (none (record { lane = lane; line = line; path = path; offset = offset; bytes = bytes; began = at }))
+    -- the giver is no put that succeeded
+    unput-by : PutSucceeded H given.w (length h) → ⊥
+    unput-by d =
+        given.unput (of-write IsPut given.w d.lane d.ended.line (ops.Put d.path d.offset d.bytes) d.ended.began tt) d.value
+        (fixed d.lane given.w d.y (ops.Put d.path d.offset d.bytes) (answers.Done d.value) d.ended d.before)
 
     -- ---- during a read of the file
 
@@ -212,11 +210,11 @@ module _ (mt : Mounted) (terms : Terms) (setup : Setup) (H : List Entry) (V : Vi
               not-read : (a b c e s t q r : ℕ) → Began a b (ops.Close s) ≡ Began c e (ops.Read t q r) → ⊥
               not-read a b c e s t q r is = cc
 
-      unleft-read : NoPut → (k : ℕ) → AnsweredBefore H given.w k → LeftAlone terms.modes H k f → k < length h → ⊥
+      unleft-read : (PutRefused H given.w → ⊥) → (k : ℕ) → AnsweredBefore H given.w k → LeftAlone terms.modes H k f → k < length h → ⊥
       unleft-read none k before left low = by (cases_lt k read.holds.y)
         where
           writer : OfOp H given.w IsWriter
-          writer = writer-of none given.writes
+          writer = answered-writer H given.w (length h) unput-by none k before low terms.modes terms.origin f i cell.byte given.writes
 
           came : (j : ℕ) (b : List ℕ) → At H j (Delivered b) → k < j → j < read.holds.y → ⊥
           came j b at after under = given.unleft writer k before left j b at after (let held = read.holds.before in omega (arith, under, held, late))
@@ -236,6 +234,7 @@ module _ (mt : Mounted) (terms : Terms) (setup : Setup) (H : List Entry) (V : Vi
         before = given.began;
         writes = given.writes;
         unrefused = λ r. refused r;
+        unput = λ d. unput-by d;
         uncovered = λ x y u before wrote_ low. uncovered-by x y u before wrote_ low;
         uncut = λ x y size before t least low. uncut-by x y size before t least low;
         unsettled = λ x y before made low. unsettled-by x y before made low;

@@ -21,6 +21,7 @@ use Rattle.core_session.proofs.syncs.AllJobs.{JobHas, JobGood, JobBad, JobFin, j
 use Rattle.core_session.proofs.syncs.Fates.{job-says, Part, none, room, own, job-part, job_kind, good-write, good-save, good-path, good-any, bad-write, bad-any, WritePart, before, in_room, write-part}
 use Rattle.core_session.proofs.syncs.Jobs.{Job, ended}
 use Rattle.core_session.proofs.syncs.Levels.{Owner, Content, Before, BesideSo, SaveSo}
+use Rattle.core_session.proofs.syncs.PutPart.{put-part}
 use Rattle.core_session.proofs.syncs.PutGoes.{own_save, own-has}
 use Rattle.core_session.proofs.syncs.Seen.{Came, bare, saving}
 use Rattle.core_session.proofs.syncs.Working.{job}
@@ -71,6 +72,7 @@ module _ (f : List ℕ) (wsize : ℕ) (some : 1 ≤ wsize) (number : ℕ) (least
     pub content : C q b ⊎ D q b
     pub plain : job_kind m ≡ 1 → C q b
     pub own : (z : Saving) → own_save m ≡ Some z → D q b
+    pub unsaved : job_kind m ≡ 3 → own_save m ≡ None → C q b
     pub tale : JobHas (told f (Unit {0}) t) m q b o
 
   pub record Over_ (answer : Answer) (kind q : ℕ) (b : Pending) (o : List LaneFile) : Type 0 where
@@ -117,6 +119,7 @@ module _ (f : List ℕ) (wsize : ℕ) (some : 1 ≤ wsize) (number : ℕ) (least
       content = content (job-part (ended own-job) q b o m h);
       plain = λ is. plainly (write-part (ended own-job) m q b o is h);
       own = λ z is. (own-has (ended own-job) m z is q b o h).content;
+      unsaved = λ is none_. plainly (put-part (ended own-job) q b o m is none_ h);
       tale = job-says (ended own-job) (told f (Unit {0}) t) q b o q b o m (record {
         p = λ is p. tt;
         pa = λ is p. tt;

@@ -15,15 +15,17 @@ use Rattle.core_facts.specs.Naming.{KnowsRoot}
 use Rattle.core_facts.specs.SlotAnswers.{GoesWith}
 use Rattle.core_facts.specs.Notes.{NoneReady}
 use Rattle.core_session.specs.syncs.Synced.{PutsNamed}
-use Rattle.claims.specs.Pending.{Pending}
+use Rattle.claims.specs.Pending.{Pending, PutSucceeded}
 
--- Before the moment n an operation w began that writes the byte to the place of the file, and it isn't a refused write or fill. Since w was answered, and
--- before n, no write, fill or put that began then and went well covers the place, no truncate cut the file there, and no sync, close or put of it went well.
+-- Before the moment n an operation w began that writes the byte to the place of the file. It is no write or fill that was refused, and no put that succeeded
+-- before n. Since w was answered, and before n, no write, fill or put that began then and succeeded covers the place, no truncate cut the file there, and no
+-- sync, close or put of it succeeded.
 pub record IsUnsettled (m : Modes) (origin : Origin) (h : List Entry) (f : List ℕ) (i n v : ℕ) : Type 0 where
   pub w : ℕ
   pub before : w < n
   pub writes : WritesByte m origin h w f i v
   pub unrefused : RefusedWrite h w → ⊥
+  pub unput : PutSucceeded h w n → ⊥
   pub uncovered : (x y u : ℕ) → AnsweredBefore h w x → Wrote m h x y f i u → y < n → ⊥
   pub uncut : (x y size : ℕ) → AnsweredBefore h w x → Truncated m h x y f size → size ≤ i → y < n → ⊥
   pub unsettled : (x y : ℕ) → AnsweredBefore h w x → MadeStable m h x y f → y < n → ⊥
