@@ -1,1 +1,3 @@
 pub mod Decided
+pub mod Histories
+pub mod Freshness
