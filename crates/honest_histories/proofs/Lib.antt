@@ -11,3 +11,5 @@ pub mod OldNames
 pub mod UncausedAnswers
 pub mod RepeatedCalls
 pub mod CopyAfterReply
+pub mod PutSettles
+pub mod ClosesStable

@@ -139,12 +139,14 @@ read_as head = Ok head
 read_is : (a b : CallHead × List ℕ) → read_as a ≡ read_as b → a ≡ b
 read_is a b e = cc
 
-same_head : (r : Result (CallHead × List ℕ) CallFault) (a b : CallHead × List ℕ) → r ≡ Ok a → r ≡ Ok b → a.0.proc ≡ b.0.proc
-same_head r a b p q = ap (λ (z : CallHead × List ℕ). z.0.proc) (read_is a b (sym p ∙ q))
+same_read : (r : Result (CallHead × List ℕ) CallFault) (a b : CallHead × List ℕ) → r ≡ Ok a → r ≡ Ok b → a ≡ b
+same_read r a b p q = read_is a b (sym p ∙ q)
 
--- two calls that one record spells are of one procedure
-same_proc : (x y : ℕ) (call other : Call) (bytes : List ℕ) → SpellsCall x call bytes → SpellsCall y other bytes → proc_of call ≡ proc_of other
-same_proc x y call other bytes a b = same_head (call_at bytes) (head_of x call, a.args) (head_of y other, b.args) (call_again (head_of x call) a.args bytes a.head) (call_again (head_of y other) b.args bytes b.head)
+-- two calls that one record spells are of one procedure, and have the same arguments
+pub same_call : (x y : ℕ) (call other : Call) (bytes : List ℕ) (a : SpellsCall x call bytes) (b : SpellsCall y other bytes) → (proc_of call ≡ proc_of other) × (a.args ≡ b.args)
+same_call x y call other bytes a b =
+    let is = same_read (call_at bytes) (head_of x call, a.args) (head_of y other, b.args) (call_again (head_of x call) a.args bytes a.head) (call_again (head_of y other) b.args bytes b.head) in
+    (ap (λ (z : CallHead × List ℕ). z.0.proc) is, ap (λ (z : CallHead × List ℕ). z.1) is)
 
 -- what is sent is spelled by its record
 abbrev pub SpellsOne : Event → Type 0
@@ -165,7 +167,7 @@ proc_is e b x call one is spells =
     let c = call_behind e b is in
     let spelled : SpellsCall c.xid c.call (call_record c.xid c.call) = subst SpellsOne c.is one in
     subst (λ (z : Event). sends_proc (proc_of call) z ≡ true) (sym c.is)
-    (eq-eqb (proc_of c.call) (proc_of call) (same_proc c.xid x c.call call b (subst (λ (z : List ℕ). SpellsCall c.xid c.call z) c.spelled spelled) spells))
+    (eq-eqb (proc_of c.call) (proc_of call) (same_call c.xid x c.call call b (subst (λ (z : List ℕ). SpellsCall c.xid c.call z) c.spelled spelled) spells).0)
 
 under_is : (e : Event) (b : List ℕ) (x : ℕ) → xid_fits e ≡ true → entry_of e ≡ entries.Delivered b → HasXid b x → comes_under x e ≡ true
 under_is e b x fits is under =
@@ -210,17 +212,21 @@ none_under es from to x fits q n b at under lt =
 pub none_comes : (es : List Event) (from to : ℕ) → quiet is_coming from to (entries_of es) ≡ true → (n : ℕ) (b : List ℕ) → At (entries_of es) n (entries.Delivered b) → n < to → n < from
 none_comes es from to q n b at lt = outside is_coming from to (entries_of es) q n (entries.Delivered b) at refl lt
 
+-- no record is sent under this xid
+pub sent_under : (es : List Event) (from to x : ℕ) → all_are xid_fits es ≡ true → quiet (is_sending x) from to es ≡ true → (n : ℕ) (b : List ℕ) → At (entries_of es) n (entries.Sent b) → HasXid b x → n < to → n < from
+sent_under es from to x fits q n b at under lt =
+    let r = behind es n (entries.Sent b) at in
+    outside (is_sending x) from to es q n r.event r.at (sending_is r.event b x (all_at xid_fits es fits n r.event r.at) r.is under) lt
+
 pub first_sent : (es : List Event) (i xid : ℕ) (call : Call) → all_are xid_fits es ≡ true → At (entries_of es) i (entries.Sent (call_record xid call)) → xid < 2 ^ 32 → quiet (is_sending xid) 0 i es ≡ true
     → FirstSent (entries_of es) i xid (call_record xid call)
 first_sent es i xid call fits at small q = record { sent = at; under = call_under xid call small; first = first }
   where
     first : (j : ℕ) (b : List ℕ) → At (entries_of es) j (entries.Sent b) → HasXid b xid → i ≤ j
-    first j b sent under =
-        let r = behind es j (entries.Sent b) sent in
-        elim (cases_lt j i) [
-          | inl lt ↦ (let low = outside (is_sending xid) 0 i es q j r.event r.at (sending_is r.event b xid (all_at xid_fits es fits j r.event r.at) r.is under) lt in absurd (omega (arith, low)))
-          | inr le ↦ le
-        ]
+    first j b sent under = elim (cases_lt j i) [
+      | inl lt ↦ (let low = sent_under es 0 i xid fits q j b sent under lt in absurd (omega (arith, low)))
+      | inr le ↦ le
+    ]
 
 -- The last reply before the place n is that which came at the place `at`, to the call that was sent at the place `sent`.
 pub last_reply : (es : List Event) (n at sent xid : ℕ) (call : Call) (reply : Reply) → all_are xid_fits es ≡ true → At (entries_of es) sent (entries.Sent (call_record xid call))

@@ -176,7 +176,7 @@ wrote_long : (count how v : ℕ) → length (results_of (wrote_of no_wcc count h
 unfolding file_reply_bytes write_done_bytes wcc_bytes opt_stamp_bytes opt_attr_bytes flag_bytes u32_bytes verf_bytes fixed_bytes
 wrote_long count how v = let n : length (results_of (wrote_of no_wcc count how v)) ≡ 28 = refl in omega (arith, n)
 
-verf_fits : (v : ℕ) → SpellsVerf (verf v) (verf_bytes (verf v))
+pub verf_fits : (v : ℕ) → SpellsVerf (verf v) (verf_bytes (verf v))
 verf_fits v = verf_written (verf v) refl
 
 pub talk_write : (xid offset v : ℕ) (bytes : List ℕ) → xid < 2 ^ 32 → offset < 2 ^ 64 → length bytes ≤ 65536 → Talk xid (write_of offset bytes) (wrote_of no_wcc (length bytes) 0 v)
