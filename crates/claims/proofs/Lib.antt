@@ -1,11 +1,7 @@
 pub mod AnswerExamples
 pub mod CallExamples
-pub mod LateCopies
 pub mod OperationExamples
 pub mod PutExamples
 pub mod PutReads
 pub mod ReadExamples
-pub mod StaleBodies
 pub mod ThriftExamples
-pub mod WrongBodies
-pub mod OwnReads

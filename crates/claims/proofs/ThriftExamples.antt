@@ -34,7 +34,15 @@ use Rattle.claims.specs.Thrifty as thrift
 use Rattle.claims.specs.Touched.{Wrote, write, fill, put, Covers}
 use Rattle.world_model.specs.Waiting.{FirstSent, Waits}
 use Rattle.world_model.proofs.ServiceExamples.{attr}
-use Rattle.claims.proofs.WrongBodies.{ok, path, get_attr}
+
+abbrev ok : Answer
+ok = Done values.Nothing
+
+abbrev path : List (List ℕ)
+path = (97 ∷ []) ∷ []
+
+abbrev get_attr : Call
+get_attr = calls.File (files.GetAttr [])
 
 -- ---- what a record spells
 
