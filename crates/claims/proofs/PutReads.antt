@@ -1,12 +1,14 @@
 -- A read that shows the byte of a put that succeeded, though another client has written over it since: the definition of reads refuses it.
 use Rattle.std.proofs.Common.{inl, inr, ◌⊎◌, ◌≡◌, ◌<◌, ◌≤◌, ℕ, zero, suc, List, [], ◌∷◌, Some, refl, slice_get, arith}
 use Rattle.nfs_types.specs.declared.mode.Mode.TheVariants as modes
+use Rattle.nfs_file_calls.specs.declared.call.FileCall.TheVariants as files
 use Rattle.world_model.specs.declared.answer.Answer.{Answer}
 use Rattle.world_model.specs.declared.answer.Answer.TheVariants.{Done}
 use Rattle.world_model.specs.declared.answer.Value.TheVariants as values
 use Rattle.world_model.specs.declared.entry.Entry.{Entry}
 use Rattle.world_model.specs.declared.entry.Entry.TheVariants.{Began, Answered, Sent, Delivered, Foreign}
 use Rattle.world_model.specs.declared.message.Call.{Call}
+use Rattle.world_model.specs.declared.message.Call.TheVariants as calls
 use Rattle.world_model.specs.declared.message.Reply.{Reply}
 use Rattle.world_model.specs.declared.op.Op.{Op}
 use Rattle.world_model.specs.declared.op.Op.TheVariants as ops
@@ -22,7 +24,15 @@ use Rattle.claims.specs.ReadTrue.{ReadsBytes, ReadCurrent, IsCurrent, own, held,
 use Rattle.claims.specs.Slots.{Opens, asked}
 use Rattle.claims.specs.Touched.{WritesByte, write, fill, put}
 use Rattle.world_model.proofs.ServiceExamples.{file, server}
-use Rattle.claims.proofs.WrongBodies.{ok, path, get_attr}
+
+abbrev ok : Answer
+ok = Done values.Nothing
+
+abbrev path : List (List ℕ)
+path = (97 ∷ []) ∷ []
+
+abbrev get_attr : Call
+get_attr = calls.File (files.GetAttr [])
 
 abbrev the_put : Op
 the_put = ops.Put path 0 (97 ∷ [])
