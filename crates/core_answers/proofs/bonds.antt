@@ -14,4 +14,6 @@ pub mod Executions
 pub mod NamesShown
 pub mod Walked
 pub mod StatsLed
+pub mod Clocks
+pub mod Recents
 pub mod Aged
