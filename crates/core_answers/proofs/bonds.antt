@@ -16,4 +16,5 @@ pub mod Walked
 pub mod StatsLed
 pub mod Clocks
 pub mod Recents
+pub mod ClockExample
 pub mod Aged

@@ -39,5 +39,5 @@ pub record TakesReadings (h : List Entry) : Type 0 where
 
 -- The attributes that a stat shows are those that an object, to which its path leads by recent names, had at a recent moment.
 abbrev pub AttrsAged : Type 0
-AttrsAged = (m : Mounted) (setup : Setup) (modes : Modes) (origin : Origin) (t : History) (v : View) → LastAtMost setup.lives modes.longest → Lawful t → Fresh t → TakesReadings t.entries
-    → KnowsRoot origin t.entries m.root → Reaches (machine_of m) setup t.entries v → AttrAge modes origin t
+AttrsAged = (m : Mounted) (setup : Setup) (modes : Modes) (origin : Origin) (t : History) (v : View) → LastAtMost setup.lives modes.longest → Lawful t → Fresh t
+    → TakesReadings t.entries → KnowsRoot origin t.entries m.root → Reaches (machine_of m) setup t.entries v → AttrAge modes origin t
