@@ -12,7 +12,10 @@ pub struct GivenClock<'a> {
 
 impl<'a> GivenClock<'a> {
     pub fn new(readings: &'a [u32]) -> GivenClock<'a> {
-        GivenClock { left: readings, last: 0 }
+        GivenClock {
+            left: readings,
+            last: 0,
+        }
     }
 }
 

@@ -46,7 +46,13 @@ pub fn run_over_world(rt: &impl Print, alloc: Global, case: &Case) -> io::Result
     if case.clock.is_empty() {
         return run_over(rt, alloc, case, &mut world, &mut TickClock::new(tick));
     }
-    run_over(rt, alloc, case, &mut world, &mut GivenClock::new(case.clock.as_slice()))
+    run_over(
+        rt,
+        alloc,
+        case,
+        &mut world,
+        &mut GivenClock::new(case.clock.as_slice()),
+    )
 }
 
 /// Runs the session over a link that hands out the records, whatever is sent.
