@@ -14,4 +14,7 @@ pub mod Executions
 pub mod NamesShown
 pub mod Walked
 pub mod StatsLed
+pub mod Clocks
+pub mod Recents
+pub mod ClockExample
 pub mod Aged

@@ -10,6 +10,5 @@ pub mod PagesRead
 pub mod PutFound
 pub mod PutNames
 pub mod PutPaths
-pub mod Recents
 pub mod Stood
 pub mod Visited

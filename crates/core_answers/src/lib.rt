@@ -90,8 +90,8 @@ pub fn stats_are_of_the_path()
     ensures { StatsLed }
 {}
 
-/// Where the clock doesn't go back either, and is read before operations begin, the attributes that a stat shows are as old at most as the lifetimes
-/// allow by all readings of the clock: those of an object, to which its path leads by such names, at such a moment.
+/// Where the clock is read before operations begin, and one begins at each of its readings, the attributes that a stat shows are as old at most as the
+/// lifetimes allow by all readings of the clock, which may go back: those of an object, to which its path leads by such names, at such a moment.
 pub fn attributes_are_recent()
     ensures { AttrsAged }
 {}

@@ -18,7 +18,6 @@ pub mod ReadStory
 pub mod ReadsTaken
 pub mod StampStays
 pub mod SeenTrue
-pub mod Ages
 pub mod ReadsRecent
 pub mod OwnRead
 pub mod SteadyBytes

@@ -29,6 +29,7 @@ use Rattle.lane_session.specs.Going.{GoesOn, CutsOff}
 use Rattle.lane_session.specs.Losing.{LosesBy, LostLines, no_line, one_line, lost_line}
 use Rattle.lane_session.specs.Running.{IsFreshFor}
 use Rattle.lane_session.proofs.Bonding.{since-none}
+use Rattle.lane_session.proofs.Taking.{takes-none, takes-earlier}
 use Rattle.lane_session.proofs.Counted.{xids-append}
 use Rattle.lane_session.proofs.LostOnce.{unmarked-stays}
 use Rattle.lane_session.proofs.Ending.{fresh-goes}
@@ -147,7 +148,7 @@ first-fresh setup = record {
 }
 
 none-with : (settings : Settings) (setup : Setup) (h : List Entry) → MaySetUp setup → IsOpened (Some setup) h → EndsWith settings (Some setup) h h
-none-with settings setup h may o = record { core = first_view setup; notes = notes_fresh h (first_view setup) may o.0 (first-fresh setup); since = since-none h; stays = unmarked-stays h o.0.unmarked }
+none-with settings setup h may o = record { core = first_view setup; notes = notes_fresh h (first_view setup) may o.0 (first-fresh setup); since = since-none h; takes = takes-earlier h h (takes-none h); stays = unmarked-stays h o.0.unmarked }
 
 -- ---- where the link tells its history
 

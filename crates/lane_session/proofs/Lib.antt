@@ -26,6 +26,7 @@ pub mod LaneNumbers
 pub mod Faultless
 pub mod LostOnce
 pub mod Bonding
+pub mod Taking
 pub mod Reaching
 pub mod CoreEnds
 pub mod LostAnswers

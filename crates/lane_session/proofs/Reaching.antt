@@ -33,7 +33,7 @@ use Rattle.core_facts.specs.Reaches.{MaySetUp, MayHear, IsOpenLine, StepsTo, las
 use Rattle.core_facts.specs.Notes.{ComesAfter, NoneReady, notes_fresh}
 use Rattle.lane_session.specs.declared.counts.Counts.{Counts}
 use Rattle.lane_session.specs.declared.running.Session.{Session}
-use Rattle.lane_session.specs.Bonds.{Start, SentSince, Bond, Bonded, HasCore, CoreGoes, CoreWent, CoreBy, steps, Redials, RedialsBy, IsOpened, EndsWith}
+use Rattle.lane_session.specs.Bonds.{Start, SentSince, TakesAll, Bond, Bonded, HasCore, CoreGoes, CoreWent, CoreBy, steps, Redials, RedialsBy, IsOpened, EndsWith}
 use Rattle.lane_session.specs.LaneMarks.{IsRunning}
 use Rattle.lane_session.specs.Running.{IsFreshFor, NoneOver, Fails, Takes, TakesBy, given_up, mounted_by}
 use Rattle.lane_session.proofs.Bonding.{since-none, reached, bond-step, bond-loses, bond-taken, bond-dropped}
@@ -42,6 +42,7 @@ use Rattle.lane_session.proofs.LostOnce.{may-stay, fresh-only, unmarked-stays}
 use Rattle.lane_session.specs.Tallies.{CountsBy, Tallied}
 use Rattle.lane_session.proofs.LaneNumbers.{none-ready, may-hear}
 use Rattle.lane_session.proofs.Redialing.{still_by, still-ours, redials-call}
+use Rattle.lane_session.proofs.Taking.{takes-none, takes-on, takes-still, takes-begins, takes-earlier, takes-read}
 use Rattle.lane_session.proofs.Tallying.{tallied-step, tallied-like, tallied-sends, fresh-tallied}
 
 -- ---- entries that leave the core as it is
@@ -104,6 +105,7 @@ module _ (m : Mounted) (setup : Setup) (start : Start) where
   bonded-still h more s q b = record {
     mounted = b.mounted;
     bond = bond-still h more s.core s.dropped q b.bond;
+    takes = takes-still start.from h more q b.takes;
     tallied = λ is. tallied-still h more s.core s.dropped s.counts q b.bond (b.tallied is);
   }
 
@@ -114,13 +116,14 @@ module _ (m : Mounted) (setup : Setup) (start : Start) where
   bonded-redials h k s r b = subst (λ (t : List Entry). Bonded m setup start t s) (sym r.is) (bonded-still h r.more s r.still b)
 
   pub core-of : (h : List Entry) (s : Session) → Bonded m setup start h s → HasCore m setup start.from h
-  core-of h s b = record { core = s.core; notes = b.bond.notes; since = b.bond.since; stays = b.bond.stays }
+  core-of h s b = record { core = s.core; notes = b.bond.notes; since = b.bond.since; takes = takes-earlier start.from h b.takes; stays = b.bond.stays }
 
   -- the session's other fields don't count
   bonded-like : (h : List Entry) (s t : Session) → t.mounted ≡ s.mounted → t.core ≡ s.core → t.dropped ≡ s.dropped → t.counts ≡ s.counts → Bonded m setup start h s → Bonded m setup start h t
   bonded-like h s t mounted core count tally b = record {
     mounted = mounted ∙ b.mounted;
     bond = subst (λ (v : View). Bond m setup start.from h v t.dropped) (sym core) (subst (λ (n : ℕ). Bond m setup start.from h s.core n) (sym count) b.bond);
+    takes = b.takes;
     tallied = λ is. subst (λ (v : View). Tallied h v t.counts) (sym core) (subst (Tallied h s.core) (sym tally) (b.tallied is));
   }
 
@@ -128,6 +131,7 @@ module _ (m : Mounted) (setup : Setup) (start : Start) where
   bonded-given-up h s none shown b = record {
     mounted = b.mounted;
     bond = bond-loses m setup start.from h s.core s.dropped none shown b.bond;
+    takes = b.takes;
     tallied = λ is. tallied-like h s.core (lost s.core) s.counts refl (b.tallied is);
   }
 
@@ -143,6 +147,7 @@ module _ (m : Mounted) (setup : Setup) (start : Start) where
       subst (Bonded m setup start (h ++ Failed ∷ [])) (sym f.is) (record {
         mounted = b.mounted;
         bond = bond-step m setup start.from h old.core Failed new.core old.dropped (λ comes. absurd comes) (inr (bonded-none h old told b)) (inl (f.result, f.core)) (λ bytes e. absurd cc) b.bond;
+        takes = takes-on start.from h Failed (λ ms e. absurd cc) b.takes;
         tallied = λ is. tallied-on h old.core Failed new.core old.dropped old.counts (inl (f.result, f.core)) (λ bytes e. absurd cc) b.bond (b.tallied is);
       })
 
@@ -168,17 +173,20 @@ module _ (m : Mounted) (setup : Setup) (start : Start) where
       dropped_so : t.result ≡ false → Bond m setup start.from k t.core (old.dropped + 1)
       dropped_so is = bond-dropped m setup start.from h old.core rec t.result t.core old.dropped may t.hears is b.bond
 
+      takes_so : TakesAll start.from k
+      takes_so = takes-on start.from h (Delivered rec) (λ ms e. absurd cc) b.takes
+
       tallied_so : start.counted ≡ true → Tallied k t.core old.counts
       tallied_so so = tallied-on h old.core (Delivered rec) t.core old.dropped old.counts (record { may = may; result = t.result; hears = t.hears }) (λ bytes e. absurd cc) b.bond (b.tallied so)
 
       by : (r : Bool) → t.result ≡ r → TakesBy old r t.core new → Bonded m setup start k new
       by true took is =
-          subst (Bonded m setup start k) (sym is) (record { mounted = b.mounted; bond = bond-taken m setup start.from h old.core rec t.result t.core old.dropped may t.hears took b.bond; tallied = tallied_so })
-      by false not (inl p) = subst (Bonded m setup start k) (sym p.1) (record { mounted = b.mounted; bond = dropped_so not; tallied = tallied_so })
+          subst (Bonded m setup start k) (sym is) (record { mounted = b.mounted; bond = bond-taken m setup start.from h old.core rec t.result t.core old.dropped may t.hears took b.bond; takes = takes_so; tallied = tallied_so })
+      by false not (inl p) = subst (Bonded m setup start k) (sym p.1) (record { mounted = b.mounted; bond = dropped_so not; takes = takes_so; tallied = tallied_so })
       by false not (inr p) =
           let run : DropRun k most_dropped (length k) = subst (λ (n : ℕ). DropRun k n (length k)) p.0 (dropped_so not).run in
           subst (Bonded m setup start k) (sym p.1)
-          (bonded-given-up k (record old { core = t.core; dropped = old.dropped + 1 }) (none_so not) (dropped_run run) (record { mounted = b.mounted; bond = dropped_so not; tallied = tallied_so }))
+          (bonded-given-up k (record old { core = t.core; dropped = old.dropped + 1 }) (none_so not) (dropped_run run) (record { mounted = b.mounted; bond = dropped_so not; takes = takes_so; tallied = tallied_so }))
 
   -- a record was sent
   pub bonded-sends : (h : List Entry) (old new : Session) (rec : List ℕ) → NoneOver old.core → SendsBy old.core (Some rec) new.core → CountsBy (call_at rec) old.counts new.counts → new.mounted ≡ old.mounted
@@ -187,6 +195,7 @@ module _ (m : Mounted) (setup : Setup) (start : Start) where
     mounted = mounted ∙ b.mounted;
     bond = subst (λ (n : ℕ). Bond m setup start.from (h ++ Sent rec ∷ []) new.core n) (sym count)
         (bond-step m setup start.from h old.core (Sent rec) new.core old.dropped (λ comes. bonded-none h old told b) tt t (λ bytes e. absurd cc) b.bond);
+    takes = takes-on start.from h (Sent rec) (λ ms e. absurd cc) b.takes;
     tallied = λ is.
         tallied-sends setup h old.core rec new.core old.counts new.counts (reached-rows (machine_of m) setup h old.core (reached m setup start.from h old.core old.dropped b.bond)) t counts (b.tallied is);
   }
@@ -297,33 +306,38 @@ now-read (Delivered bytes ∷ h) first ms = now-read h first ms
 now-read (Failed ∷ h) first ms = now-read h first ms
 now-read (Clock now ∷ h) first ms = now-read h now ms
 
-bonded-clock : (m : Mounted) (setup : Setup) (start : Start) (h : List Entry) (s : Session) (ms : ℕ) → Bonded m setup start h s → Bonded m setup start (h ++ Clock ms ∷ []) s
-bonded-clock m setup start h s ms b = record {
-  mounted = b.mounted;
-  bond = bond-step m setup start.from h s.core (Clock ms) s.core s.dropped (λ comes. absurd comes) tt refl (λ bytes e. absurd cc) b.bond;
-  tallied = λ is. tallied-on m setup start h s.core (Clock ms) s.core s.dropped s.counts refl (λ bytes e. absurd cc) b.bond (b.tallied is);
-}
+bond-clock : (m : Mounted) (setup : Setup) (start : Start) (h : List Entry) (s : Session) (ms : ℕ) → Bonded m setup start h s
+    → Bond m setup start.from (h ++ Clock ms ∷ []) s.core s.dropped
+bond-clock m setup start h s ms b = bond-step m setup start.from h s.core (Clock ms) s.core s.dropped (λ comes. absurd comes) tt refl (λ bytes e. absurd cc) b.bond
+
+tallied-clock : (m : Mounted) (setup : Setup) (start : Start) (h : List Entry) (s : Session) (ms : ℕ) → Bonded m setup start h s → start.counted ≡ true
+    → Tallied (h ++ Clock ms ∷ []) s.core s.counts
+tallied-clock m setup start h s ms b is = tallied-on m setup start h s.core (Clock ms) s.core s.dropped s.counts refl (λ bytes e. absurd cc) b.bond (b.tallied is)
 
 pub core-begins : (s t : Session) (h : List Entry) (ms lane line : ℕ) (op : Op) → IsIdle lane s.core.lanes → s.core.begun < 2 ^ 32 → Fits (machine_of s.mounted lane op)
     → Begins s.core lane (machine_of s.mounted lane op) ms t.core → t.mounted ≡ s.mounted → t.dropped ≡ s.dropped → t.counts ≡ s.counts → CoreGoes s t h (h ++ Clock ms ∷ Began lane line op ∷ [])
 core-begins s t h ms lane line op idle few fits step mounted count tally m setup start b =
     let h1 : List Entry = h ++ Clock ms ∷ [] in
-    let c = bonded-clock m setup start h s ms b in
+    let read = bond-clock m setup start h s ms b in
     let step_now : Begins s.core lane (machine_of m lane op) (last_reading 0 h1) t.core =
     subst (λ (n : ℕ). Begins s.core lane (machine_of m lane op) n t.core) (sym (now-read h 0 ms)) (subst (λ (x : Mounted). Begins s.core lane (machine_of x lane op) ms t.core) b.mounted step) in
     let begun : StepsTo (machine_of m) h1 s.core (Began lane line op) t.core = record { idle = idle; few = few; fits = subst (λ (x : Mounted). Fits (machine_of x lane op)) b.mounted fits; step = step_now } in
     subst (λ (k : List Entry). Bonded m setup start k t) (append_assoc h (Clock ms ∷ []) (Began lane line op ∷ [])) (record {
       mounted = mounted ∙ b.mounted;
       bond = subst (λ (n : ℕ). Bond m setup start.from (h1 ++ Began lane line op ∷ []) t.core n) (sym count)
-          (bond-step m setup start.from h1 s.core (Began lane line op) t.core s.dropped (λ comes. absurd comes) tt begun (λ bytes e. absurd cc) c.bond);
+          (bond-step m setup start.from h1 s.core (Began lane line op) t.core s.dropped (λ comes. absurd comes) tt begun (λ bytes e. absurd cc) read);
+      takes = takes-begins start.from h ms lane line op b.takes;
       tallied = λ is. subst (Tallied (h1 ++ Began lane line op ∷ []) t.core) (sym tally)
-          (tallied-on m setup start h1 s.core (Began lane line op) t.core s.dropped s.counts begun (λ bytes e. absurd cc) c.bond (c.tallied is));
+          (tallied-on m setup start h1 s.core (Began lane line op) t.core s.dropped s.counts begun (λ bytes e. absurd cc) read (tallied-clock m setup start h s ms b is));
     })
 
 -- nothing was begun, for want of memory
 pub core-unbegun : (s : Session) (h k : List Entry) (given : List ℕ) → (k ≡ h) ⊎ ((ms : ℕ) × (given ≡ ms ∷ []) × (k ≡ h ++ Clock ms ∷ [])) → CoreWent s h k
 core-unbegun s h k given (inl is) m setup start b = subst (HasCore m setup start.from) (sym is) (core-of m setup start h s b)
-core-unbegun s h k given (inr n) m setup start b = subst (HasCore m setup start.from) (sym n.2) (core-of m setup start (h ++ Clock n.0 ∷ []) s (bonded-clock m setup start h s n.0 b))
+core-unbegun s h k given (inr n) m setup start b =
+    let read = bond-clock m setup start h s n.0 b in
+    subst (HasCore m setup start.from) (sym n.2)
+    (record { core = s.core; notes = read.notes; since = read.since; takes = takes-read start.from h n.0 b.takes; stays = read.stays })
 
 -- ---- an answer is told
 
@@ -336,6 +350,7 @@ core-answers s t h lane line answer running answers mounted count tally m setup 
   mounted = mounted ∙ b.mounted;
   bond = subst (λ (n : ℕ). Bond m setup start.from (h ++ Answered lane line answer ∷ []) t.core n) (sym count)
       (bond-step m setup start.from h s.core (Answered lane line answer) t.core s.dropped (λ comes. absurd comes) tt (record { line_is = open-line h lane line running; answers = answers }) (λ bytes e. absurd cc) b.bond);
+  takes = takes-on start.from h (Answered lane line answer) (λ ms e. absurd cc) b.takes;
   tallied = λ is. subst (Tallied (h ++ Answered lane line answer ∷ []) t.core) (sym tally)
       (tallied-on m setup start h s.core (Answered lane line answer) t.core s.dropped s.counts (record { line_is = open-line h lane line running; answers = answers }) (λ bytes e. absurd cc) b.bond (b.tallied is));
 }
@@ -358,6 +373,7 @@ fresh-bonded settings setup start s h may f is tallied o = record {
     only = fresh-only setup s.core f.core;
     stays = unmarked-stays h o.0.unmarked;
   };
+  takes = subst (λ (k : List Entry). TakesAll k h) (sym is) (takes-none h);
   tallied = tallied;
 }
 

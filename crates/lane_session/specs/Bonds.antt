@@ -1,5 +1,5 @@
 -- How the core goes with the history, so that all that holds of such a core holds of a session.
-use Rattle.std.specs.Prelude.{◌≡◌, ◌<◌, ◌⊎◌, ℕ, List, [], ◌∷◌, ◌++◌, length, Bool, true, false, slice_get, Option, Some, None, Result, Ok, Err}
+use Rattle.std.specs.Prelude.{◌≡◌, ◌<◌, ◌⊎◌, ℕ, suc, List, [], ◌∷◌, ◌++◌, length, Bool, true, false, slice_get, Option, Some, None, Result, Ok, Err}
 use Rattle.rpc_retry.specs.declared.waiting.Waiting.{Waiting}
 use Rattle.rpc_retry.specs.Waiting.{waiting_at}
 use Rattle.xdr_codec.specs.declared.blob.Memory.{Memory}
@@ -8,6 +8,7 @@ use Rattle.world_model.specs.declared.answer.Answer.TheVariants.{Refused}
 use Rattle.world_model.specs.declared.answer.Fault.TheVariants as faults
 use Rattle.world_model.specs.declared.entry.Entry.{Entry}
 use Rattle.world_model.specs.declared.entry.Entry.TheVariants.{Began, Answered, Sent, Delivered, Clock}
+use Rattle.world_model.specs.declared.op.Op.{Op}
 use Rattle.world_model.specs.Counts.{tally_of}
 use Rattle.world_model.specs.Entries.{At}
 use Rattle.world_model.specs.LanesTogether.{HasBegun}
@@ -39,6 +40,21 @@ IsAwaited xid v = (call : Waiting Purpose) × (waiting_at xid v.calls.calls ≡ 
 abbrev pub SentSince : List Entry → List Entry → Type 0
 SentSince from h = (i : ℕ) (bytes : List ℕ) → At h i (Sent bytes) → (i < length from) ⊎ HasBegun h i
 
+-- an operation began at the place n
+pub record BeginsAt (h : List Entry) (n : ℕ) : Type 0 where
+  pub lane : ℕ
+  pub line : ℕ
+  pub op : Op
+  pub began : At h n (Began lane line op)
+
+-- Right after each reading of the clock an operation began, unless it was read in the history from which the session goes on.
+abbrev pub TakesAll : List Entry → List Entry → Type 0
+TakesAll from h = (i ms : ℕ) → At h i (Clock ms) → (i < length from) ⊎ BeginsAt h (suc i)
+
+-- the same of each reading before an operation
+abbrev pub TakesEarlier : List Entry → List Entry → Type 0
+TakesEarlier from h = (i ms x lane line : ℕ) (op : Op) → At h i (Clock ms) → At h x (Began lane line op) → i < x → (i < length from) ⊎ BeginsAt h (suc i)
+
 -- After an answer that the session is lost there is no other answer.
 abbrev pub StaysLost : List Entry → Type 0
 StaysLost h = (i j lane line other later : ℕ) (answer : Answer) → At h i (Answered lane line (Refused faults.Lost)) → At h j (Answered other later answer)
@@ -64,18 +80,20 @@ pub record Start : Type 0 where
   pub from : List Entry
   pub counted : Bool
 
--- The core of a session does; and its calls are counted, where those of the set-up were.
+-- The core of a session does; an operation began at each reading of the clock; and its calls are counted, where those of the set-up were.
 pub record Bonded (m : Mounted) (setup : Setup) (start : Start) (h : List Entry) (s : Session) : Type 0 where
   pub mounted : s.mounted ≡ m
   pub bond : Bond m setup start.from h s.core s.dropped
+  pub takes : TakesAll start.from h
   pub tallied : start.counted ≡ true → Tallied h s.core s.counts
 
--- A core goes with the history, in which each answer is noted first, and sent nothing since the first one before an operation began; and a session that
--- is lost stays so.
+-- A core goes with the history, in which each answer is noted first, and sent nothing since the first one before an operation began; at each reading of the
+-- clock before an operation one began; and a session that is lost stays so.
 pub record HasCore (m : Mounted) (setup : Setup) (from h : List Entry) : Type 0 where
   pub core : View
   pub notes : Notes (machine_of m) setup h core
   pub since : SentSince from h
+  pub takes : TakesEarlier from h
   pub stays : StaysLost h
 
 -- the core goes on with the history

@@ -65,12 +65,12 @@ ready-promises s first v before h shows t is = record {
   completes = (shows.complete t is).completes;
   settled = λ lawful once. (shows.stable t is lawful once).settled;
   cuts_stay = λ lawful once. (shows.stable t is lawful once).cuts_stay;
-  read_true = λ lawful once anew never. (shows.stable t is lawful once).reads anew never;
-  read_short = λ lawful once anew never. (shows.stable t is lawful once).ends anew never;
-  read_current = λ lawful anew never. (shows.honest t is lawful anew).read_true never;
-  names_true = λ lawful anew never. (shows.honest t is lawful anew).names never;
-  attr_age = λ lawful anew never. (shows.honest t is lawful anew).ages never;
-  list_true = λ lawful anew never rising. (shows.honest t is lawful anew).lists never rising;
+  read_true = λ lawful once anew. (shows.stable t is lawful once).reads anew;
+  read_short = λ lawful once anew. (shows.stable t is lawful once).ends anew;
+  read_current = λ lawful anew. (shows.honest t is lawful anew).read_true;
+  names_true = λ lawful anew. (shows.honest t is lawful anew).names;
+  attr_age = λ lawful anew. (shows.honest t is lawful anew).ages;
+  list_true = λ lawful anew rising. (shows.honest t is lawful anew).lists rising;
 }
 
 ready-headline : (s : Settings) (lines : List ScriptLine) (first ms : ℕ) (rest : List ℕ) (v : SetUp) (before h : List Entry) (status : ℕ) (text : List ℕ) → lines ≢ [] → IsUnmarked before
@@ -96,12 +96,12 @@ quiet-promises s first h quiet t is =
       completes = quiet-completes (terms_by s first) t q;
       settled = λ lawful once. quiet-settled (terms_by s first) t q (modes_of s) (origin_of s.export);
       cuts_stay = λ lawful once. quiet-cuts (terms_by s first) t q (modes_of s) (origin_of s.export);
-      read_true = λ lawful once anew never. quiet-read (terms_by s first) t q (modes_of s) (origin_of s.export);
-      read_short = λ lawful once anew never. quiet-short (terms_by s first) t q (modes_of s) (origin_of s.export);
-      read_current = λ lawful anew never. quiet-current (terms_by s first) t q (modes_of s) (origin_of s.export);
-      names_true = λ lawful anew never. quiet-names (terms_by s first) t q (modes_of s) (origin_of s.export);
-      attr_age = λ lawful anew never. quiet-ages (terms_by s first) t q (modes_of s) (origin_of s.export);
-      list_true = λ lawful anew never rising. quiet-lists (terms_by s first) t q (modes_of s) (origin_of s.export);
+      read_true = λ lawful once anew. quiet-read (terms_by s first) t q (modes_of s) (origin_of s.export);
+      read_short = λ lawful once anew. quiet-short (terms_by s first) t q (modes_of s) (origin_of s.export);
+      read_current = λ lawful anew. quiet-current (terms_by s first) t q (modes_of s) (origin_of s.export);
+      names_true = λ lawful anew. quiet-names (terms_by s first) t q (modes_of s) (origin_of s.export);
+      attr_age = λ lawful anew. quiet-ages (terms_by s first) t q (modes_of s) (origin_of s.export);
+      list_true = λ lawful anew rising. quiet-lists (terms_by s first) t q (modes_of s) (origin_of s.export);
     }
 
 -- its lines were answered that it is lost

@@ -6,7 +6,7 @@ use Rattle.rpc_message.specs.declared.cred.Cred.{Cred}
 use Rattle.rpc_retry.specs.declared.waiting.Waiting.{Waiting}
 use Rattle.rpc_retry.specs.Waiting.{waiting_at}
 use Rattle.world_model.specs.declared.entry.Entry.{Entry}
-use Rattle.world_model.specs.declared.entry.Entry.TheVariants.{Began, Sent}
+use Rattle.world_model.specs.declared.entry.Entry.TheVariants.{Began, Clock, Sent}
 use Rattle.world_model.specs.declared.op.Op.{Op}
 use Rattle.world_model.specs.declared.op.Op.TheVariants as ops
 use Rattle.world_model.specs.declared.answer.Answer.TheVariants.{Refused}
@@ -47,7 +47,7 @@ use Rattle.core_answers.proofs.answers.PutRules.{put-faults-few, put-rules-shown
 use Rattle.core_answers.specs.asks.PutCalls.{IsMadeAlone}
 use Rattle.core_answers.proofs.asks.PutAsks.{lone-puts-ask}
 use Rattle.core_answers.proofs.asks.XidAsks.{xids-kept}
-use Rattle.core_answers.specs.bonds.Aged.{Rises}
+use Rattle.core_answers.specs.bonds.Aged.{TakesReadings}
 use Rattle.core_answers.specs.bonds.Kept.{LastAtMost}
 use Rattle.core_answers.proofs.bonds.Aged.{attrs-aged}
 use Rattle.core_answers.proofs.bonds.NamesShown.{names-stood}
@@ -103,7 +103,7 @@ use Rattle.session_words.specs.declared.settings.Settings.{Settings}
 use Rattle.session_setup.specs.declared.opening.SetUp.{SetUp}
 use Rattle.session_setup.specs.Origins.{origin_of}
 use Rattle.session_setup.specs.Outcomes.{FitsSession, SetsUp}
-use Rattle.lane_session.specs.Bonds.{HasCore, SentSince}
+use Rattle.lane_session.specs.Bonds.{HasCore, SentSince, TakesEarlier}
 use Rattle.lane_session.specs.Endings.{entries_of}
 use Rattle.lane_session.specs.Going.{AllTimed, Grows}
 use Rattle.lane_session.specs.Running.{mounted_by}
@@ -111,7 +111,7 @@ use Rattle.core_counts.proofs.coarse.Along.{writes-were-long}
 use Rattle.bond_calls.proofs.CallsWait.{xid_of_call}
 use Rattle.core_counts.specs.coarse.WereLong.{write_call}
 use Rattle.script_runs.specs.LaneRuns.{setup_of}
-use Rattle.nfs_client.specs.Given.{NeverBack, longest_of, modes_of, terms_by}
+use Rattle.nfs_client.specs.Given.{longest_of, modes_of, terms_by}
 use Rattle.nfs_client.specs.Shown.{AllRowed, CallsShown, CountsShown, OksShown, SlotsShown, PutsShown, CompleteShown, FaultsShown, KeptShown, RestShown, StableShown, HonestShown, RunShows, NoneUnderWay}
 use Rattle.nfs_client.proofs.AllAsked.{goes-from, only-sets-up}
 use Rattle.nfs_client.proofs.AllOks.{all-oks, keeps-them}
@@ -245,44 +245,48 @@ module _ (m : Mounted) (setup : Setup) (h : List Entry) (core : View) (r : Reach
 longest-last : (lives : Lives) → LastAtMost lives (longest_of lives)
 longest-last lives = record { reg_min = omega arith; reg_max = omega arith; dir_min = omega arith; dir_max = omega arith }
 
--- The clock is read just before each operation begins.
-rises : (h : List Entry) → AllTimed h → NeverBack h → Rises h
-rises h timed never = record {
+-- The clock is read just before each operation begins, and at each reading one begins.
+takes-readings : (s : Settings) (first : ℕ) (v : SetUp) (before h : List Entry) → SetsUp s first (Ok v) before → Grows before h → AllTimed h → TakesEarlier before h
+    → TakesReadings h
+takes-readings s first v before h so grown timed takes = record {
   read = λ x lane line op at. let t = timed x lane line op at in record { at = t.at; ms = t.ms; read = t.read; before = let next = t.next in omega (arith, next) };
-  rises = never;
+  taken = λ i ms x lane line op at began below. elim (takes i ms x lane line op at began below) [
+    | inl early ↦ absurd (so.unmarked.clock i ms (At-back before grown.0 i (Clock ms) (subst (λ (k : List Entry). At k i (Clock ms)) grown.1 at) early))
+    | inr b ↦ record { lane = b.lane; line = b.line; op = b.op; began = b.began }
+  ];
 }
 
-module _ (s : Settings) (first : ℕ) (v : SetUp) (t : History) (core : View) (lawful : Lawful t) (fresh : Fresh t) (timed : AllTimed t.entries) (root : KnowsRoot (origin_of s.export) t.entries v.root)
+module _ (s : Settings) (first : ℕ) (v : SetUp) (t : History) (core : View) (lawful : Lawful t) (fresh : Fresh t) (takes : TakesReadings t.entries) (root : KnowsRoot (origin_of s.export) t.entries v.root)
     (asked : AreAsked t.entries) (r : Reaches (machine_of (mounted_by s (setup_of s v))) (setup_of s v) t.entries core) where
   abbrev m : Mounted
   m = mounted_by s (setup_of s v)
 
-  goes-honestly : NeverBack t.entries → GoesHonestly m (setup_of s v) (modes_of s) (origin_of s.export) t core
-  goes-honestly never = record { lasts = longest-last s.lives; lawful = lawful; fresh = fresh; rises = rises t.entries timed never; root = root; reached = r }
+  goes-honestly : GoesHonestly m (setup_of s v) (modes_of s) (origin_of s.export) t core
+  goes-honestly = record { lasts = longest-last s.lives; lawful = lawful; fresh = fresh; takes = takes; root = root; reached = r }
 
   honest-shown : HonestShown s v.root core t
   honest-shown = record {
     stats = stats-led m (setup_of s v) (longest_of s.lives) t core (longest-last s.lives) lawful fresh r;
     reads = reads-from m (terms_by s first) (setup_of s v) t core (record { nocto = refl; reaches = r }) lawful fresh;
-    recent = λ never.
+    recent =
         reads-recent m (terms_by s first) (setup_of s v) t core (record { nocto = refl; reaches = r }) refl
-        (λ may. record { rises = rises t.entries timed (never may); lasts = longest-last s.lives }) lawful fresh;
-    read_true = λ never.
+        (λ may. record { takes = takes; lasts = longest-last s.lives }) lawful fresh;
+    read_true =
         reads-current m (terms_by s first) (setup_of s v) t core (record { nocto = refl; reaches = r }) refl
-        (λ may. record { rises = rises t.entries timed (never may); lasts = longest-last s.lives }) root (puts-named t.entries asked) lawful fresh;
+        (λ may. record { takes = takes; lasts = longest-last s.lives }) root (puts-named t.entries asked) lawful fresh;
     read_back = λ asks. stable-read m (terms_by s first) (setup_of s v) t core (record { nocto = refl; reaches = r }) refl asks lawful fresh;
     stood = names-stood m (setup_of s v) (longest_of s.lives) t core (longest-last s.lives) lawful fresh r;
     pages = pages-true m (setup_of s v) t core lawful fresh r;
-    ages = λ never. attrs-aged m (setup_of s v) (modes_of s) (origin_of s.export) t core (longest-last s.lives) lawful fresh (rises t.entries timed never) root r;
-    names = λ never. names-held m (setup_of s v) (modes_of s) (origin_of s.export) t core (goes-honestly never);
-    lists = λ never. lists-whole m (setup_of s v) (modes_of s) (origin_of s.export) t core (goes-honestly never);
+    ages = attrs-aged m (setup_of s v) (modes_of s) (origin_of s.export) t core (longest-last s.lives) lawful fresh takes root r;
+    names = names-held m (setup_of s v) (modes_of s) (origin_of s.export) t core goes-honestly;
+    lists = lists-whole m (setup_of s v) (modes_of s) (origin_of s.export) t core goes-honestly;
   }
 
 -- ---- all
 
 -- ---- stable bytes
 
-module _ (s : Settings) (first : ℕ) (v : SetUp) (t : History) (core : View) (lawful : Lawful t) (once : Once t.entries) (timed : AllTimed t.entries) (root : KnowsRoot (origin_of s.export) t.entries v.root)
+module _ (s : Settings) (first : ℕ) (v : SetUp) (t : History) (core : View) (lawful : Lawful t) (once : Once t.entries) (takes : TakesReadings t.entries) (root : KnowsRoot (origin_of s.export) t.entries v.root)
     (only : OnlySetsUp t.entries) (asked : AreAsked t.entries) (notes : Notes (machine_of (mounted_by s (setup_of s v))) (setup_of s v) t.entries core) where
   abbrev mount : Mounted
   mount = mounted_by s (setup_of s v)
@@ -290,8 +294,8 @@ module _ (s : Settings) (first : ℕ) (v : SetUp) (t : History) (core : View) (l
   with-core : GoesWith mount (terms_by s first) (setup_of s v) t.entries core
   with-core = record { nocto = refl; reaches = notes-reach (machine_of mount) (setup_of s v) t.entries core notes }
 
-  briefly : (s.nocto ≡ true → NeverBack t.entries) → (modes_of s).nocto ≡ true → KeepsBriefly (modes_of s) (setup_of s v) t.entries
-  briefly never may = record { rises = rises t.entries timed (never may); lasts = longest-last s.lives }
+  briefly : (modes_of s).nocto ≡ true → KeepsBriefly (modes_of s) (setup_of s v) t.entries
+  briefly may = record { takes = takes; lasts = longest-last s.lives }
 
   stable-shown : StableShown s t
   stable-shown =
@@ -301,12 +305,12 @@ module _ (s : Settings) (first : ℕ) (v : SetUp) (t : History) (core : View) (l
         synced = synced-stay mount (terms_by s first) (setup_of s v) t core with-core root named only lawful once;
         settled = settled-stay mount (terms_by s first) (setup_of s v) t core with-core root named only lawful once;
         cuts_stay = cuts-stay mount (terms_by s first) (setup_of s v) t core refl notes root named only lawful once;
-        reads = λ fresh never. record {
-          current = reads-current mount (terms_by s first) (setup_of s v) t core with-core refl (briefly never) root named lawful fresh;
-          own = own-bytes-read mount (terms_by s first) (setup_of s v) t core with-core refl (briefly never) root named only lawful fresh once;
-          cut = cuts-read mount (terms_by s first) (setup_of s v) t core refl refl notes (briefly never) root named only lawful fresh once;
+        reads = λ fresh. record {
+          current = reads-current mount (terms_by s first) (setup_of s v) t core with-core refl briefly root named lawful fresh;
+          own = own-bytes-read mount (terms_by s first) (setup_of s v) t core with-core refl briefly root named only lawful fresh once;
+          cut = cuts-read mount (terms_by s first) (setup_of s v) t core refl refl notes briefly root named only lawful fresh once;
         };
-        ends = λ fresh never. reads-end-rightly mount (terms_by s first) (setup_of s v) t core with-core refl (briefly never) root named only lawful fresh once;
+        ends = λ fresh. reads-end-rightly mount (terms_by s first) (setup_of s v) t core with-core refl briefly root named only lawful fresh once;
       }
 
 -- ---- complete sessions
@@ -331,6 +335,7 @@ module _ (s : Settings) (first : ℕ) (v : SetUp) (before h : List Entry) (so : 
   pub run-shows : AllTimed h → AreAsked h → HasCore (mounted_by s (setup_of s v)) (setup_of s v) before h → RunShows s first v before h
   run-shows timed asked has =
       let root = root-known s first v before so h grown in
+      let takes : TakesReadings h = takes-readings s first v before h so grown timed has.takes in
       let mounted : Mounted = mounted_by s (setup_of s v) in
       let reaches : Reaches (machine_of mounted) (setup_of s v) h has.core = notes-reach (machine_of mounted) (setup_of s v) h has.core has.notes in
       let terms : Terms = terms_by s first in
@@ -379,14 +384,14 @@ module _ (s : Settings) (first : ℕ) (v : SetUp) (before h : List Entry) (so : 
         complete = λ t is. complete-shown mounted terms (setup_of s v) before t has.core (subst (λ (k : List Entry). GoesFrom mounted terms (setup_of s v) before k has.core) (sym is) from)
             (subst (λ (k : List Entry). Notes (machine_of mounted) (setup_of s v) k has.core) (sym is) has.notes);
         stable = λ t is lawful once.
-            stable-shown s first v t has.core lawful once (subst AllTimed (sym is) timed)
+            stable-shown s first v t has.core lawful once (subst TakesReadings (sym is) takes)
             (subst (λ (k : List Entry). KnowsRoot (origin_of s.export) k v.root) (sym is) root)
             (subst OnlySetsUp (sym is) (only-sets-up s first v before so fits h grown.0 grown.1 has.since))
             (subst AreAsked (sym is) asked)
             (subst (λ (k : List Entry). Notes (machine_of mounted) (setup_of s v) k has.core) (sym is) has.notes);
         honest = λ t is lawful fresh.
             honest-shown s first v t has.core lawful fresh
-            (subst AllTimed (sym is) timed)
+            (subst TakesReadings (sym is) takes)
             (subst (λ (k : List Entry). KnowsRoot (origin_of s.export) k v.root) (sym is) root)
             (subst AreAsked (sym is) asked)
             (subst (λ (k : List Entry). Reaches (machine_of mounted) (setup_of s v) k has.core) (sym is) reaches);

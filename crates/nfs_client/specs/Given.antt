@@ -1,9 +1,6 @@
--- What a session is given by its settings, and what may be asked of its clock.
-use Rattle.std.specs.Prelude.{◌≡◌, ◌≤◌, ℕ, List, max}
+-- What a session is given by its settings.
+use Rattle.std.specs.Prelude.{ℕ, max}
 use Rattle.attr_cache.specs.declared.lives.Lives.{Lives}
-use Rattle.world_model.specs.declared.entry.Entry.{Entry}
-use Rattle.world_model.specs.declared.entry.Entry.TheVariants.{Clock}
-use Rattle.world_model.specs.Entries.{At}
 use Rattle.claims.specs.Modes.{Modes}
 use Rattle.claims.specs.Terms.{Terms}
 use Rattle.session_words.specs.declared.settings.Settings.{Settings}
@@ -20,7 +17,3 @@ modes_of s = record { longest = longest_of s.lives; noac = s.noac; nocto = s.noc
 abbrev pub terms_by : Settings → ℕ → Terms
 terms_by s first =
     record { origin = origin_of s.export; cred = s.cred; first = first; calls = s.calls; rsize = s.rsize; wsize = s.wsize; modes = modes_of s }
-
--- the readings of the clock that were noted don't go back
-abbrev pub NeverBack : List Entry → Type 0
-NeverBack h = (i j a b : ℕ) → At h i (Clock a) → At h j (Clock b) → i ≤ j → a ≤ b

@@ -20,7 +20,7 @@ use Rattle.session_words.specs.declared.settings.Settings.{Settings}
 use Rattle.session_setup.specs.Origins.{origin_of}
 use Rattle.lane_session.specs.Endings.{entries_of}
 use Rattle.script_runs.specs.Ends.{EndsSo, IsClocked}
-use Rattle.nfs_client.specs.Given.{modes_of, terms_by, NeverBack}
+use Rattle.nfs_client.specs.Given.{modes_of, terms_by}
 
 -- Of the history with the server at each of its moments. An honest server executes calls as RFC 1813 says (`Lawful`), none anew once its reply came
 -- (`Once`), and gives each change stamps that the object never had (`Fresh`).
@@ -28,12 +28,12 @@ pub record Promises (s : Settings) (first : ℕ) (t : History) : Type 0 where
   pub completes : Completes (terms_by s first) t
   pub settled : Lawful t → Once t.entries → Settled (modes_of s) (origin_of s.export) t
   pub cuts_stay : Lawful t → Once t.entries → CutsStay (modes_of s) (origin_of s.export) t
-  pub read_true : Lawful t → Once t.entries → Fresh t → (s.nocto ≡ true → NeverBack t.entries) → ReadTrue (modes_of s) (origin_of s.export) t
-  pub read_short : Lawful t → Once t.entries → Fresh t → (s.nocto ≡ true → NeverBack t.entries) → ReadShort (modes_of s) (origin_of s.export) t
-  pub read_current : Lawful t → Fresh t → (s.nocto ≡ true → NeverBack t.entries) → ReadCurrent (modes_of s) (origin_of s.export) t
-  pub names_true : Lawful t → Fresh t → NeverBack t.entries → NamesTrue (modes_of s) (origin_of s.export) t
-  pub attr_age : Lawful t → Fresh t → NeverBack t.entries → AttrAge (modes_of s) (origin_of s.export) t
-  pub list_true : Lawful t → Fresh t → NeverBack t.entries → Rising t → ListTrue (modes_of s) (origin_of s.export) t
+  pub read_true : Lawful t → Once t.entries → Fresh t → ReadTrue (modes_of s) (origin_of s.export) t
+  pub read_short : Lawful t → Once t.entries → Fresh t → ReadShort (modes_of s) (origin_of s.export) t
+  pub read_current : Lawful t → Fresh t → ReadCurrent (modes_of s) (origin_of s.export) t
+  pub names_true : Lawful t → Fresh t → NamesTrue (modes_of s) (origin_of s.export) t
+  pub attr_age : Lawful t → Fresh t → AttrAge (modes_of s) (origin_of s.export) t
+  pub list_true : Lawful t → Fresh t → Rising t → ListTrue (modes_of s) (origin_of s.export) t
 
 -- A session of these lines, by these settings. The clock gave these readings, the history is what the link tells, and the text is what was written.
 pub record Headline (s : Settings) (lines : List ScriptLine) (given : List ℕ) (h : List Entry) (status : ℕ) (text : List ℕ) : Type 0 where

@@ -20,7 +20,7 @@ use Rattle.world_model.specs.declared.answer.Fault.TheVariants.{Bad, Lost, Nfs, 
 use Rattle.world_model.specs.declared.answer.Value.{Value}
 use Rattle.world_model.specs.declared.answer.Value.TheVariants.{Attrs, Bytes}
 use Rattle.world_model.specs.declared.entry.Entry.{Entry}
-use Rattle.world_model.specs.declared.entry.Entry.TheVariants.{Clock, Sent}
+use Rattle.world_model.specs.declared.entry.Entry.TheVariants.{Sent}
 use Rattle.world_model.specs.declared.message.Call.{Call}
 use Rattle.world_model.specs.declared.op.Op.{Op}
 use Rattle.world_model.specs.declared.op.Op.TheVariants as ops
@@ -87,7 +87,7 @@ use Rattle.session_words.specs.declared.settings.Settings.{Settings}
 use Rattle.session_words.specs.Words.{IsCommand}
 use Rattle.session_setup.specs.declared.opening.SetUp.{SetUp}
 use Rattle.script_runs.specs.LaneRuns.{setup_of}
-use Rattle.nfs_client.specs.Given.{longest_of, modes_of, terms_by, NeverBack}
+use Rattle.nfs_client.specs.Given.{longest_of, modes_of, terms_by}
 use Rattle.session_setup.specs.Origins.{origin_of}
 use Rattle.lane_session.specs.Bonds.{HasCore}
 use Rattle.lane_session.specs.Running.{mounted_by}
@@ -219,19 +219,19 @@ CausedShown s terms h = AreGiven s → (lines : List ScriptLine) (status : ℕ) 
 -- Of a history with the server at each of its moments: a stat's path leads by names that stood in their directories at recent moments, to an object
 -- that had the attributes that the stat shows; each byte that a read answers is one that an operation gave to its place, or one that the file had, or
 -- past the end of that; what a kept name stands for, it stood for after the time that is kept with its directory; and a kept page is that page of the
--- file at every moment at which the file has the known stamp. Where the clock doesn't go back, the attributes of a stat are as old at most as the
--- lifetimes allow, and an open or put found its file under its name. Where cookies rise too, a list shows what its directory held. What is stable
--- when an open begins, and stays, is in the answers of its reads, where this client gave its place no other byte. And each byte of a read is current, by
+-- file at every moment at which the file has the known stamp. The attributes of a stat are as old at most as the lifetimes allow, and an open or put
+-- found its file under its name. Where cookies rise too, a list shows what its directory held. What is stable when an open begins, and stays, is in the
+-- answers of its reads, where this client gave its place no other byte. And each byte of a read is current, by
 -- `world_model`: one that may be pending at a moment of the read, one that the file had at a moment of which the read may show bytes, or a zero in a hole.
 pub record HonestShown (s : Settings) (root : List ℕ) (core : View) (t : History) : Type 0 where
   pub stats : (lane x y : ℕ) (path : List (List ℕ)) (attr : Attr) → Ended t.entries lane x (ops.Stat path) y (Done (Attrs attr))
       → HadWhereLed t (longest_of s.lives) x y root path attr
   pub reads : (lane x slot offset count y : ℕ) (bytes : List ℕ) → Ended t.entries lane x (ops.Read slot offset count) y (Done (Bytes bytes))
       → ReadFrom (modes_of s) t x y (ops.Read slot offset count) offset bytes
-  pub recent : (s.nocto ≡ true → NeverBack t.entries) → (x y o : ℕ) (f : List ℕ) (offset count : ℕ) (bytes : List ℕ)
+  pub recent : (x y o : ℕ) (f : List ℕ) (offset count : ℕ) (bytes : List ℕ)
       → ReadsBytes (modes_of s) t.entries x y o f offset count bytes
       → ReadRecent (modes_of s) t x y o f offset count bytes
-  pub read_true : (s.nocto ≡ true → NeverBack t.entries) → ReadCurrent (modes_of s) (origin_of s.export) t
+  pub read_true : ReadCurrent (modes_of s) (origin_of s.export) t
   pub read_back : s.nocto ≡ false → (x y o : ℕ) (f : List ℕ) (offset count : ℕ) (bytes : List ℕ)
       → ReadsBytes (modes_of s) t.entries x y o f offset count bytes
       → (e k b : ℕ) → e < o → k < count → IsStable (modes_of s) t e y f (offset + k) b → slice_get bytes k ≡ Some b
@@ -239,9 +239,9 @@ pub record HonestShown (s : Settings) (root : List ℕ) (core : View) (t : Histo
       → looked dir name (stamp_of kept.attr) core.shelf.names ≡ Some found → StoodAfter t kept.sent_at dir name found
   pub pages : (file : List ℕ) (stamp : Stamp) (index : ℕ) (bytes : List ℕ) → page_of file index core.shelf.pages ≡ Some bytes
       → known_of file core.shelf.pages ≡ Some stamp → (n : ℕ) (now : List ℕ) → HasStamp t n file stamp now → bytes ≡ page_at index now
-  pub ages : NeverBack t.entries → AttrAge (modes_of s) (origin_of s.export) t
-  pub names : NeverBack t.entries → NamesTrue (modes_of s) (origin_of s.export) t
-  pub lists : NeverBack t.entries → Rising t → ListTrue (modes_of s) (origin_of s.export) t
+  pub ages : AttrAge (modes_of s) (origin_of s.export) t
+  pub names : NamesTrue (modes_of s) (origin_of s.export) t
+  pub lists : Rising t → ListTrue (modes_of s) (origin_of s.export) t
 
 -- ---- stable bytes
 
@@ -261,8 +261,8 @@ pub record StableShown (s : Settings) (t : History) : Type 0 where
       → HoldsStable (t.at p) f i byte
   pub settled : Settled (modes_of s) (origin_of s.export) t
   pub cuts_stay : CutsStay (modes_of s) (origin_of s.export) t
-  pub reads : Fresh t → (s.nocto ≡ true → NeverBack t.entries) → ReadTrue (modes_of s) (origin_of s.export) t
-  pub ends : Fresh t → (s.nocto ≡ true → NeverBack t.entries) → ReadShort (modes_of s) (origin_of s.export) t
+  pub reads : Fresh t → ReadTrue (modes_of s) (origin_of s.export) t
+  pub ends : Fresh t → ReadShort (modes_of s) (origin_of s.export) t
 
 -- ---- complete sessions
 

@@ -12,6 +12,8 @@ pub struct Case {
     pub script: Vec<u8>,
     /// The text of a schedule.
     pub schedule: Vec<u8>,
+    /// The readings of the clock, in milliseconds; none where it goes on by the schedule's tick.
+    pub clock: Vec<u32>,
     /// The calls of the source that fail, counted from 1.
     pub reads: Vec<u32>,
     /// The calls of the sink that fail, counted from 1.
@@ -28,6 +30,7 @@ pub fn empty(alloc: Global) -> Case {
         words: Vec::new(alloc),
         script: Vec::new(alloc),
         schedule: Vec::new(alloc),
+        clock: Vec::new(alloc),
         reads: Vec::new(alloc),
         writes: Vec::new(alloc),
         records: Vec::new(alloc),
@@ -86,6 +89,7 @@ pub fn takes(alloc: Global, case: &mut Case, word: &str, rest: &str) -> Result<b
         "script-bytes" => add_bytes(alloc, &mut case.script, rest)?,
         "schedule" => add_lines(&mut case.schedule, 1, rest)?,
         "schedule-bytes" => add_bytes(alloc, &mut case.schedule, rest)?,
+        "clock" => case.clock.push(number_of(rest))?,
         "read" => case.reads.push(number_of(rest))?,
         "write" => case.writes.push(number_of(rest))?,
         "fail" => case.fails.push(number_of(rest))?,

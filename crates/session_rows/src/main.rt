@@ -4,7 +4,8 @@
 //! - `settings WORDS` prints the settings of a command line, and `modes WORDS` for how long it lets attributes be believed
 //! - `words WORDS`, `script LINE`, `schedule LINE` and `reply HEX` describe a session: its words, lines of its script, lines of
 //!   the schedule of a simulated server, and records that a hostile link hands out; `read N` and `write N` make that call
-//!   of the script's source or of the sink fail
+//!   of the script's source or of the sink fail; `clock MS` gives the next reading of the clock, by which `run` goes in place of
+//!   the schedule's tick
 //! - `lines N LINE` adds that line to the script so many times, and `script-bytes HEX` and `schedule-bytes HEX` add bytes
 //! - `parse` prints how many operations the script asks for, `plan` the schedule's tick, or what is wrong with it
 //! - `run` runs the session over the simulated server, `hostile` over the hostile link, and `streamed N` over a wire of pieces:
@@ -21,6 +22,7 @@
 #![tactic(auto)]
 
 mod case;
+mod clock;
 mod link;
 mod narrow;
 mod session;

@@ -1,9 +1,10 @@
 //! Sessions, scripts and schedules.
 
 use crate::case::Case;
+use crate::clock::GivenClock;
 use crate::link::{show_bytes, wire};
 use nfs_script::{ParseFault, parse};
-use outside::{HostileLink, Link, MemSink, MemSource, TickClock, WireEntry};
+use outside::{Clock, HostileLink, Link, MemSink, MemSource, TickClock, WireEntry};
 use rpc_record::StreamLink;
 use script_runs::run;
 use std::alloc::Global;
@@ -35,18 +36,29 @@ fn show_fault(rt: &impl Print, fault: ScheduleFault) -> io::Result<()> {
     }
 }
 
-/// Runs the session over the simulated server, and prints its status and what it wrote.
+/// Runs the session over the simulated server, by the clock's readings where some are given, and prints its status and what
+/// it wrote.
 pub fn run_over_world(rt: &impl Print, alloc: Global, case: &Case) -> io::Result<()> {
-    match parse_schedule(alloc, case.schedule.as_slice()) {
-        Ok((mut world, tick)) => run_over(rt, alloc, case, &mut world, tick),
-        Err(fault) => show_fault(rt, fault),
+    let (mut world, tick) = match parse_schedule(alloc, case.schedule.as_slice()) {
+        Ok(planned) => planned,
+        Err(fault) => return show_fault(rt, fault),
+    };
+    if case.clock.is_empty() {
+        return run_over(rt, alloc, case, &mut world, &mut TickClock::new(tick));
     }
+    run_over(
+        rt,
+        alloc,
+        case,
+        &mut world,
+        &mut GivenClock::new(case.clock.as_slice()),
+    )
 }
 
 /// Runs the session over a link that hands out the records, whatever is sent.
 pub fn run_over_hostile(rt: &impl Print, alloc: Global, case: &Case) -> io::Result<()> {
     match hostile(alloc, case) {
-        Ok(mut link) => run_over(rt, alloc, case, &mut link, 0),
+        Ok(mut link) => run_over(rt, alloc, case, &mut link, &mut TickClock::new(0)),
         Err(_) => println!(rt; "  out of memory"),
     }
 }
@@ -58,7 +70,7 @@ pub fn run_over_stream(rt: &impl Print, alloc: Global, case: &Case, number: u32)
         return println!(rt; "  out of memory");
     };
     let mut link = StreamLink::new(alloc, wire);
-    run_over(rt, alloc, case, &mut link, 0)?;
+    run_over(rt, alloc, case, &mut link, &mut TickClock::new(0))?;
     let mut writes = 0_u32;
     for entry in link.into_wire().entries() {
         if let WireEntry::Wrote { bytes } = entry {
@@ -79,12 +91,12 @@ fn hostile(alloc: Global, case: &Case) -> Result<HostileLink, Memory> {
     Ok(link)
 }
 
-fn run_over<L: Link>(
+fn run_over<L: Link, C: Clock>(
     rt: &impl Print,
     alloc: Global,
     case: &Case,
     link: &mut L,
-    tick: u64,
+    clock: &mut C,
 ) -> io::Result<()> {
     let script = case.script.as_slice();
     let (Ok(mut source), Ok(mut sink)) = (
@@ -93,9 +105,8 @@ fn run_over<L: Link>(
     ) else {
         return println!(rt; "  out of memory");
     };
-    let mut clock = TickClock::new(tick);
     let words = case.words.as_slice();
-    let status = run(alloc, words, &mut source, link, &mut clock, &mut sink);
+    let status = run(alloc, words, &mut source, link, clock, &mut sink);
     println!(rt; "  status {status}")?;
     match std::str::from_utf8(sink.bytes()) {
         Ok(text) => show_lines(rt, text),

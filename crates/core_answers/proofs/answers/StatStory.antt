@@ -49,12 +49,11 @@ use Rattle.op_machines.specs.Steps.{Starts, Resumes, Takes}
 use Rattle.client_core.specs.declared.lane.State.{State}
 use Rattle.client_core.specs.declared.lane.State.TheVariants.{Busy, Over}
 use Rattle.client_core.specs.declared.setup.Setup.{Setup}
-use Rattle.core_facts.specs.Reaches.{last_reading}
 use Rattle.core_facts.proofs.AllAwaited.{Awaits}
 use Rattle.core_facts.proofs.Awaited.{WalkAwaits, WalkStep, OwnOr, go-step, took-step}
 use Rattle.core_facts.proofs.NamesKept.{Told}
 use Rattle.core_facts.proofs.Steps.{AskedOf, ThenOf}
-use Rattle.core_answers.specs.bonds.Ages.{own, ShownRecently}
+use Rattle.core_answers.specs.bonds.Ages.{own, ShownRecently, time_next}
 use Rattle.core_answers.specs.bonds.Kept.{IsAnswered, LastAtMost}
 use Rattle.core_answers.proofs.bonds.AttrsShown.{ShownIn, answered-grow, attr-laws, fresh-attrs}
 use Rattle.core_answers.proofs.bonds.FileCalls.{Asking}
@@ -297,7 +296,7 @@ led-laws mounted most = record {
       subst (λ (o : Op). Starts wsize (machine_of mounted lane o) turn old next new after) is s in
       named most mounted.root later (length h) within path next moved.machine new moved.machine_is
       (stat-goes most mounted.root later (length h) within path _ turn old next moved.machine after good
-      (subst (λ k. last_reading 0 k ≤ turn.now) (sym (take-early h (Began lane line op ∷ []) (length h) (omega arith) ∙ take-whole h)) late)
+      (subst (λ k. time_next k ≤ turn.now) (sym (take-early h (Began lane line op ∷ []) (length h) (omega arith) ∙ take-whole h)) late)
       (walk-begins later most (length h) mounted.root path) (λ asked_now. absurd cc) moved.step));
   resumes = λ h x op machine wsize turn old next new after good within late story r.
       then-story most mounted.root h x within [] op next new (λ path is.

@@ -63,9 +63,11 @@ use Rattle.core_facts.proofs.Resting.{comes-to-rest, none-moves, own-none}
 use Rattle.core_facts.proofs.Rows.{Rows, rows-stay, same-rows, rows-grow, silent-grow, taken-quiet, not-sent, taken-rows, made-known, made-asked, reached-rows}
 use Rattle.core_facts.proofs.Steps.{AskedOf, ThenOf}
 use Rattle.core_facts.proofs.Walks.{stirs-stay, starts-stay, steps-stay}
+use Rattle.core_answers.proofs.bonds.Clocks.{time-begins}
 use Rattle.core_answers.specs.bonds.Kept.{HadShown, IsAnswered}
 use Rattle.core_answers.proofs.bonds.FileCalls.{Asking, Keeps}
 use Rattle.core_answers.proofs.bonds.Timed.{MadeAfter, reached-timed}
+use Rattle.core_answers.specs.bonds.Ages.{time_next, began_at}
 
 -- ---- what is kept
 
@@ -97,9 +99,9 @@ pub record ShelfLaws (E : Machine → Call → Type 0) (K : List Entry → Shelf
       → E machine call → IsTold h call sent.now came → Takes wsize machine sent turn came old next new after → K h old → K h after
   pub grows : (h : List Entry) (e : Entry) (shelf : Shelf) → K h shelf → K (h ++ e ∷ []) shelf
 
--- the reading of the clock at which the operation at a place began isn't later
+-- the time at which the operation at a place began isn't later
 abbrev pub IsLate : List Entry → ℕ → ℕ → Type 0
-IsLate h x now = last_reading 0 (take x h) ≤ now
+IsLate h x now = began_at h x ≤ now
 
 -- the same of a call that was made since the operation at a place began
 pub record ToldSince (h : List Entry) (x : ℕ) (call : Call) (ms : ℕ) (reply : Reply) : Type 0 where
@@ -110,7 +112,7 @@ pub record ToldSince (h : List Entry) (x : ℕ) (call : Call) (ms : ℕ) (reply 
 pub record BondLaws (machine_of : ℕ → Op → Machine) (E : Machine → Call → Type 0) (K : List Entry → Shelf → Type 0) (S : List Entry → ℕ → Op → State → Type 0) : Type 0 where
   pub shelf : ShelfLaws E K
   pub starts : (h : List Entry) (lane line : ℕ) (op : Op) (wsize : ℕ) (turn : Turn) (old : Shelf) (next : Next) (new : Machine) (after : Shelf)
-      → K (h ++ Began lane line op ∷ []) old → last_reading 0 h ≤ turn.now → Starts wsize (machine_of lane op) turn old next new after
+      → K (h ++ Began lane line op ∷ []) old → time_next h ≤ turn.now → Starts wsize (machine_of lane op) turn old next new after
       → ThenOf (λ m. S (h ++ Began lane line op ∷ []) (length h) op (Busy m)) (λ a. S (h ++ Began lane line op ∷ []) (length h) op (Over a)) next new
   pub resumes : (h : List Entry) (x : ℕ) (op : Op) (machine : Machine) (wsize : ℕ) (turn : Turn) (old : Shelf) (next : Next) (new : Machine) (after : Shelf)
       → K h old → x < length h → IsLate h x turn.now → S h x op (Busy machine) → Resumes wsize machine turn old next new after
@@ -403,7 +405,7 @@ module _ (m : Mounted) (setup : Setup) (E : Machine → Call → Type 0) (asking
 
   -- the reading at an earlier place stays
   late-grow : (h : List Entry) (e : Entry) (x now : ℕ) → x ≤ length h → IsLate h x now → IsLate (h ++ e ∷ []) x now
-  late-grow h e x now within l = subst (λ k. last_reading 0 k ≤ now) (sym (take-early h (e ∷ []) x within)) l
+  late-grow h e x now within l = subst (λ k. time_next k ≤ now) (sym (take-early h (e ∷ []) x within)) l
 
   late-grows : (h : List Entry) (e : Entry) (v : View) → ((lane line : ℕ) (op : Op) → e ≡ Began lane line op → ⊥) → AllLate h v → AllLate (h ++ e ∷ []) v
   late-grows h e v other l x lane line op at = by (At-cases h e x (Began lane line op) at)
@@ -414,8 +416,8 @@ module _ (m : Mounted) (setup : Setup) (E : Machine → Call → Type 0) (asking
 
   -- the operation that begins does so at a reading that counts
   late-begins : (h : List Entry) (old : View) (lane line : ℕ) (op : Op) (x number other : ℕ) (o : Op) → At (h ++ Began lane line op ∷ []) x (Began number other o) → AllLate h old
-      → IsLate (h ++ Began lane line op ∷ []) x (max old.clock (last_reading 0 h))
-  late-begins h old lane line op x number other o at l = by (At-cases h (Began lane line op) x (Began number other o) at)
+      → time_next h ≤ max old.clock (last_reading 0 h) → IsLate (h ++ Began lane line op ∷ []) x (max old.clock (last_reading 0 h))
+  late-begins h old lane line op x number other o at l next_is = by (At-cases h (Began lane line op) x (Began number other o) at)
     where
       by : At h x (Began number other o) ⊎ ((x ≡ length h) × (Began lane line op ≡ Began number other o)) → IsLate (h ++ Began lane line op ∷ []) x (max old.clock (last_reading 0 h))
       by (inl there) =
@@ -424,8 +426,8 @@ module _ (m : Mounted) (setup : Setup) (E : Machine → Call → Type 0) (asking
           late-grow h (Began lane line op) x (max old.clock (last_reading 0 h)) (omega (arith, below)) (omega (arith, was))
       by (inr now) =
           late-grow h (Began lane line op) x (max old.clock (last_reading 0 h)) (let is = now.0 in omega (arith, is))
-          (subst (λ n. last_reading 0 (take n h) ≤ max old.clock (last_reading 0 h)) (sym now.0)
-          (subst (λ k. last_reading 0 k ≤ max old.clock (last_reading 0 h)) (sym (take-whole h)) (omega arith)))
+          (subst (λ n. time_next (take n h) ≤ max old.clock (last_reading 0 h)) (sym now.0)
+          (subst (λ k. time_next k ≤ max old.clock (last_reading 0 h)) (sym (take-whole h)) next_is))
 
   known-grows : (h : List Entry) (e : Entry) (v : View) → ((lane line : ℕ) (op : Op) → e ≡ Began lane line op → ⊥) → Known h v → Known (h ++ e ∷ []) v
   known-grows h e v other g = record { lanes = all-grows h e v other g.lanes; kept = laws.shelf.grows h e v.shelf g.kept; late = late-grows h e v other g.late }
@@ -479,7 +481,7 @@ module _ (m : Mounted) (setup : Setup) (E : Machine → Call → Type 0) (asking
         (λ n o e. idle-numbers lane (numbers_of old.lanes) t.idle.other k (to-map number_of old.lanes k l there ∙ ap Some (sym (began-is lane line l.number n op o e)))) (g.lanes k l there))
         (tt, λ x o u. laws.lost (h ++ Began lane line op ∷ []) x o (lost-grow h (Began lane line op) (reached-shown (machine_of m) setup h old r was)));
     kept = laws.shelf.grows h (Began lane line op) old.shelf g.kept;
-    late = λ x number other o at. late-begins h old lane line op x number other o at g.late;
+    late = λ x number other o at. late-begins h old lane line op x number other o at g.late (time-begins (machine_of m) setup h old r);
   })
   begins-known false h old new lane line op was t r b g = (moves-bond later b.first new b.rest (record { rows = rows; lanes = lanes; counts = counts; known = first })).known
     where
@@ -526,8 +528,8 @@ module _ (m : Mounted) (setup : Setup) (E : Machine → Call → Type 0) (asking
             told = λ x o u. now-told h old lane line op (λ y q. ThenOf (λ k. S later y q (Busy k)) (λ a. S later y q (Over a)) b.own.next b.own.after)
                 (reached-lanes (machine_of m) setup h old r) t.idle.other
                 (laws.starts h lane line op old.wsize (turn_at (counted old (last_reading 0 h))) old.shelf b.own.next b.own.after b.own.shelf
-                (laws.shelf.grows h (Began lane line op) old.shelf g.kept) (omega arith) b.own.starts) x o u;
-            late = λ x number other o at. late-begins h old lane line op x number other o at g.late;
+                (laws.shelf.grows h (Began lane line op) old.shelf g.kept) (time-begins (machine_of m) setup h old r) b.own.starts) x o u;
+            late = λ x number other o at. late-begins h old lane line op x number other o at g.late (time-begins (machine_of m) setup h old r);
             kept = laws.shelf.starts later (machine_of m lane op) old.wsize (turn_at (counted old (last_reading 0 h))) old.shelf b.own.next b.own.after b.own.shelf b.own.starts
                 (laws.shelf.grows h (Began lane line op) old.shelf g.kept);
           }) b.own.leads

@@ -46,7 +46,6 @@ use Rattle.op_machines.specs.NameSteps as steps
 use Rattle.op_machines.specs.Steps.{Starts, Resumes, Takes}
 use Rattle.client_core.specs.declared.lane.State.{State}
 use Rattle.client_core.specs.declared.lane.State.TheVariants.{Busy, Over}
-use Rattle.core_facts.specs.Reaches.{last_reading}
 use Rattle.core_facts.proofs.AllAwaited.{Awaits}
 use Rattle.core_facts.proofs.Awaited.{WalkAwaits, WalkStep, OwnOr, go-step, took-step}
 use Rattle.core_facts.proofs.NamesKept.{Told}
@@ -55,7 +54,7 @@ use Rattle.core_facts.proofs.Steps.{AskedOf, ThenOf}
 use Rattle.bond_calls.specs.Calls.{Numbered}
 use Rattle.bond_names.specs.Kept.{IsLookedUp}
 use Rattle.bond_walks.proofs.NamesStand.{stands_at}
-use Rattle.core_answers.specs.bonds.Ages.{IsRecent, own, ShownRecently}
+use Rattle.core_answers.specs.bonds.Ages.{IsRecent, own, ShownRecently, time_next}
 use Rattle.core_answers.specs.bonds.Had.{HasAttr}
 use Rattle.core_answers.specs.bonds.Kept.{IsAnswered}
 use Rattle.core_answers.specs.bonds.Led.{StoodRecently, LedRecently, HadWhereLed, StatsLed}
@@ -290,7 +289,7 @@ led-laws mounted most = record {
       subst (λ (o : Op). Starts wsize (machine_of mounted lane o) turn old next new after) is s in
       named most mounted.root later (length h) within path next moved.machine new moved.machine_is
       (stat-goes most mounted.root later (length h) within path _ turn old next moved.machine after good
-      (subst (λ k. last_reading 0 k ≤ turn.now) (sym (take-early h (Began lane line op ∷ []) (length h) (omega arith) ∙ take-whole h)) late)
+      (subst (λ k. time_next k ≤ turn.now) (sym (take-early h (Began lane line op ∷ []) (length h) (omega arith) ∙ take-whole h)) late)
       (walk-begins later most (length h) mounted.root path) (λ asked_now. absurd cc) moved.step));
   resumes = λ h x op machine wsize turn old next new after good within late story r.
       then-story most mounted.root h x within [] op next new (λ path is.

@@ -40,9 +40,8 @@ use Rattle.op_machines.specs.NameSteps as steps
 use Rattle.op_machines.specs.Steps.{Starts, Resumes, Takes}
 use Rattle.client_core.specs.declared.lane.State.{State}
 use Rattle.client_core.specs.declared.lane.State.TheVariants.{Busy, Over}
-use Rattle.core_facts.specs.Reaches.{last_reading}
 use Rattle.core_facts.proofs.Steps.{ThenOf}
-use Rattle.core_answers.specs.bonds.Ages.{IsRecent, own, young, ShownRecently, StatsRecent}
+use Rattle.core_answers.specs.bonds.Ages.{IsRecent, own, young, ShownRecently, StatsRecent, time_next}
 use Rattle.core_answers.proofs.bonds.AttrsShown.{ShownIn, time-grows, answered-grow, answered-last, attr-laws, fresh-attrs}
 use Rattle.core_answers.proofs.bonds.Keeping.{ToldSince, IsLate, BondLaws, take-early, take-whole, reached-answered}
 use Rattle.core_answers.proofs.bonds.Learnt.{Good, IsOn}
@@ -197,7 +196,7 @@ stat-of most h x (nexts.Done answer) m new is g = g
 pub recent-grows : (h more : List Entry) (most x n : ℕ) → x ≤ length h → IsRecent h most x n → IsRecent (h ++ more) most x n
 recent-grows h more most x n within (own after) = own after
 recent-grows h more most x n within (young ms t less) =
-    young ms (time-grows h more n ms t) (subst (λ k. last_reading 0 k < ms + most) (sym (take-early h more x within)) less)
+    young ms (time-grows h more n ms t) (subst (λ k. time_next k < ms + most) (sym (take-early h more x within)) less)
 
 pub shown-grows-of : (most : ℕ) (h : List Entry) (e : Entry) (x : ℕ) (attr : Attr) → x < length h → (was : ShownRecently h most x (length h) attr)
     → (s : ShownRecently (h ++ e ∷ []) most x (length (h ++ e ∷ [])) attr) × (s.object ≡ was.object)
@@ -233,7 +232,7 @@ stat-laws mounted most = record {
       subst (λ (o : Op). Starts wsize (machine_of mounted lane o) turn old next new after) is s in
       named most later (length h) next moved.machine new moved.machine_is
       (stat-goes most later (length h) (omega (arith, more)) _ turn old next moved.machine after good
-      (subst (λ k. last_reading 0 k ≤ turn.now) (sym (take-early h (Began lane line op ∷ []) (length h) (omega arith) ∙ take-whole h)) late) moved.step));
+      (subst (λ k. time_next k ≤ turn.now) (sym (take-early h (Began lane line op ∷ []) (length h) (omega arith) ∙ take-whole h)) late) moved.step));
   resumes = λ h x op machine wsize turn old next new after good within late story r.
       then-story most h x op next new (λ path is.
       let k = story path is in

@@ -70,7 +70,7 @@ module _ (m : Mounted) (setup : Setup) (modes : Modes) (origin : Origin) (t : Hi
   all-numbered = (reached-rows (machine_of m) setup t.entries v g.reached).numbered
 
   lifted : (from : ℕ) (call : Call) (reply : Reply) → IsAnswered before from (length before) call reply → IsAnswered t.entries from y call reply
-  lifted = lift-all modes origin t m.root g.lawful g.fresh all-numbered g.rises g.root lane x y op answer ended before after is there
+  lifted = lift-all modes origin t m.root g.lawful g.fresh all-numbered g.takes g.root lane x y op answer ended before after is there
 
   -- the directory had the name then
   pub record NamedThen (d name file : List ℕ) : Type 0 where
@@ -110,7 +110,7 @@ module _ (m : Mounted) (setup : Setup) (modes : Modes) (origin : Origin) (t : Hi
         d = f.d;
         n = stood.n;
         is = front-last path (has-name path (given-name before x f.d (last_of path) file f.given));
-        walked = walked-of modes origin t m.root g.lawful g.fresh all-numbered g.rises g.root lane x y op answer ended before after is there (front_of path) f.d f.led;
+        walked = walked-of modes origin t m.root g.lawful g.fresh all-numbered g.takes g.root lane x y op answer ended before after is there (front_of path) f.d f.led;
         moment = record { late = stood.late; soon = stood.soon };
         named = stood.names;
       }

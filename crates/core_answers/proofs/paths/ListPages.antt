@@ -49,7 +49,6 @@ use Rattle.op_machines.specs.declared.name_machine.NameMachine.TheVariants as na
 use Rattle.op_machines.specs.Begun.{machine_of}
 use Rattle.op_machines.specs.Steps.{Starts, Resumes, Takes}
 use Rattle.core_facts.specs.InFlight.{in_flight}
-use Rattle.core_facts.specs.Reaches.{last_reading}
 use Rattle.core_facts.proofs.AllAwaited.{Awaits}
 use Rattle.core_facts.proofs.Awaited.{OwnOr, one-visit}
 use Rattle.core_facts.proofs.OneCalls.{then-as}
@@ -64,6 +63,7 @@ use Rattle.core_answers.proofs.paths.Lasts.{IsLast, last-later}
 use Rattle.core_answers.proofs.paths.PagesRead.{Pages, none, more, names-both}
 use Rattle.core_answers.proofs.paths.Stood.{both-laws}
 use Rattle.core_answers.proofs.paths.Visited.{VisitLed, visit-end, visit-then, walks-then, visit-grows}
+use Rattle.core_answers.specs.bonds.Ages.{time_next}
 
 -- ---- pages
 
@@ -522,7 +522,7 @@ module _ (m : Mounted) (most : ℕ) where
         let within : length h < length later = omega (arith, longer) in
         for-list later (length h) (length h) op next_is new within (λ path is.
         goes most m.root later (length h) within path (length h) (machines.Name (names.List (listing.list_of m.root path))) wsize turn old next_is new after kept
-        (subst (λ k. last_reading 0 k ≤ turn.now) (sym (take-early h (Began lane line op ∷ []) (length h) (omega arith) ∙ take-whole h)) late) (begins later (length h) path)
+        (subst (λ k. time_next k ≤ turn.now) (sym (take-early h (Began lane line op ∷ []) (length h) (omega arith) ∙ take-whole h)) late) (begins later (length h) path)
         (subst (λ (o : Op). Starts wsize (machine_of m lane o) turn old next_is new after) is s));
     resumes = λ h place x op machine wsize turn old next_is new after kept within late story r.
         for-list h place x op next_is new within (λ path is.

@@ -46,8 +46,8 @@ module _ (m : Mounted) (setup : Setup) (modes : Modes) (origin : Origin) (t : Hi
       let pages : Pages t.entries x k.d k.n k.rows k.cookie k.verf =
       subst (λ (h : List Entry). Pages h x k.d k.n k.rows k.cookie k.verf) (sym is) (pages-grow before after x k.d k.n k.rows k.cookie k.verf k.pages) in
       let known = pages-known t g.lawful rising numbered x k.d k.n k.rows k.cookie k.verf pages in
-      let within = ends-within modes origin t m.root g.lawful g.fresh numbered g.rises g.root lane x y (ops.List path) (answers.Done (values.Names names)) ended before after is there in
-      let answered = lift-all modes origin t m.root g.lawful g.fresh numbered g.rises g.root lane x y (ops.List path) (answers.Done (values.Names names)) ended before after is there k.since
+      let within = ends-within modes origin t m.root g.lawful g.fresh numbered g.takes g.root lane x y (ops.List path) (answers.Done (values.Names names)) ended before after is there in
+      let answered = lift-all modes origin t m.root g.lawful g.fresh numbered g.takes g.root lane x y (ops.List path) (answers.Done (values.Names names)) ended before after is there k.since
       (list_call k.d k.cookie k.verf) (page_reply k.attr k.after k.page true) k.answered in
       let at_once = full t g.lawful rising numbered x k.d k.n k.cookie (names_of k.rows) known k.since y k.later within k.verf k.after k.attr k.page true answered refl in
       let held = listed-there t g.lawful rising numbered x k.d k.n k.cookie (names_of k.rows) known k.since y k.later within k.verf k.after k.attr k.page true answered in
@@ -58,7 +58,7 @@ module _ (m : Mounted) (setup : Setup) (modes : Modes) (origin : Origin) (t : Hi
         dircount = 8192;
         maxcount = 32768;
         asked = whole.ends.last;
-        walked = walked-of modes origin t m.root g.lawful g.fresh numbered g.rises g.root lane x y (ops.List path) (answers.Done (values.Names names)) ended before after is there path k.d k.led;
+        walked = walked-of modes origin t m.root g.lawful g.fresh numbered g.takes g.root lane x y (ops.List path) (answers.Done (values.Names names)) ended before after is there path k.d k.led;
         ordered = subst (IsStrictlySortedBy (slice_cmp nat_cmp)) same k.ordered;
         were = λ name has.
             let w = held name (subst (λ (ns : List (List ℕ)). Contains ns name) (names-both k.rows k.page) ((k.same name).0 (subst (λ (ns : List (List ℕ)). Contains ns name) (sym same) has))) in

@@ -39,7 +39,6 @@ use Rattle.op_machines.specs.Begun.{front_of, last_of, machine_of}
 use Rattle.op_machines.specs.Openers.{file_of}
 use Rattle.op_machines.specs.PathSteps as paths
 use Rattle.op_machines.specs.Steps.{Starts, Resumes, Takes}
-use Rattle.core_facts.specs.Reaches.{last_reading}
 use Rattle.core_facts.proofs.AllAwaited.{PathOr, Awaits}
 use Rattle.core_facts.proofs.Awaited.{WalkStep, go-step, took-step}
 use Rattle.core_facts.proofs.OneCalls.{then-as}
@@ -52,6 +51,7 @@ use Rattle.core_answers.proofs.bonds.Walked.{LedBy, WalkAt, go-led, took-led, en
 use Rattle.core_answers.proofs.paths.Following.{FromPlace, FollowLaws}
 use Rattle.core_answers.proofs.paths.OpenFound.{own-of, OpeningAt, StepFound, IsHeard, led-on, go-next, led-next, OpenAnswer, as-next, follows-then, opening-grows, found-grows, last-of-later}
 use Rattle.core_answers.proofs.paths.Stood.{both-laws}
+use Rattle.core_answers.specs.bonds.Ages.{time_next}
 
 -- ---- which opener it is
 
@@ -266,7 +266,7 @@ module _ (m : Mounted) (most : ℕ) where
         let k = subst (λ (o : Op). Starts wsize (machine_of m lane o) turn old next new after) is s in
         step-as later (length h) path next (machines.Path k.machine) new k.machine_is
         (starts-if _ later (length h) lane slot mode path wsize turn old next k.machine after (omega (arith, more)) kept
-        (subst (λ k. last_reading 0 k ≤ turn.now) (sym (take-early h (Began lane line op ∷ []) (length h) (omega arith) ∙ take-whole h)) late) k.step));
+        (subst (λ k. time_next k ≤ turn.now) (sym (take-early h (Began lane line op ∷ []) (length h) (omega arith) ∙ take-whole h)) late) k.step));
     resumes = λ h place x op machine wsize turn old next new after kept within late story r.
         for-open h place x op next new (λ slot mode path is.
         let k = story slot mode path is in

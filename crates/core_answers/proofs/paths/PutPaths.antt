@@ -38,7 +38,6 @@ use Rattle.op_machines.specs.Openers.{file_of, opening_in}
 use Rattle.op_machines.specs.PathSteps as paths
 use Rattle.op_machines.specs.Steps.{Starts, Resumes, Takes}
 use Rattle.core_facts.specs.InFlight.{in_flight}
-use Rattle.core_facts.specs.Reaches.{last_reading}
 use Rattle.core_facts.proofs.AllAwaited.{PathOr, Awaits}
 use Rattle.core_facts.proofs.AllCounts.{of_path}
 use Rattle.core_facts.proofs.Awaited.{WalkStep, go-step, took-step}
@@ -56,6 +55,7 @@ use Rattle.core_answers.proofs.paths.OpenFound.{own-of, IsHeard, opening-grows, 
 use Rattle.core_answers.proofs.paths.OpenPaths.{first-at}
 use Rattle.core_answers.proofs.paths.PutFound.{PutAt, PutAnswer, PutThen, put-resumes, put-takes}
 use Rattle.core_answers.proofs.paths.Stood.{both-laws}
+use Rattle.core_answers.specs.bonds.Ages.{time_next}
 
 -- ---- which opener it is
 
@@ -227,7 +227,7 @@ module _ (m : Mounted) (most : ℕ) where
         step-as later (length h) path next (machines.Path k.machine) new k.machine_is
         (path-resumes most m.root later (length h) path false wsize (walk_of m.root (front_of path)) (record p { opening = record p.opening { moment = turn.moment - 1 } }) turn old next k.machine after
         (omega (arith, more)) (λ is. (walk-begins later most (length h) m.root (front_of path), refl)) (λ is. absurd (let no_way : false ≡ true = is in cc)) kept
-        (subst (λ k. last_reading 0 k ≤ turn.now) (sym (take-early h (Began lane line op ∷ []) (length h) (omega arith) ∙ take-whole h)) late) k.step));
+        (subst (λ k. time_next k ≤ turn.now) (sym (take-early h (Began lane line op ∷ []) (length h) (omega arith) ∙ take-whole h)) late) k.step));
     resumes = λ h place x op machine wsize turn old next new after kept within late story r.
         for-put h place x op next new (λ path offset bytes is.
         let k = story path offset bytes is in

@@ -30,7 +30,7 @@ use Rattle.core_facts.proofs.Steps.{AskedOf}
 use Rattle.bond_calls.specs.Calls.{Numbered}
 use Rattle.bond_names.specs.Kept.{IsLookedUp}
 use Rattle.bond_walks.proofs.NamesStand.{stands_at}
-use Rattle.core_answers.specs.bonds.Aged.{Rises}
+use Rattle.core_answers.specs.bonds.Aged.{TakesReadings}
 use Rattle.core_answers.specs.bonds.Ages.{IsRecent, own, ShownRecently}
 use Rattle.core_answers.specs.bonds.Had.{HasAttr}
 use Rattle.core_answers.specs.bonds.Kept.{IsAnswered}
@@ -42,10 +42,10 @@ use Rattle.core_answers.proofs.bonds.FileCalls.{Asking}
 use Rattle.core_answers.proofs.bonds.Keeping.{AskLaws, ShelfLaws}
 use Rattle.core_answers.proofs.bonds.MachineCalls.{Asks, asks-laws}
 use Rattle.core_answers.proofs.bonds.NamesShown.{awaits-asks, name-laws}
+use Rattle.core_answers.proofs.bonds.Recents.{recent-of}
 use Rattle.core_answers.proofs.bonds.StatsLed.{Both, Kept}
 use Rattle.core_answers.proofs.bonds.StatsShown.{recent-grows}
 use Rattle.core_answers.proofs.bonds.Walked.{StepBy, looked, believed_so, LedBy, root, step}
-use Rattle.core_answers.proofs.paths.Recents.{recent-of}
 
 -- ---- attributes and names together
 
@@ -133,14 +133,14 @@ module _ (t : History) (lawful : Lawful t) (fresh : Fresh t) (numbered : Numbere
 
 -- ---- as the model says it
 
-module _ (modes : Modes) (origin : Origin) (t : History) (top : List ℕ) (lawful : Lawful t) (fresh : Fresh t) (numbered : Numbered t.entries) (rises : Rises t.entries)
+module _ (modes : Modes) (origin : Origin) (t : History) (top : List ℕ) (lawful : Lawful t) (fresh : Fresh t) (numbered : Numbered t.entries) (takes : TakesReadings t.entries)
     (knows : KnowsRoot origin t.entries top) (lane x y : ℕ) (op : Op) (answer : Answer) (ended : Ended t.entries lane x op y answer) (before after : List Entry)
     (is : t.entries ≡ before ++ after) (there : length before ≡ y) where
   pub ends-within : y ≤ length t.entries
   ends-within = let early = At-below t.entries y (AnsweredNow lane ended.line answer) ended.answered in omega (arith, early)
 
   recent-then : (n : ℕ) → IsRecent t.entries modes.longest x n → n ≤ y → Recent modes t.entries x n
-  recent-then n near soon = recent-of modes t.entries rises lane x y ended.line op ended.began answer ended n near soon
+  recent-then n near soon = recent-of modes t.entries takes lane x y ended.line op ended.began answer ended n near soon
 
   walked-so : (path : List (List ℕ)) (object : List ℕ) → LedRecently t modes.longest x y top path object → Walked modes origin t x path object
   walked-so _ _ (recently.root path object at same) =

@@ -1,5 +1,5 @@
 -- How old the names and attributes are that a stat goes by, as world_model says it (nfs(5), acregmax and acdirmax).
-use Rattle.std.specs.Prelude.{◌<◌, ◌≤◌, ℕ, List}
+use Rattle.std.specs.Prelude.{◌<◌, ℕ, suc, List}
 use Rattle.world_model.specs.declared.entry.Entry.{Entry}
 use Rattle.world_model.specs.declared.entry.Entry.TheVariants.{Began, Clock}
 use Rattle.world_model.specs.declared.op.Op.{Op}
@@ -25,12 +25,19 @@ pub record IsRead (h : List Entry) (n : ℕ) : Type 0 where
   pub read : At h at (Clock ms)
   pub before : at < n
 
--- The clock is read before operations begin, and doesn't go back.
-pub record Rises (h : List Entry) : Type 0 where
+-- an operation began at the place n
+pub record BeginsAt (h : List Entry) (n : ℕ) : Type 0 where
+  pub lane : ℕ
+  pub line : ℕ
+  pub op : Op
+  pub began : At h n (Began lane line op)
+
+-- The clock is read before operations begin, and at each reading before one of them an operation began.
+pub record TakesReadings (h : List Entry) : Type 0 where
   pub read : (x lane line : ℕ) (op : Op) → At h x (Began lane line op) → IsRead h x
-  pub rises : (i j a b : ℕ) → At h i (Clock a) → At h j (Clock b) → i ≤ j → a ≤ b
+  pub taken : (i ms x lane line : ℕ) (op : Op) → At h i (Clock ms) → At h x (Began lane line op) → i < x → BeginsAt h (suc i)
 
 -- The attributes that a stat shows are those that an object, to which its path leads by recent names, had at a recent moment.
 abbrev pub AttrsAged : Type 0
-AttrsAged = (m : Mounted) (setup : Setup) (modes : Modes) (origin : Origin) (t : History) (v : View) → LastAtMost setup.lives modes.longest → Lawful t → Fresh t → Rises t.entries
-    → KnowsRoot origin t.entries m.root → Reaches (machine_of m) setup t.entries v → AttrAge modes origin t
+AttrsAged = (m : Mounted) (setup : Setup) (modes : Modes) (origin : Origin) (t : History) (v : View) → LastAtMost setup.lives modes.longest → Lawful t → Fresh t
+    → TakesReadings t.entries → KnowsRoot origin t.entries m.root → Reaches (machine_of m) setup t.entries v → AttrAge modes origin t

@@ -1,9 +1,10 @@
 -- How old the attributes are that a stat shows (nfs(5), acregmax and acdirmax).
-use Rattle.std.specs.Prelude.{◌<◌, ◌+◌, ℕ, List, take}
+use Rattle.std.specs.Prelude.{◌<◌, ◌+◌, ℕ, List, [], ◌∷◌, max, take}
 use Rattle.nfs_types.specs.declared.attr.Attr.{Attr}
 use Rattle.world_model.specs.declared.answer.Answer.TheVariants.{Done}
 use Rattle.world_model.specs.declared.answer.Value.TheVariants.{Attrs}
 use Rattle.world_model.specs.declared.entry.Entry.{Entry}
+use Rattle.world_model.specs.declared.entry.Entry.TheVariants.{Began, Clock}
 use Rattle.world_model.specs.declared.message.Call.{Call}
 use Rattle.world_model.specs.declared.message.Reply.{Reply}
 use Rattle.world_model.specs.declared.op.Op.TheVariants.{Stat}
@@ -16,9 +17,31 @@ use Rattle.client_core.specs.View.{View}
 use Rattle.core_facts.specs.Reaches.{Reaches, last_reading}
 use Rattle.core_answers.specs.bonds.Kept.{HadShown, IsAnswered, LastAtMost}
 
--- the last reading of the clock before the operation at a place began
+-- the last reading of the clock after an entry
+abbrev pub read_by : Entry → ℕ → ℕ
+read_by (Clock ms) last = ms
+read_by e last = last
+
+-- the time after an entry: an operation begins at the last reading, but never before an earlier one
+abbrev pub timed_by : Entry → ℕ → ℕ → ℕ
+timed_by (Began lane line op) time last = max time last
+timed_by e time last = time
+
+-- the greatest of the readings at which operations began, and of the time before
+abbrev pub time_from : ℕ → ℕ → List Entry → ℕ
+time_from time last [] = time
+time_from time last (e ∷ es) = time_from (timed_by e time last) (read_by e last) es
+
+abbrev pub time_of : List Entry → ℕ
+time_of h = time_from 0 0 h
+
+-- the same with an operation that begins next
+abbrev pub time_next : List Entry → ℕ
+time_next h = max (time_of h) (last_reading 0 h)
+
+-- the time at which the operation at a place began: the greatest reading at which one began until then
 abbrev pub began_at : List Entry → ℕ → ℕ
-began_at h x = last_reading 0 (take x h)
+began_at h x = time_next (take x h)
 
 -- The place n is recent for the operation at the place x: it lies after that began; or the clock had shown a time by then that was less than so many
 -- milliseconds before the operation's own.

@@ -13,15 +13,15 @@ use Rattle.client_core.specs.declared.setup.Setup.{Setup}
 use Rattle.client_core.specs.View.{View}
 use Rattle.core_facts.specs.Naming.{KnowsRoot}
 use Rattle.core_facts.specs.Reaches.{Reaches}
-use Rattle.core_answers.specs.bonds.Aged.{Rises}
+use Rattle.core_answers.specs.bonds.Aged.{TakesReadings}
 use Rattle.core_answers.specs.bonds.Kept.{LastAtMost}
 
--- A history of an honest server with fresh stamps, whose clock doesn't go back, with which the core goes: attributes are believed for so long at most.
+-- A history of an honest server with fresh stamps, with which the core goes: attributes are believed for so long at most.
 pub record GoesHonestly (m : Mounted) (setup : Setup) (modes : Modes) (origin : Origin) (t : History) (v : View) : Type 0 where
   pub lasts : LastAtMost setup.lives modes.longest
   pub lawful : Lawful t
   pub fresh : Fresh t
-  pub rises : Rises t.entries
+  pub takes : TakesReadings t.entries
   pub root : KnowsRoot origin t.entries m.root
   pub reached : Reaches (machine_of m) setup t.entries v
 

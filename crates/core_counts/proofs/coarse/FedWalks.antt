@@ -63,7 +63,6 @@ use Rattle.op_machines.specs.Steps.{Starts, Resumes, Takes}
 use Rattle.open_files.specs.Slots.{Opens}
 use Rattle.client_core.specs.declared.lane.State.{State}
 use Rattle.client_core.specs.declared.lane.State.TheVariants.{Busy, Over}
-use Rattle.core_facts.specs.Reaches.{last_reading}
 use Rattle.core_facts.proofs.AllAwaited.{PathOr, Awaits}
 use Rattle.core_facts.proofs.Awaited.{WalkAwaits, OwnOr, PairOr}
 use Rattle.core_facts.proofs.NamesAwaited.{RemoveAwaits, NameAwaits}
@@ -78,6 +77,7 @@ use Rattle.core_answers.proofs.bonds.StatsLed.{Both, Kept}
 use Rattle.core_answers.proofs.bonds.Walked.{StepBy, LedBy, SpotAt, WalkAt, go-led, took-led, walk-grows, walk-begins}
 use Rattle.core_answers.proofs.bonds.Walked as walked
 use Rattle.core_answers.proofs.paths.Stood.{both-asks, both-laws}
+use Rattle.core_answers.specs.bonds.Ages.{time_next}
 use Rattle.core_counts.specs.coarse.FedWalks as led
 use Rattle.core_counts.specs.coarse.FedWalks.{EachNamed, EachWalk, Goes, Leads, Stands, WalksLed}
 
@@ -549,7 +549,7 @@ led-laws m most = record {
       let within : length h < length later = omega (arith, more) in
       then-led most m.root later (length h) op next new within
       (all-starts most m.root later (length h) within (machine_of m lane op) wsize turn old next new after k
-      (subst (λ (z : List Entry). last_reading 0 z ≤ turn.now) (sym (take-early h (Began lane line op ∷ []) (length h) (omega arith) ∙ take-whole h)) late)
+      (subst (λ (z : List Entry). time_next z ≤ turn.now) (sym (take-early h (Began lane line op ∷ []) (length h) (omega arith) ∙ take-whole h)) late)
       (begun-led m most later (length h) lane op) s);
   resumes = λ h x op machine wsize turn old next new after k within late story r.
       then-led most m.root h x op next new within (all-resumes most m.root h x within machine wsize turn old next new after k late story.1 r);

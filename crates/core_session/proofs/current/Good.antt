@@ -58,7 +58,7 @@ use Rattle.client_core.specs.Lanes.{is_busy}
 use Rattle.client_core.specs.Numbers.{IsIdle, numbers_of}
 use Rattle.client_core.specs.Steps.{with_state, record_of, Makes, IsRefused, Refuses, Leads, Stirs, counted, StartsLane, TakesAt, AnswersAt}
 use Rattle.client_core.specs.View.{View, turn_at, unmade_turn}
-use Rattle.core_facts.specs.Reaches.{IsSetUp, HearsRecord, Reaches, last_reading}
+use Rattle.core_facts.specs.Reaches.{IsSetUp, HearsRecord, Reaches}
 use Rattle.core_facts.specs.Tries.{IsMade, IsUnsent, IsOutstanding}
 use Rattle.core_facts.proofs.AllCounts.{begins-unbegun}
 use Rattle.core_facts.proofs.Cases.{taken_one}
@@ -73,7 +73,7 @@ use Rattle.core_facts.proofs.SlotGrowth.{ended-back, ended-now, finds-by, finds-
 use Rattle.core_facts.proofs.Steps.{ThenOf}
 use Rattle.core_facts.proofs.Stories.{Always, set-other, by-place, under-back, now-told, answered-under}
 use Rattle.core_facts.proofs.SlotsAlong.{Plain, plain-laws}
-use Rattle.core_answers.specs.bonds.Ages.{began_at}
+use Rattle.core_answers.specs.bonds.Ages.{began_at, time_next}
 use Rattle.core_answers.specs.bonds.Kept.{HadShown, LastAtMost}
 use Rattle.core_answers.proofs.bonds.AttrsShown.{time-grows}
 use Rattle.core_answers.proofs.bonds.Learnt.{IsOn}
@@ -110,7 +110,7 @@ aged-grows modes h e o s a = record {
   may = a.may;
   ms = a.ms;
   shown_by = time-grows h (e ∷ []) (s + 1) a.ms a.shown_by;
-  less = subst (λ (k : List Entry). last_reading 0 k < a.ms + modes.longest) (sym (take-early h (e ∷ []) o a.within)) a.less;
+  less = subst (λ (k : List Entry). time_next k < a.ms + modes.longest) (sym (take-early h (e ∷ []) o a.within)) a.less;
   within = let within = a.within in let more = length_last h e in omega (arith, within, more);
 }
 
@@ -491,7 +491,7 @@ record Mine (setup : Setup) (h : List Entry) (clock xid : ℕ) (call : Waiting P
   made : IsMade setup.cred xid call
   on : Both machine made.asked
   link : IsSentAs call.purpose.sent.xid made.asked back
-  late : (x lane line : ℕ) (op : Op) → At h x (Began lane line op) → last_reading 0 (take x h) ≤ clock
+  late : (x lane line : ℕ) (op : Op) → At h x (Began lane line op) → began_at h x ≤ clock
 
 mine-of : (m : Mounted) (setup : Setup) (h : List Entry) (old : View) → Reaches (machine_of m) setup h old → old.lost ≡ false → (xid : ℕ) (call : Waiting Purpose) (at number : ℕ) (machine : Machine)
     → waiting_at xid old.calls.calls ≡ Some call → number ≡ call.purpose.lane → slice_get old.lanes at ≡ Some (record { number = number; state = Busy machine })
@@ -804,7 +804,7 @@ module _ (mounted : Mounted) (modes : Modes) (same : mounted.nocto ≡ modes.noc
                   let low = under.before in
                   let less = b.less in
                   let late : began_at later x ≤ old.clock =
-                  subst (λ (k : List Entry). last_reading 0 k ≤ old.clock) (sym (take-early h (Delivered rec ∷ []) x (omega (arith, low)))) (mine.late x t.number under.line op under.began) in
+                  subst (λ (k : List Entry). time_next k ≤ old.clock) (sym (take-early h (Delivered rec ∷ []) x (omega (arith, low)))) (mine.late x t.number under.line op under.began) in
                   record {
                     s = b.since - 1;
                     since = known-at file stamp attr b kind stamp_is pages (b.since - 1) (omega (arith, early)) (omega (arith, some));

@@ -67,6 +67,7 @@ use Rattle.core_facts.proofs.Resting.{comes-to-rest, none-moves, own-none}
 use Rattle.core_facts.proofs.Rows.{Rows, rows-stay, same-rows, rows-grow, silent-grow, taken-quiet, not-sent, taken-rows, made-known, made-asked, reached-rows}
 use Rattle.core_facts.proofs.Steps.{AskedOf, ThenOf}
 use Rattle.core_facts.proofs.Walks.{stirs-stay, starts-stay, steps-stay}
+use Rattle.core_answers.proofs.bonds.Clocks.{time-begins}
 use Rattle.core_answers.specs.bonds.Kept.{HadShown}
 use Rattle.core_answers.proofs.bonds.FileCalls.{Asking, Keeps}
 use Rattle.core_answers.proofs.bonds.Keeping.{AskLaws, IsLate, ToldSince, take-early, take-whole}
@@ -78,6 +79,7 @@ use Rattle.core_answers.proofs.pages.PiecesCalled.{Called, starts-spelled, resum
 use Rattle.core_session.proofs.current.Along.{KeepsMoments, reached-moments}
 use Rattle.core_session.proofs.current.Moments.{IsMoment}
 use Rattle.core_answers.proofs.pages.PiecesSent.{SentAs, starts-sent, resumes-sent, takes-sent}
+use Rattle.core_answers.specs.bonds.Ages.{time_next}
 
 -- ---- what is kept
 
@@ -119,7 +121,7 @@ pub record Did (K : List Entry → Shelf → Type 0) (S : List Entry → ℕ →
 pub record BondLaws (machine_of : ℕ → Op → Machine) (setup : Setup) (I : List Entry → View → Type 0) (E : Machine → Call → Type 0) (F : List Entry → ℕ → Shelf → Type 0) (K : List Entry → Shelf → Type 0)
     (S : List Entry → ℕ → Op → State → Type 0) : Type 0 where
   pub starts : (h : List Entry) (lane line : ℕ) (op : Op) (wsize : ℕ) (turn : Turn) (old : Shelf) (next : Next) (new : Machine) (after : Shelf)
-      → F h lane old → (p : HasPassed machine_of setup I (h ++ Began lane line op ∷ []) (length h) old) → p.before ≡ h → K (h ++ Began lane line op ∷ []) old → last_reading 0 h ≤ turn.now → Starts wsize (machine_of lane op) turn old next new after
+      → F h lane old → (p : HasPassed machine_of setup I (h ++ Began lane line op ∷ []) (length h) old) → p.before ≡ h → K (h ++ Began lane line op ∷ []) old → time_next h ≤ turn.now → Starts wsize (machine_of lane op) turn old next new after
       → Did K S (h ++ Began lane line op ∷ []) (length h) op next new after
   pub resumes : (h : List Entry) (x : ℕ) (op : Op) (machine : Machine) (wsize : ℕ) (turn : Turn) (old : Shelf) (next : Next) (new : Machine) (after : Shelf)
       → K h old → (p : HasPassed machine_of setup I h x old) → RunsIn p.before p.view x op machine → x < length h → IsLate h x turn.now → S h x op (Busy machine) → Resumes wsize machine turn old next new after → Did K S h x op next new after
@@ -438,7 +440,7 @@ module _ (m : Mounted) (setup : Setup) (I : List Entry → View → Type 0) (kee
 
   -- the reading at an earlier place stays
   late-grow : (h : List Entry) (e : Entry) (x now : ℕ) → x ≤ length h → IsLate h x now → IsLate (h ++ e ∷ []) x now
-  late-grow h e x now within l = subst (λ k. last_reading 0 k ≤ now) (sym (take-early h (e ∷ []) x within)) l
+  late-grow h e x now within l = subst (λ k. time_next k ≤ now) (sym (take-early h (e ∷ []) x within)) l
 
   late-grows : (h : List Entry) (e : Entry) (v : View) → ((lane line : ℕ) (op : Op) → e ≡ Began lane line op → ⊥) → AllLate h v → AllLate (h ++ e ∷ []) v
   late-grows h e v other l x lane line op at = by (At-cases h e x (Began lane line op) at)
@@ -449,8 +451,8 @@ module _ (m : Mounted) (setup : Setup) (I : List Entry → View → Type 0) (kee
 
   -- the operation that begins does so at a reading that counts
   late-begins : (h : List Entry) (old : View) (lane line : ℕ) (op : Op) (x number other : ℕ) (o : Op) → At (h ++ Began lane line op ∷ []) x (Began number other o) → AllLate h old
-      → IsLate (h ++ Began lane line op ∷ []) x (max old.clock (last_reading 0 h))
-  late-begins h old lane line op x number other o at l = by (At-cases h (Began lane line op) x (Began number other o) at)
+      → time_next h ≤ max old.clock (last_reading 0 h) → IsLate (h ++ Began lane line op ∷ []) x (max old.clock (last_reading 0 h))
+  late-begins h old lane line op x number other o at l next_is = by (At-cases h (Began lane line op) x (Began number other o) at)
     where
       by : At h x (Began number other o) ⊎ ((x ≡ length h) × (Began lane line op ≡ Began number other o)) → IsLate (h ++ Began lane line op ∷ []) x (max old.clock (last_reading 0 h))
       by (inl there) =
@@ -459,8 +461,8 @@ module _ (m : Mounted) (setup : Setup) (I : List Entry → View → Type 0) (kee
           late-grow h (Began lane line op) x (max old.clock (last_reading 0 h)) (omega (arith, below)) (omega (arith, was))
       by (inr now) =
           late-grow h (Began lane line op) x (max old.clock (last_reading 0 h)) (let is = now.0 in omega (arith, is))
-          (subst (λ n. last_reading 0 (take n h) ≤ max old.clock (last_reading 0 h)) (sym now.0)
-          (subst (λ k. last_reading 0 k ≤ max old.clock (last_reading 0 h)) (sym (take-whole h)) (omega arith)))
+          (subst (λ n. time_next (take n h) ≤ max old.clock (last_reading 0 h)) (sym now.0)
+          (subst (λ k. time_next k ≤ max old.clock (last_reading 0 h)) (sym (take-whole h)) next_is))
 
   known-grows : (h : List Entry) (e : Entry) (v : View) → ((lane line : ℕ) (op : Op) → e ≡ Began lane line op → ⊥) → Known h v → Known (h ++ e ∷ []) v
   known-grows h e v other g = record { lanes = all-grows h e v other g.lanes; kept = laws.still h e v.shelf g.kept; late = late-grows h e v other g.late; called = g.called }
@@ -514,7 +516,7 @@ module _ (m : Mounted) (setup : Setup) (I : List Entry → View → Type 0) (kee
         (λ n o e. idle-numbers lane (numbers_of old.lanes) t.idle.other k (to-map number_of old.lanes k l there ∙ ap Some (sym (began-is lane line l.number n op o e)))) (g.lanes k l there))
         (tt, λ x o u. laws.lost (h ++ Began lane line op ∷ []) x o (lost-grow h (Began lane line op) (reached-shown (machine_of m) setup h old r was)));
     kept = laws.still h (Began lane line op) old.shelf g.kept;
-    late = λ x number other o at. late-begins h old lane line op x number other o at g.late;
+    late = λ x number other o at. late-begins h old lane line op x number other o at g.late (time-begins (machine_of m) setup h old r);
     called = g.called;
   })
   begins-known false h old new lane line op was t r b g = (moves-bond later b.first new b.rest (record { rows = rows; lanes = lanes; counts = counts; flown = flown; passed = passing.starts b.first old h lane line op r was refl t.idle b.own; marks = marks; known = first })).known
@@ -564,7 +566,7 @@ module _ (m : Mounted) (setup : Setup) (I : List Entry → View → Type 0) (kee
       did =
           laws.starts h lane line op old.wsize (turn_at (counted old (last_reading 0 h))) old.shelf b.own.next b.own.after b.own.shelf (begin h old lane r was t.idle.other)
           (record { before = h; after = Began lane line op ∷ []; is = refl; late = omega arith; view = old; passed = passing.rests old r was; same = refl; good = reached-moments (machine_of m) (begins-unbegun m) setup I keeps h old r was }) refl
-          (laws.still h (Began lane line op) old.shelf g.kept) (omega arith) b.own.starts
+          (laws.still h (Began lane line op) old.shelf g.kept) (time-begins (machine_of m) setup h old r) b.own.starts
 
       first : Known later b.first
       first = leads-known later (record (counted old (last_reading 0 h)) { lanes = old.lanes ++ record { number = lane; state = Busy b.own.after } ∷ []; shelf = b.own.shelf }) b.first
@@ -580,7 +582,7 @@ module _ (m : Mounted) (setup : Setup) (I : List Entry → View → Type 0) (kee
             own = own-calls b.own.next b.own.after;
             told = λ x o u. now-told h old lane line op (λ y q. ThenOf (λ k. S later y q (Busy k)) (λ a. S later y q (Over a)) b.own.next b.own.after)
                 (reached-lanes (machine_of m) setup h old r) t.idle.other did.then_ x o u;
-            late = λ x number other o at. late-begins h old lane line op x number other o at g.late;
+            late = λ x number other o at. late-begins h old lane line op x number other o at g.late (time-begins (machine_of m) setup h old r);
             kept = did.kept;
             called = λ xid w waits.
                 starts-spelled setup.cred xid w.bytes old.wsize (turn_at (counted old (last_reading 0 h))) (λ room same. waits-before setup h old rows-old xid w waits same)

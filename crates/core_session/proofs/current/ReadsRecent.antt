@@ -41,11 +41,12 @@ use Rattle.core_facts.specs.SlotAnswers.{GoesWith}
 use Rattle.core_facts.proofs.AllCounts.{begins-unbegun}
 use Rattle.core_facts.proofs.HeldSlots.{always-later}
 use Rattle.core_facts.proofs.Rows.{reached-rows}
-use Rattle.core_answers.specs.bonds.Aged.{Rises}
+use Rattle.core_answers.specs.bonds.Aged.{TakesReadings}
 use Rattle.core_answers.specs.bonds.Ages.{IsRecent, young}
 use Rattle.core_answers.specs.bonds.Kept.{HadShown, IsAnswered}
 use Rattle.core_answers.proofs.bonds.AttrsShown.{answered-grow}
 use Rattle.core_answers.proofs.bonds.Executions.{answered-ran}
+use Rattle.core_answers.proofs.bonds.Recents.{own-of, young-of}
 use Rattle.core_answers.specs.pages.Kept.{IsPage}
 use Rattle.core_answers.specs.pages.Read.{WasPending}
 use Rattle.core_answers.proofs.pages.PagesShown.{page-grows}
@@ -59,7 +60,6 @@ use Rattle.core_session.specs.current.Seen.{IsAged, SeenFrom, WasRegular}
 use Rattle.core_session.specs.current.Read as shown
 use Rattle.core_session.specs.current.Read.{RecentThen, IsFound, in_page, in_reply, IsEnd, by_known, by_page, by_reply, IsShown}
 use Rattle.core_session.specs.current.Recent.{IsSoFar, own, held, past, ReadsRecent}
-use Rattle.core_session.proofs.current.Ages.{own-of, young-of}
 use Rattle.core_session.proofs.current.Good.{aged-grows, earlier}
 use Rattle.core_session.proofs.current.OneFile.{one-held}
 use Rattle.core_session.proofs.current.ReadsTaken.{had-read, of-grows}
@@ -130,7 +130,7 @@ module _ (t : History) (l : Lawful t) (fresh : Fresh t) (numbered : Numbered t.e
   pub page-is : (stamp : Stamp) (index : ℕ) (page : List ℕ) → IsPage before file stamp index page → (n : ℕ) (now : List ℕ) → HasStamp t n file stamp now → page ≡ page_at index now
   page-is stamp index page p n now has = true-page-of t l fresh numbered file stamp index page (page-all stamp index page p) n now has
 
-  module _ (modes : Modes) (rises : modes.nocto ≡ true → Rises t.entries) (x lane slot o y : ℕ) (opens : Opens modes before lane slot o y file) (low : y < x) where
+  module _ (modes : Modes) (takes : modes.nocto ≡ true → TakesReadings t.entries) (x lane slot o y : ℕ) (opens : Opens modes before lane slot o y file) (low : y < x) where
     -- the file had the stamp at a moment of which the read may show bytes
     pub record HadRecent (stamp : Stamp) : Type 0 where
       pub n : ℕ
@@ -161,9 +161,9 @@ module _ (t : History) (l : Lawful t) (fresh : Fresh t) (numbered : Numbered t.e
         by : At t.entries o (Began lane opens.ended.line (ops.OpenFile slot opens.mode opens.path)) → IsRecent t.entries modes.longest o n → (0 < modes.longest) ⊎ (modes.longest ≤ 0) → modes.nocto ≡ true
             → Since modes t.entries x o n
         by began recent (inl some) may =
-            since_.kept noac may some (young-of modes t.entries (rises may) lane o y opens.ended.line (ops.OpenFile slot opens.mode opens.path) began n some recent)
+            since_.kept noac may some (young-of modes t.entries (takes may) lane o y opens.ended.line (ops.OpenFile slot opens.mode opens.path) began n some recent)
         by began recent (inr none) may =
-            opened noac (own-of modes t.entries (rises may) lane o y opens.ended.line (ops.OpenFile slot opens.mode opens.path) began n none recent)
+            opened noac (own-of modes t.entries (takes may) lane o y opens.ended.line (ops.OpenFile slot opens.mode opens.path) began n none recent)
 
     had-from : (from : ℕ) (stamp : Stamp) → ((n : ℕ) → from < n → Since modes t.entries x o n) → HadSince t l fresh numbered before after is file from stamp → HadRecent stamp
     had-from from stamp late h = record { n = h.n; now = h.now; has = h.has; late = late h.n h.late; soon = h.soon }
@@ -348,10 +348,10 @@ reads-recent m terms setup t v g noac brief lawful fresh x y o f offset count by
     opens-front terms.modes s.before s.after read.lane read.slot o holds.y r.file (omega (arith, low, began, there))
     (subst (λ (k : List ℕ). Opens terms.modes (s.before ++ s.after) read.lane read.slot o holds.y k) same (subst (λ (k : List Entry). Opens terms.modes k read.lane read.slot o holds.y f) s.is holds.opens)) in
     let each : (k b : ℕ) → slice_get bytes k ≡ Some b → IsSoFar terms.modes t s.before x (length s.before) o r.file (offset + k) b = λ k b is.
-    byte-so t lawful fresh numbered s.before s.after s.is r.file terms.modes (λ may. (brief may).rises) x read.lane read.slot o holds.y opens low m g.nocto setup offset count bytes r.server
+    byte-so t lawful fresh numbered s.before s.after s.is r.file terms.modes (λ may. (brief may).takes) x read.lane read.slot o holds.y opens low m g.nocto setup offset count bytes r.server
     r.found r.ends r.long r.most k b (slice_get_within bytes k b is) (r.each k b is) in
     let short : length bytes < count → HeldSize t (Since terms.modes t.entries x o) (length s.before) r.file (offset + length bytes) = λ less.
-    answer-short t lawful fresh numbered s.before s.after s.is r.file terms.modes (λ may. (brief may).rises) x read.lane read.slot o holds.y opens low m g.nocto setup offset count bytes
+    answer-short t lawful fresh numbered s.before s.after s.is r.file terms.modes (λ may. (brief may).takes) x read.lane read.slot o holds.y opens low m g.nocto setup offset count bytes
     r.server r.found r.ends r.long r.most less in
     record {
       each = λ k b is.

@@ -111,14 +111,14 @@ module _ (m : Mounted) (terms : Terms) (setup : Setup) (t : History) (v : View) 
     found-so k b is =
         subst (λ (n : ℕ). HeldByte t (Since terms.modes t.entries x o) n f (offset + k) b) s.there
         (subst (λ (z : List ℕ). HeldByte t (Since terms.modes t.entries x o) (length s.before) z (offset + k) b) (sym same)
-        (found-held t lawful fresh numbered s.before s.after s.is s.shown.file terms.modes (λ may. (brief may).rises) x read.lane read.slot o read.holds.y opens early (offset + k) b
+        (found-held t lawful fresh numbered s.before s.after s.is s.shown.file terms.modes (λ may. (brief may).takes) x read.lane read.slot o read.holds.y opens early (offset + k) b
         (s.shown.found k b is)))
 
     end-so : (place : ℕ) → IsEnd terms.modes s.before x s.shown.file place → Size place
     end-so place end =
         subst (λ (n : ℕ). HeldSize t (Since terms.modes t.entries x o) n f place) s.there
         (subst (λ (z : List ℕ). HeldSize t (Since terms.modes t.entries x o) (length s.before) z place) (sym same)
-        (end-held t lawful fresh numbered s.before s.after s.is s.shown.file terms.modes (λ may. (brief may).rises) x read.lane read.slot o read.holds.y opens early place end))
+        (end-held t lawful fresh numbered s.before s.after s.is s.shown.file terms.modes (λ may. (brief may).takes) x read.lane read.slot o read.holds.y opens early place end))
 
     later-end : (a b : ℕ) → a ≤ b → Size a → Size b
     later-end a b le z = record { n = z.n; now = z.now; stable = z.stable; late = z.late; soon = z.soon; has = z.has; short = let short = z.short in omega (arith, short, le) }

@@ -11,7 +11,7 @@ use Rattle.op_machines.specs.declared.begun.Mounted.{Mounted}
 use Rattle.client_core.specs.declared.setup.Setup.{Setup}
 use Rattle.client_core.specs.View.{View}
 use Rattle.core_facts.specs.SlotAnswers.{GoesWith}
-use Rattle.core_answers.specs.bonds.Aged.{Rises}
+use Rattle.core_answers.specs.bonds.Aged.{TakesReadings}
 use Rattle.core_answers.specs.bonds.Kept.{LastAtMost}
 use Rattle.core_answers.specs.writes.Written.{IsWritten}
 
@@ -28,9 +28,9 @@ pub record ReadRecent (modes : Modes) (t : History) (x y o : ℕ) (file : List �
   pub each : (k v : ℕ) → slice_get bytes k ≡ Some v → IsSoFar modes t (take y t.entries) x y o file (offset + k) v
   pub short : length bytes < count → HeldSize t (Since modes t.entries x o) y file (offset + length bytes)
 
--- The clock is read before operations begin and doesn't go back, and no attributes are kept for longer than the longest keeping.
+-- Operations begin at the readings of the clock, and no attributes are kept for longer than the longest keeping.
 pub record KeepsBriefly (modes : Modes) (setup : Setup) (h : List Entry) : Type 0 where
-  pub rises : Rises h
+  pub takes : TakesReadings h
   pub lasts : LastAtMost setup.lives modes.longest
 
 -- Each answer to a read is so, where the server is honest and gives each change of a file another stamp. Opens and reads ask for the file's attributes, or go
