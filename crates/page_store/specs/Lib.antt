@@ -1,0 +1,6 @@
+pub mod Disk
+pub mod Slots
+pub mod Pages
+pub mod Store
+pub mod Faults
+pub mod MemDisk

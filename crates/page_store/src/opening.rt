@@ -1,0 +1,90 @@
+//! Reading all slots of a disk.
+
+ghost use Rattle.std.specs.Prelude.{◌≡◌, ◌<◌, ◌≤◌, ℕ, List, length, IfOk, IfErr, OnOk};
+ghost use Rattle.page_store.specs.Disk.{Only};
+ghost use Rattle.page_store.specs.Pages.{page_of};
+ghost use Rattle.page_store.specs.declared.fault.StoreFault.TheVariants as faults;
+ghost use Rattle.page_store.specs.Faults.{HasStoreCause};
+ghost use Rattle.page_store.specs.Store.{AreShown, IsShown, StaysAs};
+
+use crate::fault::store_fault;
+use crate::record::{Stored, read_page};
+use crate::slots::{BODY, GATE, SLOT, SLOTS, reads_open};
+use crate::{Disk, StoreFault};
+use std::alloc::Global;
+
+/// Syncs, and reads the pages of all slots.
+pub(crate) fn sync_and_read<D: Disk>(
+    alloc: Global,
+    disk: &mut D,
+) -> Result<Vec<Option<Stored>>, StoreFault>
+    ensures shown { D.tells disk.old → IfOk result (λ v. AreShown (D.seen disk.new) 1024 v.items) }
+    ensures only { D.tells disk.old → OnOk result (Only (D.seen disk.new) (D.may_leave disk.new)) }
+    ensures stays { D.tells disk.old → StaysAs D.seen D.may_leave D.moment D.left_since disk.old disk.new }
+    ensures length { IfOk result (λ v. length v.items ≡ 1024) }
+    ensures goes_on { D.tells disk.old → D.tells disk.new }
+    ensures cause { HasStoreCause (D.faults disk.old) (D.faults disk.new) result }
+{
+    match disk.sync() {
+        Ok(()) => {}
+        Err(fault) => return Err(store_fault(fault)),
+    }
+    read_slots(alloc, disk)
+}
+
+/// The pages of all slots.
+fn read_slots<D: Disk>(alloc: Global, disk: &mut D) -> Result<Vec<Option<Stored>>, StoreFault>
+    ensures shown { D.tells disk.old → IfOk result (λ v. AreShown (D.seen disk.old) 1024 v.items) }
+    ensures stays { D.tells disk.old → StaysAs D.seen D.may_leave D.moment D.left_since disk.old disk.new }
+    ensures length { IfOk result (λ v. length v.items ≡ 1024) }
+    ensures goes_on { D.tells disk.old → D.tells disk.new }
+    ensures cause { HasStoreCause (D.faults disk.old) (D.faults disk.new) result }
+{
+    let mut slots = Vec::new(alloc);
+    for slot in 0..SLOTS {
+        match read_slot(alloc, disk, slot) {
+            Ok(page) => {
+                let Ok(()) = slots.push(page) else {
+                    return Err(StoreFault::Memory);
+                };
+            }
+            Err(fault) => return Err(fault),
+        }
+    }
+    Ok(slots)
+}
+
+/// The page of a slot, where it is open.
+fn read_slot<D: Disk>(alloc: Global, disk: &mut D, slot: u32) -> Result<Option<Stored>, StoreFault>
+    requires { slot < 1024 }
+    ensures shown { D.tells disk.old → IfOk result (λ page. IsShown (D.seen disk.old) slot page) }
+    ensures stays { D.tells disk.old → StaysAs D.seen D.may_leave D.moment D.left_since disk.old disk.new }
+    ensures goes_on { D.tells disk.old → D.tells disk.new }
+    ensures cause { HasStoreCause (D.faults disk.old) (D.faults disk.new) result }
+{
+    let at = SLOT * slot as u64;
+    match reads_open(disk, at) {
+        Ok(true) => {}
+        Ok(false) => return Ok(None),
+        Err(_) => return Err(StoreFault::Fault),
+    }
+    let mut body = [0; BODY];
+    match disk.read(at + GATE, &mut body) {
+        Ok(_) => stored_in(alloc, &body),
+        Err(_) => Err(StoreFault::Fault),
+    }
+}
+
+/// A copy of the page in a body; None where it breaks a rule.
+fn stored_in(alloc: Global, body: &[u8]) -> Result<Option<Stored>, StoreFault>
+    ensures page { IfOk result (λ page. page ≡ page_of body.now) }
+    ensures fault { IfErr result (λ fault. fault ≡ faults.Memory) }
+{
+    let Some(page) = read_page(body) else {
+        return Ok(None);
+    };
+    match Stored::copy(alloc, &page.file, &page.stamp, page.index, page.bytes) {
+        Ok(stored) => Ok(Some(stored)),
+        Err(_) => Err(StoreFault::Memory),
+    }
+}
