@@ -1,5 +1,6 @@
 pub mod AnswerExamples
 pub mod CallExamples
+pub mod OldWrites
 pub mod OperationExamples
 pub mod PutExamples
 pub mod PutReads

@@ -11,8 +11,8 @@ use Rattle.world_model.specs.Entries.{At}
 use Rattle.world_model.specs.Messages.{HasXid, SpellsCall, SpellsCallBy}
 use Rattle.world_model.specs.Mounts.{Mounting, Rooted, Sized, mount_call, info_call}
 use Rattle.world_model.specs.ReadSize.{ReadSized}
+use Rattle.claims.specs.Pending.{OutstandingWithin}
 use Rattle.claims.specs.Terms.{Terms}
-use Rattle.claims.specs.Touched.{WritesByte}
 use Rattle.world_model.specs.Operations.{UnderWay}
 use Rattle.world_model.specs.Waiting.{Answers}
 
@@ -36,25 +36,20 @@ pub record IsWrite (terms : Terms) (h : List Entry) (i size : ℕ) : Type 0 wher
   pub sized : Sized h i root terms.wsize wsize
   pub fits : size ≤ wsize
 
--- an operation that began before the place i writes this byte there
-pub record IsWritten (terms : Terms) (h : List Entry) (i : ℕ) (f : List ℕ) (at v : ℕ) : Type 0 where
-  pub w : ℕ
-  pub before : w < i
-  pub writes : WritesByte terms.modes terms.origin h w f at v
-
--- READs and WRITEs keep to the session's sizes, and each byte of a WRITE is one that an operation writes there.
-pub record KeepsTo (terms : Terms) (h : List Entry) (i : ℕ) (call : Call) : Type 0 where
+-- READs and WRITEs keep to the session's sizes; and each byte of a WRITE was outstanding at a moment since the operation began, at the
+-- place x, for which it is sent.
+pub record KeepsTo (terms : Terms) (h : List Entry) (x i : ℕ) (call : Call) : Type 0 where
   pub read : (f : List ℕ) (offset count : ℕ) → call ≡ calls.File (files.Read f offset count) → IsRead terms h i count
   pub write : (f bytes : List ℕ) (offset how : ℕ) → call ≡ calls.File (files.Write f offset how bytes) → IsWrite terms h i (length bytes)
   pub own : (f bytes : List ℕ) (offset how : ℕ) → call ≡ calls.File (files.Write f offset how bytes) → (k v : ℕ) → slice_get bytes k ≡ Some v
-      → IsWritten terms h i f (offset + k) v
+      → OutstandingWithin terms.modes terms.origin h x i f (offset + k) v
 
 -- Why the call at the place i was made: as MNT of the path or FSINFO of the root, before any operation began; or for an
 -- operation that is under way and asks for it.
 pub data IsCause (terms : Terms) (h : List Entry) (i : ℕ) (call : Call) : Type 0 where
   mounts : (path : List ℕ) → terms.origin ≡ Mounting path → call ≡ mount_call path → NoneBegan h i → IsCause terms h i call
   informs : (root : List ℕ) → Rooted terms.origin h i root → call ≡ info_call root → NoneBegan h i → IsCause terms h i call
-  asked : (lane x : ℕ) (op : Op) → UnderWay h lane x i op → Asks terms h x i op call → KeepsTo terms h i call → IsCause terms h i call
+  asked : (lane x : ℕ) (op : Op) → UnderWay h lane x i op → Asks terms h x i op call → KeepsTo terms h x i call → IsCause terms h i call
 
 -- A record that was sent is a call, with the session's credential, that was asked for.
 pub record IsCaused (terms : Terms) (h : List Entry) (i : ℕ) (bytes : List ℕ) : Type 0 where

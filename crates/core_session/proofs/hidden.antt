@@ -9,5 +9,4 @@ pub mod AloneNow
 pub mod AloneTales
 pub mod CloseCause
 pub mod Whole
-pub mod NotedSends
 pub mod Joined

@@ -6,13 +6,17 @@ pub mod Cuttings
 pub mod Dropped
 pub mod Entering
 pub mod Entries
+pub mod Flights
 pub mod Givers
 pub mod LaneCuts
 pub mod LaneSettles
 pub mod Letting
+pub mod Making
+pub mod Moments
 pub mod Newest
 pub mod Onwards
 pub mod Puts
+pub mod Sendings
 pub mod Settles
 pub mod Standing
 pub mod StartsOn

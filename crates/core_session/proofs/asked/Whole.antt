@@ -49,11 +49,11 @@ module _ (m : Mounted) (terms : Terms) (setup : Setup) (before h : List Entry) (
     its-asked : IsAsked p.out.op
     its-asked = g.asked p.out.x p.out.waiting.purpose.lane under.line p.out.op under.began
 
-    keeps : KeepsTo terms h i Its
+    keeps : KeepsTo terms h p.out.x i Its
     keeps = record {
       read = reads-keep m terms setup h v s i bytes p.out its-asked;
       write = λ f text offset how is. writes-keep m terms setup h v s i bytes p.out f text offset how is;
-      own = λ f text offset how is k b has. own-bytes m terms setup h v s i bytes p.out f text offset how is k b has;
+      own = λ f text offset how is k b has. own-bytes m terms setup h v s i bytes p.out p.on f text offset how is k b has;
     }
 
     made : SpellsCallBy terms.cred p.out.xid Its bytes

@@ -27,7 +27,8 @@ use Rattle.core_answers.proofs.asks.CallsAwaited.{Expects, expects-laws}
 use Rattle.core_session.specs.calls.Sessions.{IsSession, KnowsSizes}
 use Rattle.core_session.specs.calls.Whole.{GoesFrom, IsCausedBeside, CallsAskedBut, SessionsCallsAsked, AllCallsAsked}
 use Rattle.core_session.proofs.calls.Causes.{Now, Spelt, IsPlain, under-now, cause, reads-keep, spelt-plain, sized-grow}
-use Rattle.core_session.proofs.calls.Outgoing.{Outgoing, reached-out, sent-nfs}
+use Rattle.core_session.proofs.calls.Outgoing.{Outgoing, sent-nfs}
+use Rattle.core_session.proofs.room.Onward.{Onward, SentOn, reached-on}
 use Rattle.core_session.proofs.calls.OwnBytes.{own-bytes}
 use Rattle.core_session.proofs.calls.WriteKeeps.{writes-keep}
 
@@ -58,14 +59,20 @@ module _ (m : Mounted) (terms : Terms) (setup : Setup) (before h : List Entry) (
   abbrev pub Out : ℕ → List ℕ → Type 0
   Out i bytes = Outgoing (machine_of m) (begins-unbegun m) setup h i bytes
 
-  -- each record is one of the set-up, or of an operation
-  pub early-or : (i : ℕ) (bytes : List ℕ) → At h i (Sent bytes) → At before i (Sent bytes) ⊎ Out i bytes
-  early-or i bytes at = by (g.since i bytes at) (reached-out (machine_of m) (begins-unbegun m) setup h v g.goes.reaches i bytes at)
+  abbrev OutOn : ℕ → List ℕ → Type 0
+  OutOn i bytes = SentOn (machine_of m) (begins-unbegun m) setup h v i bytes
+
+  -- each record is one of the set-up, or of an operation, and the session went on
+  early-on : (i : ℕ) (bytes : List ℕ) → At h i (Sent bytes) → At before i (Sent bytes) ⊎ OutOn i bytes
+  early-on i bytes at = by (g.since i bytes at) (reached-on (machine_of m) (begins-unbegun m) setup h v g.goes.reaches i bytes at)
     where
-      by : (i < length before) ⊎ HasBegun h i → NoneBegan h i ⊎ Out i bytes → At before i (Sent bytes) ⊎ Out i bytes
+      by : (i < length before) ⊎ HasBegun h i → NoneBegan h i ⊎ OutOn i bytes → At before i (Sent bytes) ⊎ OutOn i bytes
       by (inl early) out = inl (At-back before g.more i (Sent bytes) (subst (λ (k : List Entry). At k i (Sent bytes)) g.grows at) early)
       by (inr begun) (inl none) = absurd (none begun.at begun.lane begun.line begun.op begun.began begun.before)
       by (inr begun) (inr out) = inr out
+
+  pub early-or : (i : ℕ) (bytes : List ℕ) → At h i (Sent bytes) → At before i (Sent bytes) ⊎ Out i bytes
+  early-or i bytes at = elim (early-on i bytes at) [ inl early ↦ inl early | inr sent ↦ inr sent.out ]
 
   -- ---- why each was sent
 
@@ -93,23 +100,23 @@ module _ (m : Mounted) (terms : Terms) (setup : Setup) (before h : List Entry) (
     its-asked : IsAsked w.op
     its-asked = let under = under-now m terms setup h v session i bytes w in g.asked w.x w.waiting.purpose.lane under.line w.op under.began
 
-    keeps : KeepsTo terms h i Its
-    keeps = record {
+    keeps : Onward (machine_of m) setup w.before w.old h v → KeepsTo terms h w.x i Its
+    keeps on = record {
       read = reads-keep m terms setup h v session i bytes w its-asked;
       write = λ f text offset how is. writes-keep m terms setup h v session i bytes w f text offset how is;
-      own = λ f text offset how is k b has. own-bytes m terms setup h v session i bytes w f text offset how is k b has;
+      own = λ f text offset how is k b has. own-bytes m terms setup h v session i bytes w on f text offset how is k b has;
     }
 
     made : SpellsCallBy terms.cred w.xid Its bytes
     made = subst (λ c. SpellsCallBy c w.xid Its bytes) g.cred (Now m terms setup h v session i bytes w).made
 
-    out-cause : IsCaused terms h i bytes ⊎ IsCausedBeside terms h i bytes
-    out-cause = elim (cause m terms setup h v session i bytes w w.op refl its-asked) [
+    out-cause : Onward (machine_of m) setup w.before w.old h v → IsCaused terms h i bytes ⊎ IsCausedBeside terms h i bytes
+    out-cause on = elim (cause m terms setup h v session i bytes w w.op refl its-asked) [
       | inl asks ↦ inl (record {
         xid = w.xid;
         call = Its;
         made = made;
-        cause = asked w.waiting.purpose.lane w.x w.op (under-now m terms setup h v session i bytes w) asks keeps;
+        cause = asked w.waiting.purpose.lane w.x w.op (under-now m terms setup h v session i bytes w) asks (keeps on);
       })
       | inr beside ↦ inr (record {
         xid = w.xid;
@@ -120,7 +127,7 @@ module _ (m : Mounted) (terms : Terms) (setup : Setup) (before h : List Entry) (
         op = w.op;
         under_way = under-now m terms setup h v session i bytes w;
         beside = beside;
-        keeps = keeps;
+        keeps = keeps on;
       })
     ]
 
@@ -177,7 +184,7 @@ module _ (m : Mounted) (terms : Terms) (setup : Setup) (before h : List Entry) (
   all-but =
       let rows = reached-rows (machine_of m) setup h v g.goes.reaches in
       record {
-        caused = λ i bytes at. elim (early-or i bytes at) [ inl early ↦ inl (early-cause i bytes early) | inr w ↦ out-cause i bytes w ];
+        caused = λ i bytes at. elim (early-on i bytes at) [ inl early ↦ inl (early-cause i bytes early) | inr sent ↦ out-cause i bytes sent.out sent.on ];
         among = among;
         equal = rows.numbered.equal;
         single = single;

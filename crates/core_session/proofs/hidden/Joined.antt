@@ -28,7 +28,8 @@ use Rattle.core_session.proofs.calls.WriteKeeps.{writes-keep}
 use Rattle.core_facts.specs.Notes.{Notes}
 use Rattle.core_session.specs.hidden.Removed.{IsCausedForRoom, ClosesRemoveWhatWasHidden}
 use Rattle.core_session.proofs.hidden.CloseCause.{close-or, removes-hidden}
-use Rattle.core_session.proofs.hidden.NotedSends.{NotedSend, noted-sends}
+use Rattle.core_session.proofs.asked.Passed.{Passed, sends-passed}
+use Rattle.core_session.proofs.room.Onward.{Onward}
 
 module _ (m : Mounted) (terms : Terms) (setup : Setup) (before h : List Entry) (v : View) (g : GoesFrom m terms setup before h v) where
   abbrev Out : ℕ → List ℕ → Type 0
@@ -39,7 +40,7 @@ module _ (m : Mounted) (terms : Terms) (setup : Setup) (before h : List Entry) (
 
   -- ---- a record that was sent for an operation, when no answer was ready
 
-  module _ (i : ℕ) (bytes : List ℕ) (w : Out i bytes) (noted : AllNoted w.old) where
+  module _ (i : ℕ) (bytes : List ℕ) (w : Out i bytes) (on : Onward (machine_of m) setup w.before w.old h v) (noted : AllNoted w.old) where
     abbrev Its : Call
     Its = Spelt m terms setup h v (session m terms setup before h v g) i bytes w
 
@@ -49,11 +50,11 @@ module _ (m : Mounted) (terms : Terms) (setup : Setup) (before h : List Entry) (
     its-asked : IsAsked w.op
     its-asked = g.asked w.x w.waiting.purpose.lane under.line w.op under.began
 
-    keeps : KeepsTo terms h i Its
+    keeps : KeepsTo terms h w.x i Its
     keeps = record {
       read = reads-keep m terms setup h v (session m terms setup before h v g) i bytes w its-asked;
       write = λ f text offset how is. writes-keep m terms setup h v (session m terms setup before h v g) i bytes w f text offset how is;
-      own = λ f text offset how is k b has. own-bytes m terms setup h v (session m terms setup before h v g) i bytes w f text offset how is k b has;
+      own = λ f text offset how is k b has. own-bytes m terms setup h v (session m terms setup before h v g) i bytes w on f text offset how is k b has;
     }
 
     made : SpellsCallBy terms.cred w.xid Its bytes
@@ -103,11 +104,11 @@ module _ (m : Mounted) (terms : Terms) (setup : Setup) (before h : List Entry) (
       by (inr other) = absurd (none other.x other.lane other.under_way.line other.op other.under_way.began other.under_way.before)
 
   caused : Notes (machine_of m) setup h v → (i : ℕ) (bytes : List ℕ) → At h i (Sent bytes) → Caused i bytes
-  caused n i bytes at = by (noted-sends (machine_of m) (begins-unbegun m) setup h v n i bytes at)
+  caused n i bytes at = by (sends-passed (machine_of m) (begins-unbegun m) setup h v n i bytes at)
     where
-      by : NoneBegan h i ⊎ NotedSend (machine_of m) (begins-unbegun m) setup h i bytes → Caused i bytes
+      by : NoneBegan h i ⊎ Passed (machine_of m) (begins-unbegun m) setup h v i bytes → Caused i bytes
       by (inl none) = inl (early-cause i bytes at none)
-      by (inr s) = out-cause i bytes s.out s.noted
+      by (inr s) = out-cause i bytes s.out s.on s.noted
 
 pub removes-asked : ClosesRemoveWhatWasHidden
 removes-asked m terms setup before h v g n =

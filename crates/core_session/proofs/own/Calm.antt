@@ -50,7 +50,7 @@ use Rattle.core_session.proofs.drops.LaneIs.{state-is, number-is, answer-is}
 use Rattle.core_session.proofs.drops.Leading.{Settles, Leading, settles, unmade, Led, Pushed, stirs-led, starts-led}
 use Rattle.core_session.proofs.pending.Cuttings.{IsCutter, StateCuts, cutter-starts, cutter-starts-not, cutter-resumes, cutter-resumes-not, cutter-takes, cutter-takes-err}
 use Rattle.core_session.proofs.pending.Settles.{IsGood}
-use Rattle.core_session.proofs.pending.Unsettled.{ended-in}
+use Rattle.core_session.proofs.pending.Moments.{ended-in}
 use Rattle.core_session.proofs.syncs.Turning.{under-was, under-plain-back, under-answers-back}
 
 -- ---- nothing is sent

@@ -1,5 +1,5 @@
 -- Each newest byte that is pending was given by an operation since whose answer none that went well covered or settled it.
-use Rattle.std.proofs.Common.{◌≡◌, ◌≤◌, ◌<◌, ℕ, false, List, [], ◌∷◌, ◌++◌, length, Option, Some, None, position, append_assoc, append-nil, slice_get, refl, sym, ap, subst, ◌∙◌, arith}
+use Rattle.std.proofs.Common.{◌≡◌, ◌≤◌, ◌<◌, ℕ, false, List, [], ◌∷◌, ◌++◌, length, Option, Some, None, position, append_assoc, append-nil, slice_get, refl, sym, ap, subst, ◌∙◌}
 use Rattle.rpc_retry.specs.declared.waiting.Waiting.{Waiting}
 use Rattle.rpc_retry.specs.Waiting.{waiting_at}
 use Rattle.world_model.specs.declared.answer.Answer.{Answer}
@@ -10,13 +10,11 @@ use Rattle.world_model.specs.declared.entry.Entry.{Entry}
 use Rattle.world_model.specs.declared.entry.Entry.TheVariants.{Began, Answered, Delivered}
 use Rattle.world_model.specs.declared.op.Op.{Op}
 use Rattle.world_model.specs.declared.op.Op.TheVariants as ops
-use Rattle.world_model.specs.Entries.{At}
-use Rattle.world_model.specs.Operations.{AnsweredBefore, Ended}
-use Rattle.claims.specs.Slots.{PutsTo}
+use Rattle.world_model.specs.Operations.{AnsweredBefore}
 use Rattle.claims.specs.Terms.{Terms}
-use Rattle.claims.specs.Touched.{MadeStable, RefusedWrite, Truncated, Wrote}
+use Rattle.claims.specs.Touched.{RefusedWrite}
 use Rattle.claims.specs.Touched as touched
-use Rattle.world_model.proofs.Places.{At-grow, At-back, At-one}
+use Rattle.world_model.proofs.Places.{At-one}
 use Rattle.call_replies.specs.Says.{said_of}
 use Rattle.write_back.specs.Files.{of_file}
 use Rattle.write_back.specs.Segments.{Cell, byte_of, cell_at, newest_at}
@@ -39,12 +37,12 @@ use Rattle.core_facts.proofs.Placing.{keeps-placed}
 use Rattle.core_facts.proofs.Walks.{stirs-stay, starts-stay, steps-stay, Stays}
 use Rattle.core_session.proofs.saves.WholeSteps.{keeps-wholly, starts-wholly}
 use Rattle.core_session.specs.syncs.Synced.{PutsNamed}
-use Rattle.core_session.proofs.syncs.Causes.{IsWriter, IsPut, OfOp}
-use Rattle.core_session.proofs.syncs.Turning.{IsFixed, gone, under-was, under-answers-back, under-plain-back}
+use Rattle.core_session.proofs.syncs.Causes.{IsWriter, OfOp}
+use Rattle.core_session.proofs.syncs.Turning.{IsFixed, under-was, under-answers-back, under-plain-back}
 use Rattle.core_session.proofs.syncs.WatchingAlong.{KeepsWatching, reached-watching}
 use Rattle.core_session.specs.pending.Held.{IsUnsettled, PendingUnsettled, PendingHeldBack}
 use Rattle.core_session.proofs.pending.Entries.{answers-phase, same-phase, fresh-phase}
-use Rattle.claims.specs.Pending.{PutRefused, PutSucceeded, LeftAlone, Pending}
+use Rattle.claims.specs.Pending.{PutRefused, LeftAlone, Pending}
 use Rattle.client_shelf.specs.declared.shelf.Shelf.{Shelf}
 use Rattle.op_machines.specs.declared.file_machine.FileMachine.TheVariants as files
 use Rattle.op_machines.specs.declared.machine.Machine.TheVariants as machines
@@ -59,16 +57,14 @@ use Rattle.core_session.proofs.drops.KnowingAlong.{IsPlain, StepsKnowing}
 use Rattle.core_session.proofs.drops.Laws.{DropsKnown, drops-fresh, Begun, starts-begun}
 use Rattle.core_session.proofs.drops.Shown.{guards-kept}
 use Rattle.core_session.proofs.drops.SlotKinds.{begins-as}
-use Rattle.core_session.proofs.pending.Above.{Above}
 use Rattle.core_session.proofs.pending.Alone.{HeldSoon, at-once, alone-not, unleft-step}
 use Rattle.core_session.proofs.syncs.Guard.{starts-plain}
 use Rattle.core_session.proofs.syncs.SlotHeld.{HoldsSlot, holds-step, holds-starts, holds-same, holds-unbegun}
-use Rattle.core_session.proofs.syncs.Aparts.{apart-done}
 use Rattle.core_session.proofs.pending.Givers.{answered-writer}
-use Rattle.core_session.proofs.pending.Newest.{OfNewest, cell-of}
+use Rattle.core_session.proofs.pending.Moments.{given, unput-by, uncovered-by, uncut-by, unsettled-by}
 use Rattle.core_session.proofs.pending.Onwards.{refused-not, never-refused}
 use Rattle.core_session.proofs.room.Onward.{Onward}
-use Rattle.core_session.proofs.pending.Standing.{IsGiven, Marked, wrote, cut, saved, PutEnd, settled_, left_, never, Here, Phase, Stands}
+use Rattle.core_session.proofs.pending.Standing.{IsGiven, Phase, Stands}
 use Rattle.core_session.proofs.pending.StartsOn.{starts-phase}
 use Rattle.core_session.proofs.pending.StirsOn.{stirs-phase}
 use Rattle.core_session.proofs.pending.TakesOn.{takes-phase}
@@ -88,20 +84,7 @@ began-op a b c d o p e = cc
 refused-done : (fault : Fault) (value : Value) → answers.Refused fault ≡ answers.Done value → ⊥
 refused-done fault value e = cc
 
--- what was answered in a longer history, before the end of this one
-pub ended-in : (H h rest : List Entry) → h ++ rest ≡ H → (lane x y : ℕ) (op : Op) (answer : Answer) → y < length h → Ended H lane x op y answer → Ended h lane x op y answer
-ended-in H h rest is lane x y op answer low d = record {
-  line = u.line;
-  began = At-back h rest x (Began lane u.line op) u.began (let later = u.later in omega (arith, later, low));
-  answered = At-back h rest y (Answered lane u.line answer) u.answered low;
-  later = u.later;
-  first = λ q b at after. u.first q b (At-grow h rest q (Answered lane u.line b) at) after;
-}
-  where
-    u : Ended (h ++ rest) lane x op y answer
-    u = subst (λ (z : List Entry). Ended z lane x op y answer) (sym is) d
-
-refused-writer : (H : List Entry) (w : ℕ) → RefusedWrite H w → OfOp H w IsWriter
+pub refused-writer : (H : List Entry) (w : ℕ) → RefusedWrite H w → OfOp H w IsWriter
 refused-writer H w (touched.write lane slot offset y bytes fault ended) n l other there =
     subst IsWriter (began-op lane ended.line n l (ops.Write slot offset bytes) other (At-one H w (Began lane ended.line (ops.Write slot offset bytes)) (Began n l other) ended.began there)) tt
 refused-writer H w (touched.fill lane slot offset count byte y fault ended) n l other there =
@@ -244,116 +227,51 @@ module _ (mt : Mounted) (terms : Terms) (setup : Setup) (H : List Entry) (V : Vi
     };
   }
 
-  of-write : (P : Op → Type 0) (x lane line : ℕ) (op : Op) → At H x (Began lane line op) → P op → OfOp H x P
-  of-write P x lane line op at p n l other there = subst P (began-op lane line n l op other (At-one H x (Began lane line op) (Began n l other) at there)) p
-
   -- ---- at any of its moments
 
   module _ (h rest : List Entry) (is : h ++ rest ≡ H) (v : View) (p : Phase mt terms setup H f i h v) (cell : Cell) (there : cell_at (of_file f v.shelf.back).segments i ≡ Some cell) where
-    pub given : IsGiven mt terms setup H f i h v p.u cell.byte cell.number
-    given = cell-of (λ place byte number. Here mt terms setup H f i (IsGiven mt terms setup H f i h v p.u) f place byte number) (of_file f v.shelf.back).segments i cell (p.given.file f) there refl refl
-
-    -- what was answered before
-    fixed : (lane x y : ℕ) (op : Op) (answer : Answer) → Ended H lane x op y answer → y < length h → IsFixed h v x answer
-    fixed lane x y op answer d low = gone lane y op (ended-in H h rest is lane x y op answer low d)
-
-    within : (lane x y : ℕ) (op : Op) (answer : Answer) → Ended H lane x op y answer → y < length h → x < length h
-    within lane x y op answer d low = let later = d.later in omega (arith, later, low)
-
-    -- none that marks the place began after the giver was answered
-    above-not : (x lane line : ℕ) (op : Op) → At H x (Began lane line op) → x < length h → OfNewest (Above f i (p.u x)) v.shelf.back → AnsweredBefore H given.w x → ⊥
-    above-not x lane line op at low above before =
-        given.late x lane line op at low (cell-of (λ place byte number. f ≡ f → place ≡ i → p.u x < number) (of_file f v.shelf.back).segments i cell (above.file f) there refl refl) before
-
-    unmarked : (x lane line : ℕ) (op : Op) → At H x (Began lane line op) → x < length h → Marked mt terms setup H f i h v x → AnsweredBefore H given.w x → ⊥
-    unmarked x lane line op at low m before = above-not x lane line op at low (p.marks x m) before
-
-    -- no put of the file went well since
-    put-not : (x y offset : ℕ) (bytes : List ℕ) → PutsTo H x y f offset bytes → y < length h → AnsweredBefore H given.w x → ⊥
-    put-not x y offset bytes t low before =
-        by
-        (p.puts x t.value (fixed t.lane x y (ops.Put t.path offset bytes) (answers.Done t.value) t.ended low)
-        (of-write IsPut x t.lane t.ended.line (ops.Put t.path offset bytes) t.ended.began tt))
-      where
-        by : PutEnd mt terms setup H f i h v x (p.u x) → ⊥
-        by (settled_ above) =
-            above-not x t.lane t.ended.line (ops.Put t.path offset bytes) t.ended.began (within t.lane x y (ops.Put t.path offset bytes) (answers.Done t.value) t.ended low) above before
-        by (left_ a) =
-            apart-done f h v x a t.lane y (ops.Put t.path offset bytes) (answers.Done t.value) (ended-in H h rest is t.lane x y (ops.Put t.path offset bytes) (answers.Done t.value) low t.ended)
-        by (never none) = none t.lane y (ops.Put t.path offset bytes) (answers.Done t.value) t.ended t.call t.names t.asked
-
-    uncovered-by : (x y u : ℕ) → AnsweredBefore H given.w x → Wrote terms.modes H x y f i u → y < length h → ⊥
-    uncovered-by x y u before (touched.write lane slot offset bytes value of ended c) low =
-        unmarked x of.lane of.line (ops.Write slot offset bytes) of.began (within lane x y (ops.Write slot offset bytes) (answers.Done value) ended low)
-        (wrote u value (fixed lane x y (ops.Write slot offset bytes) (answers.Done value) ended low) (of-write IsWriter x of.lane of.line (ops.Write slot offset bytes) of.began tt)
-        (touched.write slot offset bytes of c)) before
-    uncovered-by x y u before (touched.fill lane slot offset count value of ended from to) low =
-        unmarked x of.lane of.line (ops.Fill slot offset count u) of.began (within lane x y (ops.Fill slot offset count u) (answers.Done value) ended low)
-        (wrote u value (fixed lane x y (ops.Fill slot offset count u) (answers.Done value) ended low) (of-write IsWriter x of.lane of.line (ops.Fill slot offset count u) of.began tt)
-        (touched.fill slot offset count of from to)) before
-    uncovered-by x y u before (touched.put offset bytes t c) low = put-not x y offset bytes t low before
-
-    unsettled-by : (x y : ℕ) → AnsweredBefore H given.w x → MadeStable terms.modes H x y f → y < length h → ⊥
-    unsettled-by x y before (touched.sync lane slot value of ended) low =
-        unmarked x of.lane of.line (ops.Sync slot) of.began (within lane x y (ops.Sync slot) (answers.Done value) ended low)
-        (saved value (fixed lane x y (ops.Sync slot) (answers.Done value) ended low)
-        (record { lane = of.lane; line = of.line; op = ops.Sync slot; began = of.began; saver = tt; of = of })) before
-    unsettled-by x y before (touched.close lane slot value of ended) low =
-        unmarked x of.lane of.line (ops.Close slot) of.began (within lane x y (ops.Close slot) (answers.Done value) ended low)
-        (saved value (fixed lane x y (ops.Close slot) (answers.Done value) ended low)
-        (record { lane = of.lane; line = of.line; op = ops.Close slot; began = of.began; saver = tt; of = of })) before
-    unsettled-by x y before (touched.put offset bytes t) low = put-not x y offset bytes t low before
-
-    uncut-by : (x y size : ℕ) → AnsweredBefore H given.w x → Truncated terms.modes H x y f size → size ≤ i → y < length h → ⊥
-    uncut-by x y size before t least low =
-        unmarked x t.of.lane t.of.line (ops.Truncate t.slot size) t.of.began (within t.lane x y (ops.Truncate t.slot size) (answers.Done t.value) t.ended low)
-        (cut t.value (fixed t.lane x y (ops.Truncate t.slot size) (answers.Done t.value) t.ended low) (record { slot = t.slot; size = size; of = t.of; low = least })) before
-
-    -- the giver is no put that succeeded
-    unput-by : PutSucceeded H given.w (length h) → ⊥
-    unput-by d =
-        given.unput (of-write IsPut given.w d.lane d.ended.line (ops.Put d.path d.offset d.bytes) d.ended.began tt) d.value
-        (fixed d.lane given.w d.y (ops.Put d.path d.offset d.bytes) (answers.Done d.value) d.ended d.before)
+    abbrev giver : IsGiven mt terms setup H f i h v p.u cell.byte cell.number
+    giver = given mt terms setup H f i h rest is v p cell there
 
     -- no last close left the file alone since
-    pub unleft-by : DropsKnown terms.modes h v → HeldSoon mt terms setup H V g f h rest is v → (PutRefused H given.w → ⊥) → (k : ℕ) → AnsweredBefore H given.w k → LeftAlone terms.modes H k f → k < length h → ⊥
+    pub unleft-by : DropsKnown terms.modes h v → HeldSoon mt terms setup H V g f h rest is v → (PutRefused H giver.w → ⊥) → (k : ℕ) → AnsweredBefore H giver.w k → LeftAlone terms.modes H k f → k < length h → ⊥
     unleft-by d soon none k before left low =
-        let writer = answered-writer H given.w (length h) unput-by none k before low terms.modes terms.origin f i cell.byte given.writes in
-        alone-not mt terms setup H V g f h rest is k low left (λ j bytes at from to. given.unleft writer k before left j bytes at from to) v d soon cell.number (given.guard writer)
+        let writer = answered-writer H giver.w (length h) (λ d. unput-by mt terms setup H f i h rest is v p cell there d) none k before low terms.modes terms.origin f i cell.byte giver.writes in
+        alone-not mt terms setup H V g f h rest is k low left (λ j bytes at from to. giver.unleft writer k before left j bytes at from to) v d soon cell.number (giver.guard writer)
 
     -- where what has a good answer isn't refused later
-    pub unsettled : (OfOp H given.w IsWriter → (value : Value) → IsFixed h v given.w (answers.Done value) → RefusedWrite H given.w → ⊥) → IsUnsettled terms.modes terms.origin H f i (length h) cell.byte
+    pub unsettled : (OfOp H giver.w IsWriter → (value : Value) → IsFixed h v giver.w (answers.Done value) → RefusedWrite H giver.w → ⊥) → IsUnsettled terms.modes terms.origin H f i (length h) cell.byte
     unsettled never_refused = record {
-      w = given.w;
-      before = given.began;
-      writes = given.writes;
+      w = giver.w;
+      before = giver.began;
+      writes = giver.writes;
       unrefused = λ r. refused r;
-      unput = λ d. unput-by d;
-      uncovered = λ x y u before wrote_ low. uncovered-by x y u before wrote_ low;
-      uncut = λ x y size before t least low. uncut-by x y size before t least low;
-      unsettled = λ x y before made low. unsettled-by x y before made low;
+      unput = λ d. unput-by mt terms setup H f i h rest is v p cell there d;
+      uncovered = λ x y u before wrote_ low. uncovered-by mt terms setup H f i h rest is v p cell there x y u before wrote_ low;
+      uncut = λ x y size before t least low. uncut-by mt terms setup H f i h rest is v p cell there x y size before t least low;
+      unsettled = λ x y before made low. unsettled-by mt terms setup H f i h rest is v p cell there x y before made low;
     }
       where
-        refused : RefusedWrite H given.w → ⊥
-        refused r = (let writer = refused-writer H given.w r in let k = given.well writer in never_refused writer k.0 k.1 r)
+        refused : RefusedWrite H giver.w → ⊥
+        refused r = (let writer = refused-writer H giver.w r in let k = giver.well writer in never_refused writer k.0 k.1 r)
 
     -- where the table's slots of the file are held before a record comes
-    pub whole : (OfOp H given.w IsWriter → (value : Value) → IsFixed h v given.w (answers.Done value) → RefusedWrite H given.w → ⊥) → DropsKnown terms.modes h v
+    pub whole : (OfOp H giver.w IsWriter → (value : Value) → IsFixed h v giver.w (answers.Done value) → RefusedWrite H giver.w → ⊥) → DropsKnown terms.modes h v
         → HeldSoon mt terms setup H V g f h rest is v → Pending terms.modes terms.origin H f i (length h) cell.byte
     whole never_refused d soon = record {
-      w = given.w;
-      before = given.began;
-      writes = given.writes;
+      w = giver.w;
+      before = giver.began;
+      writes = giver.writes;
       unrefused = λ r. refused r;
-      unput = λ d. unput-by d;
-      uncovered = λ x y u before wrote_ low. uncovered-by x y u before wrote_ low;
-      uncut = λ x y size before t least low. uncut-by x y size before t least low;
-      unsettled = λ x y before made low. unsettled-by x y before made low;
+      unput = λ d. unput-by mt terms setup H f i h rest is v p cell there d;
+      uncovered = λ x y u before wrote_ low. uncovered-by mt terms setup H f i h rest is v p cell there x y u before wrote_ low;
+      uncut = λ x y size before t least low. uncut-by mt terms setup H f i h rest is v p cell there x y size before t least low;
+      unsettled = λ x y before made low. unsettled-by mt terms setup H f i h rest is v p cell there x y before made low;
       unleft = λ none k before left low. unleft-by d soon none k before left low;
     }
       where
-        refused : RefusedWrite H given.w → ⊥
-        refused r = (let writer = refused-writer H given.w r in let k = given.well writer in never_refused writer k.0 k.1 r)
+        refused : RefusedWrite H giver.w → ⊥
+        refused r = (let writer = refused-writer H giver.w r in let k = giver.well writer in never_refused writer k.0 k.1 r)
 
 -- ---- at its end
 

@@ -238,11 +238,11 @@ module _ (m : Mounted) (terms : Terms) (setup : Setup) (h : List Entry) (v : Vie
   }
 
   -- what it keeps to
-  its-keeps : KeepsTo terms h i Its
+  its-keeps : KeepsTo terms h w.x i Its
   its-keeps = record {
     read = reads-keep m terms setup h v s i bytes w its-asked;
     write = λ f text offset how is. writes-keep m terms setup h v s i bytes w f text offset how is;
-    own = λ f text offset how is k b has. own-bytes m terms setup h v s i bytes w f text offset how is k b has;
+    own = λ f text offset how is k b has. own-bytes m terms setup h v s i bytes w on f text offset how is k b has;
   }
 
   pub caused-in-need : IsCaused terms h i bytes ⊎ IsCausedInNeed terms h i bytes

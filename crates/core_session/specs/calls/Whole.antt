@@ -60,7 +60,7 @@ pub record IsCausedBeside (terms : Terms) (h : List Entry) (i : ℕ) (bytes : Li
   pub op : Op
   pub under_way : UnderWay h lane x i op
   pub beside : IsBeside terms h x i op call
-  pub keeps : KeepsTo terms h i call
+  pub keeps : KeepsTo terms h x i call
 
 -- As `CallsAsked` of `world_model`, but that a call may be such a one.
 pub record CallsAskedBut (terms : Terms) (h : List Entry) : Type 0 where

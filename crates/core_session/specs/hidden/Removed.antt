@@ -30,7 +30,7 @@ pub record IsCausedForRoom (terms : Terms) (h : List Entry) (i : ℕ) (bytes : L
   pub under_way : UnderWay h lane x i op
   pub writer : IsWriter op
   pub room : IsForRoom call
-  pub keeps : KeepsTo terms h i call
+  pub keeps : KeepsTo terms h x i call
 
 -- As `CallsAsked` of world_model, but that a call may be such a one.
 pub record CallsAskedButRoom (terms : Terms) (h : List Entry) : Type 0 where

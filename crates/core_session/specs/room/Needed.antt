@@ -54,7 +54,7 @@ pub record IsCausedInNeed (terms : Terms) (h : List Entry) (i : ℕ) (bytes : Li
   pub op : Op
   pub under_way : UnderWay h lane x i op
   pub left : IsLeft terms h x i op call
-  pub keeps : KeepsTo terms h i call
+  pub keeps : KeepsTo terms h x i call
 
 -- As `CallsAsked` of `world_model`, but that a call may be such a one.
 pub record CallsAskedInNeed (terms : Terms) (h : List Entry) : Type 0 where

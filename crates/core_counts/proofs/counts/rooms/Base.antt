@@ -57,7 +57,7 @@ use Rattle.core_session.specs.calls.Sessions.{AreAsked}
 use Rattle.core_session.proofs.asked.Empty.{IsEmpty, takes-empty}
 use Rattle.core_session.proofs.order.PutWrites.{ends-at}
 use Rattle.core_session.proofs.pending.Begins.{begins-of}
-use Rattle.core_session.proofs.pending.Unsettled.{ended-in}
+use Rattle.core_session.proofs.pending.Moments.{ended-in}
 use Rattle.core_session.proofs.saves.WholeSteps.{Wholly}
 use Rattle.core_session.proofs.syncs.AllJobs.{JobBegins, JobOpens}
 use Rattle.core_session.proofs.syncs.Contents.{Common, Anything, common, common-replies, common-adds, common-cuts, common-gives}

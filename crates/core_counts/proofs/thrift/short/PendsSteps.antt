@@ -45,7 +45,7 @@ use Rattle.core_facts.proofs.Leading.{LeadsTo}
 use Rattle.core_facts.proofs.Placing.{Placed, LaneLive}
 use Rattle.core_answers.proofs.asks.WalkAsks.{leads-on}
 use Rattle.core_session.specs.calls.Sessions.{AreAsked}
-use Rattle.core_session.proofs.pending.Unsettled.{ended-in}
+use Rattle.core_session.proofs.pending.Moments.{ended-in}
 use Rattle.core_session.proofs.saves.WholeSteps.{Wholly}
 use Rattle.core_session.proofs.syncs.AllJobs.{JobBegins, JobOpens}
 use Rattle.core_session.proofs.syncs.Fate.{Story}

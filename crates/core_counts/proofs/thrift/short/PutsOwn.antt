@@ -36,7 +36,7 @@ use Rattle.core_session.proofs.drops.KnowingAlong.{IsPlain, NotedBefore}
 use Rattle.core_session.proofs.drops.LaneIs.{state-is, number-is, busy-over}
 use Rattle.core_session.proofs.drops.Noting.{ended-at}
 use Rattle.core_session.proofs.drops.SaveFiles.{IsSave}
-use Rattle.core_session.proofs.pending.Unsettled.{ended-in}
+use Rattle.core_session.proofs.pending.Moments.{ended-in}
 use Rattle.core_session.proofs.syncs.Aparts.{names-next, once}
 use Rattle.core_session.proofs.syncs.PutEnds.{LastNames, last-names-later}
 use Rattle.core_session.proofs.syncs.PutGoes.{names-keep, AtSave, OwnAt, own_save, file_own, path_own}

@@ -1,0 +1,110 @@
+-- Each byte of a WRITE that waits was outstanding at a moment since the operation began that asks for it.
+use Rattle.std.proofs.Common.{◌≡◌, ◌+◌, ℕ, false, List, [], ◌∷◌, ◌++◌, length, Some, position, slice_get, refl, sym, subst, ◌∙◌, append_assoc}
+use Rattle.rpc_retry.specs.declared.waiting.Waiting.{Waiting}
+use Rattle.rpc_retry.specs.Waiting.{waiting_at}
+use Rattle.write_back.specs.Files.{of_file}
+use Rattle.write_back.specs.Pieces.{Sent, piece_under}
+use Rattle.world_model.specs.declared.entry.Entry.{Entry}
+use Rattle.world_model.specs.declared.entry.Entry.TheVariants.{Began, Answered, Delivered}
+use Rattle.world_model.specs.declared.op.Op.{Op}
+use Rattle.world_model.specs.LanesTogether.{IsBusy}
+use Rattle.world_model.specs.Operations.{UnderWay}
+use Rattle.claims.specs.Pending.{OutstandingWithin}
+use Rattle.claims.specs.Terms.{Terms}
+use Rattle.call_replies.specs.Says.{said_of}
+use Rattle.op_machines.specs.declared.begun.Mounted.{Mounted}
+use Rattle.op_machines.specs.Begun.{machine_of}
+use Rattle.client_core.specs.declared.lane.Purpose.{Purpose}
+use Rattle.client_core.specs.declared.lane.State.TheVariants.{Busy}
+use Rattle.client_core.specs.declared.setup.Setup.{Setup}
+use Rattle.client_core.specs.Lanes.{is_busy}
+use Rattle.client_core.specs.Numbers.{numbers_of}
+use Rattle.client_core.specs.Steps.{TakesAt}
+use Rattle.client_core.specs.View.{View}
+use Rattle.core_facts.specs.Naming.{KnowsRoot}
+use Rattle.core_facts.specs.Reaches.{Reaches}
+use Rattle.core_facts.specs.SlotAnswers.{GoesWith}
+use Rattle.core_facts.proofs.AllCounts.{begins-unbegun}
+use Rattle.core_facts.proofs.Cases.{taken_one}
+use Rattle.core_facts.proofs.Keeping.{Known, taker-is}
+use Rattle.core_facts.proofs.LaneMarks.{Runs, quiet-facts, lanes-under-way, number_of}
+use Rattle.core_facts.proofs.Lists.{to-map}
+use Rattle.core_session.specs.syncs.Synced.{PutsNamed}
+use Rattle.core_session.proofs.syncs.Turning.{under-on}
+use Rattle.core_session.proofs.syncs.WatchingAlong.{KeepsWatching, reached-watching}
+use Rattle.core_session.proofs.pending.Flights.{Flights, fresh-flights, stirs-flights, starts-flights, takes-flights, answers-flights, same-flights}
+use Rattle.core_session.proofs.pending.Standing.{Stands}
+use Rattle.core_session.proofs.pending.Unsettled.{refused-writer, stands-all}
+use Rattle.core_session.proofs.pending.Onwards.{never-refused}
+use Rattle.core_session.proofs.room.Onward.{Onward}
+
+module _ (mt : Mounted) (terms : Terms) (setup : Setup) (H : List Entry) (V : View) (g : GoesWith mt terms setup H V) (roots : KnowsRoot terms.origin H mt.root) (puts_named : PutsNamed H) (f : List ℕ) (i : ℕ) where
+  -- what stands of the newest bytes, and what is known of the WRITEs that wait
+  record Stood (h : List Entry) (v : View) : Type 0 where
+    stands : Stands mt terms setup H f i h v
+    flights : (rest : List Entry) → h ++ rest ≡ H → Flights mt terms setup H f i h v
+
+  abbrev all : KeepsWatching (machine_of mt) setup (Stands mt terms setup H f i)
+  all = stands-all mt terms setup H V g roots puts_named f i
+
+  stood-takes : (h : List Entry) (old new : View) (rec : List ℕ) (xid : ℕ) (call : Waiting Purpose) (at : ℕ) (k : Known setup h old) (waits : waiting_at xid old.calls.calls ≡ Some call)
+      → position (is_busy call.purpose.lane) old.lanes ≡ Some at → TakesAt (taken_one old xid) at call.purpose.sent (said_of call.purpose.proc rec) new → Stood h old
+      → Stands mt terms setup H f i (h ++ Delivered rec ∷ []) new → (rest : List Entry) → (h ++ Delivered rec ∷ []) ++ rest ≡ H → Flights mt terms setup H f i (h ++ Delivered rec ∷ []) new
+  stood-takes h old new rec xid call at k waits there t st now rest is =
+      takes-flights mt terms setup H f i h rest rec is old new xid call at k waits t st.stands.wholly.flying number-of run.x run.op
+      (subst (λ (n : ℕ). UnderWay h n run.x (length h) run.op) (sym number-of) run.under_way) runs
+      (under-on h (Delivered rec) t.number run.x run.op (λ line answer e. absurd (cc e)) run.under_way) (now.phase rest is)
+      (st.flights (Delivered rec ∷ rest) (sym (append_assoc h (Delivered rec ∷ []) rest) ∙ is))
+    where
+      run : IsBusy h t.number (length h)
+      run = (lanes-under-way h old k.lanes).busy at (record { number = t.number; state = Busy t.machine }) t.there
+
+      number-of : call.purpose.lane ≡ t.number
+      number-of = sym (taker-is setup h old xid call at k waits there t.number t.machine t.there)
+
+      runs : Runs (h ++ Delivered rec ∷ []) t.number
+      runs = (quiet-facts h (Delivered rec) (numbers_of old.lanes) (λ number. refl) k.lanes).busy at t.number (to-map number_of old.lanes at (record { number = t.number; state = Busy t.machine }) t.there)
+
+  stood-all : KeepsWatching (machine_of mt) setup Stood
+  stood-all = record {
+    fresh = λ h v may up fresh. record { stands = all.fresh h v may up fresh; flights = λ rest is. fresh-flights mt terms setup H f i h v fresh };
+    stirs = λ h old new at k t st.
+        let now = all.stirs h old new at k t st.stands in
+        record { stands = now; flights = λ rest is. stirs-flights mt terms setup H f i h rest is old new at k t st.stands.wholly.flying (now.phase rest is) (st.flights rest is) };
+    starts = λ h old new lane line op at r found k idle fits t st.
+        let now = all.starts h old new lane line op at r found k idle fits t st.stands in
+        record {
+          stands = now;
+          flights = λ rest is. starts-flights mt terms setup H f i h rest lane line op is old new at k idle t st.stands.wholly.flying (now.phase rest is)
+              (st.flights (Began lane line op ∷ rest) (sym (append_assoc h (Began lane line op ∷ []) rest) ∙ is));
+        };
+    takes = λ h old new rec xid call at r found k fin hears named waits there t st.
+        let now = all.takes h old new rec xid call at r found k fin hears named waits there t st.stands in
+        record { stands = now; flights = λ rest is. stood-takes h old new rec xid call at k waits there t st now rest is };
+    answers = λ h old new at lane line answer r found k r2 found2 open_line a st. record {
+      stands = all.answers h old new at lane line answer r found k r2 found2 open_line a st.stands;
+      flights = λ rest is. answers-flights mt terms setup H f i h old new at lane line answer k open_line a
+          (st.flights (Answered lane line answer ∷ rest) (sym (append_assoc h (Answered lane line answer ∷ []) rest) ∙ is));
+    };
+    same = λ h e old new r found k plain noted sends lanes shelf wsize calls st. record {
+      stands = all.same h e old new r found k plain noted sends lanes shelf wsize calls st.stands;
+      flights = λ rest is. same-flights mt terms setup H f i h e old new plain lanes shelf calls (st.flights (e ∷ rest) (sym (append_assoc h (e ∷ []) rest) ∙ is));
+    };
+  }
+
+  -- of a WRITE that waits, for an operation under way
+  pub carried-outstanding : (h rest : List Entry) → h ++ rest ≡ H → (v : View) → Reaches (machine_of mt) setup h v → v.lost ≡ false → Onward (machine_of mt) setup h v H V
+      → (xid : ℕ) (w : Waiting Purpose)
+      → waiting_at xid v.calls.calls ≡ Some w → (x : ℕ) (op : Op) → UnderWay h w.purpose.lane x (length h) op → (piece : Sent) → piece_under xid (of_file f v.shelf.back).pieces ≡ Some piece
+      → (k byte : ℕ) → i ≡ piece.offset + k → slice_get piece.bytes k ≡ Some byte → OutstandingWithin terms.modes terms.origin H x (length h) f i byte
+  carried-outstanding h rest is v r found on xid w waits x op u piece there k byte at has =
+      let s = (reached-watching (machine_of mt) (begins-unbegun mt) setup Stood stood-all h v r found).flights rest is xid w waits x op u piece there k byte at has in
+      record {
+        n = s.n;
+        late = s.late;
+        soon = s.soon;
+        outstanding = s.outstanding (λ refused.
+            let writer = refused-writer H s.w refused in
+            let good = s.well writer in
+            never-refused mt setup H V h rest is v r on s.w writer good.0 good.1 refused);
+      }
