@@ -1,11 +1,11 @@
 -- A run that is cut off at its end is one that was cut off.
-use Rattle.std.proofs.Common.{inl, inr, ◌≡◌, ◌⊎◌, ℕ, Bool, List, [], Option, sym, ◌∙◌, arith}
+use Rattle.std.proofs.Common.{inl, inr, ◌≡◌, ℕ, Bool, List, [], Option, sym, ◌∙◌, arith}
 use Rattle.std.proofs.lemmas.List.{append-nil}
 use Rattle.world_model.specs.declared.entry.Entry.{Entry}
 use Rattle.world_model.specs.declared.tally.Tally.{Tally}
 use Rattle.nfs_script.specs.declared.script.ScriptLine.{ScriptLine}
 use Rattle.session_words.specs.declared.settings.Settings.{Settings}
-use Rattle.lane_session.specs.Endings.{EndsAs, TextOf, NotesAll}
+use Rattle.lane_session.specs.Endings.{TextOf, NotesAll}
 use Rattle.lane_session.specs.Endings as sessions
 use Rattle.lane_session.specs.Sessions.{SessionIs}
 use Rattle.claims.specs.Caused.{Caused}
@@ -14,7 +14,7 @@ use Rattle.script_runs.specs.Ends.{EndsSo, IsClocked}
 use Rattle.script_runs.specs.Ends as mounting
 use Rattle.script_runs.specs.LaneRuns.{SetUpAndRun, SessionBy}
 use Rattle.script_runs.specs.LaneRuns as runs
-use Rattle.script_runs.specs.Run.{IsCutOff, RefusesWith, Unbegun, RunOf}
+use Rattle.script_runs.specs.Run.{IsCutOff, Unbegun, RunOf}
 use Rattle.script_runs.specs.Run as tops
 use Rattle.nfs_client.specs.Headline.{Headline}
 use Rattle.nfs_client.specs.Run.{Shows}

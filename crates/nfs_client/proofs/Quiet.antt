@@ -1,5 +1,5 @@
 -- A session in which no call is one of an operation, and each answer is that the session is lost, keeps all that the model says of sessions.
-use Rattle.std.proofs.Common.{inl, inr, ◌≡◌, ◌≤◌, ◌⊎◌, ℕ, List, [], ◌∷◌, length, All, refl, sym, ap, subst, ◌∙◌, arith}
+use Rattle.std.proofs.Common.{inl, ◌≡◌, ◌≤◌, ℕ, List, [], ◌∷◌, length, All, refl, sym, ap, subst, ◌∙◌, arith}
 use Rattle.std.proofs.lemmas.List.Elements.{All-nil, All-head}
 use Rattle.nfs_types.specs.declared.verf.Verf.{Verf}
 use Rattle.rpc_message.specs.declared.call.CallHead.{CallHead}

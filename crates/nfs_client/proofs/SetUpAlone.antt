@@ -1,9 +1,6 @@
 -- A session that was lost in its set-up, or had no lines begun, made calls of its set-up alone.
-use Rattle.std.proofs.Common.{inl, inr, ◌≡◌, ◌≤◌, ◌<◌, ◌+◌, ◌⊎◌, ℕ, zero, suc, List, [], ◌∷◌, ◌++◌, length, Result, Ok, Err, refl, sym, subst, arith}
+use Rattle.std.proofs.Common.{inl, inr, ◌≡◌, ◌<◌, ◌+◌, ◌⊎◌, ℕ, zero, suc, List, [], ◌∷◌, ◌++◌, length, Result, Err, subst, arith}
 use Rattle.std.proofs.lemmas.List.{append-nil}
-use Rattle.world_model.specs.declared.answer.Answer.{Answer}
-use Rattle.world_model.specs.declared.answer.Answer.TheVariants.{Refused}
-use Rattle.world_model.specs.declared.answer.Fault.TheVariants as faults
 use Rattle.world_model.specs.declared.entry.Entry.{Entry}
 use Rattle.world_model.specs.declared.entry.Entry.TheVariants.{Began, Answered, Sent, Delivered}
 use Rattle.world_model.specs.declared.message.Call.{Call}
@@ -22,7 +19,7 @@ use Rattle.session_setup.specs.declared.opening.SetUpFault.TheVariants.{Lost}
 use Rattle.session_setup.specs.Origins.{origin_of}
 use Rattle.session_setup.specs.Outcomes.{SetsUp}
 use Rattle.session_setup.specs.Sendings.{IsSetUpCall, mounts, informs}
-use Rattle.lane_session.specs.Losing.{IsLosing, LosesOnly}
+use Rattle.lane_session.specs.Losing.{IsLosing}
 use Rattle.lane_session.proofs.CoreEnds.{loses-more}
 use Rattle.nfs_client.specs.Given.{terms_by}
 use Rattle.nfs_client.proofs.Quiet.{IsQuiet, IsSetUpRecord}

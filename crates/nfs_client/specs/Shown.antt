@@ -1,8 +1,7 @@
 -- What the history of a run shows, by its settings alone: its core goes with it, and its root, the one of the set-up, was known as each operation began.
-use Rattle.std.specs.Prelude.{◌≡◌, ◌≢◌, ◌<◌, ◌≤◌, ◌+◌, ◌⊎◌, ℕ, List, [], true, false, length, take, slice_get, Some, max}
+use Rattle.std.specs.Prelude.{◌≡◌, ◌≢◌, ◌<◌, ◌≤◌, ◌+◌, ◌⊎◌, ℕ, List, [], true, false, length, take, slice_get, Some}
 use Rattle.attr_cache.specs.Attrs.{kept_of}
 use Rattle.attr_cache.specs.declared.kept.KeptAttr.{KeptAttr}
-use Rattle.attr_cache.specs.declared.lives.Lives.{Lives}
 use Rattle.name_cache.specs.Names.{looked}
 use Rattle.nfs_types.specs.declared.attr.Attr.{Attr}
 use Rattle.nfs_types.specs.declared.wcc.Stamp.{Stamp}
@@ -35,7 +34,6 @@ use Rattle.world_model.specs.History.{History}
 use Rattle.world_model.specs.Lawful.{Lawful}
 use Rattle.world_model.specs.Lost.{IsLost}
 use Rattle.world_model.specs.Messages.{HasXid, SpellsCall}
-use Rattle.claims.specs.Modes.{Modes}
 use Rattle.claims.specs.OkRows.{OkRow}
 use Rattle.world_model.specs.Once.{Once}
 use Rattle.world_model.specs.Operations.{Ended, UnderWay}

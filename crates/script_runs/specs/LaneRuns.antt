@@ -5,7 +5,6 @@ use Rattle.world_model.specs.declared.entry.Entry.{Entry}
 use Rattle.world_model.specs.declared.tally.Tally.{Tally}
 use Rattle.world_model.specs.Counts.{tally_of}
 use Rattle.world_model.specs.Lost.{IsLost}
-use Rattle.world_model.specs.Transcript.{mount_text}
 use Rattle.nfs_script.specs.declared.script.ScriptLine.{ScriptLine}
 use Rattle.nfs_script.specs.Asked.{IsAskedLine}
 use Rattle.session_words.specs.declared.settings.Settings.{Settings}
