@@ -25,7 +25,7 @@ entry-decides a b =
     (Decides-and (bytes_eq a.name b.name && bytes_eq a.object b.object) (a.cookie == b.cookie)
     (Decides-and (bytes_eq a.name b.name) (bytes_eq a.object b.object) (bytes_eq-Decides a.name b.name) (bytes_eq-Decides a.object b.object)) (Decides-eqb a.cookie b.cookie))
 
-entries-decides : (a b : List DirEntry) → Decides (same_entries a b) (map listed_of a ≡ map listed_of b)
+pub entries-decides : (a b : List DirEntry) → Decides (same_entries a b) (map listed_of a ≡ map listed_of b)
 unfolding same_entries
 entries-decides [] [] = (λ _. refl, λ _. refl)
 entries-decides [] (y ∷ b) = (λ t. absurd (true≢false (sym t)), λ e. absurd (cc))

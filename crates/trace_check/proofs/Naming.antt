@@ -1,5 +1,5 @@
 -- The object under a handle: where it is named, and which stamps it had.
-use Rattle.std.proofs.Common.{◌≡◌, ◌<◌, ◌≤◌, ◌⊎◌, inl, inr, ◌==◌, ℕ, zero, suc, false, true≢false, List, [], ◌∷◌, Option, Some, None, slice_get, refl, sym, ◌∙◌, ap, arith}
+use Rattle.std.proofs.Common.{true, ◌≡◌, ◌<◌, ◌≤◌, ◌⊎◌, inl, inr, ◌==◌, ℕ, zero, suc, false, true≢false, List, [], ◌∷◌, Option, Some, None, slice_get, refl, sym, ◌∙◌, ap, arith}
 use Rattle.std.specs.Prelude.{Decides, ◌&&◌, ◌||◌}
 use Rattle.std.specs.Str.{bytes_eq}
 use Rattle.std.proofs.lemmas.Bool.{cases_Bool}
@@ -21,6 +21,9 @@ use Rattle.trace_check.proofs.Below.{any_below-decides}
 past : (u : Updated) (us : List Updated) (h : List ℕ) → bytes_eq u.handle h ≡ false → named (u ∷ us) h ≡ named us h
 past u us h f = rw f refl
 
+here : (u : Updated) (us : List Updated) (h : List ℕ) → bytes_eq u.handle h ≡ true → named (u ∷ us) h ≡ Some u.object
+here u us h t = rw t refl
+
 -- an object that is named has a place in the list
 pub named-place : (us : List Updated) (h : List ℕ) (o : Object) → named us h ≡ Some o → (k : ℕ) × (u : Updated) × (slice_get us k ≡ Some u) × (u.handle ≡ h)
 named-place [] h o e = absurd (cc)
@@ -29,9 +32,19 @@ named-place (u ∷ us) h o e = elim (cases_Bool (bytes_eq u.handle h)) [
   | inr f ↦ let r = named-place us h o (sym (past u us h f) ∙ e) in (suc r.0, r.1, r.2, r.3)
 ]
 
+pub named-object : (us : List Updated) (h : List ℕ) (o : Object) → named us h ≡ Some o → (k : ℕ) × (u : Updated) × (slice_get us k ≡ Some u) × (u.handle ≡ h) × (u.object ≡ o)
+named-object [] h o e = absurd (cc)
+named-object (u ∷ us) h o e = elim (cases_Bool (bytes_eq u.handle h)) [
+  | inl t ↦ (zero, u, refl, (bytes_eq-Decides u.handle h).0 t, one (sym (here u us h t) ∙ e))
+  | inr f ↦ let r = named-object us h o (sym (past u us h f) ∙ e) in (suc r.0, r.1, r.2, r.3, r.4)
+]
+  where
+    one : Some u.object ≡ Some o → u.object ≡ o
+    one q = cc
+
 -- ---- stamps
 
-time-decides : (s t : Time) → Decides (same_time s t) (s ≡ t)
+pub time-decides : (s t : Time) → Decides (same_time s t) (s ≡ t)
 time-decides s t =
     Decides-like ((s.seconds == t.seconds) && (s.nanos == t.nanos))
     (λ w i. record { seconds = w.0 i; nanos = w.1 i })
@@ -69,6 +82,14 @@ Given start us n f s = HasStamp (named start f) s ⊎ ((j : ℕ) × (j < n) × H
 either : (R : Type 0) (x y : Option Object) (o : Object) → or_else x y ≡ Some o → (x ≡ Some o → R) → (y ≡ Some o → R) → R
 either R None y o e named was = was e
 either R (Some p) y o e named was = named e
+
+-- what stands under the handle at moment m was named at the start or by an update before
+pub origin : (start : List Updated) (us : List Update) (m : ℕ) (f : List ℕ) (o : Object) → object_at start us m f ≡ Some o → (named start f ≡ Some o) ⊎ ((j : ℕ) × (j < m) × (named (objects_after us j) f ≡ Some o))
+origin start us zero f o e = inl e
+origin start us (suc m) f o e =
+    either ((named start f ≡ Some o) ⊎ ((j : ℕ) × (j < suc m) × (named (objects_after us j) f ≡ Some o))) (named (objects_after us m) f) (object_at start us m f) o e
+    (λ this. inr (m, omega arith, this))
+    (λ was. elim (origin start us m f o was) [ inl first ↦ inl first | inr w ↦ (let lt : w.0 < m = w.1 in inr (w.0, omega (arith, lt), w.2)) ])
 
 found : (start : List Updated) (us : List Update) (n : ℕ) (f : List ℕ) (s : Stamp) (m : ℕ) (o : Object) → m ≤ n → object_at start us m f ≡ Some o → stamp_of o.attr ≡ s → Given start us n f s
 found start us n f s zero o le e is = inl (o, e, is)

@@ -1,3 +1,5 @@
 pub mod Decided
 pub mod Histories
 pub mod Freshness
+pub mod Keeping
+pub mod Soundness
