@@ -13,6 +13,7 @@ pub mod Good
 pub mod SeenKnown
 pub mod Sounds
 pub mod Keeping
+pub mod Answered
 pub mod ReadOver
 pub mod ReadStory
 pub mod ReadsTaken

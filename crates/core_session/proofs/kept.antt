@@ -8,8 +8,6 @@ pub mod TakesOn
 pub mod Entries_
 pub mod Kept
 pub mod Written
-pub mod OwnAlong
-pub mod OwnFollowing
 pub mod OverEnds
 pub mod ReadFound
 pub mod ReadStory

@@ -4,6 +4,7 @@ use Rattle.std.proofs.Common.{◌≡◌, inl, inr, ℕ, List, [], ◌∷◌, ◌
 use Rattle.rpc_message.specs.Call.{xid_at}
 use Rattle.rpc_retry.specs.declared.waiting.Waiting.{Waiting}
 use Rattle.rpc_retry.specs.Fail.{failed_after}
+use Rattle.rpc_retry.specs.Take.{awaited}
 use Rattle.rpc_retry.specs.Waiting.{waiting_at}
 use Rattle.rpc_retry.proofs.Records.{before_sent, before_failed}
 use Rattle.world_model.specs.declared.answer.Answer.{Answer}
@@ -34,14 +35,14 @@ use Rattle.core_facts.proofs.Walks.{stirs-stay, starts-stay, steps-stay}
 use Rattle.core_answers.specs.pages.Passing.{Passes}
 use Rattle.core_answers.specs.pages.Passing as passing
 
--- It holds of a fresh core; each step of a lane keeps it, also where an operation begins or a reply comes, each answer that is noted, and each
--- entry that leaves lanes, shelf and calls as they are.
 -- no operation begins or is answered, and no record comes
 pub record IsPlain (e : Entry) : Type 0 where
   pub comes_ : (bytes : List ℕ) → e ≡ Delivered bytes → ⊥
   pub begins_ : (lane line : ℕ) (op : Op) → e ≡ Began lane line op → ⊥
   pub answers_ : (lane line : ℕ) (answer : Answer) → e ≡ Answered lane line answer → ⊥
 
+-- It holds of a fresh core; each step of a lane keeps it, also where an operation begins or a reply comes, each answer that is noted, and each
+-- entry that leaves lanes, shelf and calls as they are.
 pub record KeepsMoments (machine_of : ℕ → Op → Machine) (setup : Setup) (I : List Entry → View → Type 0) : Type 0 where
   pub fresh : (h : List Entry) (v : View) → MaySetUp setup → IsSetUp setup h → IsFresh setup v → I h v
   pub stirs : (h : List Entry) (old new : View) (at : ℕ) → Known setup h old → Passes machine_of setup h old → Stirs old at new → I h old → I h new
@@ -56,8 +57,36 @@ pub record KeepsMoments (machine_of : ℕ → Op → Machine) (setup : Setup) (I
       → SameCalls old.calls.calls new.calls.calls → I h old → I (h ++ e ∷ []) new
   pub drops : (h : List Entry) (old fin : View) (rec : List ℕ) → Known setup h old → HearsRecord old rec fin → I h old → I (h ++ Delivered rec ∷ []) old
 
+-- The same, where of a record that is dropped it is known that no call waits for it.
+pub record KeepsHeard (machine_of : ℕ → Op → Machine) (setup : Setup) (I : List Entry → View → Type 0) : Type 0 where
+  pub fresh : (h : List Entry) (v : View) → MaySetUp setup → IsSetUp setup h → IsFresh setup v → I h v
+  pub stirs : (h : List Entry) (old new : View) (at : ℕ) → Known setup h old → Passes machine_of setup h old → Stirs old at new → I h old → I h new
+  pub starts : (h : List Entry) (old new : View) (lane line : ℕ) (op : Op) (now : ℕ) → Reaches machine_of setup h old → old.lost ≡ false → Known setup h old
+      → IsIdle lane old.lanes → Fits (machine_of lane op) → StartsLane (counted old now) lane (machine_of lane op) new → I h old → I (h ++ Began lane line op ∷ []) new
+  pub takes : (h : List Entry) (old new : View) (rec : List ℕ) (xid : ℕ) (call : Waiting Purpose) (at : ℕ) → Reaches machine_of setup h old → old.lost ≡ false
+      → Known setup h old → (fin : View) → HearsRecord old rec fin → xid_at rec ≡ Some xid → waiting_at xid old.calls.calls ≡ Some call
+      → position (is_busy call.purpose.lane) old.lanes ≡ Some at → TakesAt (taken_one old xid) at call.purpose.sent (said_of call.purpose.proc rec) new → I h old → I (h ++ Delivered rec ∷ []) new
+  pub answers : (h : List Entry) (old new : View) (at lane line : ℕ) (answer : Answer) → Known setup h old → AnswersAt old at lane (Some answer) new → I h old
+      → I (h ++ Answered lane line answer ∷ []) new
+  pub same : (h : List Entry) (e : Entry) (old new : View) → IsPlain e → new.lanes ≡ old.lanes → new.shelf ≡ old.shelf → new.wsize ≡ old.wsize → new.moments ≡ old.moments
+      → SameCalls old.calls.calls new.calls.calls → I h old → I (h ++ e ∷ []) new
+  pub drops : (h : List Entry) (old fin : View) (rec : List ℕ) → Reaches machine_of setup h old → old.lost ≡ false → Known setup h old → HearsRecord old rec fin
+      → awaited (xid_at rec) old.calls.calls ≡ None → I h old → I (h ++ Delivered rec ∷ []) old
+
+-- what is kept whichever record came
+pub of-moments : (machine_of : ℕ → Op → Machine) (setup : Setup) (I : List Entry → View → Type 0) → KeepsMoments machine_of setup I → KeepsHeard machine_of setup I
+of-moments machine_of setup I k = record {
+  fresh = k.fresh;
+  stirs = k.stirs;
+  starts = k.starts;
+  takes = k.takes;
+  answers = k.answers;
+  same = k.same;
+  drops = λ h old fin rec r found known hears none i. k.drops h old fin rec known hears i;
+}
+
 module _ (machine_of : ℕ → Op → Machine) (unbegun : (lane : ℕ) (op : Op) → IsUnbegun (machine_of lane op)) (setup : Setup) (I : List Entry → View → Type 0)
-    (laws : KeepsMoments machine_of setup I) where
+    (laws : KeepsHeard machine_of setup I) where
   known-of : (h : List Entry) (v : View) → Reaches machine_of setup h v → v.lost ≡ false → Known setup h v
   known-of = reached-all machine_of unbegun setup
 
@@ -144,7 +173,7 @@ module _ (machine_of : ℕ → Op → Machine) (unbegun : (lane : ℕ) (op : Op)
 
   heard-kept : (h : List Entry) (old : View) (rec : List ℕ) (new : View) → old.lost ≡ false → Reaches machine_of setup h old → (fin : View) → HearsRecord old rec fin → Heard old rec new → I h old
       → I (h ++ Delivered rec ∷ []) new
-  heard-kept h old rec new found r fin hears (dropped none is) i = subst (I (h ++ Delivered rec ∷ [])) (sym is) (laws.drops h old fin rec (known-of h old r found) hears i)
+  heard-kept h old rec new found r fin hears (dropped none is) i = subst (I (h ++ Delivered rec ∷ [])) (sym is) (laws.drops h old fin rec r found (known-of h old r found) hears none i)
   heard-kept h old rec new found r fin hears (replied xid call named waits f) i = by (position (is_busy call.purpose.lane) old.lanes) refl f.own
     where
       by : (o : Option ℕ) → position (is_busy call.purpose.lane) old.lanes ≡ o
@@ -195,11 +224,11 @@ module _ (machine_of : ℕ → Op → Machine) (unbegun : (lane : ℕ) (op : Op)
   kept-step h old (Reboot verf) new t r i found was = same-kept h (Reboot verf) old new (record { comes_ = λ bytes is. cc; begins_ = λ lane line op is. cc; answers_ = λ lane line answer is. cc }) t (i (lost-of old new t found))
   kept-step h old (Clock ms) new t r i found was = same-kept h (Clock ms) old new (record { comes_ = λ bytes is. cc; begins_ = λ lane line op is. cc; answers_ = λ lane line answer is. cc }) t (i (lost-of old new t found))
 
-  pub reached-moments : (h : List Entry) (v : View) → Reaches machine_of setup h v → v.lost ≡ false → I h v
-  reached-moments _ _ (begins h v may up fresh) found = laws.fresh h v may up fresh
-  reached-moments _ _ (goes h before v b e r is t) found =
-      subst (λ (k : List Entry). I k v) (sym is) (kept-step before b e v t r (reached-moments before b r) found (λ rec d. sym (heard-lost b rec v d) ∙ found))
-  reached-moments _ _ (loses h v b r shown is) found = absurd (let no_way : true ≡ false = ap (λ (w : View). w.lost) (sym is) ∙ found in cc)
+  pub reached-heard : (h : List Entry) (v : View) → Reaches machine_of setup h v → v.lost ≡ false → I h v
+  reached-heard _ _ (begins h v may up fresh) found = laws.fresh h v may up fresh
+  reached-heard _ _ (goes h before v b e r is t) found =
+      subst (λ (k : List Entry). I k v) (sym is) (kept-step before b e v t r (reached-heard before b r) found (λ rec d. sym (heard-lost b rec v d) ∙ found))
+  reached-heard _ _ (loses h v b r shown is) found = absurd (let no_way : true ≡ false = ap (λ (w : View). w.lost) (sym is) ∙ found in cc)
 
   -- and of each view through which the core passes
   begun-kept : (h : List Entry) (old new : View) (lane line : ℕ) (op : Op) → Reaches machine_of setup h old → old.lost ≡ false → IsIdle lane old.lanes
@@ -213,7 +242,7 @@ module _ (machine_of : ℕ → Op → Machine) (unbegun : (lane : ℕ) (op : Op)
       known = starts-count (counted old (last_reading 0 h)) new lane (machine_of lane op) (unbegun lane op) t (record { counted = before.known.counted; right = before.known.right });
     };
     passed = passing.starts new old h lane line op r found refl idle t;
-    is = laws.starts h old new lane line op (last_reading 0 h) r found before idle fits t (reached-moments h old r found);
+    is = laws.starts h old new lane line op (last_reading 0 h) r found before idle fits t (reached-heard h old r found);
   }
     where
       later : List Entry
@@ -221,3 +250,7 @@ module _ (machine_of : ℕ → Op → Machine) (unbegun : (lane : ℕ) (op : Op)
 
       before : Known setup h old
       before = known-of h old r found
+
+pub reached-moments : (machine_of : ℕ → Op → Machine) → ((lane : ℕ) (op : Op) → IsUnbegun (machine_of lane op)) → (setup : Setup) (I : List Entry → View → Type 0)
+    → KeepsMoments machine_of setup I → (h : List Entry) (v : View) → Reaches machine_of setup h v → v.lost ≡ false → I h v
+reached-moments machine_of unbegun setup I laws = reached-heard machine_of unbegun setup I (of-moments machine_of setup I laws)

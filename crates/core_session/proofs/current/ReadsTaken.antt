@@ -65,8 +65,11 @@ use Rattle.core_session.specs.current.Read.{RecentThen, IsFound, in_page, in_rep
 use Rattle.core_session.specs.current.Seen.{IsAged, IsSeen, SeenFrom, shown, WasRegular}
 use Rattle.core_session.proofs.current.FedPages as fed
 use Rattle.core_session.proofs.current.Good as marked
-use Rattle.core_session.proofs.current.Along.{KeepsMoments}
-use Rattle.core_session.proofs.current.Keeping.{HasPassed, WasTaken, RunsIn, BondLaws, reached-answered}
+use Rattle.core_session.proofs.current.Along.{KeepsMoments, of-moments}
+use Rattle.core_session.proofs.current.Keeping.{HasPassed, WasTaken, RunsIn, BondLaws}
+use Rattle.core_session.proofs.current.Answered.{Unwatched, nothing-watched, laws-plain}
+use Rattle.core_session.proofs.shown.Following.{reached-answered}
+use Rattle.core_session.proofs.room.Onward as onward
 use Rattle.core_session.proofs.current.ReadMarks.{past, ReadIn}
 use Rattle.core_session.proofs.current.Sounds.{All, each-sound, keeps-all}
 use Rattle.core_session.proofs.current.Moments.{IsMoment, SinceIn, newly-opened, marked-grows, regular-grows, seen-grows, known-seen, IsToldSince, fed-marks, shows-marks}
@@ -615,9 +618,12 @@ pub had-read : (m : Mounted) (terms : Terms) (setup : Setup) (h : List Entry) (v
     → Ended h lane x (ops.Read slot offset count) y (answers.Done (values.Bytes bytes))
     → HadRead (machine_of m) setup terms.modes h x y (ops.Read slot offset count) offset count bytes
 had-read m terms setup h v g noac lasts lane x slot offset count y bytes ended =
-    let s = reached-answered m setup (All setup terms.modes)
-    (keeps-all m terms.modes setup (subst (λ (b : Bool). KeepsMoments (machine_of m) setup (marked.Good b terms.modes)) noac (marked.keeps-good m terms.modes g.nocto setup lasts))) Both both-asks (Given terms.modes) GoodShelf
-    (Story (machine_of m) setup terms.modes) (laws m terms.modes noac setup)
-    (λ k w lane r found other. is-given terms.modes m g.nocto setup k w r found lane other) (λ k w fresh. none-good k w.shelf.pages fresh.pages) h v g.reaches lane x
+    let s = reached-answered m setup h v (All setup terms.modes)
+    (of-moments (machine_of m) setup (All setup terms.modes) (keeps-all m terms.modes setup
+    (subst (λ (b : Bool). KeepsMoments (machine_of m) setup (marked.Good b terms.modes)) noac (marked.keeps-good m terms.modes g.nocto setup lasts))))
+    Unwatched (nothing-watched (machine_of m) setup) Both both-asks (Given terms.modes) GoodShelf
+    (Story (machine_of m) setup terms.modes)
+    (laws-plain (machine_of m) setup h v (All setup terms.modes) Unwatched Both (Given terms.modes) GoodShelf (Story (machine_of m) setup terms.modes) (laws m terms.modes noac setup))
+    (λ k w lane r found other. is-given terms.modes m g.nocto setup k w r found lane other) (λ k w fresh. none-good k w.shelf.pages fresh.pages) h v g.reaches (onward.stays h v refl refl) lane x
     (ops.Read slot offset count) y (answers.Done (values.Bytes bytes)) ended in
     record { before = s.before; after = s.after; is = s.is; there = s.there; shown = s.story slot offset count refl bytes refl }

@@ -61,8 +61,7 @@ use Rattle.core_facts.proofs.Lists.{at-position}
 use Rattle.core_facts.proofs.Rows.{Rows, rows-stay, same-rows, silent-grow, rows-grow, taken-quiet, not-sent, taken-rows}
 use Rattle.core_answers.specs.bonds.Kept.{LastAtMost}
 use Rattle.core_answers.proofs.writes.Along.{SameCalls}
-use Rattle.core_session.proofs.current.Along.{IsPlain}
-use Rattle.core_session.proofs.kept.OwnAlong.{KeepsHeard}
+use Rattle.core_session.proofs.current.Along.{IsPlain, KeepsHeard}
 use Rattle.core_session.proofs.kept.OwnHeeds.{Awaits, AllHeard, HeardFrom, WasSent, keeps-heard}
 use Rattle.core_session.proofs.current.FedMachines.{pages-starts, pages-resumes, pages-takes}
 use Rattle.core_session.proofs.current.Moments.{IsMoment, AllTimely, WaitedSo, GoesOn, goes-itself, moment-goes, timely-goes, moment-grows, IsToldSince}

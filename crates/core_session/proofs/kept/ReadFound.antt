@@ -26,7 +26,7 @@ use Rattle.core_answers.specs.bonds.Kept.{IsAnswered}
 use Rattle.core_answers.specs.pages.Kept.{IsPage}
 use Rattle.core_answers.specs.pages.Passing.{Passes}
 use Rattle.core_session.specs.current.Read.{RecentThen, pending_in}
-use Rattle.core_session.proofs.kept.OwnAlong.{KeepsHeard}
+use Rattle.core_session.proofs.current.Along.{KeepsHeard}
 use Rattle.core_session.proofs.current.FedPages.{FedLaws}
 use Rattle.core_session.proofs.current.Moments.{IsMoment, IsToldSince}
 use Rattle.core_session.proofs.shown.Answer.{IsShown}

@@ -66,11 +66,9 @@ use Rattle.core_session.proofs.shown.Answer.{OwnByte, OwnPast, IsShown, own, ser
 use Rattle.core_session.specs.current.Seen.{IsAged, IsSeen, SeenFrom, shown, WasRegular}
 use Rattle.core_session.proofs.current.FedPages as fed
 use Rattle.core_session.proofs.current.Good as marked
-use Rattle.core_session.proofs.current.Along.{KeepsMoments}
+use Rattle.core_session.proofs.current.Along.{KeepsMoments, KeepsHeard}
 use Rattle.core_session.proofs.current.Keeping.{HasPassed, WasTaken, RunsIn, BondLaws}
-use Rattle.core_session.proofs.shown.Following.{Followed}
-use Rattle.core_session.proofs.kept.OwnAlong.{KeepsHeard}
-use Rattle.core_session.proofs.kept.OwnFollowing.{reached-answered}
+use Rattle.core_session.proofs.shown.Following.{Followed, reached-answered}
 use Rattle.core_session.proofs.room.Onward as onward
 use Rattle.core_session.proofs.syncs.WatchingAlong.{KeepsWatching}
 use Rattle.core_session.proofs.current.ReadMarks.{past, ReadIn}

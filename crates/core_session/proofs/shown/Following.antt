@@ -1,4 +1,5 @@
--- What the steps of operations keep, as `proofs.current.Keeping`; of each view between the steps it is known, too, how the session went on from there.
+-- What the steps of operations keep of the shelf, and of themselves, holds along a history, by laws of `current.Keeping`; of each view between the steps it
+-- is known, too, how the session went on from there.
 use Rattle.std.proofs.Common.{◌≡◌, ◌≢◌, ◌<◌, ◌≤◌, ◌+◌, ◌-◌, ◌⊎◌, inl, inr, ℕ, zero, suc, List, [], ◌∷◌, ◌++◌, length, take, map, max, Bool, true, false, nat_eq, Option, Some, None, option_map, MatchOption, position, slice_get, slice_set, Ok, Err, refl, sym, ap, subst, ◌∙◌, append_assoc, append-nil, arith}
 use Rattle.std.proofs.lemmas.Bool.{eqb-true, eqb-false, eq-eqb, cases_lt}
 use Rattle.rpc_message.specs.Call.{xid_at}
@@ -75,7 +76,7 @@ use Rattle.core_session.proofs.syncs.WatchingAlong.{KeepsWatching, reached-watch
 use Rattle.core_answers.specs.pages.Passing as passing
 use Rattle.core_answers.proofs.pages.FilePages.{IsSentAs}
 use Rattle.core_answers.proofs.pages.PiecesCalled.{Called, starts-spelled, resumes-spelled, takes-spelled, waits-before, next-unused, made-called, less-called, same-called, called-sent}
-use Rattle.core_session.proofs.current.Along.{KeepsMoments, reached-moments}
+use Rattle.core_session.proofs.current.Along.{KeepsHeard, reached-heard}
 use Rattle.core_answers.proofs.pages.PiecesSent.{SentAs, starts-sent, resumes-sent, takes-sent}
 use Rattle.core_answers.specs.bonds.Ages.{time_next}
 
@@ -185,7 +186,7 @@ Going (Send call) P = P
 Going Wait P = P
 Going (Done answer) P = Unit {0}
 
-module _ (m : Mounted) (setup : Setup) (H : List Entry) (V : View) (I : List Entry → View → Type 0) (keeps : KeepsMoments (machine_of m) setup I) (W : List Entry → View → Type 0)
+module _ (m : Mounted) (setup : Setup) (H : List Entry) (V : View) (I : List Entry → View → Type 0) (keeps : KeepsHeard (machine_of m) setup I) (W : List Entry → View → Type 0)
     (watching : KeepsWatching (machine_of m) setup W) (E : Machine → Call → Type 0) (asking : AskLaws E) (F : List Entry → ℕ → Shelf → Type 0) (K : List Entry → Shelf → Type 0) (S : List Entry → ℕ → Op → State → Type 0)
     (laws : BondLaws (machine_of m) setup (Followed (machine_of m) setup H V I W) E F K S)
     (begin : (h : List Entry) (v : View) (lane : ℕ) → Reaches (machine_of m) setup h v → v.lost ≡ false → IsOther lane (numbers_of v.lanes) → F h lane v.shelf) where
@@ -524,7 +525,7 @@ module _ (m : Mounted) (setup : Setup) (H : List Entry) (V : View) (I : List Ent
 
       marks : I later b.first
       marks = keeps.starts h old b.first lane line op (last_reading 0 h) r was (as-viewed h old rows-old (reached-lanes (machine_of m) setup h old r) counts-old) t.idle t.fits b.own
-          (reached-moments (machine_of m) (begins-unbegun m) setup I keeps h old r was)
+          (reached-heard (machine_of m) (begins-unbegun m) setup I keeps h old r was)
 
       watched-old : W h old
       watched-old = reached-watching (machine_of m) (begins-unbegun m) setup W watching h old r was
@@ -563,7 +564,7 @@ module _ (m : Mounted) (setup : Setup) (H : List Entry) (V : View) (I : List Ent
       did : Did K S later (length h) op b.own.next b.own.after b.own.shelf
       did =
           laws.starts h lane line op old.wsize (turn_at (counted old (last_reading 0 h))) old.shelf b.own.next b.own.after b.own.shelf (begin h old lane r was t.idle.other)
-          (record { before = h; after = Began lane line op ∷ []; is = refl; late = omega arith; view = old; passed = passing.rests old r was; same = refl; good = record { good = reached-moments (machine_of m) (begins-unbegun m) setup I keeps h old r was; watched = watched-old; on = on_old } }) refl
+          (record { before = h; after = Began lane line op ∷ []; is = refl; late = omega arith; view = old; passed = passing.rests old r was; same = refl; good = record { good = reached-heard (machine_of m) (begins-unbegun m) setup I keeps h old r was; watched = watched-old; on = on_old } }) refl
           (laws.still h (Began lane line op) old.shelf g.kept) (time-begins (machine_of m) setup h old r) b.own.starts
 
       first : Known later b.first
@@ -722,7 +723,7 @@ module _ (m : Mounted) (setup : Setup) (H : List Entry) (V : View) (I : List Ent
     flown = (keeps-flown m setup).takes h old first rec xid call at (as-viewed h old rows-old (reached-lanes (machine_of m) setup h old r) counts) waits there o flown;
     passed = passing.takes first old h rec xid at call r found refl named waits there o;
     marks = keeps.takes h old first rec xid call at r found (as-viewed h old rows-old (reached-lanes (machine_of m) setup h old r) counts) new t named waits there o
-        (reached-moments (machine_of m) (begins-unbegun m) setup I keeps h old r found);
+        (reached-heard (machine_of m) (begins-unbegun m) setup I keeps h old r found);
     known = leads-known later (with_state (taken_one old xid) at o.number (Busy o.after) o.shelf) first at o.number (in_flight o.machine - 1) o.after o.next
         ((lanes-stay later).sets (taken_one old xid) at o.number (Busy o.machine) (Busy o.after) o.shelf o.there lanes)
         (same-rows setup later (taken_one old xid) (with_state (taken_one old xid) at o.number (Busy o.after) o.shelf) refl rows)
@@ -804,7 +805,7 @@ module _ (m : Mounted) (setup : Setup) (H : List Entry) (V : View) (I : List Ent
             record {
               since = (told_from reply said).since;
               link = link;
-              passed = record { before = h; after = Delivered rec ∷ []; is = refl; late = omega (arith, low); view = old; passed = passing.rests old r found; same = refl; good = record { good = reached-moments (machine_of m) (begins-unbegun m) setup I keeps h old r found; watched = watched-old; on = on_old } };
+              passed = record { before = h; after = Delivered rec ∷ []; is = refl; late = omega (arith, low); view = old; passed = passing.rests old r found; same = refl; good = record { good = reached-heard (machine_of m) (begins-unbegun m) setup I keeps h old r found; watched = watched-old; on = on_old } };
               soon = omega arith;
               after = λ p k moment late_. let from = told_from reply said in moment.sent xid call waits late_ from.since.told.since from.bytes from.sent_at from.under;
             },

@@ -66,7 +66,7 @@ use Rattle.core_session.proofs.shown.Answer.{OwnByte, OwnPast, IsShown, own, ser
 use Rattle.core_session.specs.current.Seen.{IsAged, IsSeen, SeenFrom, shown, WasRegular}
 use Rattle.core_session.proofs.current.FedPages as fed
 use Rattle.core_session.proofs.current.Good as marked
-use Rattle.core_session.proofs.current.Along.{KeepsMoments}
+use Rattle.core_session.proofs.current.Along.{KeepsMoments, of-moments}
 use Rattle.core_session.proofs.current.Keeping.{HasPassed, WasTaken, RunsIn, BondLaws}
 use Rattle.core_session.proofs.shown.Following.{Followed, reached-answered}
 use Rattle.core_session.proofs.room.Onward as onward
@@ -611,7 +611,8 @@ pub had-read : (m : Mounted) (terms : Terms) (setup : Setup) (h : List Entry) (v
     → HadRead (machine_of m) setup terms.modes h v W h x y (ops.Read slot offset count) offset count bytes
 had-read m terms setup h v g noac lasts W watching lane x slot offset count y bytes ended =
     let s = reached-answered m setup h v (All setup terms.modes)
-    (keeps-all m terms.modes setup (subst (λ (b : Bool). KeepsMoments (machine_of m) setup (marked.Good b terms.modes)) noac (marked.keeps-good m terms.modes g.nocto setup lasts))) W watching Both both-asks (Given terms.modes) GoodShelf
+    (of-moments (machine_of m) setup (All setup terms.modes) (keeps-all m terms.modes setup
+    (subst (λ (b : Bool). KeepsMoments (machine_of m) setup (marked.Good b terms.modes)) noac (marked.keeps-good m terms.modes g.nocto setup lasts)))) W watching Both both-asks (Given terms.modes) GoodShelf
     (Story (machine_of m) setup terms.modes h v W) (laws m terms.modes noac setup h v W)
     (λ k w lane r found other. is-given terms.modes m g.nocto setup k w r found lane other) (λ k w fresh. none-good k w.shelf.pages fresh.pages) h v g.reaches (onward.stays h v refl refl) lane x
     (ops.Read slot offset count) y (answers.Done (values.Bytes bytes)) ended in
