@@ -2,11 +2,9 @@
 
 use crate::ending::Ending;
 use crate::schedule_file::refused;
-use made_session::run_made;
 use net_edge::StandardOutput;
-use outside::TickClock;
+use replay_session::replay_made;
 use script_text::number;
-use world_link::parse_schedule;
 
 /// The greatest size of a script that is made.
 const MOST: u32 = 10_000;
@@ -17,12 +15,9 @@ pub fn make(rt: &HostRuntime, size: &str, words: &[String]) -> Ending {
     let Some(n) = number(size.as_bytes(), 1, MOST) else {
         return Ending::Usage;
     };
-    match parse_schedule(alloc, b"") {
-        Ok((mut world, _)) => {
-            let mut clock = TickClock::new(0);
-            let mut sink = StandardOutput::new(rt.stdout());
-            Ending::Ran(run_made(alloc, n, words, &mut world, &mut clock, &mut sink))
-        }
+    let mut sink = StandardOutput::new(rt.stdout());
+    match replay_made(alloc, n, words, &mut sink) {
+        Ok((_, status)) => Ending::Ran(status),
         Err(fault) => refused(fault),
     }
 }

@@ -1,26 +1,20 @@
 -- What a run promises of the history of a simulated server, with its premises met.
-use Rattle.std.proofs.Common.{◌≡◌, ℕ, List, [], Option, Some, Result, Ok, Err, refl, ap, subst}
-use Rattle.world_model.specs.declared.entry.Entry.{Entry}
-use Rattle.world_model.specs.Fresh.{Fresh}
-use Rattle.world_model.specs.History.{History}
-use Rattle.world_model.specs.Lawful.{Lawful}
-use Rattle.world_model.specs.Rising.{Rising}
+use Rattle.std.proofs.Common.{◌≡◌, ℕ, List, [], Option, Some, Result, Ok, Err, refl, ap}
 use Rattle.world_model.specs.Told.{Relates}
+use Rattle.made_script.specs.Made.{made_text}
+use Rattle.made_session.specs.MadeRuns.{MadeRunOf}
 use Rattle.nfs_client.specs.Headline.{Headline, Promises}
 use Rattle.script_runs.specs.Readings.{Reads}
 use Rattle.script_runs.specs.Run.{RunOf, unbegun, session, Says}
 use Rattle.session_words.specs.declared.settings.Settings.{Settings}
-use Rattle.world_link.specs.declared.schedule.ScheduleFault.{ScheduleFault}
-use Rattle.world_link.specs.declared.schedule.ScheduleFault.TheVariants as faults
 use Rattle.world_link.specs.declared.world.World.{World}
-use Rattle.world_link.specs.Begins.{Begins, BeginsBy}
+use Rattle.world_link.specs.Begins.{Begins}
 use Rattle.world_link.specs.Honest.{IsHonestWorld}
 use Rattle.world_link.specs.Readings.{ReadView}
 use Rattle.world_link.specs.Replay.{told}
-use Rattle.world_link.specs.Starting.{world_of}
 use Rattle.world_link.specs.View.{WorldView, seen}
 use Rattle.world_link.proofs.WorldKeepsContract.{honest_is_lawful, honest_is_fresh, honest_is_rising}
-use Rattle.replay_session.specs.Replays.{IsRead, Keeps, ReplayShows, ReplayOf}
+use Rattle.replay_session.specs.Replays.{IsRead, Keeps, ReplayShows, ReplayOf, MadeReplayOf}
 
 -- ---- the schedule
 
@@ -70,4 +64,26 @@ replay_says read start later tick was now old new words left status begun stays 
   text = said.text;
   added = said.added;
   is = (said.is.0, shows (seen later) said.is.0 words left status said.text (stays honest) (said.is.2 (begins_empty read start tick begun)));
+}
+
+-- ---- a script that is made
+
+made_shows : (w : WorldView) (given : List ℕ) (words : List (List ℕ)) (n status : ℕ) (said : List ℕ) → IsHonestWorld w → MadeRunOf Headline given words n (told w).entries status said
+    → MadeRunOf (ReplayShows (told w)) given words n (told w).entries status said
+made_shows w given words n status said honest m = record {
+  text = m.text;
+  ran = m.ran;
+  runs = shows w given words (Some (made_text n)) m.ran m.text honest m.runs;
+  tells = m.tells;
+  ends = shows w given words (Some (made_text n)) status m.text honest m.ends;
+}
+
+pub made_says : (read : Result ReadView ℕ) (start later : World) (tick : ℕ) (was now : Option (List ℕ)) (old new : Option (List ℕ)) (words : List (List ℕ)) (n status : ℕ)
+    → Begins read (Ok (start, tick)) → (IsHonestWorld (seen start) → IsHonestWorld (seen later)) → IsHonestWorld (seen start)
+    → Says old new (λ said. Reads was now (λ given. Relates (Some (told (seen start))) (Some (told (seen later))) (λ before h. before ≡ [] → MadeRunOf Headline given words n h status said)))
+    → Says old new (λ said. MadeReplayOf (told (seen later)) words n status said)
+made_says read start later tick was now old new words n status begun stays honest said = record {
+  text = said.text;
+  added = said.added;
+  is = (said.is.0, made_shows (seen later) said.is.0 words n status said.text (stays honest) (said.is.2 (begins_empty read start tick begun)));
 }

@@ -17,6 +17,7 @@ use Rattle.session_setup.specs.Origins.{origin_of}
 use Rattle.script_runs.specs.Run.{RunOf}
 use Rattle.nfs_client.specs.Given.{modes_of, terms_by}
 use Rattle.nfs_client.specs.Headline.{Headline}
+use Rattle.made_session.specs.MadeRuns.{MadeRunOf}
 use Rattle.world_link.specs.declared.schedule.ScheduleFault.{ScheduleFault}
 use Rattle.world_link.specs.declared.schedule.ScheduleFault.TheVariants as faults
 use Rattle.world_link.specs.declared.world.World.{World}
@@ -52,3 +53,7 @@ pub record ReplayShows (t : History) (s : Settings) (lines : List ScriptLine) (g
 -- What is written, and the status, are those of a run, with such a session, of which the world tells.
 abbrev pub ReplayOf : History → List (List ℕ) → Option (List ℕ) → ℕ → List ℕ → Type 0
 ReplayOf t words left status text = (given : List ℕ) × RunOf (ReplayShows t) given words left t.entries status text
+
+-- the same of a script that is made of this size
+abbrev pub MadeReplayOf : History → List (List ℕ) → ℕ → ℕ → List ℕ → Type 0
+MadeReplayOf t words n status said = (given : List ℕ) × MadeRunOf (ReplayShows t) given words n t.entries status said
