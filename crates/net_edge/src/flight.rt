@@ -5,43 +5,44 @@
 const MOST_BYTES: usize = 73_728;
 
 /// How many milliseconds an answer is waited for before more goes out without one.
-pub(crate) const PAUSE_MS: u32 = 50;
+pub(crate) const PAUSE_MS: u32 = 500;
 
-/// The datagrams that weren't answered yet, as far as can be told by how many came: each that comes is taken for the answer to
-/// one of middle size.
+/// The datagrams that weren't answered yet. A datagram that comes may answer any of them, a short or a long one: so each counts
+/// for as many bytes as the longest since the last time that all were answered.
 #[derive(Clone, Copy)]
 pub(crate) struct Flight {
-    datagrams: usize,
-    bytes: usize,
+    unanswered: usize,
+    longest: usize,
 }
 
 impl Flight {
     /// No datagram.
     pub(crate) fn new() -> Flight {
         Flight {
-            datagrams: 0,
-            bytes: 0,
+            unanswered: 0,
+            longest: 0,
         }
     }
 
     /// Whether a datagram of so many bytes may go out beside them.
     pub(crate) fn has_room(&self, len: usize) -> bool {
-        self.datagrams == 0 || self.bytes.saturating_add(len) <= MOST_BYTES
+        let longest = self.longest.max(len);
+        let count = self.unanswered.saturating_add(1);
+        self.unanswered == 0 || longest.saturating_mul(count) <= MOST_BYTES
     }
 
     /// A datagram of so many bytes went out.
     pub(crate) fn sent(&mut self, len: usize) {
-        self.datagrams = self.datagrams.saturating_add(1);
-        self.bytes = self.bytes.saturating_add(len);
+        self.unanswered = self.unanswered.saturating_add(1);
+        self.longest = self.longest.max(len);
     }
 
     /// A datagram came.
     pub(crate) fn came(&mut self) {
-        if self.datagrams <= 1 {
+        if self.unanswered <= 1 {
             *self = Flight::new();
-            return;
+        } else {
+            self.unanswered -= 1;
         }
-        self.bytes = self.bytes.saturating_sub(self.bytes / self.datagrams);
-        self.datagrams -= 1;
     }
 }
