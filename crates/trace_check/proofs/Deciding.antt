@@ -13,10 +13,8 @@ use Rattle.world_model.specs.Entries.{At}
 use Rattle.world_model.specs.Messages.{HasXid}
 use Rattle.world_model.specs.Once.{Once}
 use Rattle.trace_check.specs.Decided.{all_below, is_some_of, has_xid, delivers, executed, delivers_there, executed_there, delivers_at, executed_at, came_before, is_first, in_time, once}
+use Rattle.trace_check.proofs.Combining.{always, never}
 use Rattle.trace_check.proofs.Below.{all_below-decides, any_below-decides}
-
-never : {P : Type 0} → (P → ⊥) → Decides false P
-never n = (λ t. absurd (true≢false (sym t)), λ p. absurd (n p))
 
 some : (a b : Entry) → Some a ≡ Some b → a ≡ b
 some a b q = cc
@@ -69,27 +67,24 @@ time-decides h n = by (slice_get h n) refl
     other : (d : Entry) → slice_get h n ≡ Some d → ((xid : ℕ) (call : Call) (reply : Reply) → d ≡ Executed xid call reply → ⊥) → InTime h n
     other d e not_one xid call reply at came = not_one xid call reply (some d (Executed xid call reply) (sym e ∙ at))
 
-    yes : (P : Type 0) → P → Decides true P
-    yes P p = (λ _. p, λ _. refl)
-
     entry : (d : Entry) → slice_get h n ≡ Some d → Decides (is_first h n (executed d)) (InTime h n)
     entry (Executed x c r) e = Decides-like (not (came_before h x n))
         (λ none xid call reply at came. let q : Executed x c r ≡ Executed xid call reply = some (Executed x c r) (Executed xid call reply) (sym e ∙ at) in let same : x ≡ xid = cc in none (subst (λ (z : ℕ). (i : ℕ) × (i < n) × Brings h z i) (sym same) came))
         (λ k came. k x c r e came)
         (Decides-not (came_before h x n) (came-decides h x n))
-    entry (Delivered bytes) e = yes (InTime h n) (other (Delivered bytes) e (λ xid call reply q. cc))
-    entry (Began lane line op) e = yes (InTime h n) (other (Began lane line op) e (λ xid call reply q. cc))
-    entry (Answered lane line answer) e = yes (InTime h n) (other (Answered lane line answer) e (λ xid call reply q. cc))
-    entry (Dialed port) e = yes (InTime h n) (other (Dialed port) e (λ xid call reply q. cc))
-    entry (Sent bytes) e = yes (InTime h n) (other (Sent bytes) e (λ xid call reply q. cc))
-    entry (Foreign call reply) e = yes (InTime h n) (other (Foreign call reply) e (λ xid call reply q. cc))
-    entry (Flushed file from len) e = yes (InTime h n) (other (Flushed file from len) e (λ xid call reply q. cc))
-    entry (Reboot verf) e = yes (InTime h n) (other (Reboot verf) e (λ xid call reply q. cc))
-    entry Failed e = yes (InTime h n) (other Failed e (λ xid call reply q. cc))
-    entry (Clock ms) e = yes (InTime h n) (other (Clock ms) e (λ xid call reply q. cc))
+    entry (Delivered bytes) e = always (other (Delivered bytes) e (λ xid call reply q. cc))
+    entry (Began lane line op) e = always (other (Began lane line op) e (λ xid call reply q. cc))
+    entry (Answered lane line answer) e = always (other (Answered lane line answer) e (λ xid call reply q. cc))
+    entry (Dialed port) e = always (other (Dialed port) e (λ xid call reply q. cc))
+    entry (Sent bytes) e = always (other (Sent bytes) e (λ xid call reply q. cc))
+    entry (Foreign call reply) e = always (other (Foreign call reply) e (λ xid call reply q. cc))
+    entry (Flushed file from len) e = always (other (Flushed file from len) e (λ xid call reply q. cc))
+    entry (Reboot verf) e = always (other (Reboot verf) e (λ xid call reply q. cc))
+    entry Failed e = always (other Failed e (λ xid call reply q. cc))
+    entry (Clock ms) e = always (other (Clock ms) e (λ xid call reply q. cc))
 
     by : (o : Option Entry) → slice_get h n ≡ o → Decides (is_first h n (executed_there o)) (InTime h n)
-    by None e = yes (InTime h n) (λ xid call reply at came. let q : slice_get h n ≡ Some (Executed xid call reply) = at in absurd (cc))
+    by None e = always (λ xid call reply at came. let q : slice_get h n ≡ Some (Executed xid call reply) = at in absurd (cc))
     by (Some d) e = entry d e
 
 -- an entry isn't both a record that came and a call that was executed

@@ -1,7 +1,8 @@
 -- The object under a handle: where it is named, and which stamps it had.
-use Rattle.std.proofs.Common.{true, ◌≡◌, ◌<◌, ◌≤◌, ◌⊎◌, inl, inr, ◌==◌, ℕ, zero, suc, false, true≢false, List, [], ◌∷◌, Option, Some, None, slice_get, refl, sym, ◌∙◌, ap, arith}
+use Rattle.std.proofs.Common.{Bool, subst, true, ◌≡◌, ◌<◌, ◌≤◌, ◌⊎◌, inl, inr, ◌==◌, ℕ, zero, suc, false, true≢false, List, [], ◌∷◌, length, Option, Some, None, slice_get, refl, sym, ◌∙◌, ap, arith}
 use Rattle.std.specs.Prelude.{Decides, ◌&&◌, ◌||◌}
 use Rattle.std.specs.Str.{bytes_eq}
+use Rattle.std.proofs.lemmas.Option.{slice_get_within}
 use Rattle.std.proofs.lemmas.Bool.{cases_Bool}
 use Rattle.std.proofs.lemmas.Bool.Decides.{Decides-like, Decides-and, Decides-or, Decides-eqb}
 use Rattle.std.proofs.lemmas.Slice.Eq.{bytes_eq-Decides}
@@ -11,10 +12,11 @@ use Rattle.nfs_types.specs.Stamps.{same_time, same_stamp, stamp_of}
 use Rattle.trace_check.specs.declared.trace.Object.{Object}
 use Rattle.trace_check.specs.declared.trace.Updated.{Updated}
 use Rattle.trace_check.specs.declared.trace.Update.{Update}
-use Rattle.trace_check.specs.Decided.{any_below}
+use Rattle.trace_check.specs.Decided.{all_below, any_below}
 use Rattle.trace_check.specs.Histories.{named, objects_after, or_else, object_at}
-use Rattle.trace_check.specs.Freshness.{has_stamp, gave_stamp, had_stamp}
-use Rattle.trace_check.proofs.Below.{any_below-decides}
+use Rattle.trace_check.specs.Freshness.{if_named, has_stamp, gave_stamp, had_stamp}
+use Rattle.trace_check.proofs.Below.{all_below-decides, any_below-decides}
+use Rattle.trace_check.proofs.Combining.{always}
 
 -- ---- where it is named
 
@@ -25,13 +27,6 @@ here : (u : Updated) (us : List Updated) (h : List ℕ) → bytes_eq u.handle h 
 here u us h t = rw t refl
 
 -- an object that is named has a place in the list
-pub named-place : (us : List Updated) (h : List ℕ) (o : Object) → named us h ≡ Some o → (k : ℕ) × (u : Updated) × (slice_get us k ≡ Some u) × (u.handle ≡ h)
-named-place [] h o e = absurd (cc)
-named-place (u ∷ us) h o e = elim (cases_Bool (bytes_eq u.handle h)) [
-  | inl t ↦ (zero, u, refl, (bytes_eq-Decides u.handle h).0 t)
-  | inr f ↦ let r = named-place us h o (sym (past u us h f) ∙ e) in (suc r.0, r.1, r.2, r.3)
-]
-
 pub named-object : (us : List Updated) (h : List ℕ) (o : Object) → named us h ≡ Some o → (k : ℕ) × (u : Updated) × (slice_get us k ≡ Some u) × (u.handle ≡ h) × (u.object ≡ o)
 named-object [] h o e = absurd (cc)
 named-object (u ∷ us) h o e = elim (cases_Bool (bytes_eq u.handle h)) [
@@ -41,6 +36,29 @@ named-object (u ∷ us) h o e = elim (cases_Bool (bytes_eq u.handle h)) [
   where
     one : Some u.object ≡ Some o → u.object ≡ o
     one q = cc
+
+-- A test of each object that a list names decides a fact of each handle, if that fact holds of each handle that isn't named.
+module _ (test : List ℕ → Bool) (P : List ℕ → Type 0) (each : (f : List ℕ) → Decides (test f) (P f)) where
+  at-decides : (objects : List Updated) (k : ℕ) → Decides (if_named test (slice_get objects k)) ((u : Updated) → slice_get objects k ≡ Some u → P u.handle)
+  at-decides objects k = by (slice_get objects k) refl
+    where
+      other : (u v : Updated) → Some u ≡ Some v → u ≡ v
+      other u v e = cc
+
+      by : (o : Option Updated) → slice_get objects k ≡ o → Decides (if_named test o) ((u : Updated) → slice_get objects k ≡ Some u → P u.handle)
+      by None e = always (λ u is. let q : slice_get objects k ≡ Some u = is in absurd (cc))
+      by (Some v) e = Decides-like (test v.handle) (λ w u is. subst (λ (z : Updated). P z.handle) (other v u (sym e ∙ is)) w) (λ w. w v e) (each v.handle)
+
+  pub named-decides : (objects : List Updated) → ((f : List ℕ) → named objects f ≡ None → P f) → Decides (all_below (λ k. if_named test (slice_get objects k)) (length objects)) ((f : List ℕ) → P f)
+  named-decides objects unnamed =
+      Decides-like (all_below (λ k. if_named test (slice_get objects k)) (length objects))
+      (λ w f. by w f (named objects f) refl)
+      (λ w k below u is. w u.handle)
+      (all_below-decides (λ k. if_named test (slice_get objects k)) (λ k. (u : Updated) → slice_get objects k ≡ Some u → P u.handle) (λ k. at-decides objects k) (length objects))
+    where
+      by : ((k : ℕ) → k < length objects → (u : Updated) → slice_get objects k ≡ Some u → P u.handle) → (f : List ℕ) (y : Option Object) → named objects f ≡ y → P f
+      by w f None e = unnamed f e
+      by w f (Some o) e = let p = named-object objects f o e in subst P p.3 (w p.0 (slice_get_within objects p.0 p.1 p.2) p.1 p.2)
 
 -- ---- stamps
 
@@ -79,7 +97,7 @@ Had start us n f s = (m : ℕ) × (m ≤ n) × HasStamp (object_at start us m f)
 abbrev pub Given : List Updated → List Update → ℕ → List ℕ → Stamp → Type 0
 Given start us n f s = HasStamp (named start f) s ⊎ ((j : ℕ) × (j < n) × HasStamp (named (objects_after us j) f) s)
 
-either : (R : Type 0) (x y : Option Object) (o : Object) → or_else x y ≡ Some o → (x ≡ Some o → R) → (y ≡ Some o → R) → R
+pub either : (R : Type 0) (x y : Option Object) (o : Object) → or_else x y ≡ Some o → (x ≡ Some o → R) → (y ≡ Some o → R) → R
 either R None y o e named was = was e
 either R (Some p) y o e named was = named e
 

@@ -15,17 +15,9 @@ use Rattle.trace_check.specs.Decided.{all_below}
 use Rattle.trace_check.specs.Histories.{object_of, named, objects_after, or_else, object_at, history_of}
 use Rattle.trace_check.specs.Freshness.{differs, had_stamp, is_new, renews, if_named, renews_at, renews_all, fresh}
 use Rattle.trace_check.proofs.Below.{all_below-decides}
-use Rattle.trace_check.proofs.Naming.{named-place, Had, had-decides}
+use Rattle.trace_check.proofs.Combining.{always, given}
+use Rattle.trace_check.proofs.Naming.{named-decides, Had, had-decides}
 use Rattle.trace_check.proofs.Changing.{differs-decides, differs-not}
-
--- what holds without a test
-always : {P : Type 0} → P → Decides true P
-always p = (λ _. p, λ _. refl)
-
--- from a fact on, where both are decided
-given : {P Q : Type 0} → (a b : Bool) → Decides a P → Decides b Q → Decides (not a || b) (P → Q)
-given true b p q = (λ t _. q.0 t, λ k. q.1 (k (p.0 refl)))
-given false b p q = (λ _ x. absurd (not_from_Decides false p refl x), λ _. refl)
 
 -- the object under the handle at a moment, as the history has it
 abbrev pub Is : List Updated → List Update → ℕ → List ℕ → model.Object → Type 0
@@ -82,38 +74,9 @@ renews-decides start us n f = by (object_at start us n f) (named (objects_after 
         (both a b p q) (back a b p q)
         (given (differs a b) (not (had_stamp start us n f (stamp_of b.attr))) (differs-decides a b) (Decides-not (had_stamp start us n f (stamp_of b.attr)) (had-decides start us n f (stamp_of b.attr))))
 
--- the object of that place of a list
-abbrev pub RenewsAt : List Updated → List Update → ℕ → List Updated → ℕ → Type 0
-RenewsAt start us n objects k = (u : Updated) → slice_get objects k ≡ Some u → Renews start us n u.handle
-
-at-decides : (start : List Updated) (us : List Update) (n : ℕ) (objects : List Updated) (k : ℕ) → Decides (renews_at start us n objects k) (RenewsAt start us n objects k)
-unfolding renews_at
-at-decides start us n objects k = by (slice_get objects k) refl
-  where
-    other : (u v : Updated) → Some u ≡ Some v → u ≡ v
-    other u v e = cc
-
-    by : (o : Option Updated) → slice_get objects k ≡ o → Decides (if_named (λ f. renews start us n f) o) (RenewsAt start us n objects k)
-    by None e = always (λ u is. let q : slice_get objects k ≡ Some u = is in absurd (cc))
-    by (Some v) e =
-        Decides-like (renews start us n v.handle)
-        (λ w u is. subst (λ (z : Updated). Renews start us n z.handle) (other v u (sym e ∙ is)) w)
-        (λ w. w v e)
-        (renews-decides start us n v.handle)
-
 pub all-decides : (start : List Updated) (us : List Update) (n : ℕ) → Decides (renews_all start us n) ((f : List ℕ) → Renews start us n f)
-unfolding renews_all
-all-decides start us n =
-    Decides-like (all_below (λ k. renews_at start us n (objects_after us n) k) (length (objects_after us n)))
-    (λ w f. by w f (named (objects_after us n) f) refl)
-    (λ w k below u is. w u.handle)
-    (all_below-decides (λ k. renews_at start us n (objects_after us n) k) (λ k. RenewsAt start us n (objects_after us n) k) (λ k. at-decides start us n (objects_after us n) k) (length (objects_after us n)))
-  where
-    by : ((k : ℕ) → k < length (objects_after us n) → RenewsAt start us n (objects_after us n) k) → (f : List ℕ) (y : Option Object) → named (objects_after us n) f ≡ y → Renews start us n f
-    by w f None e = unnamed start us n f e
-    by w f (Some o) e =
-        let p = named-place (objects_after us n) f o e in
-        subst (λ (h : List ℕ). Renews start us n h) p.3 (w p.0 (slice_get_within (objects_after us n) p.0 p.1 p.2) p.1 p.2)
+unfolding renews_all renews_at
+all-decides start us n = named-decides (λ f. renews start us n f) (λ f. Renews start us n f) (λ f. renews-decides start us n f) (objects_after us n) (λ f e. unnamed start us n f e)
 
 pub fresh-decides : (t : Trace) → Decides (fresh t.start.objects.items t.updates.items (length t.entries.items)) (Fresh (history_of t))
 unfolding fresh

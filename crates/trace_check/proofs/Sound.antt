@@ -18,7 +18,8 @@ use Rattle.trace_check.specs.Histories.{listed_of, holds_of, object_of, named, o
 use Rattle.trace_check.specs.Freshness.{if_named}
 use Rattle.trace_check.specs.Soundness.{have_cookies, may_hold, is_sound, if_sound, sound_under, sound_at, sound_all, sound_updates, sound_server}
 use Rattle.trace_check.proofs.Below.{all_below-decides}
-use Rattle.trace_check.proofs.Naming.{named-place}
+use Rattle.trace_check.proofs.Combining.{always}
+use Rattle.trace_check.proofs.Naming.{named-decides, either}
 
 -- ---- one object
 
@@ -76,9 +77,6 @@ sound-decides o = Decides-like (may_hold o.attr.kind o.attr.size o.contents) (λ
 
 -- ---- the objects that are named
 
-always : {P : Type 0} → P → Decides true P
-always p = (λ _. p, λ _. refl)
-
 -- if the object is there, it is sound
 abbrev pub IfSound : Option Object → Type 0
 IfSound x = (o : Object) → x ≡ Some o → model.IsSound (object_of o)
@@ -94,28 +92,9 @@ under-decides : (objects : List Updated) (f : List ℕ) → Decides (sound_under
 unfolding sound_under
 under-decides objects f = if-decides (named objects f)
 
-at-decides : (objects : List Updated) (k : ℕ) → Decides (sound_at objects k) ((u : Updated) → slice_get objects k ≡ Some u → IfSound (named objects u.handle))
-unfolding sound_at
-at-decides objects k = by (slice_get objects k) refl
-  where
-    other : (u v : Updated) → Some u ≡ Some v → u ≡ v
-    other u v e = cc
-
-    by : (o : Option Updated) → slice_get objects k ≡ o → Decides (if_named (λ f. sound_under objects f) o) ((u : Updated) → slice_get objects k ≡ Some u → IfSound (named objects u.handle))
-    by None e = always (λ u is. let q : slice_get objects k ≡ Some u = is in absurd (cc))
-    by (Some v) e =
-        Decides-like (sound_under objects v.handle)
-        (λ w u is. subst (λ (z : Updated). IfSound (named objects z.handle)) (other v u (sym e ∙ is)) w)
-        (λ w. w v e)
-        (under-decides objects v.handle)
-
 pub all-sound : (objects : List Updated) → Decides (sound_all objects) ((f : List ℕ) → IfSound (named objects f))
-unfolding sound_all
-all-sound objects =
-    Decides-like (all_below (λ k. sound_at objects k) (length objects))
-    (λ w f o e. let p = named-place objects f o e in subst (λ (h : List ℕ). IfSound (named objects h)) p.3 (w p.0 (slice_get_within objects p.0 p.1 p.2) p.1 p.2) o e)
-    (λ w k below u is. w u.handle)
-    (all_below-decides (λ k. sound_at objects k) (λ k. (u : Updated) → slice_get objects k ≡ Some u → IfSound (named objects u.handle)) (λ k. at-decides objects k) (length objects))
+unfolding sound_all sound_at
+all-sound objects = named-decides (λ f. sound_under objects f) (λ f. IfSound (named objects f)) (λ f. under-decides objects f) objects (λ f none o e. let q : None ≡ Some o = sym none ∙ e in absurd (cc))
 
 updates-sound : (us : List Update) (count : ℕ) → Decides (sound_updates us count) ((n : ℕ) → n < count → (f : List ℕ) → IfSound (named (objects_after us n) f))
 unfolding sound_updates
@@ -126,10 +105,6 @@ updates-sound us count = all_below-decides (λ n. sound_all (objects_after us n)
 -- the object under each handle at that moment is sound
 abbrev pub SoundAt : List Updated → List Update → ℕ → Type 0
 SoundAt start us n = (f : List ℕ) → IfSound (object_at start us n f)
-
-either : (R : Type 0) (x y : Option Object) (o : Object) → or_else x y ≡ Some o → (x ≡ Some o → R) → (y ≡ Some o → R) → R
-either R None y o e named was = was e
-either R (Some p) y o e named was = named e
 
 so-far : (start : List Updated) (us : List Update) (count : ℕ) → ((f : List ℕ) → IfSound (named start f)) → ((n : ℕ) → n < count → (f : List ℕ) → IfSound (named (objects_after us n) f)) → (n : ℕ) → n ≤ count → SoundAt start us n
 so-far start us count first each zero le f o e = first f o e

@@ -22,15 +22,9 @@ use Rattle.trace_check.specs.Histories.{listed_of, holds_of, object_of, named, o
 use Rattle.trace_check.specs.Freshness.{same_entries, if_named}
 use Rattle.trace_check.specs.Keeping.{same_owner, same_attr, same_bool, same_contents, same_object, is_kept, keeps, keeps_at, keeps_all, is_verf, keeps_verf, keeps_server}
 use Rattle.trace_check.proofs.Below.{all_below-decides}
-use Rattle.trace_check.proofs.Naming.{named-place, time-decides}
+use Rattle.trace_check.proofs.Combining.{always, never}
+use Rattle.trace_check.proofs.Naming.{named-decides, time-decides}
 use Rattle.trace_check.proofs.Changing.{entries-decides}
-
--- what holds without a test
-always : {P : Type 0} → P → Decides true P
-always p = (λ _. p, λ _. refl)
-
-never : {P : Type 0} → (P → ⊥) → Decides false P
-never n = (λ t. absurd (true≢false (sym t)), λ p. absurd (n p))
 
 -- ---- equal attributes
 
@@ -115,42 +109,13 @@ pub keeps-decides : (start : List Updated) (us : List Update) (n : ℕ) (f : Lis
 unfolding keeps
 keeps-decides start us n f = kept-decides (object_at start us n f) (named (objects_after us n) f)
 
--- the object of that place of a list
-abbrev pub KeepsAt : List Updated → List Update → ℕ → List Updated → ℕ → Type 0
-KeepsAt start us n objects k = (u : Updated) → slice_get objects k ≡ Some u → Keeps start us n u.handle
-
-at-decides : (start : List Updated) (us : List Update) (n : ℕ) (objects : List Updated) (k : ℕ) → Decides (keeps_at start us n objects k) (KeepsAt start us n objects k)
-unfolding keeps_at
-at-decides start us n objects k = by (slice_get objects k) refl
-  where
-    other : (u v : Updated) → Some u ≡ Some v → u ≡ v
-    other u v e = cc
-
-    by : (o : Option Updated) → slice_get objects k ≡ o → Decides (if_named (λ f. keeps start us n f) o) (KeepsAt start us n objects k)
-    by None e = always (λ u is. let q : slice_get objects k ≡ Some u = is in absurd (cc))
-    by (Some v) e =
-        Decides-like (keeps start us n v.handle)
-        (λ w u is. subst (λ (z : Updated). Keeps start us n z.handle) (other v u (sym e ∙ is)) w)
-        (λ w. w v e)
-        (keeps-decides start us n v.handle)
-
 -- an object that isn't named stays what it was
 pub unnamed-keeps : (start : List Updated) (us : List Update) (n : ℕ) (f : List ℕ) → named (objects_after us n) f ≡ None → Keeps start us n f
 unnamed-keeps start us n f e = ap (λ z. option_map object_of (or_else z (object_at start us n f))) e
 
 pub all-keep : (start : List Updated) (us : List Update) (n : ℕ) → Decides (keeps_all start us n) ((f : List ℕ) → Keeps start us n f)
-unfolding keeps_all
-all-keep start us n =
-    Decides-like (all_below (λ k. keeps_at start us n (objects_after us n) k) (length (objects_after us n)))
-    (λ w f. by w f (named (objects_after us n) f) refl)
-    (λ w k below u is. w u.handle)
-    (all_below-decides (λ k. keeps_at start us n (objects_after us n) k) (λ k. KeepsAt start us n (objects_after us n) k) (λ k. at-decides start us n (objects_after us n) k) (length (objects_after us n)))
-  where
-    by : ((k : ℕ) → k < length (objects_after us n) → KeepsAt start us n (objects_after us n) k) → (f : List ℕ) (y : Option Object) → named (objects_after us n) f ≡ y → Keeps start us n f
-    by w f None e = unnamed-keeps start us n f e
-    by w f (Some o) e =
-        let p = named-place (objects_after us n) f o e in
-        subst (λ (h : List ℕ). Keeps start us n h) p.3 (w p.0 (slice_get_within (objects_after us n) p.0 p.1 p.2) p.1 p.2)
+unfolding keeps_all keeps_at
+all-keep start us n = named-decides (λ f. keeps start us n f) (λ f. Keeps start us n f) (λ f. keeps-decides start us n f) (objects_after us n) (λ f e. unnamed-keeps start us n f e)
 
 verf-by : (was : Verf) (o : Option Update) → Decides (is_verf was o) (verf_or o was ≡ was)
 verf-by was None = always refl

@@ -18,7 +18,9 @@ use Rattle.trace_check.specs.Freshness.{same_entries, if_named}
 
 -- the same kind, permissions, names, owner and sizes
 abbrev pub same_owner : Attr → Attr → Bool
-same_owner a b = (a.kind == b.kind) && (a.mode == b.mode) && (a.nlink == b.nlink) && (a.uid == b.uid) && (a.gid == b.gid) && (a.size == b.size) && (a.used == b.used)
+same_owner a b =
+    (a.kind == b.kind) && (a.mode == b.mode) && (a.nlink == b.nlink) && (a.uid == b.uid) && (a.gid == b.gid) && (a.size == b.size)
+    && (a.used == b.used)
 
 -- and the same device, file system, number and times
 unfoldable pub same_attr : Attr → Attr → Bool

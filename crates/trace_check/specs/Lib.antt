@@ -3,3 +3,5 @@ pub mod Histories
 pub mod Freshness
 pub mod Keeping
 pub mod Soundness
+pub mod Restarting
+pub mod Beginnings

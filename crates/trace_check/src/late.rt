@@ -30,7 +30,7 @@ fn once(history: &[Entry]) -> bool
 
 /// Whether an entry executes no call whose reply came before.
 #[tactic(auto, unfolding(crate::specs::Decided::in_time))]
-fn in_time(history: &[Entry], entry: usize) -> bool
+pub(crate) fn in_time(history: &[Entry], entry: usize) -> bool
     requires { entry < length history.now }
     ensures { result ≡ in_time history.now entry }
 {

@@ -38,7 +38,7 @@ fn fresh(start: &[Updated], updates: &[Update], count: usize) -> bool
 
 /// Whether each object that an entry changes gets a stamp that it never had.
 #[tactic(auto, using(crate::proofs::Below::all_below_steps), unfolding(crate::specs::Freshness::renews_all))]
-fn renews_all(start: &[Updated], updates: &[Update], entry: usize) -> bool
+pub(crate) fn renews_all(start: &[Updated], updates: &[Update], entry: usize) -> bool
     ensures { result ≡ renews_all start.now updates.now entry }
 {
     let objects = objects_after(updates, entry);
