@@ -1,5 +1,5 @@
 -- What decides facts that hold, that can't hold, and that follow from others.
-use Rattle.std.proofs.Common.{◌≡◌, Bool, true, false, true≢false, refl, sym}
+use Rattle.std.proofs.Common.{Bool, true, false, true≢false, refl, sym}
 use Rattle.std.specs.Prelude.{Decides, ◌||◌, not}
 use Rattle.std.proofs.lemmas.Bool.Decides.{not_from_Decides}
 

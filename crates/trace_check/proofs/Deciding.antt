@@ -1,5 +1,5 @@
 -- The tests decide whether a copy of a call comes late.
-use Rattle.std.proofs.Common.{◌≡◌, ◌<◌, inl, inr, ◌==◌, ℕ, true, false, true≢false, List, length, Option, Some, None, slice_get, refl, sym, ◌∙◌, ap, subst, arith}
+use Rattle.std.proofs.Common.{◌≡◌, ◌<◌, inl, inr, ◌==◌, ℕ, List, length, Option, Some, None, slice_get, refl, sym, ◌∙◌, ap, subst, arith}
 use Rattle.std.specs.Prelude.{Decides, not}
 use Rattle.std.proofs.lemmas.Option.{slice_get_within}
 use Rattle.std.proofs.lemmas.Bool.{cases_lt}

@@ -1,9 +1,8 @@
 -- The tests decide whether each change of an object gives it a stamp that it never had.
-use Rattle.std.proofs.Common.{◌≡◌, ◌≢◌, ◌<◌, ◌≤◌, ℕ, suc, Bool, true, false, List, length, Option, Some, None, slice_get, refl, sym, ◌∙◌, ap, subst}
+use Rattle.std.proofs.Common.{◌≡◌, ◌≢◌, ◌≤◌, ℕ, suc, List, length, Option, Some, None, refl, sym, ◌∙◌, ap, subst}
 use Rattle.std.specs.Prelude.{Decides, ◌||◌, not}
 use Rattle.std.specs.Option.{option_map}
-use Rattle.std.proofs.lemmas.Option.{slice_get_within}
-use Rattle.std.proofs.lemmas.Bool.Decides.{Decides-like, Decides-not, not_from_Decides}
+use Rattle.std.proofs.lemmas.Bool.Decides.{Decides-like, Decides-not}
 use Rattle.nfs_types.specs.Stamps.{stamp_of}
 use Rattle.world_model.specs.Server as model
 use Rattle.world_model.specs.Fresh.{Differs, Fresh}
@@ -13,7 +12,7 @@ use Rattle.trace_check.specs.declared.trace.Update.{Update}
 use Rattle.trace_check.specs.declared.trace.Trace.{Trace}
 use Rattle.trace_check.specs.Decided.{all_below}
 use Rattle.trace_check.specs.Histories.{object_of, named, objects_after, or_else, object_at, history_of}
-use Rattle.trace_check.specs.Freshness.{differs, had_stamp, is_new, renews, if_named, renews_at, renews_all, fresh}
+use Rattle.trace_check.specs.Freshness.{differs, had_stamp, is_new, renews, renews_at, renews_all, fresh}
 use Rattle.trace_check.proofs.Below.{all_below-decides}
 use Rattle.trace_check.proofs.Combining.{always, given}
 use Rattle.trace_check.proofs.Naming.{named-decides, Had, had-decides}

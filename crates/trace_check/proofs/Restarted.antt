@@ -1,5 +1,5 @@
 -- The tests decide whether an entry is a restart of the server.
-use Rattle.std.proofs.Common.{◌≡◌, ◌≢◌, ◌<◌, ◌≤◌, ◌⊎◌, inl, inr, ◌==◌, ℕ, zero, suc, Bool, true, false, true≢false, List, length, map, Option, Some, None, slice_get, refl, sym, ◌∙◌, ap, subst, arith}
+use Rattle.std.proofs.Common.{◌≡◌, ◌≢◌, ◌<◌, ◌⊎◌, inl, inr, ◌==◌, ℕ, suc, List, length, map, Option, Some, None, slice_get, refl, sym, ◌∙◌, ap, subst, arith}
 use Rattle.std.specs.Prelude.{Decides, ◌&&◌, ◌||◌, not}
 use Rattle.std.specs.Option.{option_map}
 use Rattle.std.specs.Str.{bytes_eq}
@@ -16,9 +16,7 @@ use Rattle.trace_check.specs.declared.trace.Object.{Object}
 use Rattle.trace_check.specs.declared.trace.Updated.{Updated}
 use Rattle.trace_check.specs.declared.trace.Update.{Update}
 use Rattle.trace_check.specs.declared.trace.Trace.{Trace}
-use Rattle.trace_check.specs.Decided.{all_below}
 use Rattle.trace_check.specs.Histories.{listed_of, holds_of, object_of, named, objects_after, or_else, object_at, verf_at, server_at, history_of}
-use Rattle.trace_check.specs.Freshness.{if_named}
 use Rattle.trace_check.specs.Keeping.{same_bool, is_file, same_object}
 use Rattle.trace_check.specs.Restarting.{same_verf, new_verf, loses, is_lost, is_left, left_under, left_at, left_all, is_steady, if_steady, steady_under, steady_of, steady_at, steady_all, steady_updates, steady, restarts}
 use Rattle.trace_check.proofs.Below.{all_below-decides}
@@ -49,9 +47,9 @@ loses-decides (File now stable) d =
     Decides-like (not (bytes_eq now stable) && is_file stable stable d)
     (λ w. (now, stable, refl, w.0, sym w.1))
     (λ w.
-      let p : now ≡ w.0 = now-of now stable w.0 w.1 w.2 in
-      let q : stable ≡ w.1 = stable-of now stable w.0 w.1 w.2 in
-      (λ e. w.3 (sym p ∙ e ∙ q), sym (w.4 ∙ ap (λ z. model.Bytes z z) (sym q))))
+    let p : now ≡ w.0 = now-of now stable w.0 w.1 w.2 in
+    let q : stable ≡ w.1 = stable-of now stable w.0 w.1 w.2 in
+    (λ e. w.3 (sym p ∙ e ∙ q), sym (w.4 ∙ ap (λ z. model.Bytes z z) (sym q))))
     (Decides-and (not (bytes_eq now stable)) (is_file stable stable d) (Decides-not (bytes_eq now stable) (bytes_eq-Decides now stable)) (contents-decides (File stable stable) d))
 loses-decides (Directory entries) d = never (λ w. let e : model.Entries (map listed_of entries.items) ≡ model.Bytes w.0 w.1 = w.2 in cc)
 loses-decides (Other text) d = never (λ w. let e : model.Text text ≡ model.Bytes w.0 w.1 = w.2 in cc)

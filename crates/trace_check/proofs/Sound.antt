@@ -1,8 +1,7 @@
 -- The tests decide whether each moment of a trace is a server.
-use Rattle.std.proofs.Common.{◌≡◌, ◌≢◌, ◌<◌, ◌≤◌, ◌==◌, ℕ, zero, suc, Bool, true, false, true≢false, List, [], ◌∷◌, length, map, Option, Some, None, slice_get, refl, sym, ◌∙◌, ap, subst, arith}
+use Rattle.std.proofs.Common.{◌≡◌, ◌≢◌, ◌<◌, ◌≤◌, ◌==◌, ℕ, zero, suc, Bool, true, List, [], ◌∷◌, length, map, Option, Some, None, refl, sym, ◌∙◌, ap, subst, arith}
 use Rattle.std.specs.Prelude.{Decides, ◌&&◌, not, nat_le, All}
 use Rattle.std.specs.Option.{option_map}
-use Rattle.std.proofs.lemmas.Option.{slice_get_within}
 use Rattle.std.proofs.lemmas.Bool.{leb-true, le-leb}
 use Rattle.std.proofs.lemmas.Bool.Decides.{Decides-like, Decides-and, Decides-not, Decides-eqb, Decides-by_and}
 use Rattle.world_model.specs.Server as model
@@ -13,9 +12,7 @@ use Rattle.trace_check.specs.declared.trace.Object.{Object}
 use Rattle.trace_check.specs.declared.trace.Updated.{Updated}
 use Rattle.trace_check.specs.declared.trace.Update.{Update}
 use Rattle.trace_check.specs.declared.trace.Trace.{Trace}
-use Rattle.trace_check.specs.Decided.{all_below}
 use Rattle.trace_check.specs.Histories.{listed_of, holds_of, object_of, named, objects_after, or_else, object_at, server_at}
-use Rattle.trace_check.specs.Freshness.{if_named}
 use Rattle.trace_check.specs.Soundness.{have_cookies, may_hold, is_sound, if_sound, sound_under, sound_at, sound_all, sound_updates, sound_server}
 use Rattle.trace_check.proofs.Below.{all_below-decides}
 use Rattle.trace_check.proofs.Combining.{always}

@@ -1,9 +1,8 @@
 -- The tests decide whether an entry leaves the server as it was.
-use Rattle.std.proofs.Common.{◌≡◌, ◌<◌, ◌==◌, ℕ, suc, Bool, true, false, true≢false, List, length, map, Option, Some, None, slice_get, refl, sym, ◌∙◌, ap, subst}
+use Rattle.std.proofs.Common.{◌≡◌, ◌==◌, ℕ, suc, Bool, true, false, true≢false, List, map, Option, Some, None, slice_get, refl, sym, ap}
 use Rattle.std.specs.Prelude.{Decides, ◌&&◌}
 use Rattle.std.specs.Option.{option_map}
 use Rattle.std.specs.Str.{bytes_eq}
-use Rattle.std.proofs.lemmas.Option.{slice_get_within}
 use Rattle.std.proofs.lemmas.Bool.Decides.{Decides-like, Decides-and, Decides-eqb}
 use Rattle.std.proofs.lemmas.Slice.Eq.{bytes_eq-Decides}
 use Rattle.nfs_types.specs.declared.attr.Attr.{Attr}
@@ -17,11 +16,9 @@ use Rattle.trace_check.specs.declared.trace.Object.{Object}
 use Rattle.trace_check.specs.declared.trace.Updated.{Updated}
 use Rattle.trace_check.specs.declared.trace.Update.{Update}
 use Rattle.trace_check.specs.declared.trace.Trace.{Trace}
-use Rattle.trace_check.specs.Decided.{all_below}
 use Rattle.trace_check.specs.Histories.{listed_of, holds_of, object_of, named, objects_after, or_else, object_at, verf_or, verf_at, server_at}
-use Rattle.trace_check.specs.Freshness.{same_entries, if_named}
+use Rattle.trace_check.specs.Freshness.{same_entries}
 use Rattle.trace_check.specs.Keeping.{same_owner, same_attr, same_bool, same_contents, same_object, is_kept, keeps, keeps_at, keeps_all, is_verf, keeps_verf, keeps_server}
-use Rattle.trace_check.proofs.Below.{all_below-decides}
 use Rattle.trace_check.proofs.Combining.{always, never}
 use Rattle.trace_check.proofs.Naming.{named-decides, time-decides}
 use Rattle.trace_check.proofs.Changing.{entries-decides}

@@ -1,5 +1,5 @@
 -- The tests that decide whether each moment of a trace is a server.
-use Rattle.std.specs.Prelude.{◌==◌, ◌&&◌, not, nat_le, ℕ, Bool, true, false, List, [], ◌∷◌, length, Option, Some, None, slice_get}
+use Rattle.std.specs.Prelude.{◌==◌, ◌&&◌, not, nat_le, ℕ, Bool, true, List, [], ◌∷◌, length, Option, Some, None, slice_get}
 use Rattle.trace_check.specs.declared.trace.DirEntry.{DirEntry}
 use Rattle.trace_check.specs.declared.trace.Contents.{Contents}
 use Rattle.trace_check.specs.declared.trace.Contents.TheVariants.{File, Directory, Other}

@@ -26,13 +26,7 @@ pub fn is_restart(trace: &Trace, entry: usize, verf: Verf) -> bool
 }
 
 #[tactic(auto, unfolding(crate::specs::Restarting::restarts))]
-fn restarts(
-    first: Verf,
-    start: &[Updated],
-    updates: &[Update],
-    entry: usize,
-    verf: Verf,
-) -> bool
+fn restarts(first: Verf, start: &[Updated], updates: &[Update], entry: usize, verf: Verf) -> bool
     requires { entry + 1 < 18446744073709551616 }
     ensures { result ≡ restarts first start.now updates.now entry verf }
 {
