@@ -4,6 +4,10 @@
 /// counts up to twice the bytes of a datagram.
 const MOST_BYTES: usize = 73_728;
 
+/// The most datagrams that are under way without an answer: their answers come to this program's own socket, which has room for as
+/// few, and the answer to a short READ is long.
+const MOST_DATAGRAMS: usize = 8;
+
 /// How many milliseconds an answer is waited for before more goes out without one.
 pub(crate) const PAUSE_MS: u32 = 500;
 
@@ -28,7 +32,8 @@ impl Flight {
     pub(crate) fn has_room(&self, len: usize) -> bool {
         let longest = self.longest.max(len);
         let count = self.unanswered.saturating_add(1);
-        self.unanswered == 0 || longest.saturating_mul(count) <= MOST_BYTES
+        let is_few = count <= MOST_DATAGRAMS;
+        self.unanswered == 0 || (is_few && longest.saturating_mul(count) <= MOST_BYTES)
     }
 
     /// A datagram of so many bytes went out.
