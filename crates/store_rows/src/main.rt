@@ -1,0 +1,47 @@
+//! Does the calls of stores of pages that the lines of standard input list, over a disk in memory, and prints each line and
+//! what the call gives. A page is a file's number, the length in its stamp, its own number, and a text. Any other line is only
+//! printed.
+//!
+//! - `new N N ..`: an empty disk whose calls of these numbers fail; `format`, `open`, `close` (the store's disk again), `sync`,
+//!   `crash`
+//! - `store SLOT FILE SIZE INDEX TEXT`, `page SLOT`, `find FILE SIZE INDEX`
+//! - `write AT HEX`, `bytes AT COUNT`, `last COUNT`: writes to the disk, shows bytes of it, and the last calls that it recorded
+//! - `stops OLD NEW`: for each call of a store of the text NEW, over OLD where that isn't `-`: the call fails, the disk
+//!   crashes, and what `open` finds
+//! - `faults format`, `faults open`: at each of its calls in turn the disk fails
+//! - `file PATH`, `chopped`: stores pages in a file of the system, and in one that gives and takes few bytes at a time
+#![tactic(auto)]
+
+mod chopped;
+mod faults;
+mod files;
+mod held;
+mod stops;
+mod words;
+
+use held::Held;
+use std::alloc::Global;
+use std::io;
+
+/// Does what a line asks for.
+fn row(rt: &HostRuntime, alloc: Global, held: Held, line: &str) -> io::Result<Held> {
+    let (word, rest) = line.split_once(' ').unwrap_or((line, ""));
+    match word {
+        "stops" => stops::row(rt, alloc, rest)?,
+        "faults" => faults::row(rt, alloc, rest)?,
+        "file" => files::row(rt, alloc, rest)?,
+        "chopped" => chopped::row(rt, alloc)?,
+        _ => return held.row(rt, alloc, word, rest),
+    }
+    Ok(held)
+}
+
+fn main(rt: HostRuntime) -> io::Result<()> {
+    let mut held = Held::Nothing;
+    for line in rt.lines(rt.alloc()) {
+        let line = line?;
+        println!(rt; "{}", line.as_str())?;
+        held = row(&rt, rt.alloc(), held, line.as_str())?;
+    }
+    Ok(())
+}
