@@ -33,7 +33,7 @@ fn failing_format(alloc: Global, call: u32) -> Result<(), StoreFault> {
 
 /// Opens a disk with one page whose call of that number from there on fails.
 fn failing_open(alloc: Global, call: u32) -> Result<(), StoreFault> {
-    let disk = MemDisk::new(alloc, &[BEFORE + call])?;
+    let disk = MemDisk::new(alloc, &[BEFORE.saturating_add(call)])?;
     let mut pages = opened(alloc, disk)?;
     store(&mut pages, 0, 1, 6, 0, "page").unwrap_or(Ok(()))?;
     opened(alloc, pages.into_disk())?;
