@@ -1,6 +1,6 @@
 #!/usr/bin/env bash
 # Checks what documents name: that each link leads somewhere, that each path of a crate is there, that each definition that
-# docs/CLAIMS.md names is one, and that README is short. It needs nothing but a shell.
+# docs/CLAIMS.md names is one, that callers are shown as they are, and that README is short. It needs nothing but a shell.
 set -u
 here=$(dirname -- "$(readlink -f -- "${BASH_SOURCE[0]}")")
 . "$here/lib.sh"
@@ -63,8 +63,24 @@ check_claims() {
     done < <(grep -oE '`[A-Z][a-z][A-Za-z]+`' docs/CLAIMS.md | tr -d '`' | sort -u)
 }
 
+# What a CALLING.md shows of library_uses: the block behind the file's name.
+block() {
+    awk -v name="$2" '$0 == "`" name "`:" { at = 1; next } at == 1 && /^```/ { at = 2; next } at == 2 && /^```$/ { exit } at == 2' "$1"
+}
+
+check_callers() {
+    local document name
+    for document in crates/*/CALLING.md; do
+        while read -r name; do
+            diff <(block "$document" "$name") "crates/$name" >/dev/null
+            count $? "$document: crates/$name isn't as it is shown"
+        done < <(grep -oE '^`library_uses/[^`]*`:$' "$document" | tr -d '`:')
+    done
+}
+
 check_links
 check_paths
+check_callers
 check_claims
 words=$(wc -w <README.md)
 [ "$words" -le 1500 ]

@@ -1,0 +1,2 @@
+pub mod KeptPage
+pub mod Causes
