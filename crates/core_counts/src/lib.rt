@@ -21,7 +21,7 @@ ghost use Rattle.core_counts.specs.counts.Writes.{FewWritesMade};
 
 // The machine of written bytes beside the core.
 
-/// With each history that the core goes with, the machine of `bond_writes` goes too, as far as it speaks of bytes and calls. At each step of a lane's
+/// With each history that the core goes with, the machine of `model_writes` goes too, as far as it speaks of bytes and calls. At each step of a lane's
 /// operation, with the call that it makes, it makes moves, or none, and shows afterwards at each place what is pending there and in flight. Once the
 /// session is lost both stop.
 pub fn steps_are_coarse()
@@ -51,7 +51,7 @@ pub fn pages_are_fed()
     ensures { PagesFed }
 {}
 
-/// And the kept names are fed as `bond_names` says.
+/// And the kept names are fed as `law_names` says.
 pub fn names_are_fed()
     ensures { NamesFed }
 {}

@@ -9,7 +9,7 @@ use Rattle.world_model.specs.Messages.{HasXid}
 use Rattle.world_model.specs.Waiting.{Answers}
 use Rattle.world_model.proofs.Growth.{FirstSent-grow, Waits-back}
 use Rattle.world_model.proofs.Places.{At-grow, At-below, At-cases, length_last}
-use Rattle.bond_calls.specs.Calls.{Numbered}
+use Rattle.law_calls.specs.Calls.{Numbered}
 use Rattle.client_core.specs.declared.lane.Purpose.{Purpose}
 use Rattle.core_facts.specs.Tries.{IsUnsent, IsOutstanding, FailedTries, one, more, IsRunning, Tried, unsent, runs, ended}
 

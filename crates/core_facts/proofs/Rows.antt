@@ -25,7 +25,7 @@ use Rattle.world_model.specs.Entries.{At}
 use Rattle.world_model.specs.Lost.{FailedAttempt}
 use Rattle.world_model.specs.Messages.{HasXid, head_of, program_of, proc_of}
 use Rattle.world_model.proofs.Places.{At-grow, At-below, At-cases, At-last}
-use Rattle.bond_calls.specs.Calls.{Numbered}
+use Rattle.law_calls.specs.Calls.{Numbered}
 use Rattle.client_shelf.specs.Spelling.{IsSpellable}
 use Rattle.op_machines.specs.declared.machine.Machine.{Machine}
 use Rattle.client_core.specs.declared.lane.Purpose.{Purpose}

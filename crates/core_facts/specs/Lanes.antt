@@ -1,7 +1,7 @@
 -- What a history shows of the lanes of the core, and of a lost session.
 use Rattle.std.specs.Prelude.{◌≡◌, ℕ, List, length, Some, true, slice_get}
 use Rattle.rpc_retry.specs.Sound.{IsSound}
-use Rattle.bond_calls.specs.Calls.{Numbered}
+use Rattle.law_calls.specs.Calls.{Numbered}
 use Rattle.world_model.specs.declared.answer.Answer.TheVariants.{Refused}
 use Rattle.world_model.specs.declared.answer.Fault.TheVariants as faults
 use Rattle.world_model.specs.declared.entry.Entry.{Entry}

@@ -9,7 +9,7 @@ use Rattle.world_model.specs.Entries.{At}
 use Rattle.world_model.specs.Follows.{marks_of}
 use Rattle.world_model.specs.Lost.{Loses}
 use Rattle.world_model.specs.Messages.{HasXid}
-use Rattle.bond_calls.specs.Calls.{Numbered}
+use Rattle.law_calls.specs.Calls.{Numbered}
 use Rattle.op_machines.specs.declared.machine.Machine.{Machine}
 use Rattle.op_machines.specs.Fits.{Fits}
 use Rattle.client_core.specs.declared.lane.State.TheVariants.{Over}

@@ -6,7 +6,7 @@ use Rattle.world_model.specs.Follows.{begun}
 use Rattle.nfs_script.specs.Asked.{IsAskedLine}
 use Rattle.nfs_script.specs.declared.script.ScriptLine.{ScriptLine}
 use Rattle.std.proofs.lemmas.Bool.{ltb-true, ltb-false}
-use Rattle.bond_calls.specs.Calls.{Numbered}
+use Rattle.law_calls.specs.Calls.{Numbered}
 use Rattle.rpc_retry.specs.Held.{Held}
 use Rattle.rpc_retry.specs.Sound.{IsSound}
 use Rattle.session_words.specs.declared.settings.Settings.{Settings}

@@ -3,7 +3,7 @@
 use crate::case::Case;
 use crate::show::show_text;
 use crate::text::{size_of, words_of};
-use made_session::run_made;
+use run_made::run_made;
 use outside::{MemSink, TickClock};
 use std::alloc::Global;
 use std::io;

@@ -3,7 +3,7 @@
 use crate::ending::Ending;
 use crate::schedule_file::refused;
 use net_edge::StandardOutput;
-use replay_session::replay_made;
+use run_replay::replay_made;
 use script_text::number;
 
 /// The greatest size of a script that is made.

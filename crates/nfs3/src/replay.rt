@@ -13,7 +13,7 @@ pub fn replay(rt: &HostRuntime, path: &str, words: &[String]) -> Ending {
     };
     let mut source = StandardInput::new(rt.stdin());
     let mut sink = StandardOutput::new(rt.stdout());
-    match replay_session::replay(alloc, text.as_slice(), words, &mut source, &mut sink) {
+    match run_replay::replay(alloc, text.as_slice(), words, &mut source, &mut sink) {
         Ok((_, status)) => Ending::Ran(status),
         Err(fault) => refused(fault),
     }

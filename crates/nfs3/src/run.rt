@@ -2,7 +2,7 @@
 
 use crate::ending::Ending;
 use net_edge::{StandardInput, StandardOutput, SystemClock, TcpWire, UdpDatagrams};
-use port_session::run_found;
+use run_ports::run_found;
 use port_words::udp_words;
 use rpc_record::StreamLink;
 use udp_link::UdpLink;

@@ -108,7 +108,7 @@ use Rattle.lane_session.specs.Endings.{entries_of}
 use Rattle.lane_session.specs.Going.{AllTimed, Grows}
 use Rattle.lane_session.specs.Running.{mounted_by}
 use Rattle.core_counts.proofs.coarse.Along.{writes-were-long}
-use Rattle.bond_calls.proofs.CallsWait.{xid_of_call}
+use Rattle.law_calls.proofs.CallsWait.{xid_of_call}
 use Rattle.core_counts.specs.coarse.WereLong.{write_call}
 use Rattle.script_runs.specs.LaneRuns.{setup_of}
 use Rattle.nfs_client.specs.Given.{longest_of, modes_of, terms_by}

@@ -46,10 +46,10 @@ use Rattle.claims.specs.Settled.{HoldsStable, SettledBy, Settled}
 use Rattle.claims.specs.Terms.{Terms, jukebox}
 use Rattle.claims.specs.Thrifty.{Thrifty}
 use Rattle.claims.specs.Touched.{Wrote}
-use Rattle.bond_calls.specs.Calls.{Numbered}
+use Rattle.law_calls.specs.Calls.{Numbered}
 use Rattle.claims.specs.Cuts.{CutsStay}
-use Rattle.bond_reads.specs.Kept.{HasStamp}
-use Rattle.bond_stable.specs.OwnCalls.{NoForeign}
+use Rattle.law_reads.specs.Kept.{HasStamp}
+use Rattle.law_stable.specs.OwnCalls.{NoForeign}
 use Rattle.op_machines.specs.declared.machine.Machine.{Machine}
 use Rattle.client_core.specs.declared.setup.Setup.{Setup}
 use Rattle.client_core.specs.Steps.{IsBusyAt}

@@ -4,7 +4,7 @@ use crate::case::{Case, datagrams};
 use crate::show::show_calls;
 use nfs_client::run;
 use outside::{Link, MemDatagrams, MemSink, MemSource, TickClock};
-use port_session::run_found;
+use run_ports::run_found;
 use port_words::udp_words;
 use std::alloc::Global;
 use std::io;

@@ -15,9 +15,9 @@ use Rattle.world_model.specs.History.{History}
 use Rattle.world_model.specs.Lawful.{Lawful, IsReplied, replied, refused}
 use Rattle.world_model.specs.Messages.{HasXid, SpellsCall, SpellsReply}
 use Rattle.claims.specs.Shown.{ShowsAttr, of_object, of_target, of_given, of_listed}
-use Rattle.bond_calls.specs.Calls.{Numbered}
-use Rattle.bond_calls.proofs.CallsWait.{xid_of_call}
-use Rattle.bond_walks.proofs.RepliesShow.{shows_true}
+use Rattle.law_calls.specs.Calls.{Numbered}
+use Rattle.law_calls.proofs.CallsWait.{xid_of_call}
+use Rattle.model_walks.proofs.RepliesShow.{shows_true}
 use Rattle.core_facts.proofs.Grown.{one-xid}
 use Rattle.core_facts.proofs.Rows.{reached-rows}
 use Rattle.op_machines.specs.Begun.{machine_of}

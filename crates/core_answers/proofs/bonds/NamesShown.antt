@@ -28,8 +28,8 @@ use Rattle.core_facts.proofs.FilesKept.{all-starts, all-resumes, all-takes}
 use Rattle.core_facts.proofs.NamesKept.{Told, CallTells}
 use Rattle.core_facts.proofs.Rows.{reached-rows}
 use Rattle.core_facts.proofs.Steps.{AskedOf, KeptOf}
-use Rattle.bond_names.specs.Kept.{IsLookedUp}
-use Rattle.bond_walks.proofs.NamesStand.{stands_at}
+use Rattle.law_names.specs.Kept.{IsLookedUp}
+use Rattle.model_walks.proofs.NamesStand.{stands_at}
 use Rattle.core_answers.specs.bonds.Kept.{IsAnswered}
 use Rattle.core_answers.specs.bonds.Named.{WasNamed, NamesShown, NamesTrue, NamesStood}
 use Rattle.core_answers.proofs.bonds.AttrsShown.{answered-last, no-story}

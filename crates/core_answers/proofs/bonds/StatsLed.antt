@@ -51,9 +51,9 @@ use Rattle.core_facts.proofs.Awaited.{WalkAwaits, WalkStep, OwnOr, go-step, took
 use Rattle.core_facts.proofs.NamesKept.{Told}
 use Rattle.core_facts.proofs.Rows.{reached-rows}
 use Rattle.core_facts.proofs.Steps.{AskedOf, ThenOf}
-use Rattle.bond_calls.specs.Calls.{Numbered}
-use Rattle.bond_names.specs.Kept.{IsLookedUp}
-use Rattle.bond_walks.proofs.NamesStand.{stands_at}
+use Rattle.law_calls.specs.Calls.{Numbered}
+use Rattle.law_names.specs.Kept.{IsLookedUp}
+use Rattle.model_walks.proofs.NamesStand.{stands_at}
 use Rattle.core_answers.specs.bonds.Ages.{IsRecent, own, ShownRecently, time_next}
 use Rattle.core_answers.specs.bonds.Had.{HasAttr}
 use Rattle.core_answers.specs.bonds.Kept.{IsAnswered}

@@ -49,7 +49,7 @@ use Rattle.world_model.specs.Rules.{Breaks, IsNotReply}
 use Rattle.claims.specs.Terms.{Terms}
 use Rattle.world_model.proofs.Doing.{read_done, write_done, list_done}
 use Rattle.world_model.proofs.Places.{At-one}
-use Rattle.bond_calls.proofs.CallsWait.{xid_of_call}
+use Rattle.law_calls.proofs.CallsWait.{xid_of_call}
 use Rattle.call_replies.proofs.Readings.{not_reply_read}
 use Rattle.core_answers.proofs.bonds.OneCall.{IsNfs, one-call}
 use Rattle.core_answers.specs.completes.Rowed.{HasRows, RowsComplete}

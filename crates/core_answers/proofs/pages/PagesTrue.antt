@@ -16,10 +16,10 @@ use Rattle.world_model.specs.FileService.{ReadsBytes}
 use Rattle.world_model.specs.Fresh.{Fresh}
 use Rattle.world_model.specs.History.{History}
 use Rattle.world_model.specs.Lawful.{Lawful}
-use Rattle.bond_calls.specs.Calls.{Numbered}
-use Rattle.bond_reads.specs.Kept.{Done, HasStamp, Sized}
-use Rattle.bond_reads.proofs.KeptBytes.{same_bytes, reads, writes, serves, later, put_before, put_after, stamp_there, resized_so}
-use Rattle.bond_pages.proofs.OfferedPage.{offered_bytes}
+use Rattle.law_calls.specs.Calls.{Numbered}
+use Rattle.law_reads.specs.Kept.{Done, HasStamp, Sized}
+use Rattle.law_reads.proofs.KeptBytes.{same_bytes, reads, writes, serves, later, put_before, put_after, stamp_there, resized_so}
+use Rattle.law_pages.proofs.OfferedPage.{offered_bytes}
 use Rattle.op_machines.specs.Begun.{machine_of}
 use Rattle.core_facts.proofs.Rows.{reached-rows}
 use Rattle.core_answers.specs.bonds.Kept.{IsAnswered}

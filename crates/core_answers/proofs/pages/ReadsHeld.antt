@@ -23,10 +23,10 @@ use Rattle.world_model.specs.Server.{Server, Bytes, Entries, Text, Holds}
 use Rattle.world_model.specs.Service.{Serves, refused, broken_off, done}
 use Rattle.claims.specs.Slots.{IsOf}
 use Rattle.world_model.specs.Steps.{TrueOf, TrueWcc}
-use Rattle.bond_calls.specs.Calls.{Numbered}
-use Rattle.bond_reads.specs.Kept.{Done, HasStamp}
-use Rattle.bond_reads.proofs.Bytes.{part_stands}
-use Rattle.bond_reads.proofs.KeptBytes.{reads, writes, serves, later, put_after, stamp_there}
+use Rattle.law_calls.specs.Calls.{Numbered}
+use Rattle.law_reads.specs.Kept.{Done, HasStamp}
+use Rattle.law_reads.proofs.Bytes.{part_stands}
+use Rattle.law_reads.proofs.KeptBytes.{reads, writes, serves, later, put_after, stamp_there}
 use Rattle.op_machines.specs.Begun.{machine_of}
 use Rattle.core_facts.proofs.Rows.{reached-rows}
 use Rattle.core_answers.specs.bonds.Kept.{IsAnswered}

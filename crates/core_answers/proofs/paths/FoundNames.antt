@@ -30,7 +30,7 @@ use Rattle.op_machines.specs.declared.begun.Mounted.{Mounted}
 use Rattle.client_core.specs.declared.setup.Setup.{Setup}
 use Rattle.client_core.specs.View.{View}
 use Rattle.name_ops.specs.Looking.{look_up}
-use Rattle.bond_calls.specs.Calls.{Numbered}
+use Rattle.law_calls.specs.Calls.{Numbered}
 use Rattle.core_facts.proofs.OneCallStory.{front-last}
 use Rattle.core_facts.proofs.Rows.{reached-rows}
 use Rattle.core_answers.specs.bonds.Kept.{IsAnswered}

@@ -18,7 +18,7 @@ use Rattle.op_machines.specs.Begun.{machine_of}
 use Rattle.op_machines.specs.declared.begun.Mounted.{Mounted}
 use Rattle.client_core.specs.declared.setup.Setup.{Setup}
 use Rattle.client_core.specs.View.{View}
-use Rattle.bond_calls.specs.Calls.{Numbered}
+use Rattle.law_calls.specs.Calls.{Numbered}
 use Rattle.core_facts.proofs.Rows.{reached-rows}
 use Rattle.core_answers.proofs.bonds.AttrsShown.{fresh-attrs}
 use Rattle.core_answers.proofs.bonds.NamesShown.{none-kept}

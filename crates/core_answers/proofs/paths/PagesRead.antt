@@ -19,10 +19,10 @@ use Rattle.world_model.specs.Server as servers
 use Rattle.world_model.specs.Server.{Listed, Entries, Object, Lists, Names}
 use Rattle.world_model.specs.ListService.{IsPlusRowOf, ListsObjects}
 use Rattle.world_model.proofs.Doing.{list_done}
-use Rattle.bond_calls.specs.Calls.{Numbered}
-use Rattle.bond_walks.proofs.Cookies.{one_list, cookies_rise}
-use Rattle.bond_walks.proofs.Members.{In, row_in, row_named, name_listed, last_row}
-use Rattle.bond_walks.proofs.RepliesShow.{all_at}
+use Rattle.law_calls.specs.Calls.{Numbered}
+use Rattle.model_walks.proofs.Cookies.{one_list, cookies_rise}
+use Rattle.model_walks.proofs.Members.{In, row_in, row_named, name_listed, last_row}
+use Rattle.model_walks.proofs.RepliesShow.{all_at}
 use Rattle.core_answers.specs.bonds.Kept.{IsAnswered}
 use Rattle.core_answers.proofs.bonds.Executions.{Ran, answered-ran}
 

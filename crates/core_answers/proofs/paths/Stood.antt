@@ -27,9 +27,9 @@ use Rattle.name_ops.specs.Looking.{look_up}
 use Rattle.core_facts.specs.Naming.{KnowsRoot}
 use Rattle.core_facts.proofs.AllAwaited.{Awaits}
 use Rattle.core_facts.proofs.Steps.{AskedOf}
-use Rattle.bond_calls.specs.Calls.{Numbered}
-use Rattle.bond_names.specs.Kept.{IsLookedUp}
-use Rattle.bond_walks.proofs.NamesStand.{stands_at}
+use Rattle.law_calls.specs.Calls.{Numbered}
+use Rattle.law_names.specs.Kept.{IsLookedUp}
+use Rattle.model_walks.proofs.NamesStand.{stands_at}
 use Rattle.core_answers.specs.bonds.Aged.{TakesReadings}
 use Rattle.core_answers.specs.bonds.Ages.{IsRecent, own, ShownRecently}
 use Rattle.core_answers.specs.bonds.Had.{HasAttr}

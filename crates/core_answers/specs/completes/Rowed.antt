@@ -14,7 +14,7 @@ use Rattle.world_model.specs.Messages.{SpellsCall}
 use Rattle.world_model.specs.Operations.{Ended}
 use Rattle.claims.specs.RefusalRows.{RefusalRow}
 use Rattle.claims.specs.Terms.{Terms}
-use Rattle.bond_calls.specs.Calls.{Numbered}
+use Rattle.law_calls.specs.Calls.{Numbered}
 
 -- Each refusal has its row; calls are numbered; and each WRITE carries a byte.
 pub record HasRows (terms : Terms) (h : List Entry) : Type 0 where

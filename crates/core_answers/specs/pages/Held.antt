@@ -19,7 +19,7 @@ use Rattle.op_machines.specs.declared.machine.Machine.{Machine}
 use Rattle.client_core.specs.declared.setup.Setup.{Setup}
 use Rattle.client_core.specs.View.{View}
 use Rattle.core_facts.specs.SlotAnswers.{GoesWith}
-use Rattle.bond_reads.specs.Kept.{HasStamp}
+use Rattle.law_reads.specs.Kept.{HasStamp}
 use Rattle.core_answers.specs.pages.Read.{IsShown}
 
 -- at the moment the file has the stamp

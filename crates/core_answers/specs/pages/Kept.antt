@@ -20,7 +20,7 @@ use Rattle.client_core.specs.declared.setup.Setup.{Setup}
 use Rattle.client_core.specs.View.{View}
 use Rattle.core_facts.specs.Reaches.{Reaches}
 use Rattle.core_answers.specs.bonds.Kept.{IsAnswered}
-use Rattle.bond_reads.specs.Kept.{Leads}
+use Rattle.law_reads.specs.Kept.{Leads}
 
 -- A READ of the file that began at the page or before it was answered with these bytes of it, under the stamp that stands beside them. They fill
 -- the page, or the READ reached the file's end.

@@ -11,7 +11,7 @@ use Rattle.op_machines.specs.declared.begun.Mounted.{Mounted}
 use Rattle.client_core.specs.declared.setup.Setup.{Setup}
 use Rattle.client_core.specs.View.{View}
 use Rattle.core_facts.specs.Reaches.{Reaches}
-use Rattle.bond_reads.specs.Kept.{HasStamp}
+use Rattle.law_reads.specs.Kept.{HasStamp}
 
 -- A page that the client keeps is that page of the file at every moment at which the file has its known stamp.
 abbrev pub PagesTrue : Type 0

@@ -21,10 +21,10 @@ use Rattle.client_core.specs.View.{View}
 use Rattle.core_answers.specs.writes.Alone.{written_file, committed_file, IsWaiting, IsQuiet}
 use Rattle.core_answers.proofs.writes.CommitsAlone.{commits-alone}
 use Rattle.core_answers.proofs.writes.Under.{under-head}
-use Rattle.bond_writes.specs.Machine as coarse
-use Rattle.bond_writes.specs.Mirrors.{call_of, file_call_of, sized_call}
-use Rattle.bond_writes.specs.Story as story
-use Rattle.bond_pending.specs.Cells.{Shows, flight_of}
+use Rattle.model_writes.specs.Machine as coarse
+use Rattle.model_writes.specs.Mirrors.{call_of, file_call_of, sized_call}
+use Rattle.model_writes.specs.Story as story
+use Rattle.step_pending.specs.Cells.{Shows, flight_of}
 use Rattle.core_counts.specs.coarse.Runs.{ShownCall, ShownCalls}
 use Rattle.core_counts.proofs.coarse.Onward.{Ahead}
 

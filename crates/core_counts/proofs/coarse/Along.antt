@@ -35,9 +35,9 @@ use Rattle.core_answers.proofs.writes.PiecesCarried.{unused-next}
 use Rattle.core_session.proofs.order.Basis.{Basis, basis-ready, stirs-basis, starts-basis, takes-basis, keeps-basis}
 use Rattle.core_session.proofs.saves.HearingAlong.{IsPlain}
 use Rattle.core_session.proofs.saves.WholeSteps.{Wholly, starts-has, resumes-has, stirs-wholly, starts-wholly, takes-wholly, keeps-wholly}
-use Rattle.bond_writes.specs.Machine as coarse
-use Rattle.bond_pending.specs.Cells.{Shows}
-use Rattle.bond_pending.proofs.Cutting.{nothing-shown}
+use Rattle.model_writes.specs.Machine as coarse
+use Rattle.step_pending.specs.Cells.{Shows}
+use Rattle.step_pending.proofs.Cutting.{nothing-shown}
 use Rattle.core_counts.specs.coarse.Long.{MakesLong}
 use Rattle.core_counts.specs.coarse.Moves.{Moves, Hears}
 use Rattle.core_counts.specs.coarse.Moves as machine
@@ -45,7 +45,7 @@ use Rattle.core_counts.specs.coarse.Runs.{RestsAt, ShownCall, ShownCalls, Shown,
 use Rattle.core_counts.specs.coarse.Runs as runs
 use Rattle.core_counts.specs.coarse.WereLong.{WritesWereLong}
 use Rattle.core_counts.proofs.coarse.WereLong.{Longs, Sents, longs-then, longs-moved, longs-stirred, longs-taken, sents-then, sents-other, lost-unsent, sents-first}
-use Rattle.bond_writes.specs.Story as story
+use Rattle.model_writes.specs.Story as story
 use Rattle.core_counts.proofs.coarse.Bearing.{none-stays, starts-led, resumes-led}
 use Rattle.core_counts.proofs.coarse.Going.{IsSeen, KeepsGoing, reached-going}
 use Rattle.core_counts.proofs.coarse.Lost.{lost-shelf}

@@ -27,11 +27,11 @@ use Rattle.core_answers.proofs.writes.Backs.{After, CarriesReply}
 use Rattle.core_session.proofs.order.Adds as adding
 use Rattle.core_session.proofs.order.Adds.{Bears, TakesHas}
 use Rattle.core_session.proofs.order.Sounds.{Sounds, SoundsFirst, SoundCall, NearAs, bears-sounds, replies-sounds}
-use Rattle.bond_writes.specs.Machine.{View}
-use Rattle.bond_pending.specs.Cells.{EachSound}
-use Rattle.bond_pending.proofs.Below.{rest-below, fly-below}
-use Rattle.bond_pending.proofs.ComingIn.{comes-in}
-use Rattle.bond_pending.proofs.Cutting.{cut-leads, given-leads}
+use Rattle.model_writes.specs.Machine.{View}
+use Rattle.step_pending.specs.Cells.{EachSound}
+use Rattle.step_pending.proofs.Below.{rest-below, fly-below}
+use Rattle.step_pending.proofs.ComingIn.{comes-in}
+use Rattle.step_pending.proofs.Cutting.{cut-leads, given-leads}
 use Rattle.core_counts.specs.coarse.Moves as machine
 use Rattle.core_counts.proofs.coarse.Led.{Led, Asked, plain-asked, goes-led}
 use Rattle.core_counts.proofs.coarse.Near.{near-starts}

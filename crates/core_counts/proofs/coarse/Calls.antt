@@ -16,10 +16,10 @@ use Rattle.world_model.specs.Messages.{SpellsCallBy}
 use Rattle.client_core.specs.declared.lane.Purpose.{Purpose}
 use Rattle.client_core.specs.declared.setup.Setup.{Setup}
 use Rattle.core_answers.specs.writes.Alone.{written_file}
-use Rattle.bond_writes.specs.Machine.{Cell, Flight, View, PlacesAfter}
-use Rattle.bond_writes.specs.Mirrors.{call_of, file_call_of, sized_call}
-use Rattle.bond_writes.specs.Story as story
-use Rattle.bond_pending.proofs.Leading.{if-true, if-false}
+use Rattle.model_writes.specs.Machine.{Cell, Flight, View, PlacesAfter}
+use Rattle.model_writes.specs.Mirrors.{call_of, file_call_of, sized_call}
+use Rattle.model_writes.specs.Story as story
+use Rattle.step_pending.proofs.Leading.{if-true, if-false}
 use Rattle.core_counts.specs.coarse.Moves.{IsOther}
 use Rattle.core_counts.specs.coarse.Runs.{ShownCall, ShownCalls}
 use Rattle.core_counts.proofs.coarse.Views.{called, ended}

@@ -10,8 +10,8 @@ use Rattle.op_machines.specs.Begun.{machine_of}
 use Rattle.op_machines.specs.declared.begun.Mounted.{Mounted}
 use Rattle.client_core.specs.declared.setup.Setup.{Setup}
 use Rattle.client_core.specs.View.{View}
-use Rattle.bond_calls.specs.Calls.{Numbered}
-use Rattle.bond_names.specs.Feeds as feeds
+use Rattle.law_calls.specs.Calls.{Numbered}
+use Rattle.law_names.specs.Feeds as feeds
 use Rattle.core_facts.specs.Reaches.{Reaches, begins, goes, loses}
 use Rattle.core_answers.proofs.pages.MachinePages.{pages-starts, pages-resumes, pages-takes}
 use Rattle.core_counts.specs.coarse.Fed.{until, Fed, CoreIsFed, PagesFed, NamesFed}

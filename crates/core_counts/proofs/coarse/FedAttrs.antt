@@ -15,7 +15,7 @@ use Rattle.op_machines.specs.Begun.{machine_of}
 use Rattle.op_machines.specs.declared.begun.Mounted.{Mounted}
 use Rattle.client_core.specs.declared.setup.Setup.{Setup}
 use Rattle.client_core.specs.View.{View}
-use Rattle.bond_calls.specs.Calls.{Numbered}
+use Rattle.law_calls.specs.Calls.{Numbered}
 use Rattle.core_facts.specs.Reaches.{Reaches, begins, goes, loses}
 use Rattle.core_facts.proofs.AllCounts.{begins-unbegun}
 use Rattle.core_answers.specs.bonds.Kept.{LastAtMost}

@@ -18,7 +18,7 @@ use Rattle.client_core.specs.declared.setup.Setup.{Setup}
 use Rattle.client_core.specs.Lanes.{is_busy}
 use Rattle.client_core.specs.Steps.{Moves, moves_none, moves_more, BeginsIf, TakesAt}
 use Rattle.client_core.specs.View.{View}
-use Rattle.bond_calls.specs.Calls.{Numbered}
+use Rattle.law_calls.specs.Calls.{Numbered}
 use Rattle.core_facts.specs.Reaches.{StepsTo, HearsRecord, Reaches, goes, last_reading}
 use Rattle.core_facts.proofs.AllCounts.{begins-unbegun}
 use Rattle.core_facts.proofs.Cases.{Heard, dropped, replied, heard, sent_now, FailedNow, goes_on, gives_up, failed_now, answered_now, taken_one}

@@ -8,8 +8,8 @@ use Rattle.world_model.specs.declared.message.Call.{Call}
 use Rattle.world_model.specs.declared.message.Reply.{Reply}
 use Rattle.world_model.specs.declared.message.Reply.TheVariants as replies
 use Rattle.world_model.specs.History.{History}
-use Rattle.bond_names.specs.Feeds as feeds
-use Rattle.bond_names.specs.Feeds.{IsFed}
+use Rattle.law_names.specs.Feeds as feeds
+use Rattle.law_names.specs.Feeds.{IsFed}
 use Rattle.core_counts.specs.coarse.FedNames.{Step, learns, looks, drops, Steps, stays, goes}
 use Rattle.core_counts.proofs.coarse.FedNameSteps.{QuietLaws, CallTells}
 use Rattle.core_counts.proofs.coarse.FedPages.{WasDone}

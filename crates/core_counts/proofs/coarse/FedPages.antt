@@ -22,7 +22,7 @@ use Rattle.world_model.specs.Entries.{At}
 use Rattle.world_model.specs.History.{History}
 use Rattle.file_ops.specs.Kept.{is_given, kept_page, offered_told, offered}
 use Rattle.file_ops.specs.TruncateFile.{size_call}
-use Rattle.bond_pages.specs.Feeds.{IsOffered}
+use Rattle.law_pages.specs.Feeds.{IsOffered}
 use Rattle.core_answers.proofs.pages.FilePages.{QuietLaws, ToldLaws}
 use Rattle.core_counts.specs.coarse.FedPages.{Step, opens, sees, shows, keeps, writes, cuts, drops, Steps, goes}
 

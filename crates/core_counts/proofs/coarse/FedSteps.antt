@@ -30,7 +30,7 @@ use Rattle.client_core.specs.declared.setup.Setup.{Setup}
 use Rattle.client_core.specs.Lanes.{is_busy}
 use Rattle.client_core.specs.Steps.{with_state, Leads, Stirs, counted, StartsLane, TakesAt}
 use Rattle.client_core.specs.View.{View, turn_at, unmade_turn}
-use Rattle.bond_calls.specs.Calls.{Numbered}
+use Rattle.law_calls.specs.Calls.{Numbered}
 use Rattle.core_facts.specs.Counted.{IsOfOperation}
 use Rattle.core_facts.specs.InFlight.{in_flight}
 use Rattle.core_facts.specs.Reaches.{HearsRecord, Reaches}

@@ -17,10 +17,10 @@ use Rattle.world_model.specs.FileService.{ReadsBytes}
 use Rattle.world_model.specs.Fresh.{Fresh}
 use Rattle.world_model.specs.History.{History}
 use Rattle.world_model.specs.Lawful.{Lawful}
-use Rattle.bond_reads.specs.Kept.{HasStamp, Leads, Sized}
-use Rattle.bond_reads.proofs.KeptBytes.{same_bytes, reads, writes, serves, later, put_before, put_after, stamp_there, resized_so}
-use Rattle.bond_pages.specs.Feeds.{IsOffered, IsWritten, IsSized}
-use Rattle.bond_pages.proofs.OfferedPage.{offered_bytes}
+use Rattle.law_reads.specs.Kept.{HasStamp, Leads, Sized}
+use Rattle.law_reads.proofs.KeptBytes.{same_bytes, reads, writes, serves, later, put_before, put_after, stamp_there, resized_so}
+use Rattle.law_pages.specs.Feeds.{IsOffered, IsWritten, IsSized}
+use Rattle.law_pages.proofs.OfferedPage.{offered_bytes}
 use Rattle.core_answers.proofs.pages.KnownPages.{known-opened, known-saw, known-shown, known-offered, known-wrote, known-cut}
 use Rattle.core_counts.specs.coarse.FedPages as machine
 use Rattle.core_counts.specs.coarse.FedPages.{Step, Steps, FedPagesTrue}

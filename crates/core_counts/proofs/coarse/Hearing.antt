@@ -22,13 +22,13 @@ use Rattle.file_ops.specs.Saves as saves
 use Rattle.client_core.specs.declared.lane.Purpose.{Purpose}
 use Rattle.client_core.specs.declared.setup.Setup.{Setup}
 use Rattle.core_answers.proofs.writes.Under.{SameUnder}
-use Rattle.bond_writes.specs.Machine as coarse
-use Rattle.bond_writes.specs.Story as story
-use Rattle.bond_pending.specs.Cells.{IsRest, EachSound, Shows, Leads}
-use Rattle.bond_pending.specs.Steps.{Renames, IsOf}
-use Rattle.bond_pending.proofs.Hearing.{heard-leads}
-use Rattle.bond_pending.proofs.Renaming.{renamed-leads}
-use Rattle.bond_pending.proofs.Replied.{acked-leads, returned-leads, refused-leads}
+use Rattle.model_writes.specs.Machine as coarse
+use Rattle.model_writes.specs.Story as story
+use Rattle.step_pending.specs.Cells.{IsRest, EachSound, Shows, Leads}
+use Rattle.step_pending.specs.Steps.{Renames, IsOf}
+use Rattle.step_pending.proofs.Hearing.{heard-leads}
+use Rattle.step_pending.proofs.Renaming.{renamed-leads}
+use Rattle.step_pending.proofs.Replied.{acked-leads, returned-leads, refused-leads}
 use Rattle.core_counts.specs.coarse.Moves as machine
 use Rattle.core_counts.specs.coarse.Moves.{Hears}
 use Rattle.core_counts.specs.coarse.Runs.{ShownCalls, heard_as}

@@ -17,11 +17,11 @@ use Rattle.file_ops.specs.Syncs as syncs
 use Rattle.client_core.specs.declared.lane.Purpose.{Purpose}
 use Rattle.client_core.specs.declared.setup.Setup.{Setup}
 use Rattle.core_answers.proofs.writes.Backs.{After}
-use Rattle.bond_writes.specs.Machine.{View}
-use Rattle.bond_writes.specs.Story.{File}
-use Rattle.bond_pending.specs.Cells.{EachSound, Shows, Leads}
-use Rattle.bond_pending.specs.Steps.{TakesOff}
-use Rattle.bond_pending.proofs.TakingOff.{sent-leads}
+use Rattle.model_writes.specs.Machine.{View}
+use Rattle.model_writes.specs.Story.{File}
+use Rattle.step_pending.specs.Cells.{EachSound, Shows, Leads}
+use Rattle.step_pending.specs.Steps.{TakesOff}
+use Rattle.step_pending.proofs.TakingOff.{sent-leads}
 use Rattle.core_counts.specs.coarse.Long.{Stops}
 use Rattle.core_counts.specs.coarse.Moves.{Moves}
 use Rattle.core_counts.specs.coarse.Runs.{ShownCalls}

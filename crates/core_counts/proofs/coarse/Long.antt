@@ -14,7 +14,7 @@ use Rattle.write_back.proofs.Cells.{later-none}
 use Rattle.write_back.proofs.Flying.{overlaps-free}
 use Rattle.write_back.proofs.Gathering.{run-zero}
 use Rattle.write_back.proofs.Running.{chosen-is}
-use Rattle.bond_pending.proofs.Leading.{if-true, if-false}
+use Rattle.step_pending.proofs.Leading.{if-true, if-false}
 use Rattle.core_counts.specs.coarse.Long.{Stops}
 use Rattle.core_counts.specs.coarse.Long as long
 

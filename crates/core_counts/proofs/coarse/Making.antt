@@ -44,10 +44,10 @@ use Rattle.core_answers.proofs.writes.Under.{SameUnder, under-last}
 use Rattle.core_session.proofs.order.Sounds.{NearAs}
 use Rattle.core_session.proofs.order.Unmade.{unmade-has}
 use Rattle.core_session.proofs.saves.WholeSteps.{HasPiece, Has}
-use Rattle.bond_writes.specs.Machine as coarse
-use Rattle.bond_writes.specs.Mirrors.{call_of}
-use Rattle.bond_writes.specs.Story as story
-use Rattle.bond_pending.specs.Cells.{EachSound, Shows}
+use Rattle.model_writes.specs.Machine as coarse
+use Rattle.model_writes.specs.Mirrors.{call_of}
+use Rattle.model_writes.specs.Story as story
+use Rattle.step_pending.specs.Cells.{EachSound, Shows}
 use Rattle.core_counts.specs.coarse.Long.{Stops, MakesLong}
 use Rattle.core_counts.specs.coarse.Moves as machine
 use Rattle.core_counts.specs.coarse.Moves.{Moves, Move}

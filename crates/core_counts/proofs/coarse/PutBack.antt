@@ -14,12 +14,12 @@ use Rattle.write_back.specs.Sound.{IsWhole}
 use Rattle.write_back.proofs.Flying.{flown-some, under-whole}
 use Rattle.write_back.proofs.Landings.{answer-return}
 use Rattle.write_back.proofs.Replying.{lands-one-at}
-use Rattle.bond_writes.specs.Machine.{View}
-use Rattle.bond_writes.specs.Story.{File}
-use Rattle.bond_writes.proofs.AtLemmas.{same_file_or_not}
-use Rattle.bond_pending.specs.Cells.{IsRest, flight_of, EachSound, Shows}
-use Rattle.bond_pending.proofs.Leading.{if-true, if-false}
-use Rattle.bond_pending.proofs.Shown.{some-of}
+use Rattle.model_writes.specs.Machine.{View}
+use Rattle.model_writes.specs.Story.{File}
+use Rattle.model_writes.proofs.AtLemmas.{same_file_or_not}
+use Rattle.step_pending.specs.Cells.{IsRest, flight_of, EachSound, Shows}
+use Rattle.step_pending.proofs.Leading.{if-true, if-false}
+use Rattle.step_pending.proofs.Shown.{some-of}
 
 -- at each place the same is pending, and the same in flight
 pub record SamePlaces (old new : FilePending) : Type 0 where

@@ -62,13 +62,13 @@ use Rattle.core_session.proofs.order.Basis.{Basis, basis-ready}
 use Rattle.core_session.proofs.saves.Taking.{sent-is, sent-piece}
 use Rattle.core_session.proofs.saves.WholeSteps.{Has, Wholly, takes-has}
 use Rattle.core_session.proofs.syncs.Showings as showings
-use Rattle.bond_writes.specs.Machine as coarse
-use Rattle.bond_writes.specs.Mirrors.{call_of}
-use Rattle.bond_writes.specs.Story as story
-use Rattle.bond_pending.specs.Cells.{EachSound}
-use Rattle.bond_pending.specs.Steps.{IsOf}
-use Rattle.bond_pending.proofs.Replied.{returned-leads}
-use Rattle.bond_pending.proofs.Shown.{flown-of, not-under}
+use Rattle.model_writes.specs.Machine as coarse
+use Rattle.model_writes.specs.Mirrors.{call_of}
+use Rattle.model_writes.specs.Story as story
+use Rattle.step_pending.specs.Cells.{EachSound}
+use Rattle.step_pending.specs.Steps.{IsOf}
+use Rattle.step_pending.proofs.Replied.{returned-leads}
+use Rattle.step_pending.proofs.Shown.{flown-of, not-under}
 use Rattle.core_counts.specs.coarse.Moves.{Moves, Hears}
 use Rattle.core_counts.specs.coarse.Moves as machine
 use Rattle.core_counts.specs.coarse.Long.{MakesLong}

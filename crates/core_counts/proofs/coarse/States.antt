@@ -10,8 +10,8 @@ use Rattle.client_core.specs.declared.lane.Purpose.{Purpose}
 use Rattle.client_core.specs.declared.setup.Setup.{Setup}
 use Rattle.client_core.specs.Fresh.{IsFresh}
 use Rattle.client_core.specs.View.{View}
-use Rattle.bond_writes.specs.Machine as coarse
-use Rattle.bond_pending.specs.Cells.{IsRest, Shows}
+use Rattle.model_writes.specs.Machine as coarse
+use Rattle.step_pending.specs.Cells.{IsRest, Shows}
 use Rattle.core_counts.specs.coarse.Moves.{Moves, IsBegun, IsReached}
 use Rattle.core_counts.specs.coarse.Moves as machine
 use Rattle.core_counts.specs.coarse.Runs.{Shown, ShownCall, Runs, StatesReached}

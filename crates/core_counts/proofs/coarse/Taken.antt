@@ -36,10 +36,10 @@ use Rattle.client_core.specs.declared.setup.Setup.{Setup}
 use Rattle.core_facts.proofs.Syncing.{CameCommitted, told-commit}
 use Rattle.core_answers.proofs.writes.Backs.{After}
 use Rattle.core_answers.proofs.writes.OwnPieces.{on-free, out-free}
-use Rattle.bond_writes.specs.Machine.{View}
-use Rattle.bond_pending.specs.Cells.{EachSound}
-use Rattle.bond_pending.proofs.Hearing.{sound-heard}
-use Rattle.bond_pending.proofs.Replied.{sound-acked, sound-returned, sound-refused}
+use Rattle.model_writes.specs.Machine.{View}
+use Rattle.step_pending.specs.Cells.{EachSound}
+use Rattle.step_pending.proofs.Hearing.{sound-heard}
+use Rattle.step_pending.proofs.Replied.{sound-acked, sound-returned, sound-refused}
 use Rattle.core_counts.proofs.coarse.Led.{Led, Asked, led-after, goes-led}
 
 both-true : (a b : Bool) → (a && b) ≡ true → a ≡ true

@@ -19,10 +19,10 @@ use Rattle.client_core.specs.Steps.{SendsIf, SendsBy}
 use Rattle.client_core.specs.View.{View}
 use Rattle.core_facts.specs.Reaches.{IsSetUp}
 use Rattle.core_answers.proofs.bonds.OneCall.{one-call}
-use Rattle.bond_calls.proofs.CallsWait.{xid_of_call}
-use Rattle.bond_writes.specs.Machine as coarse
-use Rattle.bond_writes.specs.Mirrors.{call_of}
-use Rattle.bond_writes.specs.Story as story
+use Rattle.law_calls.proofs.CallsWait.{xid_of_call}
+use Rattle.model_writes.specs.Machine as coarse
+use Rattle.model_writes.specs.Mirrors.{call_of}
+use Rattle.model_writes.specs.Story as story
 use Rattle.write_back.specs.Files.{of_file}
 use Rattle.core_counts.specs.coarse.Long.{Stops, MakesLong}
 use Rattle.core_counts.specs.coarse.Moves.{Move, Moves, Hears}

@@ -21,7 +21,7 @@ use Rattle.client_core.specs.View.{View}
 use Rattle.core_facts.specs.Reaches.{StepsTo, HearsRecord, Reaches, last_reading}
 use Rattle.core_answers.specs.bonds.Kept.{LastAtMost}
 use Rattle.core_answers.specs.pages.Passing.{Passes}
-use Rattle.bond_names.specs.Feeds as name_feeds
+use Rattle.law_names.specs.Feeds as name_feeds
 use Rattle.core_counts.specs.coarse.FedAttrs.{Learns}
 use Rattle.core_counts.specs.coarse.FedNames as name_steps
 use Rattle.core_counts.specs.coarse.FedPages as page_steps
@@ -63,7 +63,7 @@ abbrev pub PagesFed : Type 0
 PagesFed = (m : Mounted) (setup : Setup) (t : History) (h rest : List Entry) (v : View) → Lawful t → t.entries ≡ h ++ rest → Reaches (machine_of m) setup h v
     → page_steps.IsFed (until t h) v.shelf.pages
 
--- and the kept names are fed as bond_names says.
+-- and the kept names are fed as law_names says.
 abbrev pub NamesFed : Type 0
 NamesFed = (m : Mounted) (setup : Setup) (t : History) (h rest : List Entry) (v : View) → Lawful t → t.entries ≡ h ++ rest → Reaches (machine_of m) setup h v
     → name_feeds.IsFed (until t h) v.shelf.names

@@ -1,4 +1,4 @@
--- The attributes that are kept go on as the machine of bond_walks says (nfs(5), acregmin to acdirmax): those that replies show are learnt, and kept ones are
+-- The attributes that are kept go on as the machine of model_walks says (nfs(5), acregmin to acdirmax): those that replies show are learnt, and kept ones are
 -- forgotten.
 use Rattle.std.specs.Prelude.{◌≤◌, ◌⊎◌, ℕ, List, Contains}
 use Rattle.attr_cache.specs.declared.kept.KeptAttr.{KeptAttr}

@@ -1,4 +1,4 @@
--- What operations find where their walks lead, and what they list there, as the machine of bond_walks does (RFC 1813, sections 3.3.3, 3.3.8 and 3.3.17).
+-- What operations find where their walks lead, and what they list there, as the machine of model_walks does (RFC 1813, sections 3.3.3, 3.3.8 and 3.3.17).
 use Rattle.std.specs.Prelude.{◌≡◌, ◌<◌, ◌≤◌, ℕ, Bool, true, List, [], ◌++◌, length, Option, Some, None, slice_get}
 use Rattle.nfs_types.specs.declared.attr.Attr.{Attr}
 use Rattle.nfs_types.specs.declared.mode.Mode.{Mode}

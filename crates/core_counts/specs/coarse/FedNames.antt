@@ -1,9 +1,9 @@
--- The machine of kept names, by single steps: those by which a cache of bond_names is fed (RFC 1813, section 3.3.3).
+-- The machine of kept names, by single steps: those by which a cache of law_names is fed (RFC 1813, section 3.3.3).
 use Rattle.std.specs.Prelude.{◌≡◌, ℕ, List}
 use Rattle.nfs_types.specs.declared.wcc.Stamp.{Stamp}
 use Rattle.name_cache.specs.Names.{Entries, after_look, learnt, without_dir}
 use Rattle.world_model.specs.History.{History}
-use Rattle.bond_names.specs.Kept.{IsLookedUp}
+use Rattle.law_names.specs.Kept.{IsLookedUp}
 
 -- One step. A name is learnt from a LOOKUP, under the stamp of the directory that the same reply shows. A name is looked at. Or the names of a directory are
 -- dropped.

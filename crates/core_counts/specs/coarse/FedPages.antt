@@ -1,5 +1,5 @@
 -- The machine of kept pages: how a page cache goes on along a history (RFC 1813, sections 3.3.2, 3.3.6 and 3.3.7). Its steps are those by which a cache of
--- bond_pages is fed, and one more: a file's pages are dropped where no reply tells to which state a change of it led.
+-- law_pages is fed, and one more: a file's pages are dropped where no reply tells to which state a change of it led.
 use Rattle.std.specs.Prelude.{◌≡◌, ℕ, List, [], Some, None, take}
 use Rattle.nfs_types.specs.declared.wcc.Stamp.{Stamp}
 use Rattle.nfs_types.specs.declared.wcc.Wcc.{Wcc}
@@ -8,8 +8,8 @@ use Rattle.page_cache.specs.Pages.{Pages, nothing_kept, page_of, known_of, after
 use Rattle.world_model.specs.Fresh.{Fresh}
 use Rattle.world_model.specs.History.{History}
 use Rattle.world_model.specs.Lawful.{Lawful}
-use Rattle.bond_reads.specs.Kept.{HasStamp}
-use Rattle.bond_pages.specs.Feeds.{IsOffered, IsWritten, IsSized}
+use Rattle.law_reads.specs.Kept.{HasStamp}
+use Rattle.law_pages.specs.Feeds.{IsOffered, IsWritten, IsSized}
 
 -- neither the state before a change was told, nor that after it
 abbrev pub untold : Wcc

@@ -1,9 +1,9 @@
--- The machine of written bytes (`bond_writes`), as far as it speaks of bytes and calls: of each place the pending byte and the one in flight, and
+-- The machine of written bytes (`model_writes`), as far as it speaks of bytes and calls: of each place the pending byte and the one in flight, and
 -- the calls that wait under their xids (RFC 1813, sections 3.3.7, 3.3.21 and 4.8). Its lanes and slots aren't looked at.
 use Rattle.std.specs.Prelude.{◌≡◌, ◌<◌, ◌⊎◌, ℕ, List, Some, None}
-use Rattle.bond_writes.specs.Machine.{Cell, Flight, View, SameCalls, SamePlaces, NewCall, Took, Renews}
-use Rattle.bond_writes.specs.Story.{File, Spot, Call, write, commit, resize, plain, Reply}
-use Rattle.bond_pending.specs.Steps.{Lays, TakesOff, CutsFrom, GivesAll}
+use Rattle.model_writes.specs.Machine.{Cell, Flight, View, SameCalls, SamePlaces, NewCall, Took, Renews}
+use Rattle.model_writes.specs.Story.{File, Spot, Call, write, commit, resize, plain, Reply}
+use Rattle.step_pending.specs.Steps.{Lays, TakesOff, CutsFrom, GivesAll}
 
 -- a call that is neither a WRITE nor a COMMIT of a whole file
 abbrev pub IsOther : Call → Type 0

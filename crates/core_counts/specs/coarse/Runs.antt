@@ -23,10 +23,10 @@ use Rattle.client_core.specs.Numbers.{IsIdle}
 use Rattle.client_core.specs.Steps.{Stirs, counted, StartsLane, TakesAt, taken, lost}
 use Rattle.client_core.specs.View.{View}
 use Rattle.core_facts.specs.Reaches.{MaySetUp, IsSetUp, MayHear, StepsTo, Reaches, last_reading}
-use Rattle.bond_pending.specs.Cells.{Shows}
-use Rattle.bond_writes.specs.Machine as coarse
-use Rattle.bond_writes.specs.Mirrors.{call_of, reply_of}
-use Rattle.bond_writes.specs.Story as story
+use Rattle.step_pending.specs.Cells.{Shows}
+use Rattle.model_writes.specs.Machine as coarse
+use Rattle.model_writes.specs.Mirrors.{call_of, reply_of}
+use Rattle.model_writes.specs.Story as story
 use Rattle.core_counts.specs.coarse.Long.{MakesLong}
 use Rattle.core_counts.specs.coarse.Moves.{Moves, Hears, IsReached}
 

@@ -16,7 +16,7 @@ use Rattle.client_core.specs.declared.lane.Purpose.{Purpose}
 use Rattle.client_core.specs.declared.setup.Setup.{Setup}
 use Rattle.client_core.specs.View.{View}
 use Rattle.core_facts.specs.Reaches.{Reaches}
-use Rattle.bond_writes.specs.Machine as coarse
+use Rattle.model_writes.specs.Machine as coarse
 use Rattle.core_counts.specs.coarse.Long.{Stops}
 use Rattle.core_counts.specs.coarse.Runs.{Runs}
 

@@ -34,7 +34,7 @@ use Rattle.write_back.specs.Pieces.{Sent as SentPiece, FilePending, Flown, nothi
 use Rattle.write_back.specs.Sound.{IsSound, AreSent, IsOver}
 use Rattle.write_back.proofs.ByPlace.{covered}
 use Rattle.write_back.proofs.Flying.{flown-some}
-use Rattle.bond_pending.proofs.Shown.{some-of}
+use Rattle.step_pending.proofs.Shown.{some-of}
 use Rattle.client_core.specs.Numbers.{numbers_of}
 use Rattle.core_facts.proofs.Counting.{heard-lost}
 use Rattle.core_facts.proofs.LaneMarks.{number_of, idle-numbers}

@@ -29,10 +29,10 @@ use Rattle.world_model.specs.Server as sound
 use Rattle.claims.specs.Slots.{InSlot, IsOf, Opens}
 use Rattle.claims.specs.Terms.{Terms}
 use Rattle.world_model.proofs.Places.{At-grow, At-one}
-use Rattle.bond_calls.specs.Calls.{Numbered}
-use Rattle.bond_reads.specs.Kept.{Done, HasStamp}
-use Rattle.bond_reads.proofs.Bytes.{part_stands}
-use Rattle.bond_reads.proofs.KeptBytes.{reads, serves}
+use Rattle.law_calls.specs.Calls.{Numbered}
+use Rattle.law_reads.specs.Kept.{Done, HasStamp}
+use Rattle.law_reads.proofs.Bytes.{part_stands}
+use Rattle.law_reads.proofs.KeptBytes.{reads, serves}
 use Rattle.op_machines.specs.declared.begun.Mounted.{Mounted}
 use Rattle.op_machines.specs.Begun.{machine_of}
 use Rattle.client_core.specs.declared.setup.Setup.{Setup}

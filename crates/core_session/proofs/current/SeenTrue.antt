@@ -25,9 +25,9 @@ use Rattle.world_model.specs.Server.{Server, Object, Holds, Bytes, Entries, Text
 use Rattle.world_model.specs.Server as sound
 use Rattle.world_model.specs.Service.{Serves, refused, broken_off, done}
 use Rattle.world_model.specs.Steps.{TrueOf, TrueStamp, TrueWcc}
-use Rattle.bond_calls.specs.Calls.{Numbered}
-use Rattle.bond_reads.specs.Kept.{Done, HasStamp, Leads}
-use Rattle.bond_reads.proofs.KeptBytes.{writes, serves, later, put_before, put_after, stamp_there}
+use Rattle.law_calls.specs.Calls.{Numbered}
+use Rattle.law_reads.specs.Kept.{Done, HasStamp, Leads}
+use Rattle.law_reads.proofs.KeptBytes.{writes, serves, later, put_before, put_after, stamp_there}
 use Rattle.core_answers.specs.bonds.Kept.{IsAnswered}
 use Rattle.core_answers.proofs.bonds.AttrsShown.{answered-grow}
 use Rattle.core_answers.proofs.bonds.Executions.{answered-ran, shown-had}

@@ -4,7 +4,7 @@ use Rattle.rpc_retry.specs.declared.waiting.Waiting.{Waiting}
 use Rattle.world_model.specs.declared.entry.Entry.{Entry}
 use Rattle.world_model.specs.declared.entry.Entry.TheVariants.{Delivered}
 use Rattle.claims.specs.Modes.{Modes}
-use Rattle.bond_pending.specs.Cells.{EachSound}
+use Rattle.step_pending.specs.Cells.{EachSound}
 use Rattle.op_machines.specs.Begun.{machine_of}
 use Rattle.op_machines.specs.declared.begun.Mounted.{Mounted}
 use Rattle.client_core.specs.declared.lane.Purpose.{Purpose}

@@ -10,7 +10,7 @@ use Rattle.world_model.specs.History.{History}
 use Rattle.world_model.specs.Lawful.{Lawful}
 use Rattle.world_model.specs.Server.{Holds, Bytes, Entries, Text, Listed, Object}
 use Rattle.world_model.proofs.Lasting.{SameSort, lasts}
-use Rattle.bond_reads.specs.Kept.{HasStamp}
+use Rattle.law_reads.specs.Kept.{HasStamp}
 
 both-so : (a b : Bool) → a ≡ true → b ≡ true → (a && b) ≡ true
 both-so true true p q = refl

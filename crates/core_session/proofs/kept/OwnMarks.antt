@@ -33,8 +33,8 @@ use Rattle.world_model.specs.Messages.{HasXid, SpellsCall, SpellsReply, proc_of}
 use Rattle.claims.specs.Modes.{Modes}
 use Rattle.world_model.specs.Waiting.{Waits}
 use Rattle.world_model.proofs.Places.{At-back, At-below, At-grow, At-last, At-one, length_last}
-use Rattle.bond_calls.specs.Calls.{Numbered}
-use Rattle.bond_stable.proofs.OneFileCall.{one_file_call, one_file_reply}
+use Rattle.law_calls.specs.Calls.{Numbered}
+use Rattle.law_stable.proofs.OneFileCall.{one_file_call, one_file_reply}
 use Rattle.call_replies.specs.Says.{said_of}
 use Rattle.client_shelf.specs.declared.next.Next.{Next}
 use Rattle.client_shelf.specs.declared.next.Next.TheVariants as nexts

@@ -21,12 +21,12 @@ use Rattle.claims.specs.Slots.{IsOf}
 use Rattle.claims.specs.Terms.{Terms}
 use Rattle.claims.specs.Touched.{Wrote, Touched, foreign, written, cut}
 use Rattle.world_model.proofs.Places.{At-below}
-use Rattle.bond_calls.specs.Calls.{Numbered}
-use Rattle.bond_own.proofs.OneByte.{HasByte, wrote-byte, writes-byte, one-byte, touched-later}
-use Rattle.bond_reads.specs.Kept.{Done, HasStamp}
-use Rattle.bond_stable.proofs.Bytes.{some_or_past}
-use Rattle.bond_stable.specs.Evidence.{Evidence, WroteAt, written_at}
-use Rattle.bond_stable.specs.Stable.{HoldsNow}
+use Rattle.law_calls.specs.Calls.{Numbered}
+use Rattle.law_own.proofs.OneByte.{HasByte, wrote-byte, writes-byte, one-byte, touched-later}
+use Rattle.law_reads.specs.Kept.{Done, HasStamp}
+use Rattle.law_stable.proofs.Bytes.{some_or_past}
+use Rattle.law_stable.specs.Evidence.{Evidence, WroteAt, written_at}
+use Rattle.law_stable.specs.Stable.{HoldsNow}
 use Rattle.op_machines.specs.declared.begun.Mounted.{Mounted}
 use Rattle.op_machines.specs.Begun.{machine_of}
 use Rattle.client_core.specs.declared.setup.Setup.{Setup}

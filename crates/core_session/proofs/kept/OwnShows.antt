@@ -18,8 +18,8 @@ use Rattle.claims.specs.Slots.{IsOf}
 use Rattle.claims.specs.Terms.{Terms}
 use Rattle.claims.specs.Touched.{Wrote, Touched, written}
 use Rattle.world_model.proofs.Places.{At-below}
-use Rattle.bond_own.proofs.OneByte.{HasByte, wrote-byte, writes-byte, one-byte}
-use Rattle.bond_stable.specs.Evidence.{MadeFirm, at_once, by_commit}
+use Rattle.law_own.proofs.OneByte.{HasByte, wrote-byte, writes-byte, one-byte}
+use Rattle.law_stable.specs.Evidence.{MadeFirm, at_once, by_commit}
 use Rattle.op_machines.specs.declared.begun.Mounted.{Mounted}
 use Rattle.op_machines.specs.declared.machine.Machine.{Machine}
 use Rattle.op_machines.specs.Begun.{machine_of}

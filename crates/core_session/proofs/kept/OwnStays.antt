@@ -24,10 +24,10 @@ use Rattle.claims.specs.Settled.{HoldsStable}
 use Rattle.claims.specs.Terms.{Terms}
 use Rattle.claims.specs.Touched.{Cuts}
 use Rattle.world_model.specs.Waiting.{FirstSent}
-use Rattle.bond_stable.specs.Evidence.{written_at}
-use Rattle.bond_stable.specs.OwnCalls.{Alters, writes, sizes, HeardBefore, OwnCalls, NoForeign}
+use Rattle.law_stable.specs.Evidence.{written_at}
+use Rattle.law_stable.specs.OwnCalls.{Alters, writes, sizes, HeardBefore, OwnCalls, NoForeign}
 use Rattle.world_model.specs.Mounts.{info_call}
-use Rattle.bond_stable.proofs.OneFileCall.{one_file_call}
+use Rattle.law_stable.proofs.OneFileCall.{one_file_call}
 use Rattle.core_answers.proofs.bonds.OneCall.{one-call}
 use Rattle.op_machines.specs.declared.begun.Mounted.{Mounted}
 use Rattle.client_core.specs.declared.setup.Setup.{Setup}
@@ -50,14 +50,14 @@ use Rattle.claims.specs.Touched.{Covers}
 use Rattle.world_model.proofs.Doing.{write_done, commit_done}
 use Rattle.world_model.proofs.Places.{At-below}
 use Rattle.world_model.proofs.Verifiers.{never_again}
-use Rattle.bond_calls.specs.Calls.{Numbered}
-use Rattle.bond_reads.specs.Kept.{Done}
-use Rattle.bond_stable.proofs.Bytes.{get_take, put_here}
-use Rattle.bond_stable.specs.Evidence.{Evidence, MadeFirm, at_once, by_commit}
-use Rattle.bond_stable.specs.Stable.{HoldsNow}
-use Rattle.bond_stable.proofs.Executions.{Ran, ran}
-use Rattle.bond_stable.proofs.Spared.{spares}
-use Rattle.bond_stable.proofs.Stays.{SparesFrom, NoRestart, stays_now, stays_stable}
+use Rattle.law_calls.specs.Calls.{Numbered}
+use Rattle.law_reads.specs.Kept.{Done}
+use Rattle.law_stable.proofs.Bytes.{get_take, put_here}
+use Rattle.law_stable.specs.Evidence.{Evidence, MadeFirm, at_once, by_commit}
+use Rattle.law_stable.specs.Stable.{HoldsNow}
+use Rattle.law_stable.proofs.Executions.{Ran, ran}
+use Rattle.law_stable.proofs.Spared.{spares}
+use Rattle.law_stable.proofs.Stays.{SparesFrom, NoRestart, stays_now, stays_stable}
 use Rattle.core_session.proofs.settled.Joined.{BeganOther}
 
 -- ---- the set-up alters nothing

@@ -7,7 +7,7 @@ use Rattle.write_back.specs.Pieces.{Flown, rest_at, fly_at}
 use Rattle.write_back.specs.Segments.{Cell, newest_at}
 use Rattle.write_back.specs.Waits.{byte_pending}
 use Rattle.write_back.proofs.EndAndBytes.{newest-is}
-use Rattle.bond_pending.specs.Cells.{EachSound}
+use Rattle.step_pending.specs.Cells.{EachSound}
 use Rattle.world_model.specs.declared.answer.Answer.TheVariants as answers
 use Rattle.world_model.specs.declared.answer.Fault.{Fault}
 use Rattle.world_model.specs.declared.answer.Value.{Value}

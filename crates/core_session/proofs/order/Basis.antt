@@ -23,8 +23,8 @@ use Rattle.op_machines.specs.Fits.{Fits}
 use Rattle.op_machines.specs.Laws.{LeavesNothing}
 use Rattle.op_machines.specs.Steps.{Starts, Resumes, Takes}
 use Rattle.op_machines.proofs.AllLaws as laws
-use Rattle.bond_pending.specs.Cells.{EachSound}
-use Rattle.bond_pending.proofs.Cutting.{nothing-sound}
+use Rattle.step_pending.specs.Cells.{EachSound}
+use Rattle.step_pending.proofs.Cutting.{nothing-sound}
 use Rattle.client_core.specs.declared.lane.Lane.{Lane}
 use Rattle.client_core.specs.declared.lane.Purpose.{Purpose}
 use Rattle.client_core.specs.declared.lane.State.TheVariants.{Busy, Over}

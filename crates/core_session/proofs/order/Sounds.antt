@@ -49,12 +49,12 @@ use Rattle.op_machines.specs.Fits.{Fits}
 use Rattle.op_machines.specs.Openers.{file_of}
 use Rattle.op_machines.specs.PathSteps as paths
 use Rattle.op_machines.specs.Steps.{Starts, Resumes, Takes}
-use Rattle.bond_pending.specs.Cells.{EachSound}
-use Rattle.bond_pending.proofs.ComingIn.{sound-in}
-use Rattle.bond_pending.proofs.Cutting.{sound-given}
-use Rattle.bond_pending.proofs.Leading.{sound-on}
-use Rattle.bond_saves.proofs.Going.{goes-sound}
-use Rattle.bond_saves.proofs.Taking.{takes-sound}
+use Rattle.step_pending.specs.Cells.{EachSound}
+use Rattle.step_pending.proofs.ComingIn.{sound-in}
+use Rattle.step_pending.proofs.Cutting.{sound-given}
+use Rattle.step_pending.proofs.Leading.{sound-on}
+use Rattle.step_saves.proofs.Going.{goes-sound}
+use Rattle.step_saves.proofs.Taking.{takes-sound}
 use Rattle.core_answers.proofs.writes.Backs.{After, CarriesReply}
 use Rattle.core_answers.proofs.writes.Mapped.{any-saves}
 use Rattle.core_answers.proofs.writes.Under.{same-under, bytes-under, gives-under}

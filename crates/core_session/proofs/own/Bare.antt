@@ -28,11 +28,11 @@ use Rattle.claims.specs.Terms.{Terms}
 use Rattle.claims.specs.Touched.{Truncated, Touched, foreign, written}
 use Rattle.world_model.specs.Waiting.{FirstSent}
 use Rattle.world_model.proofs.Places.{At-one}
-use Rattle.bond_calls.specs.Calls.{Numbered}
-use Rattle.bond_stable.specs.Cut.{CutBy, OwnZeros, IsBare}
-use Rattle.bond_stable.specs.OwnCalls.{HeardBefore, NoForeign}
-use Rattle.bond_stable.proofs.OneFileCall.{one_file_call}
-use Rattle.bond_stable.proofs.Zeros.{cut_stays}
+use Rattle.law_calls.specs.Calls.{Numbered}
+use Rattle.law_stable.specs.Cut.{CutBy, OwnZeros, IsBare}
+use Rattle.law_stable.specs.OwnCalls.{HeardBefore, NoForeign}
+use Rattle.law_stable.proofs.OneFileCall.{one_file_call}
+use Rattle.law_stable.proofs.Zeros.{cut_stays}
 use Rattle.op_machines.specs.declared.begun.Mounted.{Mounted}
 use Rattle.op_machines.specs.Begun.{machine_of}
 use Rattle.client_core.specs.declared.setup.Setup.{Setup}

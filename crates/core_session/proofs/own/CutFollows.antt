@@ -13,7 +13,7 @@ use Rattle.world_model.specs.declared.message.Call.TheVariants as calls
 use Rattle.world_model.specs.declared.message.Reply.{Reply}
 use Rattle.world_model.specs.declared.message.Reply.TheVariants as replies
 use Rattle.world_model.specs.Messages.{SpellsCall}
-use Rattle.bond_stable.proofs.OneFileCall.{one_file_call}
+use Rattle.law_stable.proofs.OneFileCall.{one_file_call}
 use Rattle.client_shelf.specs.declared.shelf.Shelf.{Shelf}
 use Rattle.client_shelf.specs.declared.turn.Turn.{Turn}
 use Rattle.file_ops.specs.declared.truncate_file.TruncateFile.{TruncateFile}

@@ -18,9 +18,9 @@ use Rattle.world_model.specs.Lawful.{Lawful}
 use Rattle.world_model.specs.Server.{Holds, Bytes, Entries, Text, Object}
 use Rattle.world_model.specs.Steps.{TrueOf, TrueStamp, TrueWcc}
 use Rattle.world_model.proofs.Doing.{setattr_done}
-use Rattle.bond_calls.specs.Calls.{Numbered}
-use Rattle.bond_reads.specs.Kept.{Done, HasStamp}
-use Rattle.bond_reads.proofs.KeptBytes.{writes, serves, later, put_before, put_after, stamp_there}
+use Rattle.law_calls.specs.Calls.{Numbered}
+use Rattle.law_reads.specs.Kept.{Done, HasStamp}
+use Rattle.law_reads.proofs.KeptBytes.{writes, serves, later, put_before, put_after, stamp_there}
 use Rattle.core_session.specs.current.Seen as seen_by
 use Rattle.core_session.proofs.current.ReadsRecent.{done-by}
 use Rattle.core_session.proofs.current.SeenTrue.{HadSince, had-since}

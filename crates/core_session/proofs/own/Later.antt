@@ -16,8 +16,8 @@ use Rattle.world_model.specs.Messages.{SpellsCall}
 use Rattle.world_model.specs.Operations.{AnsweredBefore}
 use Rattle.claims.specs.Terms.{Terms}
 use Rattle.claims.specs.Touched.{Covers, WritesByte, RefusedWrite, Truncated}
-use Rattle.bond_own.proofs.OneByte.{writes-byte, no-truncate}
-use Rattle.bond_stable.proofs.OneFileCall.{one_file_call}
+use Rattle.law_own.proofs.OneByte.{writes-byte, no-truncate}
+use Rattle.law_stable.proofs.OneFileCall.{one_file_call}
 use Rattle.op_machines.specs.declared.begun.Mounted.{Mounted}
 use Rattle.op_machines.specs.Begun.{machine_of}
 use Rattle.client_core.specs.declared.setup.Setup.{Setup}

@@ -23,12 +23,12 @@ use Rattle.claims.specs.Slots.{IsOf}
 use Rattle.claims.specs.Terms.{Terms}
 use Rattle.claims.specs.Touched.{Truncated, Touched, written}
 use Rattle.world_model.proofs.Places.{At-below}
-use Rattle.bond_calls.specs.Calls.{Numbered}
-use Rattle.bond_own.proofs.OneByte.{writes-byte, no-truncate, touched-later}
-use Rattle.bond_reads.proofs.Bytes.{part_stands}
-use Rattle.bond_reads.proofs.KeptBytes.{reads, serves}
-use Rattle.bond_stable.specs.Cut.{CutBy, IsBare}
-use Rattle.bond_stable.proofs.Executions.{Ran, ran}
+use Rattle.law_calls.specs.Calls.{Numbered}
+use Rattle.law_own.proofs.OneByte.{writes-byte, no-truncate, touched-later}
+use Rattle.law_reads.proofs.Bytes.{part_stands}
+use Rattle.law_reads.proofs.KeptBytes.{reads, serves}
+use Rattle.law_stable.specs.Cut.{CutBy, IsBare}
+use Rattle.law_stable.proofs.Executions.{Ran, ran}
 use Rattle.op_machines.specs.declared.begun.Mounted.{Mounted}
 use Rattle.op_machines.specs.Begun.{machine_of}
 use Rattle.client_core.specs.declared.setup.Setup.{Setup}

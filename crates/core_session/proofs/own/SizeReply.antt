@@ -17,7 +17,7 @@ use Rattle.world_model.specs.Entries.{At}
 use Rattle.world_model.specs.Heard.{Asked, status_of}
 use Rattle.world_model.specs.Messages.{SpellsReply}
 use Rattle.world_model.specs.Operations.{EndsWith}
-use Rattle.bond_stable.specs.Cut.{CutBy}
+use Rattle.law_stable.specs.Cut.{CutBy}
 
 -- ---- the reply to the SETATTR
 

@@ -17,9 +17,9 @@ use Rattle.world_model.specs.Once.{Once}
 use Rattle.world_model.specs.Waiting.{Waits, Answers}
 use Rattle.world_model.proofs.Lasting.{entry_at}
 use Rattle.world_model.proofs.Places.{At-below, At-one}
-use Rattle.bond_calls.specs.Calls.{Numbered}
-use Rattle.bond_calls.proofs.CallsWait.{idle, waiting}
-use Rattle.bond_stable.proofs.Executions.{ran}
+use Rattle.law_calls.specs.Calls.{Numbered}
+use Rattle.law_calls.proofs.CallsWait.{idle, waiting}
+use Rattle.law_stable.proofs.Executions.{ran}
 use Rattle.core_session.specs.order.Altering.{HeardBefore}
 
 -- ---- the first record under an xid

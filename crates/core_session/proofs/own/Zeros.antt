@@ -23,13 +23,13 @@ use Rattle.world_model.proofs.FileSteps as steps
 use Rattle.world_model.proofs.FileSteps.{BytesGo, BytesStep, bytes_step}
 use Rattle.world_model.proofs.Lasting.{entry_at}
 use Rattle.world_model.specs.Once.{Once}
-use Rattle.bond_calls.specs.Calls.{Numbered}
-use Rattle.bond_stable.specs.Cut.{CutBy, OwnZeros, IsZeroAt, IsBare}
-use Rattle.bond_stable.specs.OwnCalls.{NoForeign}
-use Rattle.bond_stable.proofs.Bytes.{get_front, get_back, length_resized, placed, put_here, put_above, some_or_past, number_is, committed_stands}
-use Rattle.bond_stable.proofs.Executions.{Ran}
-use Rattle.bond_stable.proofs.Spared.{first_call}
-use Rattle.bond_stable.proofs.Steps.{of_taken, next_bytes}
+use Rattle.law_calls.specs.Calls.{Numbered}
+use Rattle.law_stable.specs.Cut.{CutBy, OwnZeros, IsZeroAt, IsBare}
+use Rattle.law_stable.specs.OwnCalls.{NoForeign}
+use Rattle.law_stable.proofs.Bytes.{get_front, get_back, length_resized, placed, put_here, put_above, some_or_past, number_is, committed_stands}
+use Rattle.law_stable.proofs.Executions.{Ran}
+use Rattle.law_stable.proofs.Spared.{first_call}
+use Rattle.law_stable.proofs.Steps.{of_taken, next_bytes}
 
 -- ---- one list
 

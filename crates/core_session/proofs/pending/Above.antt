@@ -13,8 +13,8 @@ use Rattle.write_back.specs.Segments.{Segments, Cell, covers, cell_at, last_end}
 use Rattle.write_back.specs.Sound.{IsOver}
 use Rattle.write_back.proofs.Adding.{cells-added, cells-cut}
 use Rattle.write_back.proofs.Keys.{low-of, high-of}
-use Rattle.bond_pending.specs.Cells.{EachSound}
-use Rattle.bond_saves.specs.Saves.{IsClearUpTo}
+use Rattle.step_pending.specs.Cells.{EachSound}
+use Rattle.step_saves.specs.Saves.{IsClearUpTo}
 use Rattle.core_session.proofs.pending.Newest.{of-cells, OfNewest}
 
 one-cell : (a b : Cell) → Some a ≡ Some b → a ≡ b

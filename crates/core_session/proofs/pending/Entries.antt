@@ -18,8 +18,8 @@ use Rattle.client_shelf.specs.declared.lane_files.LaneFile.{LaneFile}
 use Rattle.client_shelf.specs.declared.shelf.Shelf.{Shelf}
 use Rattle.op_machines.specs.declared.begun.Mounted.{Mounted}
 use Rattle.op_machines.specs.declared.machine.Machine.{Machine}
-use Rattle.bond_pending.specs.Cells.{EachSound}
-use Rattle.bond_pending.proofs.Cutting.{nothing-sound}
+use Rattle.step_pending.specs.Cells.{EachSound}
+use Rattle.step_pending.proofs.Cutting.{nothing-sound}
 use Rattle.client_core.specs.declared.lane.Lane.{Lane}
 use Rattle.client_core.specs.declared.lane.State.TheVariants.{Busy, Over}
 use Rattle.client_core.specs.declared.setup.Setup.{Setup}

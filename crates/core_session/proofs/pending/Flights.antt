@@ -17,7 +17,7 @@ use Rattle.write_back.specs.Sound.{IsOver, IsSound}
 use Rattle.write_back.proofs.ByPlace.{covered}
 use Rattle.write_back.proofs.Flying.{flown-some, under-whole}
 use Rattle.write_back.proofs.Xids.{fly-under}
-use Rattle.bond_pending.proofs.Shown.{some-of, flown-from}
+use Rattle.step_pending.proofs.Shown.{some-of, flown-from}
 use Rattle.world_model.specs.declared.answer.Answer.{Answer}
 use Rattle.world_model.specs.declared.answer.Answer.TheVariants as answers
 use Rattle.world_model.specs.declared.answer.Value.{Value}

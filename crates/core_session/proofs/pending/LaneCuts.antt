@@ -29,8 +29,8 @@ use Rattle.core_facts.proofs.Orders.{SitsWith, seat_with, seat-own, seat-other}
 use Rattle.core_answers.proofs.writes.AllTurns.{TurnOf}
 use Rattle.core_answers.proofs.writes.Firsts.{same-first}
 use Rattle.core_answers.proofs.writes.Turns.{IsFirst, TruncateTurn}
-use Rattle.bond_pending.specs.Cells.{EachSound}
-use Rattle.bond_pending.proofs.Cutting.{cut-sound}
+use Rattle.step_pending.specs.Cells.{EachSound}
+use Rattle.step_pending.proofs.Cutting.{cut-sound}
 use Rattle.core_session.proofs.syncs.AllJobs.{JobHas, job_save}
 use Rattle.core_session.proofs.syncs.Fates.{live-lane}
 use Rattle.core_session.proofs.syncs.Jobs.{TruncateHas}

@@ -42,8 +42,8 @@ use Rattle.core_answers.proofs.writes.PiecesCarried.{unused-next}
 use Rattle.core_session.proofs.saves.Taking.{sent-piece}
 use Rattle.core_session.proofs.saves.WholeSteps.{Wholly}
 use Rattle.core_session.proofs.drops.LaneIs.{state-is}
-use Rattle.bond_pending.specs.Cells.{EachSound}
-use Rattle.bond_saves.specs.Saves.{IsAwaited}
+use Rattle.step_pending.specs.Cells.{EachSound}
+use Rattle.step_saves.specs.Saves.{IsAwaited}
 use Rattle.core_session.proofs.syncs.AllJobs.{job_save}
 use Rattle.core_session.proofs.syncs.Fates.{save-is}
 use Rattle.core_session.proofs.syncs.Levels.{Owner, SaveSo, queued, elsewhere, under}

@@ -60,8 +60,8 @@ use Rattle.core_session.proofs.drops.Guards as guards
 use Rattle.core_session.proofs.drops.GuardLaws.{StepOf, guarded-step, stirs-step, takes-step}
 use Rattle.core_session.proofs.drops.LaneIs.{state-is, number-is, busy-over}
 use Rattle.core_session.proofs.drops.Laws.{DropsKnown}
-use Rattle.bond_pending.specs.Cells.{EachSound}
-use Rattle.bond_saves.specs.Saves.{IsUnderWay}
+use Rattle.step_pending.specs.Cells.{EachSound}
+use Rattle.step_saves.specs.Saves.{IsUnderWay}
 use Rattle.core_session.proofs.syncs.AllJobs.{job_save}
 use Rattle.core_session.proofs.syncs.Fates.{save-is}
 use Rattle.core_session.proofs.syncs.Jobs.{closing_save}

@@ -10,7 +10,7 @@ use Rattle.write_back.specs.declared.state.State.{State}
 use Rattle.write_back.specs.States.{is_in_flight}
 use Rattle.write_back.specs.Segments.{Segment, Segments, Cell, AreApart, covers, cell_in, cell_at, end_of, head_of, tail_of, written, before, after, split_if, split_flying, cut_from}
 use Rattle.write_back.specs.Changes.{fate, left_of, fate_between, changed, all_changed}
-use Rattle.bond_pending.specs.Cells.{EachSound}
+use Rattle.step_pending.specs.Cells.{EachSound}
 use Rattle.write_back.specs.Choice.{with_sent}
 use Rattle.write_back.specs.Files.{Pending, of_file, OnFile, with_bytes}
 use Rattle.write_back.specs.Landing.{landed, changed_part, landed_part, at_piece, at_xid, with_cut}

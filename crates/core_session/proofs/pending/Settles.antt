@@ -37,9 +37,9 @@ use Rattle.client_core.specs.declared.lane.State.TheVariants.{Busy, Over}
 use Rattle.core_facts.proofs.SaveCommits.{EndsSo}
 use Rattle.core_answers.proofs.paths.Endings.{goes-not, takes-not}
 use Rattle.core_answers.proofs.writes.OwnPieces.{Free}
-use Rattle.bond_pending.specs.Cells.{EachSound}
-use Rattle.bond_saves.specs.Saves.{IsClearUpTo, IsUnderWay, IsSaved, Leaves, IsAwaited}
-use Rattle.bond_saves.proofs.Taking.{takes-leaves, takes-sound}
+use Rattle.step_pending.specs.Cells.{EachSound}
+use Rattle.step_saves.specs.Saves.{IsClearUpTo, IsUnderWay, IsSaved, Leaves, IsAwaited}
+use Rattle.step_saves.proofs.Taking.{takes-leaves, takes-sound}
 use Rattle.core_session.proofs.syncs.AllJobs.{job_save}
 use Rattle.core_session.proofs.syncs.Jobs.{file_save}
 use Rattle.core_session.proofs.pending.Above.{Above, empty-above, clear-above}

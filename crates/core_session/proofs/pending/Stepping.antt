@@ -58,7 +58,7 @@ use Rattle.core_session.proofs.syncs.SlotHeld.{HoldsSlot}
 use Rattle.core_session.proofs.pending.Alone.{UnleftTo}
 use Rattle.core_session.specs.drops.Guarded.{IsGuarded, IsClose}
 use Rattle.core_facts.proofs.Slots.{plainly, kind_of}
-use Rattle.bond_pending.specs.Cells.{EachSound}
+use Rattle.step_pending.specs.Cells.{EachSound}
 use Rattle.write_back.specs.Segments.{Cell, cell_at}
 use Rattle.file_ops.specs.declared.close_file.CloseFile.{CloseFile}
 use Rattle.claims.specs.Touched as touched

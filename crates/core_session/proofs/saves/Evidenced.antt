@@ -36,7 +36,7 @@ use Rattle.core_facts.proofs.Rows.{reached-rows}
 use Rattle.core_answers.proofs.bonds.OneCall.{IsNfs, one-call}
 use Rattle.core_answers.specs.writes.Carried.{write_of, IsCarried}
 use Rattle.core_answers.proofs.writes.PiecesCarried.{pieces-carried}
-use Rattle.bond_saves.specs.Accounts.{Reaches as ReachesByte}
+use Rattle.step_saves.specs.Accounts.{Reaches as ReachesByte}
 use Rattle.core_session.specs.saves.Evidence.{WroteByte, WroteUnder, MadeStable, at_once, by_commit}
 
 some-waiting : (a b : Waiting Purpose) → Some a ≡ Some b → a ≡ b

@@ -33,9 +33,9 @@ use Rattle.op_machines.specs.Openers.{file_of, slot_taken, begun_at, opening_in,
 use Rattle.op_machines.specs.PathSteps as paths
 use Rattle.op_machines.specs.Steps.{Starts, Resumes, Takes}
 use Rattle.core_facts.proofs.Expecting.{some-put, no-open}
-use Rattle.bond_saves.specs.PutBytes.{PutAt, PutLeaves}
-use Rattle.bond_saves.proofs.Accounting.{known-more}
-use Rattle.bond_saves.proofs.PutSteps.{MayAdd, SaveKnown, put-resumes, put-takes, takes-save}
+use Rattle.step_saves.specs.PutBytes.{PutAt, PutLeaves}
+use Rattle.step_saves.proofs.Accounting.{known-more}
+use Rattle.step_saves.proofs.PutSteps.{MayAdd, SaveKnown, put-resumes, put-takes, takes-save}
 
 -- ---- the same bytes
 

@@ -35,8 +35,8 @@ use Rattle.client_core.specs.Steps.{record_of, IsRefused, Leads}
 use Rattle.client_core.specs.View.{View, turn_at, unmade_turn}
 use Rattle.core_facts.proofs.Flights.{flies_if, flies_put, flies_of, flies_path, flies_file}
 use Rattle.core_facts.proofs.Rows.{Rows}
-use Rattle.bond_saves.specs.Saves.{IsAwaited}
-use Rattle.bond_saves.proofs.PutSteps.{SaveKnown}
+use Rattle.step_saves.specs.Saves.{IsAwaited}
+use Rattle.step_saves.proofs.PutSteps.{SaveKnown}
 use Rattle.core_session.specs.saves.Evidence.{MadeStable, IsHeldBy}
 use Rattle.core_session.specs.saves.PutsWritten.{AllMadeStable}
 use Rattle.core_session.proofs.saves.Evidenced.{stable-grow}

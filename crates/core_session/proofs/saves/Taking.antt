@@ -47,8 +47,8 @@ use Rattle.core_answers.specs.writes.Carried.{write_of, IsCarried}
 use Rattle.core_answers.proofs.writes.AllFits.{CallFits, fits-laws}
 use Rattle.core_answers.proofs.writes.CommitsAlone.{tales, nfs-write}
 use Rattle.core_answers.proofs.writes.PiecesCarried.{pieces-carried}
-use Rattle.bond_saves.specs.Accounts.{ByWrite, ByCommit}
-use Rattle.bond_saves.proofs.PutSteps.{SaveKnown}
+use Rattle.step_saves.specs.Accounts.{ByWrite, ByCommit}
+use Rattle.step_saves.proofs.PutSteps.{SaveKnown}
 use Rattle.core_session.specs.saves.Evidence.{MadeStable}
 use Rattle.core_session.proofs.saves.Evidenced.{spelled-as}
 use Rattle.core_session.proofs.saves.Puts.{Wrote, Made, Runs, put-flies, awaited-put}

@@ -25,7 +25,7 @@ use Rattle.core_facts.proofs.Rows.{reached-rows}
 use Rattle.core_answers.proofs.bonds.OneCall.{one-call}
 use Rattle.core_answers.specs.writes.Alone.{IsWaiting, IsQuiet}
 use Rattle.core_answers.proofs.writes.CommitsAlone.{commits-alone}
-use Rattle.bond_saves.specs.Accounts.{ByWrite, ByCommit}
+use Rattle.step_saves.specs.Accounts.{ByWrite, ByCommit}
 use Rattle.core_session.specs.saves.Evidence.{WroteByte, MadeStable, at_once, IsHeldBy}
 use Rattle.core_session.proofs.saves.Evidenced.{wrote-byte, committed-after, under-grow}
 

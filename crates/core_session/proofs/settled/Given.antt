@@ -20,7 +20,7 @@ use Rattle.claims.specs.Slots.{IsOf}
 use Rattle.claims.specs.Terms.{Terms}
 use Rattle.claims.specs.Touched.{Covers}
 use Rattle.world_model.proofs.Places.{At-grow, At-below, At-back, At-cases}
-use Rattle.bond_stable.proofs.OneFileCall.{one_file_call}
+use Rattle.law_stable.proofs.OneFileCall.{one_file_call}
 use Rattle.write_back.specs.Files.{of_file}
 use Rattle.write_back.specs.declared.sent.Part.{Part}
 use Rattle.write_back.specs.Pieces.{part_at, Flown, fly_in, flown_in}

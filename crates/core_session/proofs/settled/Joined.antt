@@ -26,13 +26,13 @@ use Rattle.claims.specs.Terms.{Terms}
 use Rattle.claims.specs.Touched.{Wrote, write, fill, put, Cuts, cut}
 use Rattle.world_model.specs.Waiting.{FirstSent}
 use Rattle.world_model.proofs.Places.{At-one}
-use Rattle.bond_stable.specs.Evidence.{written_at}
-use Rattle.bond_stable.specs.OwnCalls.{Alters, writes, sizes, HeardBefore, OwnCalls, NoForeign}
+use Rattle.law_stable.specs.Evidence.{written_at}
+use Rattle.law_stable.specs.OwnCalls.{Alters, writes, sizes, HeardBefore, OwnCalls, NoForeign}
 use Rattle.world_model.specs.Mounts.{info_call}
-use Rattle.bond_stable.proofs.Deciding.{stable_decided}
-use Rattle.bond_stable.proofs.OneFileCall.{one_file_call}
+use Rattle.law_stable.proofs.Deciding.{stable_decided}
+use Rattle.law_stable.proofs.OneFileCall.{one_file_call}
 use Rattle.core_answers.proofs.bonds.OneCall.{one-call}
-use Rattle.bond_stable.proofs.Stays.{evidence_stable, untouched_unforeign}
+use Rattle.law_stable.proofs.Stays.{evidence_stable, untouched_unforeign}
 use Rattle.op_machines.specs.declared.begun.Mounted.{Mounted}
 use Rattle.op_machines.specs.Begun.{machine_of}
 use Rattle.client_core.specs.declared.setup.Setup.{Setup}

@@ -21,7 +21,7 @@ use Rattle.claims.specs.Touched.{WritesByte}
 use Rattle.claims.specs.Touched as touching
 use Rattle.world_model.proofs.Growth.{Rooted-wide, Asked-wide}
 use Rattle.world_model.proofs.Places.{At-one, At-below}
-use Rattle.bond_stable.proofs.OneFileCall.{one_file_call}
+use Rattle.law_stable.proofs.OneFileCall.{one_file_call}
 use Rattle.op_machines.specs.declared.begun.Mounted.{Mounted}
 use Rattle.op_machines.specs.Begun.{machine_of, IsNamed}
 use Rattle.client_core.specs.declared.setup.Setup.{Setup}

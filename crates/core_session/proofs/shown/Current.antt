@@ -12,7 +12,7 @@ use Rattle.claims.specs.Pending.{Pending}
 use Rattle.claims.specs.ReadTrue.{HeldByte, HeldSize, IsCurrent, own, held, hole, PendingWithin, ReadsBytes, Since}
 use Rattle.claims.specs.Slots.{IsOf, Opens}
 use Rattle.claims.specs.Terms.{Terms}
-use Rattle.bond_calls.specs.Calls.{Numbered}
+use Rattle.law_calls.specs.Calls.{Numbered}
 use Rattle.op_machines.specs.declared.begun.Mounted.{Mounted}
 use Rattle.op_machines.specs.Begun.{machine_of}
 use Rattle.client_core.specs.declared.setup.Setup.{Setup}

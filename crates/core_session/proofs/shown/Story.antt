@@ -19,7 +19,7 @@ use Rattle.page_cache.specs.Pages.{Pages, page_of, known_of, after_page}
 use Rattle.write_back.specs.Files.{Pending, of_file}
 use Rattle.write_back.specs.Segments.{newest_at, last_end}
 use Rattle.write_back.proofs.EndAndBytes.{end-some}
-use Rattle.bond_pending.specs.Cells.{EachSound}
+use Rattle.step_pending.specs.Cells.{EachSound}
 use Rattle.world_model.specs.declared.answer.Answer.{Answer}
 use Rattle.world_model.specs.declared.answer.Answer.TheVariants as answers
 use Rattle.world_model.specs.declared.answer.Fault.{Fault}

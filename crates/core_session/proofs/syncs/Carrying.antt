@@ -28,8 +28,8 @@ use Rattle.write_back.specs.Pieces.{Sent as Piece, Flown, fly_at, piece_under}
 use Rattle.write_back.specs.Segments.{covers}
 use Rattle.write_back.proofs.Flying.{fly-some}
 use Rattle.write_back.proofs.Xids.{fly-under}
-use Rattle.bond_pending.specs.Cells.{EachSound}
-use Rattle.bond_pending.proofs.Shown.{flown-from}
+use Rattle.step_pending.specs.Cells.{EachSound}
+use Rattle.step_pending.proofs.Shown.{flown-from}
 use Rattle.client_core.specs.declared.lane.Purpose.{Purpose}
 use Rattle.client_core.specs.declared.lane.State.TheVariants.{Busy}
 use Rattle.client_core.specs.declared.setup.Setup.{Setup}

@@ -17,11 +17,11 @@ use Rattle.file_ops.specs.Adding.{is_full}
 use Rattle.file_ops.specs.Quiet.{is_quiet}
 use Rattle.file_ops.proofs.Walks.{SamePieces}
 use Rattle.core_answers.proofs.writes.OwnPieces.{Free}
-use Rattle.bond_pending.specs.Cells.{EachSound}
-use Rattle.bond_pending.proofs.ComingIn.{sound-in}
-use Rattle.bond_pending.proofs.Cutting.{cut-sound, sound-given}
-use Rattle.bond_saves.proofs.Going.{goes-sound}
-use Rattle.bond_saves.proofs.Taking.{takes-sound}
+use Rattle.step_pending.specs.Cells.{EachSound}
+use Rattle.step_pending.proofs.ComingIn.{sound-in}
+use Rattle.step_pending.proofs.Cutting.{cut-sound, sound-given}
+use Rattle.step_saves.proofs.Going.{goes-sound}
+use Rattle.step_saves.proofs.Taking.{takes-sound}
 use Rattle.core_session.proofs.syncs.Levels.{Content, ContentReplies, quiet-none}
 use Rattle.core_session.proofs.syncs.SaveMoves.{goes-upto, takes-upto}
 use Rattle.core_session.proofs.syncs.Stages.{Stage}

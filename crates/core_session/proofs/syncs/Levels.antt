@@ -33,12 +33,12 @@ use Rattle.core_answers.proofs.writes.Firsts.{first-left, first-added, same-firs
 use Rattle.core_answers.proofs.writes.OwnPieces.{Free}
 use Rattle.core_answers.proofs.writes.Backs.{After}
 use Rattle.core_session.proofs.saves.WholeSteps.{SendsIt, Has, carries-has, replies-has}
-use Rattle.bond_pending.specs.Cells.{EachSound}
-use Rattle.bond_pending.proofs.Shown.{some-of}
-use Rattle.bond_saves.specs.Saves.{IsClearUpTo, AreAgain, PhaseHas, PhaseCounts, IsUnderWay, IsAwaited, Leaves, GoesOn}
-use Rattle.bond_saves.proofs.Going.{begins, goes-leaves}
-use Rattle.bond_saves.proofs.Staying.{others-on}
-use Rattle.bond_saves.proofs.Taking.{takes-leaves}
+use Rattle.step_pending.specs.Cells.{EachSound}
+use Rattle.step_pending.proofs.Shown.{some-of}
+use Rattle.step_saves.specs.Saves.{IsClearUpTo, AreAgain, PhaseHas, PhaseCounts, IsUnderWay, IsAwaited, Leaves, GoesOn}
+use Rattle.step_saves.proofs.Going.{begins, goes-leaves}
+use Rattle.step_saves.proofs.Staying.{others-on}
+use Rattle.step_saves.proofs.Taking.{takes-leaves}
 use Rattle.core_session.proofs.syncs.Jobs.{Out, Level, Replies}
 use Rattle.core_session.proofs.syncs.SaveMoves.{goes-frame, takes-frame}
 use Rattle.std.proofs.Common.{slice_get, option_and_then, position, get_or}

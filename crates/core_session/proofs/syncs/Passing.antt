@@ -16,7 +16,7 @@ use Rattle.client_core.specs.declared.lane.State.TheVariants.{Busy, Over}
 use Rattle.client_core.specs.Steps.{IsRefused}
 use Rattle.core_facts.proofs.Orders.{SitsWith}
 use Rattle.core_answers.proofs.writes.OwnPieces.{Free}
-use Rattle.bond_saves.specs.Saves.{IsClearUpTo}
+use Rattle.step_saves.specs.Saves.{IsClearUpTo}
 use Rattle.core_session.proofs.syncs.AllJobs.{JobHas, JobGood, JobBad, JobFin, job_save}
 use Rattle.core_session.proofs.syncs.Fates.{job-says, Part, none, room, own, job-part, job_kind, good-write, good-save, good-path, good-any, bad-write, bad-any, WritePart, before, in_room, write-part}
 use Rattle.core_session.proofs.syncs.Jobs.{Job, ended}

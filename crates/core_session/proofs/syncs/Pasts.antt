@@ -32,7 +32,7 @@ use Rattle.core_facts.proofs.Orders.{Sits}
 use Rattle.core_facts.proofs.Placing.{Placed, seat_state, seat_in}
 use Rattle.core_session.proofs.saves.WholeSteps.{Wholly}
 use Rattle.core_answers.proofs.writes.Firsts.{same-first}
-use Rattle.bond_saves.proofs.Going.{begins}
+use Rattle.step_saves.proofs.Going.{begins}
 use Rattle.core_session.proofs.syncs.AllJobs.{JobHas, JobBegins, JobOpens, job_save}
 use Rattle.core_session.proofs.syncs.AllSteps.{stirs-landed, takes-landed, starts-landed}
 use Rattle.core_session.proofs.syncs.Fates.{job_kind, save-is}

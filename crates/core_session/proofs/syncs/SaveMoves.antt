@@ -29,7 +29,7 @@ use Rattle.file_ops.specs.declared.saving.Phase.TheVariants.{Sending, Committing
 use Rattle.file_ops.specs.declared.saving.Saving.{Saving}
 use Rattle.file_ops.specs.Judging.{write_told, commit_told}
 use Rattle.file_ops.specs.Saves as saves
-use Rattle.bond_saves.proofs.Taking.{refused-file}
+use Rattle.step_saves.proofs.Taking.{refused-file}
 
 -- Of a file of which O holds, P stays where bytes take off under the xid of the step, where what is under the asked xid lands or gets the xid of the step, and
 -- at a verifier.

@@ -14,7 +14,7 @@ use Rattle.client_core.specs.declared.lane.State.TheVariants.{Busy, Over}
 use Rattle.core_facts.specs.Lanes.{AreApart}
 use Rattle.core_facts.proofs.Looks.{look-at}
 use Rattle.core_facts.proofs.Placing.{seat_state, seat_in}
-use Rattle.bond_saves.specs.Saves.{IsUnderWay}
+use Rattle.step_saves.specs.Saves.{IsUnderWay}
 use Rattle.core_session.proofs.syncs.AllJobs.{job_save}
 use Rattle.core_session.proofs.syncs.Fates.{save-is}
 use Rattle.core_session.proofs.syncs.Levels.{Owner, BesideSo, SaveSo, queued, elsewhere, under}

@@ -44,9 +44,9 @@ use Rattle.write_back.specs.Files.{of_file}
 use Rattle.write_back.specs.Pieces.{Sent as Piece, Flown, fly_at, piece_under}
 use Rattle.write_back.proofs.Xids.{fly-under}
 use Rattle.write_back.proofs.Taking.{under-own}
-use Rattle.bond_pending.specs.Cells.{EachSound}
-use Rattle.bond_pending.proofs.Shown.{flown-from}
-use Rattle.bond_saves.specs.Accounts.{Reaches as ReachesByte}
+use Rattle.step_pending.specs.Cells.{EachSound}
+use Rattle.step_pending.proofs.Shown.{flown-from}
+use Rattle.step_saves.specs.Accounts.{Reaches as ReachesByte}
 use Rattle.client_core.specs.declared.lane.Purpose.{Purpose}
 use Rattle.client_core.specs.declared.lane.State.TheVariants.{Busy}
 use Rattle.client_core.specs.declared.setup.Setup.{Setup}

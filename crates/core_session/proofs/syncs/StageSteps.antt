@@ -41,16 +41,16 @@ use Rattle.file_ops.specs.declared.saving.Phase.TheVariants.{Sending, Committing
 use Rattle.file_ops.specs.declared.saving.Saving.{Saving}
 use Rattle.file_ops.specs.Judging.{commit_told}
 use Rattle.file_ops.specs.Saves as saves
-use Rattle.bond_pending.specs.Cells.{EachSound}
-use Rattle.bond_pending.proofs.Leading.{if-true}
-use Rattle.bond_pending.proofs.Hearing.{sound-heard}
-use Rattle.bond_pending.proofs.Shown.{flown-from}
-use Rattle.bond_saves.specs.Accounts.{Reaches}
-use Rattle.bond_saves.specs.Saves.{IsClearUpTo}
-use Rattle.bond_saves.proofs.Accounting.{on-known}
+use Rattle.step_pending.specs.Cells.{EachSound}
+use Rattle.step_pending.proofs.Leading.{if-true}
+use Rattle.step_pending.proofs.Hearing.{sound-heard}
+use Rattle.step_pending.proofs.Shown.{flown-from}
+use Rattle.step_saves.specs.Accounts.{Reaches}
+use Rattle.step_saves.specs.Saves.{IsClearUpTo}
+use Rattle.step_saves.proofs.Accounting.{on-known}
 use Rattle.core_session.proofs.syncs.Stages.{Stage, known-in, known-adds, known-sent, Falls, falls-return, falls-refuse, falls-ack, falls-store, known-landed, known-renamed, known-decided, known-cut, known-given, known-clear}
-use Rattle.bond_saves.proofs.Places.{rests-decided}
-use Rattle.bond_saves.proofs.Taking.{Outcome, did, fails, refuses, came-outcome, lands-sound}
+use Rattle.step_saves.proofs.Places.{rests-decided}
+use Rattle.step_saves.proofs.Taking.{Outcome, did, fails, refuses, came-outcome, lands-sound}
 
 answer-refuse : (status : ℕ) → IsAnswer (by_change.Refuse status)
 answer-refuse status = record { leaves = λ number state out. stays number state out; lands = λ number ready left is. waits left is }

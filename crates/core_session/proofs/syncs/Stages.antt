@@ -20,9 +20,9 @@ use Rattle.write_back.specs.Waits.{flown_as_of}
 use Rattle.write_back.proofs.Flying.{flown-some}
 use Rattle.write_back.proofs.Keys.{low-of}
 use Rattle.commit_verf.specs.Decisions.{cell_decided, cell_with}
-use Rattle.bond_pending.proofs.Leading.{if-true, if-false}
-use Rattle.bond_pending.proofs.Shown.{some-of, flown-from}
-use Rattle.bond_saves.specs.Saves.{IsClearUpTo}
+use Rattle.step_pending.proofs.Leading.{if-true, if-false}
+use Rattle.step_pending.proofs.Shown.{some-of, flown-from}
+use Rattle.step_saves.specs.Saves.{IsClearUpTo}
 
 abbrev pub cell_of : ℕ → ℕ → State → Cell
 cell_of byte number state = record { byte = byte; number = number; state = state }

@@ -68,8 +68,8 @@ use Rattle.world_model.specs.declared.entry.Entry.TheVariants.{Began, Delivered}
 use Rattle.world_model.specs.declared.message.Reply.TheVariants as replies
 use Rattle.call_replies.specs.Says.{said_of}
 use Rattle.write_back.specs.Pieces.{Flown, fly_at}
-use Rattle.bond_pending.specs.Cells.{EachSound}
-use Rattle.bond_saves.specs.Accounts.{Reaches as ReachesByte}
+use Rattle.step_pending.specs.Cells.{EachSound}
+use Rattle.step_saves.specs.Accounts.{Reaches as ReachesByte}
 use Rattle.file_ops.specs.declared.saving.Saving.{Saving}
 use Rattle.client_core.specs.Lanes.{is_busy}
 use Rattle.client_core.specs.Numbers.{numbers_of}

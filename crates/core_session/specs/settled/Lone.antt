@@ -21,7 +21,7 @@ use Rattle.world_model.specs.Operations.{Ended}
 use Rattle.claims.specs.Settled.{HoldsStable}
 use Rattle.claims.specs.Terms.{Terms}
 use Rattle.claims.specs.Touched.{Covers, Cuts}
-use Rattle.bond_stable.specs.OwnCalls.{NoForeign}
+use Rattle.law_stable.specs.OwnCalls.{NoForeign}
 use Rattle.op_machines.specs.declared.begun.Mounted.{Mounted}
 use Rattle.op_machines.specs.Begun.{IsNamed}
 use Rattle.client_core.specs.declared.setup.Setup.{Setup}

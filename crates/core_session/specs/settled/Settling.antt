@@ -16,7 +16,7 @@ use Rattle.world_model.specs.Once.{Once}
 use Rattle.claims.specs.Settled.{SettledBy, Settled}
 use Rattle.claims.specs.Terms.{Terms}
 use Rattle.claims.specs.Touched.{Wrote, Left, GivesUp, Touched}
-use Rattle.bond_stable.specs.Evidence.{Evidence}
+use Rattle.law_stable.specs.Evidence.{Evidence}
 use Rattle.op_machines.specs.declared.begun.Mounted.{Mounted}
 use Rattle.client_core.specs.declared.setup.Setup.{Setup}
 use Rattle.client_core.specs.View.{View}

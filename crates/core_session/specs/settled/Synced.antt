@@ -7,7 +7,7 @@ use Rattle.world_model.specs.Once.{Once}
 use Rattle.claims.specs.Settled.{HoldsStable, SettledBy}
 use Rattle.claims.specs.Terms.{Terms}
 use Rattle.claims.specs.Touched.{Wrote}
-use Rattle.bond_stable.specs.OwnCalls.{NoForeign}
+use Rattle.law_stable.specs.OwnCalls.{NoForeign}
 use Rattle.op_machines.specs.declared.begun.Mounted.{Mounted}
 use Rattle.client_core.specs.declared.setup.Setup.{Setup}
 use Rattle.client_core.specs.View.{View}

@@ -38,9 +38,9 @@ use Rattle.core_session.proofs.syncs.Contents.{Common}
 use Rattle.core_session.proofs.syncs.Fates.{save-is}
 use Rattle.core_session.proofs.syncs.Levels.{Owner, SaveSo, queued, elsewhere, under}
 use Rattle.core_session.proofs.syncs.SaveMoves.{takes-upto}
-use Rattle.bond_pending.specs.Cells.{EachSound}
-use Rattle.bond_saves.specs.Saves.{IsAwaited, IsClearUpTo, IsSaved, IsUnderWay}
-use Rattle.bond_saves.proofs.Taking.{takes-leaves, takes-sound}
+use Rattle.step_pending.specs.Cells.{EachSound}
+use Rattle.step_saves.specs.Saves.{IsAwaited, IsClearUpTo, IsSaved, IsUnderWay}
+use Rattle.step_saves.proofs.Taking.{takes-leaves, takes-sound}
 use Rattle.core_counts.proofs.counts.rooms.Writes.{EndsAbove}
 
 -- where each newest byte has a number above those of all bytes, there is none

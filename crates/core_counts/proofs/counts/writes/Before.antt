@@ -25,7 +25,7 @@ use Rattle.client_core.specs.View.{View}
 use Rattle.core_answers.proofs.bonds.OneCall.{IsNfs}
 use Rattle.core_session.proofs.calls.GivenBytes.{Gives}
 use Rattle.core_session.proofs.order.Adds.{StartsHas, EndsWell}
-use Rattle.bond_pending.specs.Cells.{EachSound}
+use Rattle.step_pending.specs.Cells.{EachSound}
 use Rattle.core_counts.proofs.counts.engine.Lists.{Each}
 use Rattle.core_counts.proofs.counts.writes.Landing.{unflown}
 use Rattle.core_counts.proofs.counts.writes.Stepped.{Held}

@@ -35,7 +35,7 @@ use Rattle.core_session.proofs.order.Sounds.{NearAs}
 use Rattle.core_session.proofs.room.Entered.{under-early}
 use Rattle.core_session.proofs.room.Stages.{stage_of}
 use Rattle.core_session.proofs.saves.WholeSteps.{starts-has, starts-wholly}
-use Rattle.bond_pending.specs.Cells.{EachSound}
+use Rattle.step_pending.specs.Cells.{EachSound}
 use Rattle.core_counts.proofs.coarse.Near.{near-starts}
 use Rattle.core_counts.proofs.counts.engine.Lists.{each-map, Elsewhere}
 use Rattle.core_counts.proofs.counts.writes.Once.{Gone}

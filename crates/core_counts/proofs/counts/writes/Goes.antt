@@ -25,7 +25,7 @@ use Rattle.core_session.proofs.order.Basis.{basis-ready, stirs-basis}
 use Rattle.core_session.proofs.room.Machines as verdicts
 use Rattle.core_session.proofs.room.Stages.{Stage, stage_of, Verdict, outcome}
 use Rattle.core_session.proofs.saves.WholeSteps.{resumes-has, stirs-wholly}
-use Rattle.bond_pending.specs.Cells.{EachSound}
+use Rattle.step_pending.specs.Cells.{EachSound}
 use Rattle.core_counts.proofs.counts.engine.Lists.{Elsewhere}
 use Rattle.core_counts.proofs.counts.writes.Once.{Gone}
 use Rattle.core_counts.proofs.counts.writes.Stepped.{Held, never-adds, resumes-held}

@@ -81,7 +81,7 @@ use Rattle.core_session.proofs.room.Stages.{Stage, stage_of, Verdict, outcome}
 use Rattle.core_session.proofs.saves.Taking.{sent-is, sent-piece}
 use Rattle.core_session.proofs.saves.WholeSteps.{takes-has, takes-wholly}
 use Rattle.core_session.proofs.syncs.Showings as showings
-use Rattle.bond_pending.specs.Cells.{EachSound}
+use Rattle.step_pending.specs.Cells.{EachSound}
 use Rattle.core_counts.proofs.coarse.Near.{near-has}
 use Rattle.core_counts.proofs.coarse.OfSaves.{IsOfSave, never-both, of-machine}
 use Rattle.core_counts.proofs.counts.engine.Lists.{Each, each-map, Elsewhere}

@@ -28,9 +28,9 @@ use Rattle.write_back.proofs.Replying.{lands-one-at, lands-part-at}
 use Rattle.write_back.proofs.Taking.{under-own}
 use Rattle.write_back.proofs.WritesByFile.{same-or}
 use Rattle.write_back.proofs.Xids.{fly-under, renumbers-so}
-use Rattle.bond_pending.specs.Cells.{EachSound}
-use Rattle.bond_pending.proofs.Leading.{if-true}
-use Rattle.bond_pending.proofs.Shown.{flown-from, has-piece, not-under}
+use Rattle.step_pending.specs.Cells.{EachSound}
+use Rattle.step_pending.proofs.Leading.{if-true}
+use Rattle.step_pending.proofs.Shown.{flown-from, has-piece, not-under}
 use Rattle.core_counts.proofs.counts.writes.Weights.{Class, one_if, due_of, flown_of, weight, low, high, due-most, flown-most, Below, due-low, flown-low, below-high, puts-weight, lands-out as elsewhere, lands-in, left-number, landed-number, newer-number, back-weight, acked-weight}
 
 -- what is known of a piece that is there

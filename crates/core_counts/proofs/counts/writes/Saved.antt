@@ -28,7 +28,7 @@ use Rattle.file_ops.specs.declared.saving.Saving.{Saving}
 use Rattle.file_ops.specs.Judging.{write_told, commit_told}
 use Rattle.file_ops.specs.Saves as saves
 use Rattle.file_ops.specs.SlotFiles.{IsUnused}
-use Rattle.bond_pending.specs.Cells.{EachSound}
+use Rattle.step_pending.specs.Cells.{EachSound}
 use Rattle.core_counts.proofs.counts.writes.Landing.{the-piece, W, Fewer, same-fewer, fewer-then, puts-fewer, returned-fewer, Gain, Covered, FineBack, fine-then, fine-same, returns-fine, refuses-fine, acks-fine, renews-fine, decides-fine}
 use Rattle.core_counts.proofs.counts.writes.Weights.{low, Below}
 

@@ -30,7 +30,7 @@ use Rattle.core_answers.proofs.writes.Mapped.{any-saves}
 use Rattle.core_session.proofs.order.Adds.{Bears, TakesHas, StartsHas, all-starts, all-resumes, all-takes}
 use Rattle.core_session.proofs.order.Sounds.{Sounds, SoundsFirst, SoundCall, NearAs, bears-sounds, replies-sounds}
 use Rattle.core_session.proofs.order.Unmade.{unmade-has}
-use Rattle.bond_pending.specs.Cells.{EachSound}
+use Rattle.step_pending.specs.Cells.{EachSound}
 use Rattle.core_counts.proofs.counts.writes.Landing.{W, Fewer, on-fewer}
 use Rattle.core_counts.proofs.counts.writes.Saved.{goes-fewer, takes-err}
 use Rattle.core_counts.proofs.counts.writes.Weights.{one_if, one-most, due_of, weight, low, high, Below, flown-low, below-high, newest-below, cut-due, laid-out, laid-in}

@@ -55,8 +55,8 @@ use Rattle.core_session.proofs.order.Basis.{Basis}
 use Rattle.core_session.proofs.room.Machines as verdicts
 use Rattle.core_session.proofs.room.Stages.{Stage, settling, stage_of, going, over, outcome, Verdict, rests, ends, stores, puts, puts_over, crowds_store, crowds_put}
 use Rattle.core_session.proofs.saves.WholeSteps.{HasPiece, Has, Wholly}
-use Rattle.bond_pending.specs.Cells.{EachSound}
-use Rattle.bond_pending.proofs.Shown.{some-of, flown-from}
+use Rattle.step_pending.specs.Cells.{EachSound}
+use Rattle.step_pending.proofs.Shown.{some-of, flown-from}
 use Rattle.core_counts.proofs.counts.engine.Lists.{Each, each-map, Elsewhere, Apart}
 use Rattle.core_counts.proofs.counts.writes.Landing.{W}
 use Rattle.core_counts.proofs.counts.writes.Once.{Gone}

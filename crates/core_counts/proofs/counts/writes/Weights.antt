@@ -19,7 +19,7 @@ use Rattle.write_back.specs.Places.{PutsBytes, PutsInFlight, Lands, cell_flown, 
 use Rattle.write_back.specs.Segments.{Cell, Segments, cell_at, cell_in, covers}
 use Rattle.write_back.specs.States.{is_ready, is_in_flight}
 use Rattle.write_back.proofs.Newest.{newest-above}
-use Rattle.bond_pending.proofs.Leading.{if-true, if-false}
+use Rattle.step_pending.proofs.Leading.{if-true, if-false}
 
 -- ---- of one place
 

@@ -13,7 +13,7 @@ use Rattle.call_replies.specs.Says.{said_of}
 use Rattle.write_back.specs.declared.state.State.{State as Kept}
 use Rattle.write_back.specs.declared.state.State.TheVariants.{Waiting as Waits, InFlight, Acked}
 use Rattle.write_back.specs.States.{is_in_flight, how_of, ready_of}
-use Rattle.bond_pending.proofs.Leading.{if-true, if-false}
+use Rattle.step_pending.proofs.Leading.{if-true, if-false}
 use Rattle.write_back.specs.declared.state.Ready.{Ready}
 use Rattle.write_back.specs.declared.state.Ready.TheVariants.{Unsent, Again, Refused}
 use Rattle.write_back.specs.Files.{Pending, of_file, HasNoPiece, OnFile}
@@ -82,12 +82,12 @@ use Rattle.core_session.proofs.syncs.Passing.{Tale, job-in, Shown}
 use Rattle.core_session.proofs.syncs.Plans.{Plan, Came_, stirs-came, takes-came, starts-came}
 use Rattle.core_session.proofs.syncs.Seen.{Owned, free, bases, ButFor, sees}
 use Rattle.core_session.proofs.syncs.Stands.{Has}
-use Rattle.bond_pending.specs.Cells.{EachSound}
-use Rattle.bond_pending.proofs.Cutting.{nothing-sound}
+use Rattle.step_pending.specs.Cells.{EachSound}
+use Rattle.step_pending.proofs.Cutting.{nothing-sound}
 use Rattle.write_back.specs.Numbers.{AllUpTo}
 use Rattle.write_back.proofs.Numbers.{upto-nothing}
 use Rattle.core_counts.proofs.counts.rooms.Whole.{owned-removed}
-use Rattle.bond_saves.specs.Saves.{IsUnderWay}
+use Rattle.step_saves.specs.Saves.{IsUnderWay}
 use Rattle.core_counts.proofs.thrift.short.AgainSaves.{Parts, PartsAt, nothing-parts, goes-parts, takes-parts, unmade-parts, cuts-parts, gives-parts, adds-parts}
 
 -- ---- the bytes of an operation end within all places

@@ -45,9 +45,9 @@ use Rattle.file_ops.specs.declared.saving.Saving.{Saving}
 use Rattle.file_ops.specs.Judging.{write_told, commit_told}
 use Rattle.file_ops.specs.Saves as saves
 use Rattle.std.proofs.lemmas.Bool.{cases_lt, leb-true}
-use Rattle.bond_pending.specs.Cells.{EachSound}
-use Rattle.bond_saves.specs.Saves.{EachUpTo, IsHeld, IsUnderWay, PhaseHas, PhaseCounts}
-use Rattle.bond_pending.proofs.Leading.{if-true, if-false}
+use Rattle.step_pending.specs.Cells.{EachSound}
+use Rattle.step_saves.specs.Saves.{EachUpTo, IsHeld, IsUnderWay, PhaseHas, PhaseCounts}
+use Rattle.step_pending.proofs.Leading.{if-true, if-false}
 use Rattle.core_counts.proofs.counts.writes.Landing.{the-piece}
 
 some-cell : (a b : Cell) → Some a ≡ Some b → a ≡ b

@@ -20,8 +20,8 @@ use Rattle.write_back.proofs.Flying.{overlaps-free, flown-some}
 use Rattle.write_back.proofs.Keys.{high-of}
 use Rattle.write_back.proofs.NextPiece.{fits-call}
 use Rattle.write_back.proofs.Sending.{next-is, puts-sent}
-use Rattle.bond_pending.proofs.Leading.{if-true, if-false}
-use Rattle.bond_pending.proofs.Shown.{some-of, flown-from}
+use Rattle.step_pending.proofs.Leading.{if-true, if-false}
+use Rattle.step_pending.proofs.Shown.{some-of, flown-from}
 use Rattle.core_counts.proofs.coarse.Long.{Halts, chosen-out}
 
 -- ---- lists of pieces

@@ -19,8 +19,8 @@ use Rattle.file_ops.specs.Quiet.{is_quiet}
 use Rattle.file_ops.proofs.Walks.{SamePieces, added-pieces, cut-pieces, given-pieces}
 use Rattle.core_facts.proofs.Orders.{joins, SitsWith}
 use Rattle.core_answers.proofs.writes.Firsts.{first-left, first-added}
-use Rattle.bond_saves.specs.Saves.{IsClearUpTo, IsUnderWay}
-use Rattle.bond_saves.proofs.Staying.{later-on, others-on}
+use Rattle.step_saves.specs.Saves.{IsClearUpTo, IsUnderWay}
+use Rattle.step_saves.proofs.Staying.{later-on, others-on}
 use Rattle.core_session.proofs.syncs.Contents.{same-free, same-quiet}
 use Rattle.core_session.proofs.syncs.Jobs.{Fact, NoFile, Job, JobLaws, JobReplies}
 use Rattle.core_session.proofs.syncs.Levels.{Owner, Content, ContentReplies, SaveNow, Before, Ends, Holds, BesideSo, level, level-replies, stands-it, out-it, alone-first, way-given, way-cut}

@@ -31,10 +31,10 @@ use Rattle.file_ops.specs.declared.saving.Phase.TheVariants.{Sending, Committing
 use Rattle.file_ops.specs.declared.saving.Saving.{Saving}
 use Rattle.file_ops.specs.Saves as saves
 use Rattle.file_ops.specs.Syncs.{sync_next}
-use Rattle.bond_pending.specs.Cells.{EachSound}
-use Rattle.bond_saves.specs.Saves.{IsUnderWay, IsHeld, IsAwaited, PhaseHas, PhaseCounts, Leaves}
-use Rattle.bond_saves.proofs.Going.{goes-leaves}
-use Rattle.bond_saves.proofs.Taking.{Outcome, did, fails, refuses, came-outcome, lands-sound, takes-leaves, refused-file}
+use Rattle.step_pending.specs.Cells.{EachSound}
+use Rattle.step_saves.specs.Saves.{IsUnderWay, IsHeld, IsAwaited, PhaseHas, PhaseCounts, Leaves}
+use Rattle.step_saves.proofs.Going.{goes-leaves}
+use Rattle.step_saves.proofs.Taking.{Outcome, did, fails, refuses, came-outcome, lands-sound, takes-leaves, refused-file}
 use Rattle.core_counts.proofs.thrift.short.Ends.{Each, each-without, Mild, mild-return, mild-store, Open, Second, waits, flies, EndsLong, open-sent, open-landed, open-returned, open-renamed}
 
 answer-refuse : (status : ℕ) → IsAnswer (by_change.Refuse status)

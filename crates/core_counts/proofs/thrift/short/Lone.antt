@@ -44,7 +44,7 @@ use Rattle.core_answers.specs.writes.Alone.{written_file}
 use Rattle.core_answers.proofs.bonds.OneCall.{one-call}
 use Rattle.core_answers.proofs.writes.AllFits.{CallFits, fits-laws}
 use Rattle.core_answers.proofs.writes.CommitsAlone.{tales, nfs-write}
-use Rattle.bond_pending.proofs.Shown.{HasPiece, has-piece}
+use Rattle.step_pending.proofs.Shown.{HasPiece, has-piece}
 use Rattle.core_session.proofs.order.Basis.{Basis}
 use Rattle.core_session.proofs.saves.WholeSteps.{Wholly}
 use Rattle.claims.specs.Thrifty.{NeverFull}

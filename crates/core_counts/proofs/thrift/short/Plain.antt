@@ -70,7 +70,7 @@ use Rattle.core_session.proofs.order.Unmade.{unmade-has}
 use Rattle.core_session.proofs.saves.HearingAlong.{KeepsHearing, reached-hearing}
 use Rattle.core_session.proofs.saves.Taking.{sent-is}
 use Rattle.core_session.proofs.saves.WholeSteps.{Wholly, keeps-wholly, stirs-wholly, starts-wholly, takes-wholly}
-use Rattle.bond_pending.specs.Cells.{EachSound}
+use Rattle.step_pending.specs.Cells.{EachSound}
 use Rattle.core_counts.proofs.coarse.Near.{near-has, near-starts}
 use Rattle.core_counts.proofs.coarse.OfSaves.{of-machine}
 use Rattle.core_counts.proofs.thrift.short.PlainSaves.{Plain, Apart, PlainAt, adds-plain, cuts-plain, gives-plain, goes-plain, takes-plain, unmade-plain, nothing-plain}

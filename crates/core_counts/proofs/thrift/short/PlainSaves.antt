@@ -44,8 +44,8 @@ use Rattle.file_ops.specs.declared.saving.Phase.TheVariants.{Sending, Committing
 use Rattle.file_ops.specs.declared.saving.Saving.{Saving}
 use Rattle.file_ops.specs.Judging.{write_told, commit_told}
 use Rattle.file_ops.specs.Saves as saves
-use Rattle.bond_pending.specs.Cells.{EachSound}
-use Rattle.bond_pending.proofs.Leading.{if-true, if-false}
+use Rattle.step_pending.specs.Cells.{EachSound}
+use Rattle.step_pending.proofs.Leading.{if-true, if-false}
 use Rattle.core_counts.proofs.counts.writes.Landing.{the-piece}
 
 some-cell : (a b : Cell) → Some a ≡ Some b → a ≡ b

@@ -47,11 +47,11 @@ use Rattle.op_machines.specs.FileSteps as steps
 use Rattle.op_machines.specs.Openers.{file_of, slot_taken, begun_at, placed}
 use Rattle.op_machines.specs.PathSteps as paths
 use Rattle.op_machines.specs.Steps.{Starts, Resumes, Takes}
-use Rattle.bond_pending.specs.Cells.{EachSound}
-use Rattle.bond_pending.proofs.ComingIn.{sound-in}
-use Rattle.bond_pending.proofs.Leading.{if-true, if-false}
-use Rattle.bond_saves.specs.Saves.{IsAwaited}
-use Rattle.bond_saves.proofs.Going.{begins}
+use Rattle.step_pending.specs.Cells.{EachSound}
+use Rattle.step_pending.proofs.ComingIn.{sound-in}
+use Rattle.step_pending.proofs.Leading.{if-true, if-false}
+use Rattle.step_saves.specs.Saves.{IsAwaited}
+use Rattle.step_saves.proofs.Going.{begins}
 use Rattle.core_facts.proofs.Expecting.{some-put, no-open}
 use Rattle.core_session.proofs.drops.SaveFiles.{goes-save, takes-save}
 use Rattle.core_session.proofs.order.Adds.{TakesHas, PathHas, FileHas, PutHas}

@@ -58,8 +58,8 @@ use Rattle.core_facts.proofs.LaneMarks.{lanes-under-way, idle-numbers, number_of
 use Rattle.core_facts.proofs.Lists.{at-set, at-push, get-push, get-remove, skip, to-map}
 use Rattle.core_facts.proofs.Marks.{answered-grow}
 use Rattle.core_facts.proofs.Stories.{set-other, under-back}
-use Rattle.bond_pending.specs.Cells.{EachSound}
-use Rattle.bond_pending.proofs.Leading.{if-true}
+use Rattle.step_pending.specs.Cells.{EachSound}
+use Rattle.step_pending.proofs.Leading.{if-true}
 use Rattle.core_session.proofs.order.Basis.{Basis, stirs-basis, starts-basis, takes-basis, keeps-basis}
 use Rattle.core_session.proofs.room.Entered.{Entered}
 use Rattle.core_session.proofs.room.Rooms.{Room, reached-room}

@@ -58,7 +58,7 @@ use Rattle.core_facts.proofs.Stories.{set-other, under-back}
 use Rattle.core_answers.proofs.writes.AllFits.{CallFits, fits-laws}
 use Rattle.core_answers.proofs.writes.AllFits as fitting
 use Rattle.core_answers.proofs.writes.PiecesCarried.{unused-next}
-use Rattle.bond_pending.specs.Cells.{EachSound}
+use Rattle.step_pending.specs.Cells.{EachSound}
 use Rattle.core_session.proofs.order.Basis.{Basis, basis-ready, unused-idle, stirs-basis, starts-basis, takes-basis, keeps-basis}
 use Rattle.core_session.proofs.order.Sounds.{resumes-sound, starts-sound, takes-sounds}
 use Rattle.core_session.proofs.saves.HearingAlong.{KeepsHearing, reached-hearing}
@@ -69,7 +69,7 @@ use Rattle.core_counts.proofs.thrift.short.Ends.{Each, EndsLong, waits as waits_
 use Rattle.world_model.specs.declared.answer.Answer.TheVariants as answers
 use Rattle.world_model.specs.declared.answer.Fault.TheVariants as faults
 use Rattle.write_back.specs.States.{is_ready, how_of, ready_of}
-use Rattle.bond_saves.proofs.Going.{begins}
+use Rattle.step_saves.proofs.Going.{begins}
 use Rattle.core_counts.specs.thrift.Writes.{WaitsPlain, NotAsStable, OfSlot, BeganOtherwise}
 use Rattle.core_counts.proofs.counts.writes.Weights.{newest-below}
 use Rattle.core_counts.proofs.thrift.short.Holding.{Hold}

@@ -33,8 +33,8 @@ use Rattle.op_machines.specs.declared.file_machine.FileMachine.TheVariants as fi
 use Rattle.op_machines.specs.declared.machine.Machine.{Machine}
 use Rattle.op_machines.specs.declared.machine.Machine.TheVariants as machines
 use Rattle.op_machines.specs.Steps.{Starts, Resumes, Takes}
-use Rattle.bond_pending.specs.Cells.{EachSound}
-use Rattle.bond_saves.specs.Saves.{IsAwaited}
+use Rattle.step_pending.specs.Cells.{EachSound}
+use Rattle.step_saves.specs.Saves.{IsAwaited}
 use Rattle.core_facts.proofs.Flights.{flies_of, flies_sync, flies_close, flies_if}
 use Rattle.core_session.proofs.drops.SaveFiles.{goes-save, takes-save}
 use Rattle.core_counts.proofs.thrift.short.Ends.{Each, waits, flies}

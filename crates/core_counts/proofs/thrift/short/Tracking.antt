@@ -77,8 +77,8 @@ use Rattle.core_facts.proofs.Stories.{set-other, under-back}
 use Rattle.core_answers.proofs.writes.AllFits.{CallFits, fits-laws}
 use Rattle.core_answers.proofs.writes.AllFits as fitting
 use Rattle.core_answers.proofs.writes.PiecesCarried.{unused-next}
-use Rattle.bond_pending.specs.Cells.{EachSound}
-use Rattle.bond_saves.specs.Saves.{IsAwaited}
+use Rattle.step_pending.specs.Cells.{EachSound}
+use Rattle.step_saves.specs.Saves.{IsAwaited}
 use Rattle.core_session.proofs.order.Adds.{TakesHas, FileHas, PathHas, PutHas}
 use Rattle.core_session.proofs.order.Basis.{Basis, basis-ready, unused-idle, stirs-basis, starts-basis, takes-basis, keeps-basis}
 use Rattle.core_session.proofs.order.Sounds.{resumes-sound, starts-sound, takes-sounds}

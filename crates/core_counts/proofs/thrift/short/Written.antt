@@ -61,8 +61,8 @@ use Rattle.core_facts.proofs.Lists.{at-set, at-push, get-push, get-remove, skip,
 use Rattle.core_facts.proofs.Marks.{answered-grow}
 use Rattle.core_facts.proofs.SlotGrowth.{ended-back}
 use Rattle.core_facts.proofs.Stories.{set-other, under-back}
-use Rattle.bond_pending.specs.Cells.{EachSound}
-use Rattle.bond_pending.proofs.Leading.{if-true, if-false}
+use Rattle.step_pending.specs.Cells.{EachSound}
+use Rattle.step_pending.proofs.Leading.{if-true, if-false}
 use Rattle.core_session.proofs.order.Basis.{Basis, stirs-basis, starts-basis, takes-basis, keeps-basis}
 use Rattle.core_session.proofs.room.Entered.{Entered}
 use Rattle.core_session.proofs.room.Rooms.{Room, reached-room}

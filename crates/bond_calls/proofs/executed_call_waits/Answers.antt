@@ -1,5 +1,0 @@
-use Rattle.bond_calls.proofs.CallsWait.{waiting}
-use Rattle.bond_calls.proofs.executed_call_waits.Goals as goal
-
-pub returns : goal.returns
-returns c = waiting

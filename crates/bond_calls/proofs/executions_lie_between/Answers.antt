@@ -1,5 +1,0 @@
-use Rattle.bond_calls.proofs.CallsWait.{between}
-use Rattle.bond_calls.proofs.executions_lie_between.Goals as goal
-
-pub returns : goal.returns
-returns c = between

@@ -1,5 +1,0 @@
-use Rattle.bond_calls.proofs.RepliesTell.{told}
-use Rattle.bond_calls.proofs.reply_tells_an_execution.Goals as goal
-
-pub returns : goal.returns
-returns c = told

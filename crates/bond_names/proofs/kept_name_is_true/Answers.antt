@@ -1,5 +1,0 @@
-use Rattle.bond_names.proofs.TrueNames.{true_name}
-use Rattle.bond_names.proofs.kept_name_is_true.Goals as goal
-
-pub returns : goal.returns
-returns c = true_name

@@ -1,5 +1,0 @@
-use Rattle.bond_names.proofs.KeptNames.{same_list}
-use Rattle.bond_names.proofs.list_under_stamp.Goals as goal
-
-pub returns : goal.returns
-returns c = same_list

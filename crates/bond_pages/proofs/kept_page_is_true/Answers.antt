@@ -1,5 +1,0 @@
-use Rattle.bond_pages.proofs.TruePages.{true_page}
-use Rattle.bond_pages.proofs.kept_page_is_true.Goals as goal
-
-pub returns : goal.returns
-returns c = true_page

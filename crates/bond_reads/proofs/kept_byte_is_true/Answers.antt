@@ -1,5 +1,0 @@
-use Rattle.bond_reads.proofs.KeptBytes.{true_byte}
-use Rattle.bond_reads.proofs.kept_byte_is_true.Goals as goal
-
-pub returns : goal.returns
-returns c = true_byte

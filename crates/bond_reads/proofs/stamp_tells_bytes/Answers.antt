@@ -1,5 +1,0 @@
-use Rattle.bond_reads.proofs.KeptBytes.{same_bytes}
-use Rattle.bond_reads.proofs.stamp_tells_bytes.Goals as goal
-
-pub returns : goal.returns
-returns c = same_bytes

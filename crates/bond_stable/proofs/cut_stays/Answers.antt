@@ -1,5 +1,0 @@
-use Rattle.bond_stable.proofs.Zeros as zeros
-use Rattle.bond_stable.proofs.cut_stays.Goals as goal
-
-pub returns : goal.returns
-returns c = zeros.cut_stays

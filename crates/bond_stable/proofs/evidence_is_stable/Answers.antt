@@ -1,5 +1,0 @@
-use Rattle.bond_stable.proofs.Stays.{evidence_stable}
-use Rattle.bond_stable.proofs.evidence_is_stable.Goals as goal
-
-pub returns : goal.returns
-returns c = evidence_stable

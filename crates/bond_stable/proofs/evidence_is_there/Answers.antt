@@ -1,5 +1,0 @@
-use Rattle.bond_stable.proofs.Stays.{evidence_there}
-use Rattle.bond_stable.proofs.evidence_is_there.Goals as goal
-
-pub returns : goal.returns
-returns c = evidence_there

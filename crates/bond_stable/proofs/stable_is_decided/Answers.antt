@@ -1,5 +1,0 @@
-use Rattle.bond_stable.proofs.Deciding.{stable_decided}
-use Rattle.bond_stable.proofs.stable_is_decided.Goals as goal
-
-pub returns : goal.returns
-returns c = stable_decided

@@ -1,5 +1,0 @@
-use Rattle.bond_stable.proofs.Stays.{untouched_unforeign}
-use Rattle.bond_stable.proofs.untouched_is_unforeign.Goals as goal
-
-pub returns : goal.returns
-returns c = untouched_unforeign

@@ -1,5 +1,0 @@
-use Rattle.bond_writes.proofs.DurableBytesStay.{settles}
-use Rattle.bond_writes.proofs.durable_bytes_stay.Goals as goal
-
-pub returns : goal.returns
-returns c = settles

@@ -1,7 +1,0 @@
-use Rattle.bond_writes.proofs.DurableBytesStay.{settles}
-use Rattle.bond_writes.proofs.MirroredIsLawful.{mirrored_is_lawful, mirrored_once}
-use Rattle.bond_writes.proofs.SettledIsMirrored.{settled_is_mirrored}
-use Rattle.bond_writes.proofs.history_settles.Goals as goal
-
-pub returns : goal.returns
-returns c = λ m origin t s k lawful once view reached. settled_is_mirrored m origin t s k (settles s (mirrored_is_lawful m origin t s k lawful) (mirrored_once m origin t s k once) view reached)

@@ -1,5 +1,0 @@
-use Rattle.bond_writes.proofs.SmallRun.{is_reached}
-use Rattle.bond_writes.proofs.small_run.Goals as goal
-
-pub returns : goal.returns
-returns c = is_reached

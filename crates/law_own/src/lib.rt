@@ -1,0 +1,17 @@
+//! The law of own bytes: what a client's read shows of what the client itself made stable before. Nothing here runs: each function has an empty body, and
+//! its contract is the theorem.
+#![tactic(auto)]
+
+ghost use Rattle.law_own.specs.Own.{SettledAreRead, CutsAreRead};
+
+/// Where bytes that were settled stay on the server, and reads are current and end where the file ended, a read shows each byte that was settled before the
+/// moments that it may show, unless it was touched (nfs(5), close-to-open consistency).
+pub fn settled_bytes_are_read()
+    ensures { SettledAreRead }
+{}
+
+/// Where places past the size of a truncate stay without bytes but zeros, and reads are current, a read shows them so, where the truncate went well before the
+/// moments that it may show, unless they were touched.
+pub fn cut_places_are_read()
+    ensures { CutsAreRead }
+{}
