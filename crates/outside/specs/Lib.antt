@@ -12,3 +12,4 @@ pub mod Reading
 pub mod MemWire
 pub mod Datagrams
 pub mod MemDatagrams
+pub mod Pairs

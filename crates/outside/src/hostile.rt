@@ -70,6 +70,8 @@ impl Link for HostileLink {
     // Any record may have been given, so nothing that it tells need be lawful.
     ghost honest = { λ l. ⊥ };
 
+    ghost stays = { λ x y. Unit {0} };
+
     ghost lawful = { λ l h. absurd h };
 
     fn dial(&mut self, port: u16) -> Result<(), LinkFault>

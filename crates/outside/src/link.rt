@@ -43,15 +43,20 @@ pub trait Link {
     /// Whether what it tells is what an honest server and network make.
     ghost honest: { Self → Type 0 };
 
+    /// What is so of two states of it between which only calls of it were made, beside what it tells.
+    ghost stays: { Self → Self → Type 0 };
+
     /// Makes a connection to that port, in place of the one before.
     fn dial(&mut self, port: u16) -> Result<(), LinkFault>
         ensures told { Tells (told self.old) (told self.new) (dialed_as port result) }
+        ensures stays { (first : Self) → stays first self.old → stays first self.new }
         ensures honest { honest self.old → honest self.new }
         ensures cause { HasCause (faults self.old) (faults self.new) result };
 
     /// Sends a record. When out of memory nothing was sent.
     fn send(&mut self, rec: &[u8]) -> Result<(), LinkFault>
         ensures told { Tells (told self.old) (told self.new) (sent_as rec.now result) }
+        ensures stays { (first : Self) → stays first self.old → stays first self.new }
         ensures honest { honest self.old → honest self.new }
         ensures cause { HasCause (faults self.old) (faults self.new) result };
 
@@ -59,12 +64,14 @@ pub trait Link {
     fn receive(&mut self, wait_ms: u32, rec: &mut Vec<u8>) -> Received
         requires { 15000 ≤ wait_ms }
         ensures told { Tells (told self.old) (told self.new) (received_as rec.new.items result) }
+        ensures stays { (first : Self) → stays first self.old → stays first self.new }
         ensures honest { honest self.old → honest self.new }
         ensures cause { HasCauseReceived (faults self.old) (faults self.new) result };
 
     /// Notes a mark in the history, and nothing else. When out of memory nothing was noted.
     fn note(&mut self, mark: Mark) -> Result<(), Memory>
         ensures told { NotesOnly (told self.old) (told self.new) (noted_as mark result) }
+        ensures stays { (first : Self) → stays first self.old → stays first self.new }
         ensures honest { honest self.old → honest self.new }
         ensures cause { faults self.old ≤ faults self.new };
 

@@ -24,6 +24,7 @@ const MOST_DROPPED: u32 = 65_536;
 /// Makes a connection to the port, with at most four dials.
 pub fn dial<L: Link>(port: u16, link: &mut L) -> Result<(), Halt>
     ensures does { Does (L.told link.old) (L.told link.new) (L.faults link.old) (L.faults link.new) (Dials port result) }
+    ensures stays { (first : L) → L.stays first link.old → L.stays first link.new }
     ensures honest { L.honest link.old → L.honest link.new }
 {
     let mut failed = 0;
@@ -47,6 +48,7 @@ pub fn exchange<L: Link>(
     call: &[u8],
 ) -> Result<Blob, Halt>
     ensures does { Does (L.told link.old) (L.told link.new) (L.faults link.old) (L.faults link.new) (Exchanges port xid call.now result) }
+    ensures stays { (first : L) → L.stays first link.old → L.stays first link.new }
     ensures honest { L.honest link.old → L.honest link.new }
 {
     let mut failed = 0;
@@ -75,6 +77,7 @@ fn retry<L: Link>(
     call: &[u8],
 ) -> Result<Option<Blob>, Halt>
     ensures does { Does (L.told link.old) (L.told link.new) (L.faults link.old) (L.faults link.new) (Tries port xid call.now result) }
+    ensures stays { (first : L) → L.stays first link.old → L.stays first link.new }
     ensures honest { L.honest link.old → L.honest link.new }
 {
     match attempt(alloc, link, xid, call) {
@@ -92,6 +95,7 @@ fn retry<L: Link>(
 /// One attempt: the record goes out, and the one under its xid is waited for.
 fn attempt<L: Link>(alloc: Global, link: &mut L, xid: u32, call: &[u8]) -> Result<Blob, Miss>
     ensures does { Does (L.told link.old) (L.told link.new) (L.faults link.old) (L.faults link.new) (Attempts xid call.now result) }
+    ensures stays { (first : L) → L.stays first link.old → L.stays first link.new }
     ensures honest { L.honest link.old → L.honest link.new }
 {
     match link.send(call) {
@@ -104,6 +108,7 @@ fn attempt<L: Link>(alloc: Global, link: &mut L, xid: u32, call: &[u8]) -> Resul
 /// Waits for the record under the xid. Others are dropped.
 fn listen<L: Link>(alloc: Global, link: &mut L, xid: u32) -> Result<Blob, Miss>
     ensures does { Does (L.told link.old) (L.told link.new) (L.faults link.old) (L.faults link.new) (Listens xid result) }
+    ensures stays { (first : L) → L.stays first link.old → L.stays first link.new }
     ensures honest { L.honest link.old → L.honest link.new }
 {
     let mut dropped = 0;
@@ -123,6 +128,7 @@ fn listen<L: Link>(alloc: Global, link: &mut L, xid: u32) -> Result<Blob, Miss>
 /// Waits for a record.
 fn receive<L: Link>(alloc: Global, link: &mut L) -> Result<Blob, Miss>
     ensures does { Does (L.told link.old) (L.told link.new) (L.faults link.old) (L.faults link.new) (Receives result) }
+    ensures stays { (first : L) → L.stays first link.old → L.stays first link.new }
     ensures honest { L.honest link.old → L.honest link.new }
 {
     let mut record = Vec::new(alloc);

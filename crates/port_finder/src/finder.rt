@@ -51,6 +51,7 @@ pub fn find_ports<L: Link>(
     requires { xid + 1 < 2 ^ 32 }
     ensures ported { Does (L.told link.old) (L.told link.new) (L.faults link.old) (L.faults link.new) (Ported port xid prot result) }
     ensures range { IfOk result (λ ports. IsPort ports.mount × IsPort ports.nfs) }
+    ensures stays { (first : L) → L.stays first link.old → L.stays first link.new }
     ensures honest { L.honest link.old → L.honest link.new }
 {
     match dial(port, link) {
@@ -78,6 +79,7 @@ fn ask<L: Link>(
 ) -> Result<u16, PortFault>
     ensures asks { Does (L.told link.old) (L.told link.new) (L.faults link.old) (L.faults link.new) (Asks port xid prog prot result) }
     ensures range { IfOk result IsPort }
+    ensures stays { (first : L) → L.stays first link.old → L.stays first link.new }
     ensures honest { L.honest link.old → L.honest link.new }
 {
     let wanted = Mapping {

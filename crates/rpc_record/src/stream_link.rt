@@ -226,6 +226,8 @@ impl<W: Wire + Drop> Link for StreamLink<W> {
 
     ghost honest = { λ s. HonestOver W.told W.honest (line_of s) };
 
+    ghost stays = { λ x y. Unit {0} };
+
     ghost lawful = { λ s h. h.lawful };
 
     fn dial(&mut self, port: u16) -> Result<(), LinkFault>

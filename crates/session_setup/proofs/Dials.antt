@@ -1,9 +1,9 @@
 -- The ports of a session's set-up: that of MOUNT until the root is known, and then that of NFS.
-use Rattle.std.proofs.Common.{◌≡◌, ◌≤◌, ℕ, List, [], Option, Some, None, Result, Ok, Err, arith}
+use Rattle.std.proofs.Common.{◌≡◌, ◌≤◌, ℕ, List, [], Option, Some, None, Result, Ok, Err, arith, ap}
 use Rattle.rpc_retry.specs.Held.{Held}
 use Rattle.world_model.specs.declared.entry.Entry.{Entry}
 use Rattle.world_model.specs.declared.entry.Entry.TheVariants.{Sent}
-use Rattle.world_model.specs.Entries.{At}
+use Rattle.world_model.specs.Entries.{At, ours}
 use Rattle.world_model.specs.History.{History}
 use Rattle.world_model.specs.Messages.{SpellsCall}
 use Rattle.world_model.specs.Mounts.{Mounting, info_call}
@@ -38,7 +38,7 @@ dials_unmounted None b mount nfs path result old new none zero keeps m d = tt
 dials_unmounted (Some a) None mount nfs path result old new none zero keeps m d = absurd d
 dials_unmounted (Some a) (Some b) mount nfs path result old new none zero keeps m d = λ empty.
     ports-mount mount nfs a.entries b.entries empty d
-    (unasked path new b.entries (omega (arith, keeps.most, zero)) (base_of path new result b.entries (m.1 empty none zero)))
+    (unasked path new b.entries (omega (arith, keeps.most, zero)) (base_of path new result b.entries (m.1 (ap ours empty) none zero)))
 
 -- the path was mounted, and the sizes were asked for
 pub dials_mounted : (a b c : Option History) (mount nfs : ℕ) (path : List ℕ) (result : Result (List ℕ) SetUpFault) (old mid : Held (Unit {0})) → old.calls ≡ [] → old.made ≡ 0 → KeepsTerms old mid

@@ -6,6 +6,7 @@ use Rattle.rpc_message.specs.declared.cred.Cred.{Cred}
 use Rattle.rpc_message.proofs.CallLaws.{call_again}
 use Rattle.rpc_retry.specs.Held.{Held, next_xid}
 use Rattle.world_model.specs.declared.entry.Entry.{Entry}
+use Rattle.world_model.specs.Entries.{ours}
 use Rattle.world_model.specs.declared.message.Call.{Call}
 use Rattle.claims.specs.CallsAsked.{mount, inform}
 use Rattle.world_model.specs.Messages.{SpellsCall, head_of, program_of}
@@ -22,7 +23,7 @@ use Rattle.session_setup.specs.Origins.{origin_of}
 use Rattle.session_setup.specs.Outcomes.{IsOptions, rooted, unheard, SetsUp, EndsSo}
 use Rattle.session_setup.specs.Phases.{KeepsTerms, tally_after, Mounts, MountsTo, Informs, FinishesTo, Finishes}
 use Rattle.session_setup.specs.Sendings.{IsSetUpCall, mounts, informs, IsSetUpRecord, info_xid, Single}
-use Rattle.session_setup.proofs.Phases.{rooted_later, idle_first}
+use Rattle.session_setup.proofs.Phases.{rooted_later, idle_apart}
 
 -- ---- MNT and FSINFO have one xid each
 
@@ -142,15 +143,15 @@ ends_finished s first root (Err Memory) c k options given f = sets_up_by s first
 
 -- the root is given
 pub sets_up_given : (s : Settings) (first : ℕ) (root : List ℕ) (result : Result SetUp SetUpFault) (old new : Held (Unit {0})) (h k : List Entry) → s.export ≡ exports.Root root → IsOptions s → IsGiven s first new → old.calls ≡ [] → old.made ≡ 0
-    → Finishes root s old new result h k → h ≡ [] → SetsUp s first result k
+    → Finishes root s old new result h k → ours h ≡ [] → SetsUp s first result k
 sets_up_given s first root result old new h k is options given none zero f empty =
     let same : origin_of s.export ≡ Given root = ap origin_of is in
-    let w = f (Given root) (subst (IsIdle (Given root) old) (sym empty) (idle_first (Given root) old none zero)) refl (omega (arith, zero)) in
+    let w = f (Given root) (idle_apart (Given root) old h none zero empty) refl (omega (arith, zero)) in
     ends_finished s first root result new k options given (subst (λ (o : Origin). FinishesTo o root s new result k) (sym same) w)
 
 -- the path is mounted
 pub sets_up_mounted : (s : Settings) (first : ℕ) (path root : List ℕ) (result : Result SetUp SetUpFault) (old mid new : Held (Unit {0})) (h k l : List Entry) → s.export ≡ exports.Path path → IsOptions s → IsGiven s first new → old.calls ≡ []
-    → old.made ≡ 0 → Mounts path old mid (Ok root) h k → Finishes root s mid new result k l → h ≡ [] → SetsUp s first result l
+    → old.made ≡ 0 → Mounts path old mid (Ok root) h k → Finishes root s mid new result k l → ours h ≡ [] → SetsUp s first result l
 sets_up_mounted s first path root result old mid new h k l is options given none zero m f empty =
     let same : origin_of s.export ≡ Mounting path = ap origin_of is in
     let w = m empty none zero in
@@ -159,7 +160,7 @@ sets_up_mounted s first path root result old mid new h k l is options given none
 
 -- it isn't
 pub sets_up_unmounted : (s : Settings) (first : ℕ) (path : List ℕ) (fault : SetUpFault) (old new : Held (Unit {0})) (h k : List Entry) → s.export ≡ exports.Path path → IsOptions s → IsGiven s first new → old.calls ≡ [] → old.made ≡ 0
-    → Mounts path old new (Err fault) h k → h ≡ [] → SetsUp s first (Err fault) k
+    → Mounts path old new (Err fault) h k → ours h ≡ [] → SetsUp s first (Err fault) k
 sets_up_unmounted s first path fault old new h k is options given none zero m empty = by_fault fault (m empty none zero)
   where
     same : origin_of s.export ≡ Mounting path

@@ -7,7 +7,7 @@ use Rattle.world_model.specs.declared.entry.Entry.{Entry}
 use Rattle.world_model.specs.declared.entry.Entry.TheVariants.{Began, Answered, Dialed, Sent, Executed, Foreign, Flushed, Reboot, Delivered, Failed, Clock}
 use Rattle.world_model.specs.declared.message.Call.{Call}
 use Rattle.world_model.specs.Counts.{tally_of}
-use Rattle.world_model.specs.Entries.{At}
+use Rattle.world_model.specs.Entries.{At, ours}
 use Rattle.world_model.specs.Heard.{Heard}
 use Rattle.world_model.specs.Messages.{HasXid}
 use Rattle.world_model.specs.Mounts.{Origin, Mounting, Rooted, told, untold, mount_call, info_call}
@@ -25,7 +25,7 @@ use Rattle.session_setup.specs.Exchanges.{Connects, Makes, IsBase, IsIdle, untri
 use Rattle.session_setup.specs.Phases.{KeepsTerms, tally_after, fault_after, MountsTo, Mounts, IsInformed, Informs}
 use Rattle.session_setup.specs.Replies.{MountHeard, InfoHeard, SizedBy}
 use Rattle.session_setup.specs.Sendings.{IsSetUpCall, mounts, informs, SentSo, info_xid, xid_sent, is_number, times_sent}
-use Rattle.session_setup.proofs.Stills.{StepsStill, still_by, plain_still}
+use Rattle.session_setup.proofs.Stills.{StepsStill, still_by, plain_still, quiet_of}
 use Rattle.session_setup.proofs.Bases.{base_plain, waits_before, WasSent-more, xid_of_call}
 use Rattle.session_setup.proofs.Counting.{tally_none, tally_one}
 
@@ -59,6 +59,10 @@ idle_first o c none unmade = record {
   idle = λ y w. let at = w.sent in cc;
   each = λ y low high. absurd (omega (arith, low, high, unmade));
 }
+
+-- nothing was sent yet, whatever others did
+pub idle_apart : (o : Origin) (c : Held (Unit {0})) (h : List Entry) → c.calls ≡ [] → c.made ≡ 0 → ours h ≡ [] → IsIdle o c h
+idle_apart o c h none unmade apart = quiet_of (IsIdle o c) (idle_still o c) [] h apart (idle_first o c none unmade)
 
 -- more xids may be used
 base_terms : (o : Origin) (old new : Held (Unit {0})) (h : List Entry) → KeepsTerms old new → IsBase o old h → IsBase o new h
@@ -140,22 +144,22 @@ exchanged_next call old mid new m k = (k.first_xid ∙ ap (λ (c : Held (Unit {0
 
 pub mount_undialed : (path : List ℕ) (old : Held (Unit {0})) (stop : Stop) (h k : List Entry) → Connects (Err stop) h k → Mounts path old old (Err (fault_after stop 0)) h k
 mount_undialed path old stops.Lost h k con empty none unmade =
-    let i = idle_connects (Mounting path) old (Err stops.Lost) h k con (subst (IsIdle (Mounting path) old) (sym empty) (idle_first (Mounting path) old none unmade)) in
+    let i = idle_connects (Mounting path) old (Err stops.Lost) h k con (idle_apart (Mounting path) old h none unmade empty) in
     record {
       lost = record { base = i.base; loses = con.lost; counts = sym (tally_none (Mounting path) old k (omega (arith, unmade)) i.base) };
       unheard = λ other xid bytes heard. let w = i.base.sent.among heard.sent_at xid heard.record_sent heard.sent.sent heard.sent.under in omega (arith, w.0, w.1, unmade);
     }
 mount_undialed path old stops.Memory h k con empty none unmade =
-    (idle_connects (Mounting path) old (Err stops.Memory) h k con (subst (IsIdle (Mounting path) old) (sym empty) (idle_first (Mounting path) old none unmade))).base
+    (idle_connects (Mounting path) old (Err stops.Memory) h k con (idle_apart (Mounting path) old h none unmade empty)).base
 
 pub mount_unmade : (path : List ℕ) (old new : Held (Unit {0})) (h k : List Entry) → KeepsTerms old new → Connects (Ok tt) h k → Mounts path old new (Err Memory) h k
 mount_unmade path old new h k keeps con empty none unmade =
-    base_terms (Mounting path) old new k keeps (idle_connects (Mounting path) old (Ok tt) h k con (subst (IsIdle (Mounting path) old) (sym empty) (idle_first (Mounting path) old none unmade))).base
+    base_terms (Mounting path) old new k keeps (idle_connects (Mounting path) old (Ok tt) h k con (idle_apart (Mounting path) old h none unmade empty)).base
 
 -- MNT is due
-mount_due : (path : List ℕ) (old mid : Held (Unit {0})) (h k : List Entry) (m : Makes (mount_call path) old mid) → Connects (Ok tt) h k → h ≡ [] → old.calls ≡ [] → old.made ≡ 0 → IsDue (Mounting path) (next_xid old) m.bytes 0 0 mid k
+mount_due : (path : List ℕ) (old mid : Held (Unit {0})) (h k : List Entry) (m : Makes (mount_call path) old mid) → Connects (Ok tt) h k → ours h ≡ [] → old.calls ≡ [] → old.made ≡ 0 → IsDue (Mounting path) (next_xid old) m.bytes 0 0 mid k
 mount_due path old mid h k m con empty none unmade =
-    made_due (Mounting path) (mount_call path) old mid k m (idle_connects (Mounting path) old (Ok tt) h k con (subst (IsIdle (Mounting path) old) (sym empty) (idle_first (Mounting path) old none unmade)))
+    made_due (Mounting path) (mount_call path) old mid k m (idle_connects (Mounting path) old (Ok tt) h k con (idle_apart (Mounting path) old h none unmade empty))
     (mounts path refl refl (omega (arith, unmade)))
 
 pub mount_lost : (path : List ℕ) (old mid new : Held (Unit {0})) (stop : Stop) (h k l : List Entry) → Makes (mount_call path) old mid → KeepsCalls mid new → Connects (Ok tt) h k → Exchanges mid new (Err stop) k l

@@ -3,6 +3,7 @@ use Rattle.std.specs.Prelude.{◌≡◌, ◌<◌, ◌≤◌, ◌+◌, ◌*◌, �
 use Rattle.rpc_retry.specs.Held.{Held, next_xid}
 use Rattle.world_model.specs.declared.answer.Fault.{Fault}
 use Rattle.world_model.specs.declared.entry.Entry.{Entry}
+use Rattle.world_model.specs.Entries.{ours}
 use Rattle.world_model.specs.declared.tally.Tally.{Tally}
 use Rattle.world_model.specs.Counts.{tally_of}
 use Rattle.world_model.specs.Heard.{Heard, Refused as WasRefused}
@@ -73,7 +74,7 @@ MountsTo path c (Err Memory) k = IsBase (Mounting path) c k
 
 -- nothing was sent before
 abbrev pub Mounts : List ℕ → Held (Unit {0}) → Held (Unit {0}) → Result (List ℕ) SetUpFault → List Entry → List Entry → Type 0
-Mounts path old new result h k = h ≡ [] → old.calls ≡ [] → old.made ≡ 0 → MountsTo path new result k
+Mounts path old new result h k = ours h ≡ [] → old.calls ≡ [] → old.made ≡ 0 → MountsTo path new result k
 
 -- ---- the sizes
 

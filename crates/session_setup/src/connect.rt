@@ -14,6 +14,7 @@ const MAX_CONNECTS: u32 = 4;
 pub(crate) fn connect<L: Link>(port: u16, link: &mut L) -> Result<(), Stop>
     ensures goes { Along (L.told link.old) (L.told link.new) (Connects result) }
     ensures dials { DialsOnly port (L.told link.old) (L.told link.new) }
+    ensures stays { (first : L) → L.stays first link.old → L.stays first link.new }
     ensures honest { L.honest link.old → L.honest link.new }
 {
     for _ in 0..MAX_CONNECTS {

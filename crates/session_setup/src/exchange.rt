@@ -49,6 +49,7 @@ pub(crate) fn exchange<L: Link>(
     ensures goes { Along (L.told link.old) (L.told link.new) (Exchanges calls.old calls.new result) }
     ensures dials { DialsOnly port (L.told link.old) (L.told link.new) }
     ensures keeps { KeepsCalls calls.old calls.new }
+    ensures stays { (first : L) → L.stays first link.old → L.stays first link.new }
     ensures honest { L.honest link.old → L.honest link.new }
 {
     let mut dropped = 0;
@@ -75,6 +76,7 @@ fn attempt_once<L: Link>(
     ensures dials { DialsOnly port (L.told link.old) (L.told link.new) }
     ensures few { dropped.new ≤ 65536 }
     ensures keeps { KeepsCalls calls.old calls.new }
+    ensures stays { (first : L) → L.stays first link.old → L.stays first link.new }
     ensures honest { L.honest link.old → L.honest link.new }
 {
     match attempt(alloc, link, calls, dropped) {
@@ -99,6 +101,7 @@ fn attempt<L: Link>(alloc: Global, link: &mut L, calls: &mut Calls<()>, dropped:
     ensures dials { (port : ℕ) → DialsOnly port (L.told link.old) (L.told link.new) }
     ensures few { dropped.new ≤ 65536 }
     ensures keeps { KeepsCalls calls.old calls.new }
+    ensures stays { (first : L) → L.stays first link.old → L.stays first link.new }
     ensures honest { L.honest link.old → L.honest link.new }
 {
     match transmit(link, calls) {
@@ -113,6 +116,7 @@ fn transmit<L: Link>(link: &mut L, calls: &mut Calls<()>) -> Result<(), LinkFaul
     ensures goes { Along (L.told link.old) (L.told link.new) (Transmits calls.old calls.new result) }
     ensures dials { (port : ℕ) → DialsOnly port (L.told link.old) (L.told link.new) }
     ensures keeps { KeepsCalls calls.old calls.new }
+    ensures stays { (first : L) → L.stays first link.old → L.stays first link.new }
     ensures honest { L.honest link.old → L.honest link.new }
 {
     match calls.next_send() {
@@ -133,6 +137,7 @@ fn await_reply<L: Link>(
     ensures dials { (port : ℕ) → DialsOnly port (L.told link.old) (L.told link.new) }
     ensures few { dropped.new ≤ 65536 }
     ensures keeps { KeepsCalls calls.old calls.new }
+    ensures stays { (first : L) → L.stays first link.old → L.stays first link.new }
     ensures honest { L.honest link.old → L.honest link.new }
 {
     while *dropped < MAX_DROPPED {
@@ -149,6 +154,7 @@ fn hear<L: Link>(alloc: Global, link: &mut L, calls: &mut Calls<()>) -> Option<H
     ensures goes { Along (L.told link.old) (L.told link.new) (HearsOne calls.old calls.new result) }
     ensures dials { (port : ℕ) → DialsOnly port (L.told link.old) (L.told link.new) }
     ensures keeps { KeepsCalls calls.old calls.new }
+    ensures stays { (first : L) → L.stays first link.old → L.stays first link.new }
     ensures honest { L.honest link.old → L.honest link.new }
 {
     let mut record = Vec::new(alloc);
@@ -194,6 +200,7 @@ fn recover<L: Link>(port: u16, link: &mut L, calls: &mut Calls<()>) -> Result<()
     ensures goes { Along (L.told link.old) (L.told link.new) (GoesOn calls.old calls.new result) }
     ensures dials { DialsOnly port (L.told link.old) (L.told link.new) }
     ensures keeps { KeepsCalls calls.old calls.new }
+    ensures stays { (first : L) → L.stays first link.old → L.stays first link.new }
     ensures honest { L.honest link.old → L.honest link.new }
 {
     match end_attempt(calls) {

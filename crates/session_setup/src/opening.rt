@@ -1,6 +1,7 @@
 //! The set-up of a session.
 
 ghost use Rattle.std.specs.Prelude.{◌≡◌, ◌≤◌, ◌+◌, ◌-◌, ◌^◌, [], length, IfOk};
+ghost use Rattle.world_model.specs.Entries.{ours};
 ghost use Rattle.link_dials.specs.Dials.{DialsOnly, DialsInTurn};
 ghost use Rattle.session_setup.specs.Along.{Along};
 ghost use Rattle.session_setup.specs.Outcomes.{IsOptions, FitsSession, SetsUp};
@@ -61,9 +62,10 @@ pub fn set_up<L: Link>(
     requires options { IsOptions settings.now }
     requires first { 1 ≤ first_xid }
     requires last { first_xid + settings.now.calls ≤ 2 ^ 32 - 1 }
-    ensures goes { Along (L.told link.old) (L.told link.new) (λ h k. h ≡ [] → SetsUp settings.now first_xid result k) }
+    ensures goes { Along (L.told link.old) (L.told link.new) (λ h k. ours h ≡ [] → SetsUp settings.now first_xid result k) }
     ensures dials { DialsInTurn settings.now.mount_port settings.now.nfs_port (L.told link.old) (L.told link.new) }
     ensures fits { IfOk result (FitsSession settings.now first_xid) }
+    ensures stays { (first : L) → L.stays first link.old → L.stays first link.new }
     ensures honest { L.honest link.old → L.honest link.new }
 {
     let mut calls = Calls::new(alloc, first_xid, settings.calls, settings.cred);
@@ -88,6 +90,7 @@ fn mount<L: Link>(
     ensures goes { Along (L.told link.old) (L.told link.new) (Mounts path.now calls.old calls.new result) }
     ensures dials { DialsOnly port (L.told link.old) (L.told link.new) }
     ensures keeps { KeepsTerms calls.old calls.new }
+    ensures stays { (first : L) → L.stays first link.old → L.stays first link.new }
     ensures honest { L.honest link.old → L.honest link.new }
 {
     match connect(port, link) {
@@ -119,6 +122,7 @@ fn finish<L: Link>(
     ensures dials { DialsOnly settings.now.nfs_port (L.told link.old) (L.told link.new) }
     ensures keeps { KeepsTerms calls.old calls.new }
     ensures fits { IfOk result (FitsSession settings.now calls.old.first_xid) }
+    ensures stays { (first : L) → L.stays first link.old → L.stays first link.new }
     ensures honest { L.honest link.old → L.honest link.new }
 {
     match inform(alloc, settings, root, link, calls) {
@@ -147,6 +151,7 @@ fn inform<L: Link>(
     ensures dials { DialsOnly settings.now.nfs_port (L.told link.old) (L.told link.new) }
     ensures keeps { KeepsTerms calls.old calls.new }
     ensures fits { IfOk result (λ sizes. AreSizes sizes.rsize sizes.wsize) }
+    ensures stays { (first : L) → L.stays first link.old → L.stays first link.new }
     ensures honest { L.honest link.old → L.honest link.new }
 {
     match connect(settings.nfs_port, link) {

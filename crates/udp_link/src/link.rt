@@ -146,6 +146,8 @@ impl<D: Datagrams + Drop> Link for UdpLink<D> {
 
     ghost honest = { λ s. HonestOver D.told D.honest s.over s.kept };
 
+    ghost stays = { λ x y. Unit {0} };
+
     ghost lawful = { λ s h. h.lawful };
 
     fn dial(&mut self, port: u16) -> Result<(), LinkFault>

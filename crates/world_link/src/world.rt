@@ -326,6 +326,8 @@ impl Link for World {
 
     ghost honest = { λ w. IsHonestWorld (seen w) };
 
+    ghost stays = { λ x y. Unit {0} };
+
     ghost lawful = { λ w h. h.server.lawful };
 
     fn dial(&mut self, port: u16) -> Result<(), LinkFault>

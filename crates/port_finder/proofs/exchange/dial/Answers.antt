@@ -5,7 +5,7 @@ use Rattle.port_finder.proofs.Steps.{dial_again, dial_done, dial_wants, dial_los
 use Rattle.port_finder.proofs.exchange.dial.Goals as goal
 
 pub loop-failed-init : goal.loop-failed-init
-loop-failed-init g c = record { few = omega arith; does = does_none _ _ _ refl; honest = λ h. h }
+loop-failed-init g c = record { few = omega arith; does = does_none _ _ _ refl; stays = λ first s. s; honest = λ h. h }
 
 pub returns-in-Ok : goal.returns-in-Ok
 returns-in-Ok g c =
@@ -13,6 +13,7 @@ returns-in-Ok g c =
     record {
       does = does_then _ _ _ _ _ _ _ _ _ (λ es fs p q. dial_done c.args.port c.loop-failed.failed es fs (omega (arith, c.loop-failed-test.true)) p q) c.loop-failed.invariant.does
           (does_call _ _ _ _ (Dialed c.args.port ∷ []) r.told r.cause.later (λ f. absurd (calm_one (Dialed c.args.port) (dialed_calm c.args.port) f)));
+      stays = λ first s. r.stays first (c.loop-failed.invariant.stays first s);
       honest = λ h. r.honest (c.loop-failed.invariant.honest h);
     }
 
@@ -23,6 +24,7 @@ loop-failed-preserved g c =
       few = omega (arith, c.loop-failed-test.true);
       does = does_then _ _ _ _ _ _ _ _ _ (λ es fs p q. dial_again c.args.port c.loop-failed.failed es fs p q) c.loop-failed.invariant.does
           (does_call _ _ _ _ (Dialed c.args.port ∷ Failed ∷ []) r.told r.cause.later (λ f. r.cause.failed));
+      stays = λ first s. r.stays first (c.loop-failed.invariant.stays first s);
       honest = λ h. r.honest (c.loop-failed.invariant.honest h);
     }
 
@@ -32,11 +34,13 @@ returns-in-Err-Memory g c =
     record {
       does = does_then _ _ _ _ _ _ _ _ _ (λ es fs p q. dial_wants c.args.port c.loop-failed.failed es fs (omega (arith, c.loop-failed-test.true)) p q) c.loop-failed.invariant.does
           (does_call _ _ _ _ [] r.told r.cause.later (λ f. absurd f));
+      stays = λ first s. r.stays first (c.loop-failed.invariant.stays first s);
       honest = λ h. r.honest (c.loop-failed.invariant.honest h);
     }
 
 pub returns : goal.returns
 returns g c = record {
   does = does_so _ _ _ _ _ _ (λ es p. dial_lost c.args.port c.loop-failed.failed es (omega (arith, c.loop-failed-test.false, c.loop-failed.invariant.few)) p) c.loop-failed.invariant.does;
+  stays = c.loop-failed.invariant.stays;
   honest = c.loop-failed.invariant.honest;
 }

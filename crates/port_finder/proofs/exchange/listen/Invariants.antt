@@ -7,6 +7,7 @@ abbrev pub invariant-loop-dropped : goal.invariant-loop-dropped
 invariant-loop-dropped g l = record {
   few : l.dropped ≤ 65536;
   does : Does (g.L.Link.told l.fn.link) (g.L.Link.told l.link) (g.L.Link.faults l.fn.link) (g.L.Link.faults l.link) (DropsMany l.xid l.dropped);
+  stays : (first : g.row.L.Denot) → g.L.Link.stays first l.fn.link → g.L.Link.stays first l.link;
   honest : g.L.Link.honest l.fn.link → g.L.Link.honest l.link;
 }
 

@@ -21,6 +21,7 @@ loop-preserved g c =
     record {
       goes = along_then _ _ _ _ Fails _ (λ h k l p q t w. tries_then c.loop.counter h k l t w) c.loop.invariant.goes (along_call _ _ _ _ r.told (λ a b p. fails_by c.args.port a b p));
       dials = dials_then _ _ _ _ c.loop.invariant.dials (dials_dialed c.args.port _ _ c.dial.result c.dial.ensures.told);
+      stays = λ first s. r.stays first (c.loop.invariant.stays first s);
       honest = λ h. r.honest (c.loop.invariant.honest h);
     }
 
@@ -28,7 +29,7 @@ pub returns-clause-goes : goal.returns-clause-goes
 returns-clause-goes g c = along_less _ _ _ _ (λ h k p t. connects_lost c.loop.counter h k (omega (arith, c.loop-test.false, c.loop.auto.counter-end)) t) c.loop.invariant.goes
 
 pub loop-init : goal.loop-init
-loop-init g c = record { goes = along_none _ _ tries_none; dials = dials_same _ _; honest = λ h. h }
+loop-init g c = record { goes = along_none _ _ tries_none; dials = dials_same _ _; stays = λ first s. s; honest = λ h. h }
 
 pub returns-in-Ok-clause-dials : goal.returns-in-Ok-clause-dials
 returns-in-Ok-clause-dials g c = dials_then _ _ _ _ c.loop.invariant.dials (dials_dialed c.args.port _ _ c.dial.result c.dial.ensures.told)

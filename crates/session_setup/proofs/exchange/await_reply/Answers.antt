@@ -14,6 +14,7 @@ loop-dropped-preserved g c = record {
   goes = along_then _ _ _ _ _ _ (λ h k m p q w s. waits_then c.args.calls.now c.loop-dropped.calls c.hear.new.calls c.args.dropped.now c.loop-dropped.dropped h k m w s) c.loop-dropped.invariant.goes c.in_default.ensures.goes;
   dials = λ port. dials_then port _ _ _ (c.loop-dropped.invariant.dials port) (c.in_default.ensures.dials port);
   keeps = keeps_then c.args.calls.now c.loop-dropped.calls c.hear.new.calls c.loop-dropped.invariant.keeps c.in_default.ensures.keeps;
+  stays = λ first s. c.in_default.ensures.stays first (c.loop-dropped.invariant.stays first s);
   honest = λ h. c.in_default.ensures.honest (c.loop-dropped.invariant.honest h);
 }
 
@@ -27,6 +28,7 @@ loop-dropped-init g c = record {
   goes = along_none _ _ (λ h. waits_none c.args.calls.now c.args.dropped.now h);
   dials = λ port. dials_same port _;
   keeps = record { first_xid = refl; limit = refl; cred = refl; made = refl };
+  stays = λ first s. s;
   honest = λ h. h;
 }
 

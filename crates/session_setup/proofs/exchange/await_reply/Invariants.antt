@@ -11,6 +11,7 @@ invariant-loop-dropped g l = record {
   goes : Along (g.L.Link.told l.fn.link) (g.L.Link.told l.link) (WaitsOn l.fn.calls l.calls l.fn.dropped l.dropped);
   dials : (port : ℕ) → DialsOnly port (g.L.Link.told l.fn.link) (g.L.Link.told l.link);
   keeps : KeepsCalls l.fn.calls l.calls;
+  stays : (first : g.row.L.Denot) → g.L.Link.stays first l.fn.link → g.L.Link.stays first l.link;
   honest : g.L.Link.honest l.fn.link → g.L.Link.honest l.link;
 }
 

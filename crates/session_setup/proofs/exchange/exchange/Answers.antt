@@ -21,6 +21,7 @@ loop-preserved g c =
       goes = along_then _ _ _ _ _ _ (λ h k l p q d t. due_then c.args.calls.now c.loop.calls c.attempt_once.new.calls c.loop.counter c.loop.dropped c.attempt_once.new.dropped h k l d t) c.loop.invariant.goes e.goes;
       dials = dials_then _ _ _ _ c.loop.invariant.dials e.dials;
       keeps = keeps_then c.args.calls.now c.loop.calls c.attempt_once.new.calls c.loop.invariant.keeps e.keeps;
+      stays = λ first s. e.stays first (c.loop.invariant.stays first s);
       honest = λ h. e.honest (c.loop.invariant.honest h);
     }
 
@@ -34,6 +35,7 @@ loop-init g c = record {
   goes = along_none _ _ (λ h. due_none c.args.calls.now h);
   dials = dials_same _ _;
   keeps = record { first_xid = refl; limit = refl; cred = refl; made = refl };
+  stays = λ first s. s;
   honest = λ h. h;
 }
 

@@ -11,5 +11,6 @@ invariant-loop g l = record {
   goes : Along (g.L.Link.told l.fn.link) (g.L.Link.told l.link) (DueAfter l.fn.calls l.calls l.counter l.dropped);
   dials : DialsOnly l.port (g.L.Link.told l.fn.link) (g.L.Link.told l.link);
   keeps : KeepsCalls l.fn.calls l.calls;
+  stays : (first : g.row.L.Denot) → g.L.Link.stays first l.fn.link → g.L.Link.stays first l.link;
   honest : g.L.Link.honest l.fn.link → g.L.Link.honest l.link;
 }
