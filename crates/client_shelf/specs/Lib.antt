@@ -4,3 +4,4 @@ pub mod Repeats
 pub mod Spelling
 pub mod Busy
 pub mod Learning
+pub mod Unmade

@@ -8,6 +8,7 @@ mod next;
 mod repeats;
 mod shelf;
 mod turn;
+pub mod unmade;
 
 pub use lane_files::{LaneFile, LaneFiles};
 pub use next::Next;

@@ -9,6 +9,7 @@ use Rattle.world_model.specs.declared.message.Reply.{Reply}
 use Rattle.write_back.specs.Files.{Pending, of_file}
 use Rattle.write_back.specs.Segments.{last_end}
 use Rattle.client_shelf.specs.LaneFiles.{left, is_first}
+use Rattle.client_shelf.specs.Unmade.{came_unmade}
 use Rattle.client_shelf.specs.declared.next.Next.{Next}
 use Rattle.client_shelf.specs.declared.next.Next.TheVariants as nexts
 use Rattle.client_shelf.specs.declared.shelf.Shelf.{Shelf}
@@ -45,7 +46,6 @@ use Rattle.file_ops.proofs.SaveCounts.{by-step, ends_as}
 use Rattle.name_cache.specs.declared.entry.KeptName.{KeptName}
 use Rattle.name_cache.specs.declared.entry.Place.{Place as NamePlace}
 use Rattle.name_cache.specs.Names as names
-use Rattle.name_cache.proofs.Entries.{All-without_dir}
 use Rattle.name_ops.specs.declared.walk.WalkNext.{WalkNext}
 use Rattle.name_ops.specs.declared.walk.WalkNext.TheVariants as walks
 use Rattle.name_ops.specs.Walking as walking
@@ -61,7 +61,7 @@ use Rattle.op_machines.specs.FileSteps as steps
 use Rattle.op_machines.specs.Openers.{file_of, slot_taken, begun_at, placed}
 use Rattle.op_machines.specs.PathSteps as paths
 use Rattle.op_machines.specs.Steps.{Starts, Resumes, Takes}
-use Rattle.core_facts.proofs.NamesKept.{Told, CallTells, told-as, shelf-as, go-told, looked-told, walk-told, name-goes, name-takes}
+use Rattle.core_facts.proofs.NamesKept.{Told, CallTells, told-as, left-told, shelf-as, go-told, looked-told, walk-told, name-goes, name-takes}
 use Rattle.core_facts.proofs.AllAwaited.{PutAwaits, FileAwaits, PathOr, Awaits}
 use Rattle.file_ops.specs.declared.put_file.PutFile.{PutFile}
 use Rattle.file_ops.specs.declared.put_file.Putting.{Putting}
@@ -194,7 +194,7 @@ module _ (P : NamePlace × KeptName → Type 0) where
   notes-told : (o : Opening) (came : Result Reply Fault) (step : OpeningStep) (old new : names.Entries) (call : Call) → call ≡ opening.call_of o step → CallTells P came call
       → opening.NotesNames o came step old new → Told P old → Told P new
   notes-told o came opening_steps.Look old new call e c n t = looked-told P o.dir o.name came old new (c o.dir o.name e) n t
-  notes-told o came opening_steps.Make old new call e c n t = told-as P _ new n (All-without_dir P o.dir old t)
+  notes-told o came opening_steps.Make old new call e c n t = told-as P _ new n (left-told P (came_unmade came) o.dir old t)
   notes-told o came opening_steps.Find old new call e c n t = looked-told P o.dir o.name came old new (c o.dir o.name e) n t
   notes-told o came (opening_steps.Ask file) old new call e c n t = told-as P old new n t
 
@@ -274,7 +274,7 @@ module _ (P : NamePlace × KeptName → Type 0) where
       close-follows k.gives m.lane m.slot turn.room true k.saved k.took next state new k.follows (shelf-as P _ k.took k.others t)
   close-takes (closing.ToRemove removal) wsize m sent turn came old next state new k t = shelf-as P old new k.shelf_is t
   close-takes (closing.Removing removal) wsize m sent turn came old next state new k t =
-      ends-if _ m.lane removal k.took next state new k.ends (shelf-as P _ k.took k.others (All-without_dir P removal.dir old.names t))
+      ends-if _ m.lane removal k.took next state new k.ends (shelf-as P _ k.took k.others (left-told P (came_unmade came) removal.dir old.names t))
 
   -- ---- any operation on a file
 

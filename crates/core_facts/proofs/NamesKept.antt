@@ -20,6 +20,7 @@ use Rattle.client_shelf.specs.declared.next.Next.{Next}
 use Rattle.client_shelf.specs.declared.shelf.Shelf.{Shelf}
 use Rattle.client_shelf.specs.declared.turn.Turn.{Turn}
 use Rattle.client_shelf.specs.Learning.{LearnsName}
+use Rattle.client_shelf.specs.Unmade.{names_after}
 use Rattle.name_ops.specs.declared.link.Link.{Link}
 use Rattle.name_ops.specs.declared.list_dir.ListDir.{ListDir}
 use Rattle.name_ops.specs.declared.pair.Pair.{Pair}
@@ -40,6 +41,7 @@ use Rattle.name_ops.specs.Link.{link_call, TakesLink}
 use Rattle.name_ops.specs.ListDir as listing
 use Rattle.name_ops.specs.Looking.{look_up, found_by, look_again, LookedNames}
 use Rattle.name_ops.specs.Pairs as pairs
+use Rattle.name_ops.specs.Moving.{moved_told}
 use Rattle.name_ops.specs.ReadLink.{text_call, TakesText}
 use Rattle.name_ops.specs.RemoveFile as removals
 use Rattle.name_ops.specs.Rename.{rename_call, TakesRename}
@@ -67,6 +69,10 @@ module _ (P : Place × KeptName → Type 0) where
 
   pub told-as : (old new : names.Entries) → new ≡ old → Told old → Told new
   told-as old new is t = subst Told (sym is) t
+
+  pub left-told : (unmade : Bool) (dir : List ℕ) (es : names.Entries) → Told es → Told (names_after unmade dir es)
+  left-told true dir es t = t
+  left-told false dir es t = All-without_dir P dir es t
 
   -- ---- walks
 
@@ -153,7 +159,7 @@ module _ (P : Place × KeptName → Type 0) where
 
   changed-told : (dir : List ℕ) (call : Call) (told : ChangeTold) (sent turn : Turn) (old : Shelf) (next : Next) (after : Shelf) → changing.Changes dir call told sent turn old next after
       → Told old.names → Told after.names
-  changed-told dir call told sent turn old next after c t = shelf-as _ after c.others (All-without_dir P dir old.names t)
+  changed-told dir call told sent turn old next after c t = shelf-as _ after c.others (left-told told.unmade dir old.names t)
 
   change-told : (asked : Bool) (own : List ℕ → Call) (told : ChangeTold) (v : Visit) (sent turn : Turn) (came : Result Reply Fault) (old : Shelf) (next : Next) (new : Visit) (after : Shelf)
       (call : Call) → OwnOr asked own v.walk call → CallTells came call → changing.TakesChange asked own told v sent turn came old next new after → Told old.names → Told after.names
@@ -215,7 +221,7 @@ module _ (P : Place × KeptName → Type 0) where
   rename-told : (asked : Bool) (m : Rename) (sent turn : Turn) (came : Result Reply Fault) (old : Shelf) (next : Next) (new : Pair) (after : Shelf) (call : Call)
       → PairOr asked m.pair.first.asked (rename_call m.from m.to) m.pair call → CallTells came call → TakesRename asked m sent turn came old next new after → Told old.names → Told after.names
   rename-told true m sent turn came old next new after call e c k t =
-      shelf-as _ after k.1.others (All-without_dir P m.pair.second.spot.dir _ (All-without_dir P m.pair.first.spot.dir old.names t))
+      shelf-as _ after k.1.others (left-told (moved_told came).unmade m.pair.second.spot.dir _ (left-told (moved_told came).unmade m.pair.first.spot.dir old.names t))
   rename-told false m sent turn came old next new after call e c k t =
       pair-took (rename_call m.from m.to) m.pair.first.asked m.pair sent turn came old k.step new after call e c k.takes t
 
@@ -257,7 +263,7 @@ module _ (P : Place × KeptName → Type 0) where
       seek-removal (look_again sent turn came old) (found_by came) file to m turn.room k.heard next new after k.follows
       (looked-told m.walk.spot.dir to came old.names k.heard.names (c m.walk.spot.dir to e) k.hears.names t)
   deed-removal (Move file to) m sent turn came old next new after call e c k t =
-      shelf-as _ after k.1.others (All-without_dir P m.walk.spot.dir _ (All-without_dir P m.walk.spot.dir old.names t))
+      shelf-as _ after k.1.others (left-told (moved_told came).unmade m.walk.spot.dir _ (left-told (moved_told came).unmade m.walk.spot.dir old.names t))
   deed-removal Remove m sent turn came old next new after call e c k t = changed-told m.walk.spot.dir _ _ sent turn old next after k.1 t
 
   removal-told : (deed : Option Deed) (m : RemoveFile) (sent turn : Turn) (came : Result Reply Fault) (old : Shelf) (next : Next) (new : RemoveFile) (after : Shelf) (call : Call)

@@ -221,7 +221,7 @@ module _ (xid : ℕ) (T : List Sent → Type 0) (t : OfPieces xid T) (file : Lis
   write-file : (wsize asked turn : ℕ) (room : Bool) (told : _) (s : Saving) (back : Pending) (next : _) (new : Saving) (after : Pending) → IsForeign xid turn room
       → saves.TakesWrite wsize asked turn room told s back next new after → AtFile file T back → AtFile file T after
   write-file wsize asked turn room told s back next new after foreign g h =
-      goes-file wsize turn room true (saves.refused_by g.refusal s) g.between next new after foreign g.goes
+      goes-file wsize turn room g.counts (saves.refused_by g.refusal s) g.between next new after foreign g.goes
       (out-file asked s.file back g.between (lands-out asked s.file told back g.between g.refusal g.lands) h)
 
   repeats-file : (again : Bool) (wsize : ℕ) (sent turn : Turn) (told : _) (s : Saving) (back : Pending) (next : _) (new : Saving) (after : Pending)
@@ -322,7 +322,7 @@ module _ (wsize : ℕ) (sent turn : Turn) (foreign : IsForeign sent.xid turn.xid
   write-free : (told : _) (s : Saving) (back : Pending) (next : _) (new : Saving) (after : Pending) → saves.TakesWrite wsize sent.xid turn.xid turn.room told s back next new after
       → InFile sent.xid s.file back → IsUnused sent.xid after
   write-free told s back next new after g mine =
-      goes-free turn.room true (saves.refused_by g.refusal s) g.between next new after refl g.goes
+      goes-free turn.room g.counts (saves.refused_by g.refusal s) g.between next new after refl g.goes
       (taken-unused sent.xid s.file back g.between (lands-out sent.xid s.file told back g.between g.refusal g.lands) mine)
 
   repeats-free : (again : Bool) (told : _) (s : Saving) (back : Pending) (next : _) (new : Saving) (after : Pending) → (again ≡ true → turn.room ≡ true)

@@ -191,7 +191,7 @@ module _ (C : Type 0) where
   takes-write-steps wsize asked xid room told s back next new after others is again t =
       from-steps others s (saves.refused_by t.refusal s) (syncs.sync_next next) new (refused-file t.refusal s) (ap saves.is_sending (refused-phase t.refusal s))
       (subst (λ (n : ℕ). SaveSteps C n (saves.refused_by t.refusal s) (syncs.sync_next next) new) (refused-same t.refusal s ∙ is)
-      (goes-steps wsize xid room true (saves.refused_by t.refusal s) t.between next new after
+      (goes-steps wsize xid room t.counts (saves.refused_by t.refusal s) t.between next new after
       (λ later. again (sym (ap saves.is_again (refused-phase t.refusal s)) ∙ later)) t.goes))
 
   repeats-steps : (more : Bool) (wsize : ℕ) (sent turn : Turn) (told : _) (s : Saving) (back : Pending) (next : _) (new : Saving) (after : Pending)

@@ -106,7 +106,7 @@ module _ (P : Fault → Type 0) (own : OwnFaults P) where
       → ((between : Pending) (refusal : Option Fault) → saves.Lands asked s.file told back between refusal → FineOption P refusal)
       → saves.TakesWrite wsize asked xid room told s back next new after → SaveFine (syncs.sync_next next) new
   takes-write-fine wsize asked xid room told s back next new after f lands t =
-      goes-fine wsize xid room true (saves.refused_by t.refusal s) t.between next new after (refused-by-fine t.refusal s (lands t.between t.refusal t.lands) f) t.goes
+      goes-fine wsize xid room t.counts (saves.refused_by t.refusal s) t.between next new after (refused-by-fine t.refusal s (lands t.between t.refusal t.lands) f) t.goes
 
   repeats-fine : (more : Bool) (wsize : ℕ) (sent turn : Turn) (told : _) (s : Saving) (back : Pending) (next : _) (new : Saving) (after : Pending) → FineOption P s.refusal
       → ((between : Pending) (refusal : Option Fault) → saves.Lands sent.xid s.file told back between refusal → FineOption P refusal)

@@ -89,7 +89,7 @@ refused-phase (Some fault) s = refl
 write-live : (wsize asked xid : ℕ) (room : Bool) (told : _) (s : Saving) (back : Pending) (next : _) (new : Saving) (after : Pending) → saves.is_sending s.phase ≡ true
     → saves.TakesWrite wsize asked xid room told s back next new after → SaveLive new
 write-live wsize asked xid room told s back next new after sending t =
-    goes-live wsize xid room true (saves.refused_by t.refusal s) t.between next new after
+    goes-live wsize xid room t.counts (saves.refused_by t.refusal s) t.between next new after
     (sending-live (saves.refused_by t.refusal s) (refused-phase t.refusal s ∙ sending)) t.goes
 
 repeats-live : (again : Bool) (wsize : ℕ) (sent turn : Turn) (told : _) (s : Saving) (back : Pending) (next : _) (new : Saving) (after : Pending)

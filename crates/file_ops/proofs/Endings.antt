@@ -124,8 +124,8 @@ over-refused waiting fault refusal none = by (waiting == 0)
 write-save : (wsize asked xid : ℕ) (room : Bool) (fault : Fault) (s : Saving) (back : Pending) (next : SavingNext) (new : Saving) (after : Pending)
     → saves.TakesWrite wsize asked xid room (Fails fault) s back next new after → Refused next new.refusal
 write-save wsize asked xid room fault s back next new after t =
-    let goes : saves.Goes wsize xid room true (saves.with_refusal fault s) t.between next new after = subst
-    (λ (r : Option Fault). saves.Goes wsize xid room true (saves.refused_by r s) t.between next new after) t.lands.0 t.goes in
+    let goes : saves.Goes wsize xid room t.counts (saves.with_refusal fault s) t.between next new after = subst
+    (λ (r : Option Fault). saves.Goes wsize xid room t.counts (saves.refused_by r s) t.between next new after) t.lands.0 t.goes in
     let refusal : new.refusal ≡ Some (saves.first_of s.refusal fault) = ap (λ (n : Saving). n.refusal) goes.0.keeps in
     subst (λ (n : SavingNext). Refused n new.refusal) (sym goes.0.gives_next) (over-refused s.waiting (saves.first_of s.refusal fault) new.refusal (ap save_left refusal))
 

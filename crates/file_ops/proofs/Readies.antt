@@ -207,7 +207,7 @@ goes-kept wsize xid room by_reply s back next new after goes = over s.refusal go
 
 write-kept : (wsize asked xid : ℕ) (room : Bool) (told : WriteTold) (s : Saving) (back : Pending) (next : SavingNext) (new : Saving) (after : Pending) → TakesWrite wsize asked xid room told s back next new after → AreKept xid back after
 write-kept wsize asked xid room told s back next new after t =
-    then-kept xid back t.between after (all-fewer-kept xid back t.between (lands-fewer asked s.file told back t.between t.refusal t.lands)) (goes-kept wsize xid room true (refused_by t.refusal s) t.between next new after t.goes)
+    then-kept xid back t.between after (all-fewer-kept xid back t.between (lands-fewer asked s.file told back t.between t.refusal t.lands)) (goes-kept wsize xid room t.counts (refused_by t.refusal s) t.between next new after t.goes)
 
 decides-kept : (verdict : Verdict) (wsize xid : ℕ) (room : Bool) (s : Saving) (back : Pending) (next : SavingNext) (new : Saving) (after : Pending) → Decides verdict wsize xid room s back next new after → AreKept xid back after
 decides-kept AllStable wsize xid room s back next new after d = same-kept xid back after d.1

@@ -50,8 +50,8 @@ asks-on s next is well = let no-way : Send (saves.commit_of s.file) ≡ Ended (O
 write-ill : (wsize asked xid : ℕ) (room : Bool) (fault : Fault) (s : Saving) (back : Pending) (next : SavingNext) (new : Saving) (after : Pending)
     → saves.TakesWrite wsize asked xid room (Fails fault) s back next new after → next ≡ Ended (Ok tt) → ⊥
 write-ill wsize asked xid room fault s back next new after t =
-    let goes : saves.Goes wsize xid room true (saves.with_refusal fault s) t.between next new after = subst
-    (λ (r : Option Fault). saves.Goes wsize xid room true (saves.refused_by r s) t.between next new after) t.lands.0 t.goes in
+    let goes : saves.Goes wsize xid room t.counts (saves.with_refusal fault s) t.between next new after = subst
+    (λ (r : Option Fault). saves.Goes wsize xid room t.counts (saves.refused_by r s) t.between next new after) t.lands.0 t.goes in
     refused-not s.waiting (saves.first_of s.refusal fault) next goes.0.gives_next
 
 first-ill : (again : Bool) (fault : Fault) (wsize : ℕ) (turn : Turn) (s : Saving) (back : Pending) (next : SavingNext) (new : Saving) (after : Pending)

@@ -58,7 +58,7 @@ goes-quiet wsize xid room by_reply s back next new after none goes =
 write-quiet : (wsize asked xid : ℕ) (room : Bool) (told : WriteTold) (s : Saving) (back : Pending) (next : SavingNext) (new : Saving) (after : Pending)
     → room ≡ false → saves.TakesWrite wsize asked xid room told s back next new after → NoCall next
 write-quiet wsize asked xid room told s back next new after none t =
-    goes-quiet wsize xid room true (saves.refused_by t.refusal s) t.between next new after none t.goes
+    goes-quiet wsize xid room t.counts (saves.refused_by t.refusal s) t.between next new after none t.goes
 
 decides-quiet : (verdict : Verdict) (wsize xid : ℕ) (room : Bool) (s : Saving) (back : Pending) (next : SavingNext) (new : Saving) (after : Pending)
     → room ≡ false → saves.Decides verdict wsize xid room s back next new after → NoCall next

@@ -159,7 +159,7 @@ takes-write-save : (wsize asked xid : ℕ) (room : Bool) (told : WriteTold) (s :
     (others : ℕ) → of_saving s ≡ others → saves.TakesWrite wsize asked xid room told s back next new after → SaveCounts next others (of_saving new)
 takes-write-save wsize asked xid room told s back next new after others is t =
     subst (λ (n : ℕ). SaveCounts next n (of_saving new)) (refused-same t.refusal s ∙ is)
-    (save-goes wsize xid room true (saves.refused_by t.refusal s) t.between next new after t.goes)
+    (save-goes wsize xid room t.counts (saves.refused_by t.refusal s) t.between next new after t.goes)
 
 repeats-save : (again : Bool) (wsize : ℕ) (sent turn : Turn) (told : WriteTold) (s : Saving) (back : Pending) (next : SavingNext) (new : Saving) (after : Pending)
     (others : ℕ) → saves.is_sending s.phase ≡ true → of_saving s ≡ others + 1 → saves.RepeatsWrite again wsize sent turn told s back next new after

@@ -62,7 +62,7 @@ then-same old mid new less is = subst (λ p. AreFewer old p) (sym is) less
 
 write-fewer : (wsize asked xid : ℕ) (room : Bool) (told : WriteTold) (s : Saving) (back : Pending) (next : SavingNext) (new : Saving) (after : Pending) → TakesWrite wsize asked xid room told s back next new after → next ≡ Ended (Ok tt) → AreFewer back after
 write-fewer wsize asked xid room told s back next new after t ended =
-    then-same back t.between after (lands-fewer asked s.file told back t.between t.refusal t.lands) (goes-ended wsize xid room true (refused_by t.refusal s) t.between next new after t.goes ended)
+    then-same back t.between after (lands-fewer asked s.file told back t.between t.refusal t.lands) (goes-ended wsize xid room t.counts (refused_by t.refusal s) t.between next new after t.goes ended)
 
 decides-same : (verdict : Verdict) (wsize xid : ℕ) (room : Bool) (s : Saving) (back : Pending) (next : SavingNext) (new : Saving) (after : Pending) → Decides verdict wsize xid room s back next new after → next ≡ Ended (Ok tt) → after ≡ back
 decides-same AllStable wsize xid room s back next new after d ended = d.1

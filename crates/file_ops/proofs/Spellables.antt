@@ -218,7 +218,7 @@ lands-spells asked file told old new refusal lands all = by told refusal lands
 write-takes-spells : (wsize asked xid : ℕ) (room : Bool) (told : WriteTold) (s : Saving) (back : Pending) (next : SavingNext) (new : Saving) (after : Pending)
     → wsize ≤ 65536 → saves.TakesWrite wsize asked xid room told s back next new after → AreSpellable back → Spells next after
 write-takes-spells wsize asked xid room told s back next new after small t all =
-    goes-spells wsize xid room true (saves.refused_by t.refusal s) t.between next new after small t.goes
+    goes-spells wsize xid room t.counts (saves.refused_by t.refusal s) t.between next new after small t.goes
     (lands-spells asked s.file told back t.between t.refusal t.lands all)
 
 decides-spells : (verdict : Verdict) (wsize xid : ℕ) (room : Bool) (s : Saving) (back : Pending) (next : SavingNext) (new : Saving) (after : Pending)

@@ -188,7 +188,7 @@ goes-mine wsize xid room by_reply s back next new after goes free = over s.refus
 write-mine : (wsize asked xid : ℕ) (room : Bool) (told : WriteTold) (s : Saving) (back : Pending) (next : SavingNext) (new : Saving) (after : Pending)
     → saves.TakesWrite wsize asked xid room told s back next new after → IsUnused xid back → LeftMine xid next new after
 write-mine wsize asked xid room told s back next new after t free =
-    goes-mine wsize xid room true (saves.refused_by t.refusal s) t.between next new after t.goes
+    goes-mine wsize xid room t.counts (saves.refused_by t.refusal s) t.between next new after t.goes
     (fewer-unused xid back t.between (lands-fewer asked s.file told back t.between t.refusal t.lands) free)
 
 decides-mine : (verdict : Verdict) (wsize xid : ℕ) (room : Bool) (s : Saving) (back : Pending) (next : SavingNext) (new : Saving) (after : Pending)
@@ -270,8 +270,8 @@ refused-unused wsize sent turn fault repeats s back next new after later none ta
     write : saves.TakesWrite wsize sent.xid turn.xid turn.room (Fails fault) (saves.less_waiting s) back next new after → InFile sent.xid s.file back
         → IsUnused sent.xid after
     write t in_file =
-        let same = goes-same wsize turn.xid turn.room true (saves.refused_by t.refusal (saves.less_waiting s)) t.between next new after t.goes
-        (goes-quiet wsize turn.xid turn.room true (saves.refused_by t.refusal (saves.less_waiting s)) t.between next new after none t.goes) in
+        let same = goes-same wsize turn.xid turn.room t.counts (saves.refused_by t.refusal (saves.less_waiting s)) t.between next new after t.goes
+        (goes-quiet wsize turn.xid turn.room t.counts (saves.refused_by t.refusal (saves.less_waiting s)) t.between next new after none t.goes) in
         same-unused sent.xid t.between after same (land-unused by_change.Return sent.xid s.file back t.between t.lands.1 in_file)
 
     first : (again : Bool) → saves.commit_again (Err fault) sent turn repeats s ≡ again → saves.TakesFirst again wsize turn (Err fault) s back next new after

@@ -100,7 +100,7 @@ as-fewer old mid new less same = subst (λ (p : Pending). AreFewer old p) (sym s
 write-fewer : (wsize asked xid : ℕ) (room : Bool) (told : WriteTold) (s : Saving) (back : Pending) (next : SavingNext) (new : Saving) (after : Pending)
     → saves.TakesWrite wsize asked xid room told s back next new after → NoCall next → AreFewer back after
 write-fewer wsize asked xid room told s back next new after t none =
-    as-fewer back t.between after (lands-fewer asked s.file told back t.between t.refusal t.lands) (goes-same wsize xid room true (saves.refused_by t.refusal s) t.between next new after t.goes none)
+    as-fewer back t.between after (lands-fewer asked s.file told back t.between t.refusal t.lands) (goes-same wsize xid room t.counts (saves.refused_by t.refusal s) t.between next new after t.goes none)
 
 decides-same : (verdict : Verdict) (wsize xid : ℕ) (room : Bool) (s : Saving) (back : Pending) (next : SavingNext) (new : Saving) (after : Pending)
     → saves.Decides verdict wsize xid room s back next new after → NoCall next → after ≡ back

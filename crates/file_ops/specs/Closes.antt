@@ -5,7 +5,6 @@ use Rattle.std.specs.FinMap as map
 use Rattle.client_shelf.specs.declared.shelf.Shelf.{Shelf}
 use Rattle.client_shelf.specs.declared.turn.Turn.{Turn}
 use Rattle.client_shelf.specs.LaneFiles.{left, is_first}
-use Rattle.name_cache.specs.Names.{without_dir}
 use Rattle.world_model.specs.declared.answer.Fault.{Fault}
 use Rattle.world_model.specs.declared.answer.Fault.TheVariants.{Slot}
 use Rattle.world_model.specs.declared.answer.Answer.TheVariants as answers
@@ -22,7 +21,8 @@ use Rattle.file_ops.specs.declared.close_file.CloseFile.{CloseFile}
 use Rattle.file_ops.specs.declared.close_file.Closing.{Closing}
 use Rattle.file_ops.specs.declared.close_file.Closing.TheVariants.{Idle, Queued, Saves, ToRemove, Removing}
 use Rattle.file_ops.specs.Judging.{after_of}
-use Rattle.client_shelf.specs.Learning.{Learns, Renews}
+use Rattle.client_shelf.specs.Learning.{Learns}
+use Rattle.client_shelf.specs.Unmade.{came_unmade, names_after, RenewsUnless}
 use Rattle.file_ops.specs.SlotFiles.{file_at, joined}
 use Rattle.client_shelf.specs.Busy.{goes_again, repeats_after}
 use Rattle.file_ops.specs.Closings.{TellsPlace, remove_of, removed_of, remove_busy, GivesUpBy, closed_answer, refusal_of}
@@ -150,14 +150,15 @@ abbrev pub EndsIf : Bool → ℕ → Removal → Shelf → Next → Closing → 
 EndsIf true lane removal old next state new = RemovesAgain removal old next state new
 EndsIf false lane removal old next state new = Ends lane removal.file removal.refusal old next state new
 
--- The file was removed, or its removal refused: the directory's names are dropped and its attributes are new or forgotten.
+-- The file was removed, or its removal refused: the directory's names are dropped and its attributes are new or forgotten, unless the
+-- REMOVE couldn't be made.
 pub record Removed (lane : ℕ) (sent turn : Turn) (came : Result Reply Fault) (removal : Removal) (old : Shelf) (next : Next) (state : Closing)
     (new : Shelf) : Type 0 where
   pub took : Shelf
-  pub attrs : Renews removal.dir (removed_of came) sent.now old.attrs took.attrs
+  pub attrs : RenewsUnless (came_unmade came) removal.dir (removed_of came) sent.now old.attrs took.attrs
   pub others : took ≡ record old {
     attrs = took.attrs;
-    names = without_dir removal.dir old.names;
+    names = names_after (came_unmade came) removal.dir old.names;
     repeats = repeats_after (remove_busy came) sent turn old.repeats;
   }
   pub ends : EndsIf (goes_again (remove_busy came) sent turn old.repeats) lane removal took next state new

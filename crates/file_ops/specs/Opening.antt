@@ -32,6 +32,7 @@ use Rattle.file_ops.specs.declared.opening.Led.{Led}
 use Rattle.file_ops.specs.declared.opening.Led.TheVariants.{Goes, Opens, Knows, Ends}
 use Rattle.client_shelf.specs.Learning.{Learns, Renews, LearnsThen, LearnsName}
 use Rattle.client_shelf.specs.Busy.{is_busy, goes_again}
+use Rattle.client_shelf.specs.Unmade.{came_unmade, names_after}
 use Rattle.file_ops.specs.PagesOpened.{opened_pages}
 use Rattle.file_ops.specs.Told.{found_by, made_by, got_by}
 
@@ -120,10 +121,18 @@ abbrev pub MadeFile : List ℕ → Option (List ℕ) → Option Attr → Option 
 MadeFile dir (Some found) attr after now old new = LearnsThen found attr now (Renews dir after now) old new
 MadeFile dir None attr after now old new = Renews dir after now old new
 
+abbrev pub CreatedAttrs : List ℕ → ℕ → Result Reply Fault → Attrs → Attrs → Type 0
+CreatedAttrs dir now (Ok (replies.Dir (kept.Create found attr wcc))) old new = MadeFile dir found attr wcc.after now old new
+CreatedAttrs dir now (Ok (replies.Dir (kept.CreateFail status wcc))) old new = Renews dir wcc.after now old new
+CreatedAttrs dir now reply old new = Renews dir None now old new
+
+-- unless the CREATE couldn't be made
+abbrev pub CreatedUnless : Bool → List ℕ → ℕ → Result Reply Fault → Attrs → Attrs → Type 0
+CreatedUnless true dir now reply old new = new ≡ old
+CreatedUnless false dir now reply old new = CreatedAttrs dir now reply old new
+
 abbrev pub MadeAttrs : List ℕ → ℕ → Result Reply Fault → Attrs → Attrs → Type 0
-MadeAttrs dir now (Ok (replies.Dir (kept.Create found attr wcc))) old new = MadeFile dir found attr wcc.after now old new
-MadeAttrs dir now (Ok (replies.Dir (kept.CreateFail status wcc))) old new = Renews dir wcc.after now old new
-MadeAttrs dir now reply old new = Renews dir None now old new
+MadeAttrs dir now reply old new = CreatedUnless (came_unmade reply) dir now reply old new
 
 -- of GETATTR: the attributes
 abbrev pub GotAttrs : List ℕ → ℕ → Result Attr Fault → Attrs → Attrs → Type 0
@@ -136,10 +145,10 @@ NotesAttrs o now reply Make old new = MadeAttrs o.dir now reply old new
 NotesAttrs o now reply Find old new = LookedAttrs o.dir now reply old new
 NotesAttrs o now reply (Ask file) old new = GotAttrs file now (got_by reply) old new
 
--- any reply to CREATE drops the names of the directory
+-- any reply to CREATE drops the names of the directory; a CREATE that couldn't be made drops none
 abbrev pub NotesNames : Opening → Result Reply Fault → OpeningStep → names.Entries → names.Entries → Type 0
 NotesNames o reply Look old new = LookedNames o.dir o.name reply old new
-NotesNames o reply Make old new = new ≡ names.without_dir o.dir old
+NotesNames o reply Make old new = new ≡ names_after (came_unmade reply) o.dir old
 NotesNames o reply Find old new = LookedNames o.dir o.name reply old new
 NotesNames o reply (Ask file) old new = new ≡ old
 

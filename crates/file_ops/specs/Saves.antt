@@ -1,6 +1,6 @@
 -- How what is pending of a file is made stable: WRITEs of its bytes, then a COMMIT; what the COMMIT shows to be lost is
 -- sent again (RFC 1813, sections 3.3.7, 3.3.21 and 4.8).
-use Rattle.std.specs.Prelude.{◌≡◌, ◌≤◌, ◌⊎◌, ℕ, ◌+◌, ◌-◌, ◌==◌, ◌&&◌, nat_lt, Bool, true, false, if◌then◌else◌, List, [], ◌∷◌, take, length, Option, Some, None, IfSome, is_none, unwrap_or, Result, Ok, Err}
+use Rattle.std.specs.Prelude.{◌≡◌, ◌≤◌, ◌⊎◌, ℕ, ◌+◌, ◌-◌, ◌==◌, ◌&&◌, nat_lt, Bool, true, false, not, if◌then◌else◌, List, [], ◌∷◌, take, length, Option, Some, None, IfSome, is_none, unwrap_or, Result, Ok, Err}
 use Rattle.nfs_types.specs.declared.verf.Verf.{Verf}
 use Rattle.nfs_types.specs.declared.wcc.Wcc.{Wcc}
 use Rattle.nfs_file_calls.specs.declared.call.FileCall.TheVariants.{Write, Commit}
@@ -24,6 +24,7 @@ use Rattle.commit_verf.specs.declared.commit.Verdict.TheVariants.{AllStable, Sen
 use Rattle.commit_verf.specs.Decisions.{decided, verdict_of}
 use Rattle.page_cache.specs.Pages.{Pages, wrote}
 use Rattle.client_shelf.specs.Busy.{fails_busy, goes_again, repeats_after}
+use Rattle.client_shelf.specs.Unmade.{is_unmade}
 use Rattle.file_ops.specs.declared.judging.WriteTold.{WriteTold}
 use Rattle.file_ops.specs.declared.judging.WriteTold.TheVariants.{Done, Refused, Fails}
 use Rattle.file_ops.specs.Judging.{write_told, commit_told}
@@ -77,8 +78,8 @@ write_of file piece = calls.File (Write file piece.offset piece.how piece.bytes)
 abbrev pub commit_of : List ℕ → Call
 commit_of file = calls.File (Commit file 0 0)
 
--- Nothing is left to send: it waits for its own WRITEs; it is done where the reply to one made the last lost byte
--- stable; else it asks for a COMMIT.
+-- Nothing is left to send: it waits for its own WRITEs; it is done where the reply to one, which counts all its bytes, made the last
+-- lost byte stable; else it asks for a COMMIT.
 abbrev pub next_sent : Bool → Saving → SavingNext
 next_sent by_reply s = if nat_lt 0 s.waiting then Wait else if is_again s.phase && by_reply then Ended (Ok tt) else Send (commit_of s.file)
 
@@ -119,7 +120,8 @@ GoesOver (Some fault) wsize xid room by_reply s back next new after = Leads (ref
 GoesOver None wsize xid room by_reply s back next new after =
     SendsIf (may_send room s) xid by_reply (chosen s.upto wsize (of_file s.file back)) s back next new after
 
--- A save goes on: with a WRITE size, an xid and whether there is room; `by_reply`: the reply to a WRITE has just come.
+-- A save goes on: with a WRITE size, an xid and whether there is room; `by_reply`: the reply to a WRITE has just come, and counts all its
+-- bytes.
 abbrev pub Goes : ℕ → ℕ → Bool → Bool → Saving → Pending → SavingNext → Saving → Pending → Type 0
 Goes wsize xid room by_reply s back next new after = GoesOver s.refusal wsize xid room by_reply s back next new after
 
@@ -138,11 +140,15 @@ told_of xid file back came = write_told (answered xid file back).how (length (an
 abbrev pub untold : Wcc
 untold = record { before = None; after = None }
 
+-- After a call that failed it isn't known what the file has, unless the call couldn't be made.
+abbrev pub pages_failed : List ℕ → ℕ → Fault → Pages → Pages
+pages_failed file moment fault pages = if is_unmade fault then pages else wrote file untold 0 [] moment pages
+
 -- Kept pages follow what was written. After a refusal it isn't known what was.
 abbrev pub pages_told : List ℕ → ℕ → List ℕ → ℕ → WriteTold → Pages → Pages
 pages_told file offset bytes moment (Done wcc count committed verf) pages = wrote file wcc offset (take count bytes) moment pages
 pages_told file offset bytes moment (Refused status) pages = wrote file untold 0 [] moment pages
-pages_told file offset bytes moment (Fails fault) pages = wrote file untold 0 [] moment pages
+pages_told file offset bytes moment (Fails fault) pages = pages_failed file moment fault pages
 
 -- The piece is in flight no more: what of it the server has isn't to be sent, and all else is. Whether that is a
 -- refusal.
@@ -167,6 +173,15 @@ HasAll (Fails fault) size = ⊥
 abbrev pub LandsWhole : WriteTold → Option Sent → Option Fault → Type 0
 LandsWhole told piece refusal = IfSome piece (λ piece. HasAll told (length piece.bytes) → refusal ≡ None)
 
+-- Whether a reply counts all the bytes that its WRITE carried. After a shorter one some may be left that newer bytes have covered meanwhile.
+abbrev pub counts_all : WriteTold → ℕ → Bool
+counts_all (Done wcc count committed verf) size = not (nat_lt count size)
+counts_all (Refused status) size = false
+counts_all (Fails fault) size = false
+
+abbrev pub counts_whole : ℕ → List ℕ → WriteTold → Pending → Bool
+counts_whole asked file told back = counts_all told (length (answered asked file back).bytes)
+
 -- A WRITE's reply: the piece lands, so that no more bytes are pending than before, and the save goes on.
 pub record TakesWrite (wsize asked xid : ℕ) (room : Bool) (told : WriteTold) (s : Saving) (back : Pending) (next : SavingNext) (new : Saving)
     (after : Pending) : Type 0 where
@@ -175,7 +190,9 @@ pub record TakesWrite (wsize asked xid : ℕ) (room : Bool) (told : WriteTold) (
   pub lands : Lands asked s.file told back between refusal
   pub whole : LandsWhole told (piece_under asked (of_file s.file back).pieces) refusal
   pub total : all_pending between ≤ all_pending back
-  pub goes : Goes wsize xid room true (refused_by refusal s) between next new after
+  pub counts : Bool
+  pub counted : counts ≡ counts_whole asked s.file told back
+  pub goes : Goes wsize xid room counts (refused_by refusal s) between next new after
 
 -- It is done where all is stable; else what may be lost is sent again.
 abbrev pub Decides : Verdict → ℕ → ℕ → Bool → Saving → Pending → SavingNext → Saving → Pending → Type 0

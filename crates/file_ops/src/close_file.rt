@@ -8,12 +8,12 @@ ghost use Rattle.file_ops.specs.SlotFiles.{IsUnused};
 ghost use Rattle.file_ops.specs.Closes.{waits_as, ask_next, ask_state, Ends, Frees, Follows, GoesOn, GoesOnIf, Queues, Starts, Resumes, TakesOne, Removed, Takes};
 
 use crate::closing::{
-    Removal, closed_answer, give_up_by, last_place, refusal_of, remove_busy, remove_of, removed_of,
+    Removal, closed_answer, give_up_by, last_place, note_removal, refusal_of, remove_busy,
+    remove_of,
 };
 use crate::saving::{Saving, SavingNext};
 use crate::slots::file_at;
 use client_shelf::busy::again;
-use client_shelf::learning::renew;
 use client_shelf::{Came, Next, Shelf, Turn};
 use nfs_types::Handle;
 use std::alloc::Global;
@@ -289,8 +289,13 @@ impl CloseFile {
         ensures step { Removed self.old.lane sent turn (reply_of came.now) removal.now shelf.old result self.new.state shelf.new }
         ensures machine { self.new ≡ record self.old { state = self.new.state } }
     {
-        shelf.names.drop_dir(&removal.dir);
-        renew(&mut shelf.attrs, &removal.dir, &removed_of(came), sent.now);
+        note_removal(
+            &removal.dir,
+            came,
+            sent.now,
+            &mut shelf.attrs,
+            &mut shelf.names,
+        );
         if again(remove_busy(came), sent, turn, &mut shelf.repeats) {
             self.state = Closing::Removing(*removal);
             return Next::Send(remove_of(removal));

@@ -2,14 +2,19 @@
 
 ghost use Rattle.std.specs.Prelude.{◌≡◌, ◌≤◌};
 ghost use Rattle.client_shelf.specs.Coming.{reply_of};
+ghost use Rattle.client_shelf.specs.Unmade.{came_unmade, names_after, RenewsUnless};
 ghost use Rattle.nfs_dir_calls.specs.Kept.{kept_of};
 ghost use Rattle.write_back.specs.Files.{all_pending};
 ghost use Rattle.file_ops.specs.Quiet.{is_quiet};
 ghost use Rattle.file_ops.specs.Closings.{TellsPlace, remove_of, removed_by, removed_of, busy_by, remove_busy, GivesIf, GivesUp, GivesUpBy, closed_answer, refusal_of};
 
 use crate::quiet::is_quiet;
+use attr_cache::AttrCache;
 use client_shelf::Came;
 use client_shelf::busy::JUKEBOX;
+use client_shelf::learning::renew;
+use client_shelf::unmade::came_unmade;
+use name_cache::NameCache;
 use nfs_dir_calls::{DirCall, DirReply};
 use nfs_types::{Attr, Handle, Name};
 use open_files::OpenFiles;
@@ -52,6 +57,25 @@ pub(crate) fn remove_of(removal: &Removal) -> Call
         dir: removal.dir,
         name: removal.name,
     })
+}
+
+/// After a REMOVE the names of its directory are dropped, and its attributes are new or forgotten. All stays where the call
+/// couldn't be made.
+pub(crate) fn note_removal(
+    dir: &Handle,
+    came: &Came<'_>,
+    now: u64,
+    attrs: &mut AttrCache,
+    names: &mut NameCache,
+)
+    ensures attrs { RenewsUnless (came_unmade (reply_of came.now)) dir.now (removed_of (reply_of came.now)) now attrs.old attrs.new }
+    ensures names { names.new ≡ names_after (came_unmade (reply_of came.now)) dir.now names.old }
+{
+    if came_unmade(came) {
+        return;
+    }
+    names.drop_dir(dir);
+    renew(attrs, dir, &removed_of(came), now);
 }
 
 /// The attributes of the directory after a REMOVE, where the reply gives them.

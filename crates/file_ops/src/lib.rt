@@ -5,6 +5,7 @@ mod adding;
 mod base;
 mod close_file;
 mod closing;
+mod failing;
 mod gather;
 mod hearing;
 mod judging;

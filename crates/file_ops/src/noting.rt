@@ -2,12 +2,13 @@
 
 ghost use Rattle.std.specs.Prelude.{◌≡◌};
 ghost use Rattle.client_shelf.specs.Coming.{reply_of};
-ghost use Rattle.file_ops.specs.Opening.{LookedAttrs, LookedNames, MadeFile, MadeAttrs, GotAttrs};
-ghost use Rattle.name_cache.specs.Names.{without_dir};
+ghost use Rattle.file_ops.specs.Opening.{LookedAttrs, LookedNames, MadeFile, CreatedAttrs, MadeAttrs, GotAttrs};
+ghost use Rattle.client_shelf.specs.Unmade.{came_unmade, names_after};
 
 use attr_cache::AttrCache;
 use client_shelf::Came;
 use client_shelf::learning::{learn, learn_name, renew};
+use client_shelf::unmade::came_unmade;
 use name_cache::NameCache;
 use nfs_dir_calls::DirReply;
 use nfs_types::{Attr, Handle, Name};
@@ -44,7 +45,8 @@ pub(crate) fn note_look_up(
     }
 }
 
-/// Of CREATE: the attributes of the file whose handle it gave, and those of the directory, whose names are dropped.
+/// Of CREATE: the attributes of the file whose handle it gave, and those of the directory, whose names are dropped. All stays
+/// where the call couldn't be made.
 pub(crate) fn note_create(
     dir: &Handle,
     came: &Came<'_>,
@@ -53,9 +55,19 @@ pub(crate) fn note_create(
     names: &mut NameCache,
 )
     ensures attrs { MadeAttrs dir.now now (reply_of came.now) attrs.old attrs.new }
-    ensures names { names.new ≡ without_dir dir.now names.old }
+    ensures names { names.new ≡ names_after (came_unmade (reply_of came.now)) dir.now names.old }
 {
+    if came_unmade(came) {
+        return;
+    }
     names.drop_dir(dir);
+    note_created(dir, came, now, attrs);
+}
+
+/// The attributes that its reply gives.
+fn note_created(dir: &Handle, came: &Came<'_>, now: u64, attrs: &mut AttrCache)
+    ensures { CreatedAttrs dir.now now (reply_of came.now) attrs.old attrs.new }
+{
     match came {
         Came::Dir(reply) => match reply {
             DirReply::Create { found, attr, wcc } => {

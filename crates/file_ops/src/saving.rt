@@ -11,8 +11,9 @@ ghost use Rattle.commit_verf.specs.Decisions.{decided, verdict_of};
 ghost use Rattle.write_back.specs.Changes.{lost};
 ghost use Rattle.file_ops.specs.Judging.{after_of};
 ghost use Rattle.client_shelf.specs.Learning.{Learns};
-ghost use Rattle.file_ops.specs.Saves.{answered, told_of, pages_told, pages_after, Lands, LandsWhole, refused_by, ended_by, TakesWrite, TakesVerf, TakesCommit, Takes, TakesTold, TakesBusy, TakesFirst, last_next, last_saving, commit_again, commit_repeats, commit_of, less_waiting, may_again, told_busy, CopiesPiece, begun, is_sending, is_again, commit_phase, refused_next, may_send, CallsWrite, Sends, Goes, next_sent, saving_sent};
+ghost use Rattle.file_ops.specs.Saves.{answered, told_of, pages_told, pages_after, counts_all, counts_whole, Lands, LandsWhole, refused_by, ended_by, TakesWrite, TakesVerf, TakesCommit, Takes, TakesTold, TakesBusy, TakesFirst, last_next, last_saving, commit_again, commit_repeats, commit_of, less_waiting, may_again, told_busy, CopiesPiece, begun, is_sending, is_again, commit_phase, refused_next, may_send, CallsWrite, Sends, Goes, next_sent, saving_sent};
 
+use crate::failing::{drop_pages, note_failed};
 use crate::judging::{WriteTold, after_of, commit_told, write_told};
 use attr_cache::AttrCache;
 use client_shelf::busy::{JUKEBOX, again, fails_busy};
@@ -20,7 +21,7 @@ use client_shelf::learning::learn;
 use client_shelf::{Came, Repeats, Turn};
 use commit_verf::{Verdict, decide};
 use nfs_file_calls::FileCall;
-use nfs_types::{Handle, Verf, Wcc};
+use nfs_types::{Handle, Verf};
 use page_cache::PageCache;
 use std::alloc::Global;
 use world_model::{Call, Fault};
@@ -257,10 +258,11 @@ impl Saving {
         requires free { IsFree turn.xid self.old.file back.old }
         ensures { TakesWrite wsize asked turn.xid turn.room told (less_waiting self.old) back.old result self.new back.new }
     {
+        let whole = counts_whole(&self.file, asked, &told, back);
         let refusal = land(&self.file, asked, told, turn.xid, back);
         self.waiting = self.waiting.saturating_sub(1);
         self.refuse(refusal);
-        self.go(alloc, wsize, turn, true, back)
+        self.go(alloc, wsize, turn, whole, back)
     }
 
     /// The first refusal stays.
@@ -525,13 +527,29 @@ fn note_write(
         WriteTold::Done { wcc, count, .. } => {
             pages.wrote(file, &wcc, offset, first_bytes(bytes, count), moment);
         }
-        WriteTold::Refused(_) | WriteTold::Fails(_) => {
-            let untold = Wcc {
-                before: None,
-                after: None,
-            };
-            pages.wrote(file, &untold, 0, &[], moment);
-        }
+        WriteTold::Refused(_) => drop_pages(file, moment, pages),
+        WriteTold::Fails(fault) => note_failed(file, &fault, moment, pages),
+    }
+}
+
+/// Whether a reply counts all the bytes that its WRITE carried.
+fn counts_whole(file: &Handle, asked: u32, told: &WriteTold, back: &WriteBack) -> bool
+    ensures { result ≡ counts_whole asked file.now told.now back.now }
+{
+    match back.in_flight(file, asked) {
+        Some(piece) => counts_all(told, piece.bytes.len()),
+        None => counts_all(told, 0),
+    }
+}
+
+/// Whether it counts so many.
+fn counts_all(told: &WriteTold, size: usize) -> bool
+    ensures { result ≡ counts_all told.now size }
+{
+    match *told {
+        WriteTold::Done { count, .. } => count as usize >= size,
+        WriteTold::Refused(_) => false,
+        WriteTold::Fails(_) => false,
     }
 }
 

@@ -9,6 +9,7 @@ ghost use Rattle.write_back.specs.Files.{all_pending};
 ghost use Rattle.file_ops.specs.Quiet.{is_quiet};
 ghost use Rattle.file_ops.specs.TruncateFile.{size_call, queued_next, queued_state, started_next, started_state, started_shelf, resumed_next, resumed_state, size_told, attr_told, told_pages, CutsQuiet, CutsBack, ended_shelf, ended_next, ended_state, size_again, took_next, took_state, took_shelf, TookAttrs, TookBack};
 
+use crate::failing::note_failed;
 use crate::opens::file_to_write;
 use crate::quiet::is_quiet;
 use client_shelf::busy::{again, is_busy};
@@ -215,7 +216,7 @@ fn attr_told(came: &Came<'_>) -> Option<Attr>
     }
 }
 
-/// Kept pages follow the new size, and are dropped where it wasn't set.
+/// Kept pages follow the new size. They are dropped where it wasn't set, unless the call couldn't be made.
 fn show_size(
     pages: &mut PageCache,
     file: &Handle,
@@ -227,13 +228,7 @@ fn show_size(
 {
     match told {
         Ok(wcc) => pages.cut(file, wcc, size, moment),
-        Err(_) => {
-            let unknown = Wcc {
-                before: None,
-                after: None,
-            };
-            pages.wrote(file, &unknown, 0, &[], moment);
-        }
+        Err(fault) => note_failed(file, fault, moment, pages),
     }
 }
 

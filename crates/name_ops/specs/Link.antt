@@ -24,7 +24,7 @@ link_call name file dir = calls.Dir (dirs.Link file dir name)
 
 -- what the reply tells: the file's attributes too, also where it refuses
 abbrev pub linked : List ℕ → Option Attr → Wcc → Option Fault → Told
-linked file attr wcc refusal = record { object = Some file; attr = attr; dir = wcc.after; refusal = refusal }
+linked file attr wcc refusal = record { object = Some file; attr = attr; dir = wcc.after; refusal = refusal; unmade = false }
 
 abbrev pub linked_told : List ℕ → Result Reply Fault → Told
 linked_told file (Ok (Dir (kept.Link attr wcc))) = linked file attr wcc None

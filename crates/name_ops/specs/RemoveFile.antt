@@ -31,7 +31,7 @@ use Rattle.name_ops.specs.declared.remove_file.RemoveFile.{RemoveFile}
 use Rattle.client_shelf.specs.Busy.{goes_again}
 use Rattle.name_ops.specs.Changing.{done, failed, refused_by, told_busy, Changes}
 use Rattle.name_ops.specs.Looking.{look_up, found_by, look_again, Hears}
-use Rattle.name_ops.specs.Moving.{move_call, moved_told, moved_shelf, RenewsBoth}
+use Rattle.name_ops.specs.Moving.{move_call, moved_told, moved_shelf, RenewsMoved}
 use Rattle.name_ops.specs.Walking as walking
 
 -- ---- calls
@@ -204,7 +204,7 @@ move_again sent turn came shelf = goes_again (told_busy (moved_told came).refusa
 
 pub record TakesMove (file to : List ℕ) (m : RemoveFile) (sent turn : Turn) (came : Result Reply Fault) (old : Shelf) (next : Next)
     (after : Shelf) : Type 0 where
-  pub attrs : RenewsBoth m.walk.spot.dir (moved_told came).from m.walk.spot.dir (moved_told came).to sent.now old.attrs after.attrs
+  pub attrs : RenewsMoved (moved_told came).unmade m.walk.spot.dir m.walk.spot.dir (moved_told came) sent.now old.attrs after.attrs
   pub ends : EndsMove (move_again sent turn came old) (moved_told came).refusal file to m old.silly next after.silly
   pub others : after ≡ record (moved_shelf m.walk.spot.dir m.walk.spot.dir (moved_told came) sent turn after.attrs old) { silly = after.silly }
 

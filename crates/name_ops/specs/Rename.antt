@@ -12,7 +12,7 @@ use Rattle.name_ops.specs.declared.pair.Pair.{Pair}
 use Rattle.name_ops.specs.declared.rename.Rename.{Rename}
 use Rattle.client_shelf.specs.Busy.{goes_again}
 use Rattle.name_ops.specs.Changing.{told_busy, answer_of}
-use Rattle.name_ops.specs.Moving.{move_call, moved_told, moved_shelf, RenewsBoth}
+use Rattle.name_ops.specs.Moving.{move_call, moved_told, moved_shelf, RenewsMoved}
 use Rattle.name_ops.specs.Pairs.{Walks}
 
 abbrev pub rename_call : List ℕ → List ℕ → List ℕ → List ℕ → Call
@@ -24,7 +24,7 @@ renamed_next again call told = if again then Send call else Done (answer_of told
 
 -- the step at the reply
 pub record Renames (m : Rename) (sent turn : Turn) (told : Moved) (old : Shelf) (next : Next) (after : Shelf) : Type 0 where
-  pub attrs : RenewsBoth m.pair.first.spot.dir told.from m.pair.second.spot.dir told.to sent.now old.attrs after.attrs
+  pub attrs : RenewsMoved told.unmade m.pair.first.spot.dir m.pair.second.spot.dir told sent.now old.attrs after.attrs
   pub next_is : next ≡ renamed_next (goes_again (told_busy told.refusal) sent turn old.repeats)
       (rename_call m.from m.to m.pair.first.spot.dir m.pair.second.spot.dir) told
   pub others : after ≡ moved_shelf m.pair.first.spot.dir m.pair.second.spot.dir told sent turn after.attrs old

@@ -1,35 +1,46 @@
 //! What follows the reply to a call that changes a directory.
 
 ghost use Rattle.std.specs.Prelude.{◌≡◌, false};
-ghost use Rattle.name_cache.specs.Names.{without_dir};
+ghost use Rattle.client_shelf.specs.Unmade.{names_after};
 ghost use Rattle.client_shelf.specs.Busy.{goes_again, repeats_after};
-ghost use Rattle.name_ops.specs.Changing.{mode_set, told_busy, LearnsOf, Changes, EndsChange};
+ghost use Rattle.name_ops.specs.Changing.{mode_set, told_busy, LearnsOf, LearnsTold, Changes, EndsChange};
 
 use crate::told::Told;
 use attr_cache::AttrCache;
 use client_shelf::busy::again;
 use client_shelf::learning::{learn, renew};
 use client_shelf::{Next, Shelf, Turn};
+use name_cache::NameCache;
 use nfs_types::{Attr, Handle, SetAttr, SetTime};
 use world_model::Call;
 
-/// The names of the directory are dropped, and what the reply tells of attributes is learnt; without those of the directory
-/// it is forgotten. Whether the call, which the step with the turn `sent` made, is made again.
+/// What the reply tells is noted. Whether the call, which the step with the turn `sent` made, is made again.
 pub(crate) fn change(dir: &Handle, told: &Told, sent: Turn, turn: Turn, shelf: &mut Shelf) -> bool
     ensures told { result ≡ goes_again (told_busy told.now.refusal) sent turn shelf.old.repeats }
-    ensures attrs { LearnsOf told.now.object told.now.attr dir.now told.now.dir sent.now shelf.old.attrs shelf.new.attrs }
-    ensures frame { shelf.new ≡ record shelf.old { attrs = shelf.new.attrs; names = without_dir dir.now shelf.old.names; repeats = repeats_after (told_busy told.now.refusal) sent turn shelf.old.repeats } }
+    ensures attrs { LearnsTold told.now.unmade told.now dir.now sent.now shelf.old.attrs shelf.new.attrs }
+    ensures frame { shelf.new ≡ record shelf.old { attrs = shelf.new.attrs; names = names_after told.now.unmade dir.now shelf.old.names; repeats = repeats_after (told_busy told.now.refusal) sent turn shelf.old.repeats } }
 {
-    shelf.names.drop_dir(dir);
-    learn_of(
-        &told.object,
-        &told.attr,
-        dir,
-        &told.dir,
-        sent.now,
-        &mut shelf.attrs,
-    );
+    note_change(dir, told, sent.now, &mut shelf.attrs, &mut shelf.names);
     again(told.is_busy(), sent, turn, &mut shelf.repeats)
+}
+
+/// The names of the directory are dropped, and what the reply tells of attributes is learnt; without those of the directory
+/// it is forgotten. All stays where the call couldn't be made.
+fn note_change(
+    dir: &Handle,
+    told: &Told,
+    now: u64,
+    attrs: &mut AttrCache,
+    names: &mut NameCache,
+)
+    ensures attrs { LearnsTold told.now.unmade told.now dir.now now attrs.old attrs.new }
+    ensures names { names.new ≡ names_after told.now.unmade dir.now names.old }
+{
+    if told.unmade {
+        return;
+    }
+    names.drop_dir(dir);
+    learn_of(&told.object, &told.attr, dir, &told.dir, now, attrs);
 }
 
 /// What follows the reply: the same call again, or the answer.

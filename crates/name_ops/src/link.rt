@@ -122,5 +122,6 @@ fn linked(file: Handle, attr: &Option<Attr>, wcc: &Wcc, refusal: Option<Fault>) 
         attr: *attr,
         dir: wcc.after,
         refusal,
+        unmade: false,
     }
 }

@@ -5,6 +5,7 @@ ghost use Rattle.name_ops.specs.Changing.{done, made, failed, refused_by, answer
 ghost use Rattle.name_ops.specs.SymLink.{lacking};
 
 use client_shelf::busy::is_busy;
+use client_shelf::unmade::is_unmade;
 use nfs_types::{Attr, Handle, Status, Wcc};
 use world_model::{Answer, Fault, Value};
 
@@ -19,6 +20,8 @@ pub struct Told {
     pub dir: Option<Attr>,
     /// Why nothing was changed, if nothing was.
     pub refusal: Option<Fault>,
+    /// Whether the call couldn't be made, so that what is kept of the directory stays.
+    pub unmade: bool,
 }
 
 impl Told {
@@ -31,6 +34,7 @@ impl Told {
             attr: None,
             dir: wcc.after,
             refusal: None,
+            unmade: false,
         }
     }
 
@@ -43,6 +47,7 @@ impl Told {
             attr: *attr,
             dir: wcc.after,
             refusal: None,
+            unmade: false,
         }
     }
 
@@ -55,10 +60,11 @@ impl Told {
             attr: None,
             dir: wcc.after,
             refusal: Some(Fault::Nfs(status.0)),
+            unmade: false,
         }
     }
 
-    /// No reply of this call came.
+    /// No reply of this call came, or it couldn't be made.
     pub(crate) fn refused(fault: Fault) -> Told
         ensures { result ≡ refused_by fault }
     {
@@ -67,6 +73,7 @@ impl Told {
             attr: None,
             dir: None,
             refusal: Some(fault),
+            unmade: is_unmade(&fault),
         }
     }
 
@@ -79,6 +86,7 @@ impl Told {
             attr: self.attr,
             dir: self.dir,
             refusal: Some(Fault::Memory),
+            unmade: self.unmade,
         }
     }
 

@@ -171,7 +171,7 @@ module _ (wsize : ℕ) (turn : Turn) (some : 1 ≤ wsize) (s : Saving) (back : P
         lands-on s.file s.upto sent.xid back t.between piece found (sound s.file) came (lands-out sent.xid s.file told back t.between t.refusal t.lands).here s.phase s.waiting s.refusal t.refusal sends outcome way in
         let same = refused-file t.refusal (saves.less_waiting s) in
         leaves-as (sync_next next) (saves.refused_by t.refusal (saves.less_waiting s)) s new after same.0 same.1
-        (goes-leaves wsize turn.xid turn.room true (saves.refused_by t.refusal (saves.less_waiting s)) t.between next new after some (mid (saves.refused_by t.refusal (saves.less_waiting s)).file) on t.goes)
+        (goes-leaves wsize turn.xid turn.room t.counts (saves.refused_by t.refusal (saves.less_waiting s)) t.between next new after some (mid (saves.refused_by t.refusal (saves.less_waiting s)).file) on t.goes)
 
     repeats-leaves : (again : Bool) (told : _) → ((between : Pending) (now : Option Fault) → saves.Lands sent.xid s.file told back between now → Outcome sent.xid s.file piece.how came back between now)
         → saves.RepeatsWrite again wsize sent turn told s back next new after → Leaves (sync_next next) s new after
@@ -291,7 +291,7 @@ module _ (wsize : ℕ) (sent turn : Turn) (s : Saving) (back : Pending) (sound :
       let taken = lands-out sent.xid s.file told back t.between t.refusal t.lands in
       let here : IsFree turn.xid s.file t.between = ap (piece_under turn.xid) taken.here ∙ none-without turn.xid sent.xid (of_file s.file back).pieces (free s.file) in
       let there : IsFree turn.xid (saves.refused_by t.refusal (saves.less_waiting s)).file t.between = subst (λ (f : List ℕ). IsFree turn.xid f t.between) (sym (refused-file t.refusal (saves.less_waiting s)).0) here in
-      goes-sound wsize turn.xid turn.room true (saves.refused_by t.refusal (saves.less_waiting s)) t.between next new after mid there t.goes
+      goes-sound wsize turn.xid turn.room t.counts (saves.refused_by t.refusal (saves.less_waiting s)) t.between next new after mid there t.goes
 
   repeats-sound : (again : Bool) (told : _) → ((between : Pending) (now : Option Fault) → saves.Lands sent.xid s.file told back between now → EachSound between)
       → saves.RepeatsWrite again wsize sent turn told s back next new after → EachSound after

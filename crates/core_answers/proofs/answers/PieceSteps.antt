@@ -185,7 +185,7 @@ module _ (xid : ℕ) where
   write-own : (wsize asked : ℕ) (room : Bool) (told : _) (s : Saving) (back : Pending) (next : _) (new : Saving) (after : Pending)
       → saves.TakesWrite wsize asked xid room told s back next new after → Free back → After Free Own (syncs.sync_next next) after
   write-own wsize asked room told s back next new after g free =
-      goes-own wsize room true (saves.refused_by g.refusal s) g.between next new after g.goes
+      goes-own wsize room g.counts (saves.refused_by g.refusal s) g.between next new after g.goes
       (out-free asked s.file back g.between (lands-out asked s.file told back g.between g.refusal g.lands) free)
 
   renamed-own : (asked : ℕ) (file : List ℕ) (old new : Pending) → OnFile old new file (with_xid asked xid (of_file file old)) → Free old

@@ -114,7 +114,7 @@ goes-calls wsize xid room by_reply s back next new after g = goes-over-calls s.r
 
 write-calls : (wsize asked xid : ℕ) (room : Bool) (told : _) (s : Saving) (back : Pending) (next : _) (new : Saving) (after : Pending)
     → saves.TakesWrite wsize asked xid room told s back next new after → CallSo (syncs.sync_next next) new
-write-calls wsize asked xid room told s back next new after t = goes-calls wsize xid room true (saves.refused_by t.refusal s) t.between next new after t.goes
+write-calls wsize asked xid room told s back next new after t = goes-calls wsize xid room t.counts (saves.refused_by t.refusal s) t.between next new after t.goes
 
 repeats-calls : (more : Bool) (wsize : ℕ) (sent turn : Turn) (told : _) (s : Saving) (back : Pending) (next : _) (new : Saving) (after : Pending) → saves.is_sending s.phase ≡ true
     → saves.RepeatsWrite more wsize sent turn told s back next new after → CallSo (syncs.sync_next next) new

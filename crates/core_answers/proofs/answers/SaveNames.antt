@@ -85,7 +85,7 @@ refused-file (Some fault) s = refl
 write-names : (wsize asked xid : ℕ) (room : Bool) (told : _) (s : Saving) (back : Pending) (next : _) (new : Saving) (after : Pending)
     → saves.TakesWrite wsize asked xid room told s back next new after → CallNames s.file (syncs.sync_next next)
 write-names wsize asked xid room told s back next new after t =
-    subst (λ (f : List ℕ). CallNames f (syncs.sync_next next)) (refused-file t.refusal s) (goes-names wsize xid room true (saves.refused_by t.refusal s) t.between next new after t.goes)
+    subst (λ (f : List ℕ). CallNames f (syncs.sync_next next)) (refused-file t.refusal s) (goes-names wsize xid room t.counts (saves.refused_by t.refusal s) t.between next new after t.goes)
 
 repeats-names : (more : Bool) (wsize : ℕ) (sent turn : Turn) (told : _) (s : Saving) (back : Pending) (next : _) (new : Saving) (after : Pending)
     → saves.RepeatsWrite more wsize sent turn told s back next new after → CallNames s.file (syncs.sync_next next)

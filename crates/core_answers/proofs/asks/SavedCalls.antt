@@ -83,7 +83,7 @@ module _ (f : List ℕ) where
   write-on : (wsize asked xid : ℕ) (room : Bool) (told : _) (s : Saving) (back : Pending) (next : _) (new : Saving) (after : Pending) → s.file ≡ f
       → saves.TakesWrite wsize asked xid room told s back next new after → SavesOn f (syncs.sync_next next) new
   write-on wsize asked xid room told s back next new after file t =
-      goes-on wsize xid room true (saves.refused_by t.refusal s) t.between next new after (refused-file t.refusal s file) t.goes
+      goes-on wsize xid room t.counts (saves.refused_by t.refusal s) t.between next new after (refused-file t.refusal s file) t.goes
 
   repeats-on : (more : Bool) (wsize : ℕ) (sent turn : Turn) (told : _) (s : Saving) (back : Pending) (next : _) (new : Saving) (after : Pending) → s.file ≡ f
       → saves.RepeatsWrite more wsize sent turn told s back next new after → SavesOn f (syncs.sync_next next) new

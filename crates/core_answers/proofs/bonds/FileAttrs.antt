@@ -19,6 +19,7 @@ use Rattle.write_back.specs.Files.{of_file}
 use Rattle.write_back.specs.Segments.{last_end}
 use Rattle.client_shelf.specs.LaneFiles.{is_first}
 use Rattle.client_shelf.specs.Learning.{Learns}
+use Rattle.client_shelf.specs.Unmade.{is_unmade, came_unmade}
 use Rattle.client_shelf.specs.Busy.{goes_again}
 use Rattle.client_shelf.specs.declared.next.Next.{Next}
 use Rattle.client_shelf.specs.declared.next.Next.TheVariants as nexts
@@ -69,7 +70,7 @@ use Rattle.file_ops.proofs.SaveCounts.{by-step, ends_as}
 use Rattle.op_machines.specs.declared.file_machine.FileMachine.{FileMachine}
 use Rattle.op_machines.specs.declared.file_machine.FileMachine.TheVariants as files
 use Rattle.op_machines.specs.FileSteps as steps
-use Rattle.core_answers.proofs.bonds.Learnt.{IsOn, Good, May, Tells, MayOf, good-as, learns-good, renews-good}
+use Rattle.core_answers.proofs.bonds.Learnt.{IsOn, Good, May, Tells, MayOf, good-as, learns-good, renews-good, renews-unless}
 use Rattle.core_answers.proofs.bonds.NameAttrs.{SameAttrs, same-as}
 use Rattle.core_answers.proofs.bonds.FileCalls.{StepOn, ReadOn, SaveOn, WriteOn, SyncOn, CloseOn, TruncateOn, PutOn, FileAsks}
 
@@ -302,7 +303,11 @@ module _ (P : List ℕ × KeptAttr → Type 0) (most : ℕ) (call : Call) (now :
   created (Ok (replies.Dir k)) dir old new on told l g = dir-created k dir old new on told l g
   created (Ok (replies.File k)) dir old new on told l g = renews-good P most dir None now old new l (λ a is. absurd cc) g
   created (Ok (replies.Mount k)) dir old new on told l g = renews-good P most dir None now old new l (λ a is. absurd cc) g
-  created (Err fault) dir old new on told l g = renews-good P most dir None now old new l (λ a is. absurd cc) g
+  created (Err fault) dir old new on told l g = by (is_unmade fault) l
+    where
+      by : (b : Bool) → opening.CreatedUnless b dir now (Err fault) old new → Good P most new
+      by true is = good-as P most old new is g
+      by false renews = renews-good P most dir None now old new renews (λ a is. absurd cc) g
 
   file-got : (k : FileKept) (file : List ℕ) (a : Attr) → IsOn file call → Tells P most call now (Ok (replies.File k)) → got_by (Ok (replies.File k)) ≡ Ok a → May P most now file a
   file-got (kept.GetAttr attr) file a on told is = told _ refl file a (of_object on (let same : attr ≡ a = cc in ap Some same))
@@ -445,7 +450,7 @@ module _ (P : List ℕ × KeptAttr → Type 0) (most : ℕ) (call : Call) (sent 
   close-takes (closing.ToRemove removal) wsize m old next state after on t g = same-good old after (same-as old old after t.shelf_is refl) g
   close-takes (closing.Removing removal) wsize m old next state after on t g =
       same-good t.took after (removes-if (goes_again (remove_busy came) sent turn old.repeats) m.lane removal t.took next state after t.ends)
-      (renews-good P most removal.dir (removed_of came) sent.now old.attrs t.took.attrs t.attrs (removed-fits P most call sent.now came removal.dir on told) g)
+      (renews-unless P most (came_unmade came) removal.dir (removed_of came) sent.now old.attrs t.took.attrs t.attrs (removed-fits P most call sent.now came removal.dir on told) g)
 
   put-takes : (at : Putting) (wsize : ℕ) (m : PutFile) (old : Shelf) (next : Next) (new : PutFile) (after : Shelf) → PutOn at m.opening m.write.state call
       → puts.Takes at wsize m sent turn came old next new after → Stays old after

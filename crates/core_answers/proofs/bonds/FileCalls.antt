@@ -358,7 +358,7 @@ takes-write : (wsize asked xid : ℕ) (room : Bool) (told : _) (was s : Saving) 
     → saves.TakesWrite wsize asked xid room told s back gives new after → Saved was (syncs.sync_next gives) new
 takes-write wsize asked xid room told was s back gives new after file t =
     from-saved was (saves.refused_by t.refusal s) (syncs.sync_next gives) new (refused-file t.refusal s ∙ file)
-    (goes-saved wsize xid room true (saves.refused_by t.refusal s) t.between gives new after t.goes)
+    (goes-saved wsize xid room t.counts (saves.refused_by t.refusal s) t.between gives new after t.goes)
 
 repeats-saved : (again : Bool) (wsize : ℕ) (sent turn : Turn) (told : _) (s : Saving) (back : Pending) (gives : _) (new : Saving) (after : Pending)
     → saves.RepeatsWrite again wsize sent turn told s back gives new after → Saved s (syncs.sync_next gives) new

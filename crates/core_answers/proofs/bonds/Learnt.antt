@@ -10,6 +10,7 @@ use Rattle.world_model.specs.declared.message.Call.{Call}
 use Rattle.world_model.specs.declared.message.Reply.{Reply}
 use Rattle.claims.specs.Shown.{object_of, target_of, ShowsAttr}
 use Rattle.client_shelf.specs.Learning.{Learns, Renews}
+use Rattle.client_shelf.specs.Unmade.{RenewsUnless}
 
 -- ---- the object of a call
 
@@ -69,3 +70,7 @@ module _ (P : List ℕ × KeptAttr → Type 0) (most : ℕ) where
   pub renews-good : (dir : List ℕ) (attr : Option Attr) (now : ℕ) (old new : Attrs) → Renews dir attr now old new → MayOf now dir attr → Good old → Good new
   renews-good dir None now old new l told g = good-as (forgotten dir old) new l (forgotten-good dir old g)
   renews-good dir (Some attr) now old new l told g = learns-good dir (Some attr) now old new l told g
+
+  pub renews-unless : (unmade : Bool) (dir : List ℕ) (attr : Option Attr) (now : ℕ) (old new : Attrs) → RenewsUnless unmade dir attr now old new → MayOf now dir attr → Good old → Good new
+  renews-unless true dir attr now old new l told g = good-as old new l g
+  renews-unless false dir attr now old new l told g = renews-good dir attr now old new l told g

@@ -1,6 +1,8 @@
 -- What an operation on names learns of attributes was shown by what came of its call.
-use Rattle.std.proofs.Common.{◌≡◌, ℕ, Bool, true, false, List, Option, Some, None, Result, Ok, Err, inl, inr, refl, ap, ◌∙◌}
+use Rattle.std.proofs.Common.{◌≡◌, ℕ, nat_eq, Bool, true, false, List, Option, Some, None, Result, Ok, Err, inl, inr, refl, ap, subst, ◌∙◌}
 use Rattle.std.specs.Prelude.{if◌then◌else◌}
+use Rattle.std.specs.Cmp.Lexicographic.{pointwise}
+use Rattle.page_cache.proofs.Inserts.{same-is}
 use Rattle.attr_cache.specs.Attrs.{Attrs}
 use Rattle.attr_cache.specs.declared.kept.KeptAttr.{KeptAttr}
 use Rattle.nfs_types.specs.declared.attr.Attr.{Attr}
@@ -43,7 +45,7 @@ use Rattle.name_ops.specs.Link.{linked_told, TakesLink}
 use Rattle.name_ops.specs.ListDir.{page_attr, TakesList}
 use Rattle.name_ops.specs.Looking as looking
 use Rattle.name_ops.specs.MakeDir as making
-use Rattle.name_ops.specs.Moving.{moved_told, RenewsBoth}
+use Rattle.name_ops.specs.Moving.{moved_told, given_to, to_of, RenewsMoved}
 use Rattle.name_ops.specs.Pairs as pairs
 use Rattle.name_ops.specs.ReadLink.{text_attr, TakesText}
 use Rattle.name_ops.specs.RemoveDir as removing
@@ -143,6 +145,10 @@ module _ (P : List ℕ × KeptAttr → Type 0) (most : ℕ) (call : Call) (now :
       renews-good P most dir after now l.mid new l.rest at (learns-good P most object attr now old l.mid l.first (λ a is. of object a refl is) g)
   learns-of None attr dir after old new of at l g = renews-good P most dir after now old new l at g
 
+  pub learns-told : (unmade : Bool) (told : Told) (dir : List ℕ) (old new : Attrs) → Fits dir told → changing.LearnsTold unmade told dir now old new → Good P most old → Good P most new
+  learns-told true told dir old new f l g = good-as P most old new l g
+  learns-told false told dir old new f l g = learns-of told.object told.attr dir told.dir old new f.object f.place l g
+
   dir-made : (k : DirKept) (dir : List ℕ) → IsOn dir call → Tells P most call now (Ok (replies.Dir k)) → Fits dir (making.made_told (Ok (replies.Dir k)))
   dir-made (dir_kept.MkDir found attr wcc) dir on told = record { object = λ f a is shown. told _ refl f a (of_given is shown); place = λ a is. told _ refl dir a (of_object on is) }
   dir-made (dir_kept.MkDirFail status wcc) dir on told = record { object = λ f a is shown. absurd cc; place = λ a is. told _ refl dir a (of_object on is) }
@@ -233,9 +239,24 @@ module _ (P : List ℕ × KeptAttr → Type 0) (most : ℕ) (call : Call) (now :
   moved-fits (Ok (replies.Mount k)) from to on told = none-moved from to _ refl refl
   moved-fits (Err fault) from to on told = none-moved from to _ refl refl
 
-  renews-both : (from to : List ℕ) (told : Moved) (old new : Attrs) → FitsBoth from to told → RenewsBoth from told.from to told.to now old new → Good P most old → Good P most new
-  renews-both from to told old new f l g =
-      renews-good P most to told.to now l.mid new l.second f.target (renews-good P most from told.from now old l.mid l.first f.source g)
+  -- within one directory either side tells of it
+  given-fits : (same : Bool) (from to : List ℕ) (told : Moved) → (same ≡ true → from ≡ to) → FitsBoth from to told → MayOf P most now to (given_to same told.from told.to)
+  given-fits same from to told one f = by told.to refl
+    where
+      left : (b : Bool) → same ≡ b → MayOf P most now to (given_to b told.from None)
+      left true is a e = subst (λ (d : List ℕ). May P most now d a) (one is) (f.source a e)
+      left false is a e = absurd (let no_way : None ≡ Some a = e in cc)
+
+      by : (o : Option Attr) → told.to ≡ o → MayOf P most now to (given_to same told.from o)
+      by (Some attr) is a e = f.target a (is ∙ e)
+      by None is a e = left same refl a e
+
+  renews-both : (unmade : Bool) (from to : List ℕ) (told : Moved) (old new : Attrs) → FitsBoth from to told → RenewsMoved unmade from to told now old new → Good P most old → Good P most new
+  renews-both true from to told old new f l g = good-as P most old new l g
+  renews-both false from to told old new f l g =
+      renews-good P most to (to_of from to told) now l.mid new l.second
+      (given-fits (pointwise nat_eq from to) from to told (λ is. same-is from to is) f)
+      (renews-good P most from told.from now old l.mid l.first f.source g)
 
   -- ---- what is shown of an object
 
@@ -310,7 +331,7 @@ module _ (P : List ℕ × KeptAttr → Type 0) (most : ℕ) (call : Call) (sent 
 
   changes : (dir : List ℕ) (again : Call) (said : Told) (old : Shelf) (next : Next) (after : Shelf) → Fits P most call sent.now dir said
       → changing.Changes dir again said sent turn old next after → Stays old after
-  changes dir again said old next after f c g = learns-of P most call sent.now said.object said.attr dir said.dir old.attrs after.attrs f.object f.place c.attrs g
+  changes dir again said old next after f c g = learns-told P most call sent.now said.unmade said dir old.attrs after.attrs f c.attrs g
 
   change-takes : (asked : Bool) (own : List ℕ → Call) (said : Told) (v : Visit) (old : Shelf) (next : Next) (new : Visit) (after : Shelf) → IsOn v.walk.spot.dir call
       → Fits P most call sent.now v.walk.spot.dir said → changing.TakesChange asked own said v sent turn came old next new after → Stays old after
@@ -364,7 +385,7 @@ module _ (P : List ℕ × KeptAttr → Type 0) (most : ℕ) (call : Call) (sent 
   rename-takes : (asked : Bool) (m : Rename) (old : Shelf) (next : Next) (new : Pair) (after : Shelf) → PairAsks asked m.pair.first.asked m.pair call
       → TakesRename asked m sent turn came old next new after → Stays old after
   rename-takes true m old next new after on t g =
-      renews-both P most call sent.now m.pair.first.spot.dir m.pair.second.spot.dir (moved_told came) old.attrs after.attrs
+      renews-both P most call sent.now (moved_told came).unmade m.pair.first.spot.dir m.pair.second.spot.dir (moved_told came) old.attrs after.attrs
       (moved-fits P most call sent.now came m.pair.first.spot.dir m.pair.second.spot.dir on told) t.1.attrs g
   rename-takes false m old next new after on t g = pair-takes m.pair.first.asked m.pair old t.step new after on t.takes g
 
@@ -402,7 +423,7 @@ module _ (P : List ℕ × KeptAttr → Type 0) (most : ℕ) (call : Call) (sent 
       same-good t.heard after (seek-same (looking.look_again sent turn came old) (looking.found_by came) file to m turn.room t.heard next new after t.follows)
       (looked P most call sent.now came m.walk.spot.dir old.attrs t.heard.attrs on told t.hears.attrs g)
   deed-takes (Move file to) m old next new after on t g =
-      renews-both P most call sent.now m.walk.spot.dir m.walk.spot.dir (moved_told came) old.attrs after.attrs
+      renews-both P most call sent.now (moved_told came).unmade m.walk.spot.dir m.walk.spot.dir (moved_told came) old.attrs after.attrs
       (moved-fits P most call sent.now came m.walk.spot.dir m.walk.spot.dir on told) t.1.attrs g
   deed-takes Remove m old next new after on t g =
       changes m.walk.spot.dir _ (removals.removed_told came) old next after (file-removed-fits P most call sent.now came m.walk.spot.dir on told) t.1 g

@@ -80,6 +80,7 @@ use Rattle.file_ops.specs.Told.{got_by}
 use Rattle.file_ops.specs.TruncateFile as truncates
 use Rattle.file_ops.specs.WriteFile as writes
 use Rattle.file_ops.proofs.SaveCounts.{by-step, ends_as}
+use Rattle.file_ops.proofs.Failing.{failed-as}
 use Rattle.op_machines.specs.declared.file_machine.FileMachine.{FileMachine}
 use Rattle.op_machines.specs.declared.file_machine.FileMachine.TheVariants as files
 use Rattle.op_machines.specs.FileSteps as steps
@@ -532,7 +533,7 @@ module _ (T : Pages → Type 0) (quiet : QuietLaws T) where
       pages-told (Ok (replies.File k)) piece is asked = file-told k piece is (asked (replies.File k) is)
       pages-told (Ok (replies.Dir k)) piece is asked = quiet.drops file moment c t
       pages-told (Ok (replies.Mount k)) piece is asked = quiet.drops file moment c t
-      pages-told (Err fault) piece is asked = quiet.drops file moment c t
+      pages-told (Err fault) piece is asked = failed-as T file moment fault c t (quiet.drops file moment c t)
 
       -- without a piece no count is right
       none-written : (wcc : Wcc) (count committed : ℕ) (verf : Verf) → T (saves.pages_told file 0 [] moment (written_by 0 0 wcc count committed verf) c)
@@ -553,7 +554,7 @@ module _ (T : Pages → Type 0) (quiet : QuietLaws T) where
       none-told (Ok (replies.File k)) = none-told-by k
       none-told (Ok (replies.Dir k)) = quiet.drops file moment c t
       none-told (Ok (replies.Mount k)) = quiet.drops file moment c t
-      none-told (Err fault) = quiet.drops file moment c t
+      none-told (Err fault) = failed-as T file moment fault c t (quiet.drops file moment c t)
 
       piece-told : (o : Option Sent) → ((piece : Sent) → o ≡ Some piece → (reply : Reply) → came ≡ Ok reply → call ≡ saves.write_of file piece)
           → T (saves.pages_told file (unwrap_or o saves.no_piece).offset (unwrap_or o saves.no_piece).bytes moment
@@ -624,7 +625,7 @@ module _ (T : Pages → Type 0) (quiet : QuietLaws T) where
       cut-told (Ok (replies.File k)) file size is asked t = size-told k file size is asked t
       cut-told (Ok (replies.Dir k)) file size is asked t = quiet.drops file (turn.moment - 1) old.pages t
       cut-told (Ok (replies.Mount k)) file size is asked t = quiet.drops file (turn.moment - 1) old.pages t
-      cut-told (Err fault) file size is asked t = quiet.drops file (turn.moment - 1) old.pages t
+      cut-told (Err fault) file size is asked t = failed-as T file (turn.moment - 1) fault old.pages t (quiet.drops file (turn.moment - 1) old.pages t)
 
       truncate-takes : (at : Truncating) (m : TruncateFile) (attrs : _) (back : Pending) (after : Shelf) → SizeAwaits at m.size call
           → after ≡ truncates.took_shelf at m came sent turn attrs back old → T old.pages → T after.pages

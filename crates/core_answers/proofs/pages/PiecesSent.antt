@@ -211,7 +211,7 @@ module _ (xid : ℕ) where
   write-sends : (wsize asked : ℕ) (room : Bool) (told : _) (s : Saving) (back : Pending) (gives : _) (new : Saving) (after : Pending)
       → saves.TakesWrite wsize asked xid room told s back gives new after → IsUnused xid back → SendsOf (syncs.sync_next gives) new after
   write-sends wsize asked room told s back gives new after t free =
-      goes-sends wsize room true (saves.refused_by t.refusal s) t.between gives new after t.goes
+      goes-sends wsize room t.counts (saves.refused_by t.refusal s) t.between gives new after t.goes
       (fewer-unused xid back t.between (lands-fewer asked s.file told back t.between t.refusal t.lands) free)
 
   decides-sends : (verdict : Verdict) (wsize : ℕ) (room : Bool) (s : Saving) (back : Pending) (gives : _) (new : Saving) (after : Pending)

@@ -90,7 +90,7 @@ write-not : (wsize asked xid how size : ℕ) (room : Bool) (fault : Fault) (s : 
     → saves.TakesWrite wsize asked xid room (write_told how size (Err fault)) s back gives new after → EndsSo ⊥ (syncs.sync_next gives)
 write-not wsize asked xid how size room fault s back gives new after t = by t.refusal t.lands.0 t.goes
   where
-    by : (refusal : Option Fault) → refusal ≡ Some fault → saves.Goes wsize xid room true (saves.refused_by refusal s) t.between gives new after → EndsSo ⊥ (syncs.sync_next gives)
+    by : (refusal : Option Fault) → refusal ≡ Some fault → saves.Goes wsize xid room t.counts (saves.refused_by refusal s) t.between gives new after → EndsSo ⊥ (syncs.sync_next gives)
     by None is g = absurd (cc)
     by (Some f) is g = leads-not (saves.refused_next s.waiting (saves.first_of s.refusal f)) _ gives new g.0 (refused-not s.waiting (saves.first_of s.refusal f))
 

@@ -1,5 +1,6 @@
--- A status is read from a record only as that of a reply: what is read in place of a reply is a refusal by RPC or a rule that was broken.
-use Rattle.std.proofs.Common.{◌≡◌, ℕ, Bool, true, false, List, length, Result, Ok, Err, subst}
+-- A status is read from a record only as that of a reply: what is read in place of a reply is a refusal by RPC or a rule that was broken. Nor is it read that a
+-- call couldn't be made.
+use Rattle.std.proofs.Common.{◌≡◌, ℕ, Bool, true, false, List, length, Result, Ok, Err, refl, subst}
 use Rattle.std.specs.Prelude.{if◌then◌else◌, nat_lt}
 use Rattle.xdr_codec.specs.declared.reader.XdrFault.{XdrFault}
 use Rattle.nfs_dir_calls.specs.declared.keeping.DirKept.{DirKept}
@@ -14,6 +15,7 @@ use Rattle.rpc_message.specs.Reply.{RpcReply, Accepted, Refused, Denied, reply_a
 use Rattle.world_model.specs.declared.answer.Fault.{Fault}
 use Rattle.world_model.specs.declared.answer.Fault.TheVariants as faults
 use Rattle.world_model.specs.Rules.{most_bytes}
+use Rattle.client_shelf.specs.Unmade.{is_unmade}
 use Rattle.call_replies.specs.Records.{results_by, results_read, results_in}
 use Rattle.call_replies.specs.Results.{dir_said, file_said, said_in}
 use Rattle.call_replies.specs.Says.{said_by, said_of}
@@ -60,3 +62,44 @@ said-by-none proc (Err fault) f = f
 
 pub said-none : (proc : ℕ) (rec : List ℕ) (status : ℕ) → said_of proc rec ≡ Err (faults.Nfs status) → ⊥
 said-none proc rec status is = subst (FineResult NoStatus) is (said-by-none proc (results_in rec) (results-none rec))
+
+-- nor that the call couldn't be made
+abbrev IsMade : Fault → Type 0
+IsMade fault = is_unmade fault ≡ false
+
+either-made : {T : Type 0} → (b : Bool) (one other : Result T Fault) → FineResult IsMade one → FineResult IsMade other → FineResult IsMade (if b then one else other)
+either-made true one other f g = f
+either-made false one other f g = g
+
+by-made : (reply : RpcReply) → FineResult IsMade (results_by reply)
+by-made (Accepted xid results) = tt
+by-made (Refused xid stat low high) = refl
+by-made (Denied xid stat first second) = refl
+
+read-made : (reply : Result RpcReply ReplyFault) → FineResult IsMade (results_read reply)
+read-made (Ok reply) = by-made reply
+read-made (Err NotReply) = refl
+read-made (Err (Xdr fault)) = refl
+
+results-made : (rec : List ℕ) → FineResult IsMade (results_in rec)
+results-made rec = either-made (nat_lt most_bytes (length rec)) (Err (faults.Bad 7)) (results_read (reply_at rec)) refl (read-made (reply_at rec))
+
+dir-made : (said : Result DirKept XdrFault) → FineResult IsMade (dir_said said)
+dir-made (Ok reply) = tt
+dir-made (Err fault) = refl
+
+file-made : (said : Result FileKept XdrFault) → FineResult IsMade (file_said said)
+file-made (Ok reply) = tt
+file-made (Err fault) = refl
+
+in-made : (proc : ℕ) (results : List ℕ) → FineResult IsMade (said_in proc results)
+in-made proc results =
+    either-made (is_dir_proc proc) (dir_said (dir_reply_at proc results)) _ (dir-made (dir_reply_at proc results))
+    (either-made (is_file_proc proc) (file_said (file_reply_at proc results)) (Err (faults.Bad 2)) (file-made (file_reply_at proc results)) refl)
+
+said-by-made : (proc : ℕ) (results : Result (List ℕ) Fault) → FineResult IsMade results → FineResult IsMade (said_by proc results)
+said-by-made proc (Ok results) f = in-made proc results
+said-by-made proc (Err fault) f = f
+
+pub said-made : (proc : ℕ) (rec : List ℕ) (fault : Fault) → said_of proc rec ≡ Err fault → is_unmade fault ≡ false
+said-made proc rec fault is = subst (FineResult IsMade) is (said-by-made proc (results_in rec) (results-made rec))

@@ -219,7 +219,7 @@ module _ (wsize xid : ℕ) (room : Bool) where
 
   write-asks : (asked : ℕ) (told : _) (s : Saving) (back : Pending) (next : _) (new : Saving) (after : Pending) → saves.TakesWrite wsize asked xid room told s back next new after
       → SaveAsks (syncs.sync_next next) new
-  write-asks asked told s back next new after g = goes-asks true (saves.refused_by g.refusal s) g.between next new after g.goes
+  write-asks asked told s back next new after g = goes-asks g.counts (saves.refused_by g.refusal s) g.between next new after g.goes
 
   decides-asks : (verdict : Verdict) (s : Saving) (back : Pending) (next : _) (new : Saving) (after : Pending) → saves.Decides verdict wsize xid room s back next new after
       → SaveAsks (syncs.sync_next next) new

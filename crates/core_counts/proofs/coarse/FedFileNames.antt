@@ -9,6 +9,7 @@ use Rattle.world_model.specs.declared.message.Reply.{Reply}
 use Rattle.write_back.specs.Files.{of_file}
 use Rattle.write_back.specs.Segments.{last_end}
 use Rattle.client_shelf.specs.LaneFiles.{is_first}
+use Rattle.client_shelf.specs.Unmade.{came_unmade}
 use Rattle.client_shelf.specs.declared.next.Next.{Next}
 use Rattle.client_shelf.specs.declared.next.Next.TheVariants as nexts
 use Rattle.client_shelf.specs.declared.shelf.Shelf.{Shelf}
@@ -48,7 +49,7 @@ use Rattle.op_machines.specs.FileSteps as steps
 use Rattle.op_machines.specs.Openers.{file_of, slot_taken, begun_at, placed}
 use Rattle.op_machines.specs.PathSteps as paths
 use Rattle.op_machines.specs.Steps.{Starts, Resumes, Takes}
-use Rattle.core_counts.proofs.coarse.FedNameSteps.{QuietLaws, CallTells, told-as, shelf-as, go-told, looked-told, walk-told, name-goes, name-takes}
+use Rattle.core_counts.proofs.coarse.FedNameSteps.{QuietLaws, CallTells, told-as, left-told, shelf-as, go-told, looked-told, walk-told, name-goes, name-takes}
 use Rattle.core_facts.proofs.FilesKept.{write-starts, write-resumes, write-takes, sync-starts, sync-resumes, sync-takes, truncate-starts, truncate-takes, put-resumes}
 use Rattle.core_facts.proofs.AllAwaited.{PutAwaits, FileAwaits, PathOr, Awaits}
 use Rattle.file_ops.specs.declared.put_file.PutFile.{PutFile}
@@ -111,7 +112,7 @@ module _ (T : names.Entries → Type 0) (quiet : QuietLaws T) where
   notes-told : (o : Opening) (came : Result Reply Fault) (step : OpeningStep) (old new : names.Entries) (call : Call) → call ≡ opening.call_of o step → CallTells T quiet came call
       → opening.NotesNames o came step old new → T old → T new
   notes-told o came opening_steps.Look old new call e c n t = looked-told T quiet o.dir o.name came old new (c o.dir o.name e) n t
-  notes-told o came opening_steps.Make old new call e c n t = told-as T quiet _ new n (quiet.drops o.dir old t)
+  notes-told o came opening_steps.Make old new call e c n t = told-as T quiet _ new n (left-told T quiet (came_unmade came) o.dir old t)
   notes-told o came opening_steps.Find old new call e c n t = looked-told T quiet o.dir o.name came old new (c o.dir o.name e) n t
   notes-told o came (opening_steps.Ask file) old new call e c n t = told-as T quiet old new n t
 
@@ -191,7 +192,7 @@ module _ (T : names.Entries → Type 0) (quiet : QuietLaws T) where
       close-follows k.gives m.lane m.slot turn.room true k.saved k.took next state new k.follows (shelf-as T quiet _ k.took k.others t)
   close-takes (closing.ToRemove removal) wsize m sent turn came old next state new k t = shelf-as T quiet old new k.shelf_is t
   close-takes (closing.Removing removal) wsize m sent turn came old next state new k t =
-      ends-if _ m.lane removal k.took next state new k.ends (shelf-as T quiet _ k.took k.others (quiet.drops removal.dir old.names t))
+      ends-if _ m.lane removal k.took next state new k.ends (shelf-as T quiet _ k.took k.others (left-told T quiet (came_unmade came) removal.dir old.names t))
 
   -- ---- any operation on a file
 

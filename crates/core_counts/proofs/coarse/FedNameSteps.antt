@@ -18,6 +18,7 @@ use Rattle.client_shelf.specs.declared.next.Next.{Next}
 use Rattle.client_shelf.specs.declared.shelf.Shelf.{Shelf}
 use Rattle.client_shelf.specs.declared.turn.Turn.{Turn}
 use Rattle.client_shelf.specs.Learning.{LearnsName}
+use Rattle.client_shelf.specs.Unmade.{names_after}
 use Rattle.name_ops.specs.declared.link.Link.{Link}
 use Rattle.name_ops.specs.declared.list_dir.ListDir.{ListDir}
 use Rattle.name_ops.specs.declared.pair.Pair.{Pair}
@@ -38,6 +39,7 @@ use Rattle.name_ops.specs.Link.{link_call, TakesLink}
 use Rattle.name_ops.specs.ListDir as listing
 use Rattle.name_ops.specs.Looking.{look_up, found_by, look_again, LookedNames}
 use Rattle.name_ops.specs.Pairs as pairs
+use Rattle.name_ops.specs.Moving.{moved_told}
 use Rattle.name_ops.specs.ReadLink.{text_call, TakesText}
 use Rattle.name_ops.specs.RemoveFile as removals
 use Rattle.name_ops.specs.Rename.{rename_call, TakesRename}
@@ -68,6 +70,10 @@ module _ (T : names.Entries → Type 0) (quiet : QuietLaws T) where
   abbrev pub Tells : Result Reply Fault → List ℕ → List ℕ → Type 0
   Tells came dir name = (found : List ℕ) (attr : Option Attr) (dir_attr : Attr) → came ≡ Ok (replies.Dir (kept.Lookup found attr (Some dir_attr)))
       → Learns dir name (stamp_of dir_attr) found
+
+  pub left-told : (unmade : Bool) (dir : List ℕ) (es : names.Entries) → T es → T (names_after unmade dir es)
+  left-told true dir es t = t
+  left-told false dir es t = quiet.drops dir es t
 
   pub told-as : (old new : names.Entries) → new ≡ old → T old → T new
   told-as old new is t = subst T (sym is) t
@@ -157,7 +163,7 @@ module _ (T : names.Entries → Type 0) (quiet : QuietLaws T) where
 
   changed-told : (dir : List ℕ) (call : Call) (told : ChangeTold) (sent turn : Turn) (old : Shelf) (next : Next) (after : Shelf) → changing.Changes dir call told sent turn old next after
       → T old.names → T after.names
-  changed-told dir call told sent turn old next after c t = shelf-as _ after c.others (quiet.drops dir old.names t)
+  changed-told dir call told sent turn old next after c t = shelf-as _ after c.others (left-told told.unmade dir old.names t)
 
   change-told : (asked : Bool) (own : List ℕ → Call) (told : ChangeTold) (v : Visit) (sent turn : Turn) (came : Result Reply Fault) (old : Shelf) (next : Next) (new : Visit) (after : Shelf)
       (call : Call) → OwnOr asked own v.walk call → CallTells came call → changing.TakesChange asked own told v sent turn came old next new after → T old.names → T after.names
@@ -219,7 +225,7 @@ module _ (T : names.Entries → Type 0) (quiet : QuietLaws T) where
   rename-told : (asked : Bool) (m : Rename) (sent turn : Turn) (came : Result Reply Fault) (old : Shelf) (next : Next) (new : Pair) (after : Shelf) (call : Call)
       → PairOr asked m.pair.first.asked (rename_call m.from m.to) m.pair call → CallTells came call → TakesRename asked m sent turn came old next new after → T old.names → T after.names
   rename-told true m sent turn came old next new after call e c k t =
-      shelf-as _ after k.1.others (quiet.drops m.pair.second.spot.dir _ (quiet.drops m.pair.first.spot.dir old.names t))
+      shelf-as _ after k.1.others (left-told (moved_told came).unmade m.pair.second.spot.dir _ (left-told (moved_told came).unmade m.pair.first.spot.dir old.names t))
   rename-told false m sent turn came old next new after call e c k t =
       pair-took (rename_call m.from m.to) m.pair.first.asked m.pair sent turn came old k.step new after call e c k.takes t
 
@@ -261,7 +267,7 @@ module _ (T : names.Entries → Type 0) (quiet : QuietLaws T) where
       seek-removal (look_again sent turn came old) (found_by came) file to m turn.room k.heard next new after k.follows
       (looked-told m.walk.spot.dir to came old.names k.heard.names (c m.walk.spot.dir to e) k.hears.names t)
   deed-removal (Move file to) m sent turn came old next new after call e c k t =
-      shelf-as _ after k.1.others (quiet.drops m.walk.spot.dir _ (quiet.drops m.walk.spot.dir old.names t))
+      shelf-as _ after k.1.others (left-told (moved_told came).unmade m.walk.spot.dir _ (left-told (moved_told came).unmade m.walk.spot.dir old.names t))
   deed-removal Remove m sent turn came old next new after call e c k t = changed-told m.walk.spot.dir _ _ sent turn old next after k.1 t
 
   removal-told : (deed : Option Deed) (m : RemoveFile) (sent turn : Turn) (came : Result Reply Fault) (old : Shelf) (next : Next) (new : RemoveFile) (after : Shelf) (call : Call)

@@ -148,7 +148,7 @@ module _ (setup : Setup) (held : Held Purpose) (H : View → Type 0) (wsize : �
     write-led t next new after lands g =
         let l : Lands g.between = lands g.between g.refusal g.lands in
         led-had (syncs.sync_next next) after
-        (goes-led setup held H turn.xid wsize turn.room true (saves.refused_by g.refusal (saves.less_waiting s)) g.between next new after l.1
+        (goes-led setup held H turn.xid wsize turn.room g.counts (saves.refused_by g.refusal (saves.less_waiting s)) g.between next new after l.1
         (out-free turn.xid sent.xid s.file back g.between (lands-out sent.xid s.file t back g.between g.refusal g.lands) free) g.goes l.0)
 
     own-lands : saves.is_sending s.phase ≡ true → (between : Pending) (refusal : Option Fault) → saves.Lands sent.xid s.file (saves.told_of sent.xid s.file back came) back between refusal

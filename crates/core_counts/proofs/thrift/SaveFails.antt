@@ -180,7 +180,7 @@ module _ (F : Fault) (X : Type 0) where
   write-then : (wsize asked xid : ℕ) (room : Bool) (told : Tells) (s : Saving) (back : Pending) (next : Gives) (new : Saving) (after : Pending) → (X → Told asked back told s)
       → saves.TakesWrite wsize asked xid room told s back next new after → Then next new
   write-then wsize asked xid room told s back next new after k t =
-      goes-then wsize xid room true (saves.refused_by t.refusal s) t.between next new after (λ x. lands-so asked told s back t.between t.refusal t.lands (k x)) t.goes
+      goes-then wsize xid room t.counts (saves.refused_by t.refusal s) t.between next new after (λ x. lands-so asked told s back t.between t.refusal t.lands (k x)) t.goes
 
   both-left : (a b : Bool) → (a && b) ≡ true → a ≡ true
   both-left true b e = refl

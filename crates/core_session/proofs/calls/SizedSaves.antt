@@ -139,7 +139,7 @@ module _ (P : Pending → Type 0) where
         → ((file : List ℕ) (old new : Pending) (refusal : Option Fault) → saves.Lands asked file t old new refusal → P old → P new)
         → saves.TakesWrite wsize asked to room t s back next new after → P back → P after
     write-kept room t s back next new after lands g p =
-        goes-kept room true (saves.refused_by g.refusal s) g.between next new after g.goes (lands s.file back g.between g.refusal g.lands p)
+        goes-kept room g.counts (saves.refused_by g.refusal s) g.between next new after g.goes (lands s.file back g.between g.refusal g.lands p)
 
     -- ---- the reply to a COMMIT
 

@@ -85,6 +85,7 @@ use Rattle.file_ops.specs.Told.{found_by, made_by, got_by}
 use Rattle.file_ops.specs.TruncateFile as truncates
 use Rattle.file_ops.specs.WriteFile as writes
 use Rattle.file_ops.proofs.SaveCounts.{by-step, ends_as}
+use Rattle.file_ops.proofs.Failing.{failed-as}
 use Rattle.op_machines.specs.declared.file_machine.FileMachine.{FileMachine}
 use Rattle.op_machines.specs.declared.file_machine.FileMachine.TheVariants as files
 use Rattle.op_machines.specs.FileSteps as steps
@@ -684,7 +685,7 @@ module _ (T : Pages → Type 0) (shows : (file : List ℕ) (index : ℕ) (c : Pa
       pages-told (Ok (replies.File k)) piece is asked = file-told k piece is (asked (replies.File k) is)
       pages-told (Ok (replies.Dir k)) piece is asked = fed.drops file c t
       pages-told (Ok (replies.Mount k)) piece is asked = fed.drops file c t
-      pages-told (Err fault) piece is asked = fed.drops file c t
+      pages-told (Err fault) piece is asked = failed-as T file (turn.moment - 1) fault c t (fed.drops file c t)
 
       -- without a piece no count is right
       none-written : (wcc : Wcc) (count committed : ℕ) (verf : Verf) → T (saves.pages_told file 0 [] (turn.moment - 1) (written_by 0 0 wcc count committed verf) c)
@@ -705,7 +706,7 @@ module _ (T : Pages → Type 0) (shows : (file : List ℕ) (index : ℕ) (c : Pa
       none-told (Ok (replies.File k)) = none-told-by k
       none-told (Ok (replies.Dir k)) = fed.drops file c t
       none-told (Ok (replies.Mount k)) = fed.drops file c t
-      none-told (Err fault) = fed.drops file c t
+      none-told (Err fault) = failed-as T file (turn.moment - 1) fault c t (fed.drops file c t)
 
       piece-told : (o : Option Sent) → ((piece : Sent) → o ≡ Some piece → (reply : Reply) → came ≡ Ok reply → call ≡ saves.write_of file piece)
           → T (saves.pages_told file (unwrap_or o saves.no_piece).offset (unwrap_or o saves.no_piece).bytes (turn.moment - 1)
@@ -776,7 +777,7 @@ module _ (T : Pages → Type 0) (shows : (file : List ℕ) (index : ℕ) (c : Pa
       cut-told (Ok (replies.File k)) file size is asked t = size-told k file size is (asked (replies.File k) is) t
       cut-told (Ok (replies.Dir k)) file size is asked t = fed.drops file old.pages t
       cut-told (Ok (replies.Mount k)) file size is asked t = fed.drops file old.pages t
-      cut-told (Err fault) file size is asked t = fed.drops file old.pages t
+      cut-told (Err fault) file size is asked t = failed-as T file (turn.moment - 1) fault old.pages t (fed.drops file old.pages t)
 
       truncate-takes : (at : Truncating) (m : TruncateFile) (attrs : _) (back : Pending) (after : Shelf) → ((reply : Reply) → came ≡ Ok reply → SizeAwaits at m.size call)
           → after ≡ truncates.took_shelf at m came sent turn attrs back old → T old.pages → T after.pages

@@ -124,7 +124,7 @@ module _ (P : Fault → Type 0) (own : CallFaults P) where
       → ((between : Pending) (refusal : Option Fault) → saves.Lands asked s.file told back between refusal → FineOption P (saves.refused_by refusal s).refusal)
       → saves.TakesWrite wsize asked xid room told s back next new after → SaveFine (syncs.sync_next next) new
   takes-write-fine wsize asked xid room told s back next new after sending lands t =
-      goes-fine wsize xid room true (saves.refused_by t.refusal s) t.between next new after
+      goes-fine wsize xid room t.counts (saves.refused_by t.refusal s) t.between next new after
       (sending-save (saves.refused_by t.refusal s) (same-sending t.refusal s sending) (lands t.between t.refusal t.lands)) t.goes
 
   -- P holds of the fault that what came makes, where the call isn't made again: where the save sends, of that of a WRITE's piece, else of that of a COMMIT

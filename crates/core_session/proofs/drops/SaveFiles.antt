@@ -71,7 +71,7 @@ module _ (file : List ℕ) (upto : ℕ) where
   write-save : (wsize asked xid : ℕ) (room : Bool) (told : _) (s : Saving) (back : Pending) (next : _) (new : Saving) (after : Pending) → IsSave file upto s
       → saves.TakesWrite wsize asked xid room told s back next new after → IsSave file upto new
   write-save wsize asked xid room told s back next new after is t =
-      goes-save wsize xid room true (saves.refused_by t.refusal s) t.between next new after (refused-save t.refusal s is) t.goes
+      goes-save wsize xid room t.counts (saves.refused_by t.refusal s) t.between next new after (refused-save t.refusal s is) t.goes
 
   repeats-save : (again : Bool) (wsize : ℕ) (sent turn : Turn) (told : _) (s : Saving) (back : Pending) (next : _) (new : Saving) (after : Pending) → IsSave file upto s
       → saves.RepeatsWrite again wsize sent turn told s back next new after → IsSave file upto new

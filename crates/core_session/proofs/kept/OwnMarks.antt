@@ -60,6 +60,7 @@ use Rattle.core_facts.proofs.Keeping.{Known}
 use Rattle.core_facts.proofs.Lists.{at-position}
 use Rattle.core_facts.proofs.Rows.{Rows, rows-stay, same-rows, silent-grow, rows-grow, taken-quiet, not-sent, taken-rows}
 use Rattle.core_answers.specs.bonds.Kept.{LastAtMost}
+use Rattle.core_answers.proofs.refusals.SaidNone.{said-made}
 use Rattle.core_answers.proofs.writes.Along.{SameCalls}
 use Rattle.core_session.proofs.current.Along.{IsPlain, KeepsHeard}
 use Rattle.core_session.proofs.kept.OwnHeeds.{Awaits, AllHeard, HeardFrom, WasSent, keeps-heard}
@@ -382,7 +383,8 @@ module _ (mounted : Mounted) (modes : Modes) (same : mounted.nocto ≡ modes.noc
           given = omega arith;
           sent = λ y w left late i bs at_ has. let low = m.timely y w (left-waits y w left) in absurd (omega (arith, low, late));
         };
-        after = newly (AfterIn wcc later d f k_) h old r found known xid call waits at t.number t.machine t.there lane-is mine.made asked-is came its-reply (turn_at (taken_one old xid))
+        after = newly (AfterIn wcc later d f k_) h old r found known xid call waits at t.number t.machine t.there lane-is mine.made asked-is came its-reply
+            (λ fault is_. said-made call.purpose.proc rec fault is_) (turn_at (taken_one old xid))
             (wrote-pages saves.untold 0 [] (λ attr is_. absurd (none-attr attr is_))) (λ place bs. wrote-pages wcc place bs (λ attr is_. is_)) cut-pages t.next t.after t.shelf t.takes;
       }
         where

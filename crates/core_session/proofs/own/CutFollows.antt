@@ -1,5 +1,5 @@
 -- What a step makes of the pages of a file, at the reply to a SETATTR of its size.
-use Rattle.std.proofs.Common.{◌≡◌, ◌≤◌, ◌-◌, ◌⊎◌, inl, inr, ℕ, List, [], Option, Some, None, Result, Ok, Err, refl, sym, ap, subst, ◌∙◌, arith}
+use Rattle.std.proofs.Common.{◌≡◌, ◌≤◌, ◌-◌, ◌⊎◌, inl, inr, ℕ, false, List, [], Option, Some, None, Result, Ok, Err, refl, sym, ap, subst, ◌∙◌, arith}
 use Rattle.nfs_types.specs.declared.set_attr.SetAttr.{SetAttr}
 use Rattle.nfs_types.specs.declared.time.Time.{Time}
 use Rattle.nfs_types.specs.declared.wcc.Wcc.{Wcc}
@@ -14,6 +14,7 @@ use Rattle.world_model.specs.declared.message.Reply.{Reply}
 use Rattle.world_model.specs.declared.message.Reply.TheVariants as replies
 use Rattle.world_model.specs.Messages.{SpellsCall}
 use Rattle.law_stable.proofs.OneFileCall.{one_file_call}
+use Rattle.client_shelf.specs.Unmade.{is_unmade}
 use Rattle.client_shelf.specs.declared.shelf.Shelf.{Shelf}
 use Rattle.client_shelf.specs.declared.turn.Turn.{Turn}
 use Rattle.file_ops.specs.declared.truncate_file.TruncateFile.{TruncateFile}
@@ -21,6 +22,7 @@ use Rattle.file_ops.specs.declared.truncate_file.Truncating.{Truncating}
 use Rattle.file_ops.specs.declared.truncate_file.Truncating.TheVariants as truncating
 use Rattle.file_ops.specs.Saves as saves
 use Rattle.file_ops.specs.TruncateFile as truncates
+use Rattle.file_ops.proofs.Failing.{failed-made}
 use Rattle.op_machines.specs.declared.begun.Mounted.{Mounted}
 use Rattle.op_machines.specs.declared.file_machine.FileMachine.TheVariants as machines_of
 use Rattle.op_machines.specs.declared.machine.Machine.{Machine}
@@ -66,13 +68,29 @@ took-pages : (m : TruncateFile) (at : Truncating) (file : List ℕ) (upto : ℕ)
 took-pages m at file upto sent turn came old after state is =
     ap (λ (s : Shelf). s.pages) is ∙ ap (λ (t : Truncating). (truncates.took_shelf t m came sent turn after.attrs after.back old).pages) state
 
-told-so : (T : Pages → Type 0) (f : List ℕ) (wcc : Wcc) (size moment : ℕ) (pages : Pages) (told : Result Wcc Fault) → ((w : Wcc) → told ≡ Ok w → w ≡ wcc) → T (wrote f saves.untold 0 [] moment pages)
-    → T (cut f wcc size moment pages) → T (truncates.told_pages told f size moment pages)
-told-so T f wcc size moment pages (Ok w) same drops cuts = subst (λ (z : Wcc). T (cut f z size moment pages)) (sym (same w refl)) cuts
-told-so T f wcc size moment pages (Err fault) same drops cuts = drops
+err-made : (f fault : Fault) → is_unmade f ≡ false → ◌≡◌ {A = Result Wcc Fault} (Err f) (Err fault) → is_unmade fault ≡ false
+err-made f fault made e = let same : f ≡ fault = cc in subst (λ (x : Fault). is_unmade x ≡ false) same made
+
+reply-made : (reply : FileKept) (fault : Fault) → truncates.in_reply reply ≡ Err fault → is_unmade fault ≡ false
+reply-made (kept.SetAttr wcc) fault is = absurd (cc)
+reply-made (kept.SetAttrFail status wcc) fault is = err-made _ fault refl is
+reply-made reply fault is = err-made _ fault refl is
+
+-- the SETATTR was made
+size-made : (came : Result Reply Fault) → ((fault : Fault) → came ≡ Err fault → is_unmade fault ≡ false) → (fault : Fault) → truncates.size_told came ≡ Err fault → is_unmade fault ≡ false
+size-made (Ok (replies.File reply)) made fault is = reply-made reply fault is
+size-made (Ok (replies.Dir reply)) made fault is = err-made _ fault refl is
+size-made (Ok (replies.Mount reply)) made fault is = err-made _ fault refl is
+size-made (Err f) made fault is = err-made f fault (made f refl) is
+
+told-so : (T : Pages → Type 0) (f : List ℕ) (wcc : Wcc) (size moment : ℕ) (pages : Pages) (told : Result Wcc Fault) → ((w : Wcc) → told ≡ Ok w → w ≡ wcc)
+    → ((fault : Fault) → told ≡ Err fault → is_unmade fault ≡ false) → T (wrote f saves.untold 0 [] moment pages) → T (cut f wcc size moment pages)
+    → T (truncates.told_pages told f size moment pages)
+told-so T f wcc size moment pages (Ok w) same made drops cuts = subst (λ (z : Wcc). T (cut f z size moment pages)) (sym (same w refl)) cuts
+told-so T f wcc size moment pages (Err fault) same made drops cuts = failed-made T f moment fault pages (made fault refl) drops
 
 pub size-follows : (mounted : Mounted) (setup : Setup) (f : List ℕ) (set : SetAttr) (guard : Option Time) (wcc : Wcc) → Follows mounted setup f (files.SetAttr f set guard) (kept.SetAttr wcc) wcc
-size-follows mounted setup f set guard wcc T h old r found known xid call waits at number machine there lane made asked came its turn drops follows cuts next after shelf t =
+size-follows mounted setup f set guard wcc T h old r found known xid call waits at number machine there lane made asked came its sent_ turn drops follows cuts next after shelf t =
     by (expects-tame machine e.made.asked e.expects some)
   where
     e : IsExpected (machine_of mounted) (begins-unbegun mounted) setup Expects expects-laws NoCall NoShelf NoStory (no-laws (machine_of mounted) setup Expects) h number xid call machine
@@ -98,5 +116,6 @@ size-follows mounted setup f set guard wcc T h old r found known xid call waits 
         subst (λ (z : Machine). Takes old.wsize z call.purpose.sent turn came old.shelf next after shelf) c.is t in
         let pages = took-pages c.m c.m.state c.file c.upto call.purpose.sent turn came old.shelf shelf c.state takes.step.shelf_is in
         subst T (sym (pages ∙ ap (λ (z : List ℕ). truncates.told_pages (truncates.size_told came) z c.m.size (turn.moment - 1) old.shelf.pages) (sym file)))
-        (told-so T f wcc c.m.size (turn.moment - 1) old.shelf.pages (truncates.size_told came) (λ w is. wcc-of w wcc (its (kept.SetAttr w) (told-set came w is))) drops (cuts c.m.size))
+        (told-so T f wcc c.m.size (turn.moment - 1) old.shelf.pages (truncates.size_told came) (λ w is. wcc-of w wcc (its (kept.SetAttr w) (told-set came w is)))
+        (size-made came sent_) drops (cuts c.m.size))
     by (inr tame) = absurd (subst Tame (sym again) tame)

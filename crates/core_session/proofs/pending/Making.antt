@@ -124,7 +124,7 @@ module _ (W : List ℕ → ℕ → List ℕ → Type 0) (xid : ℕ) where
   write-made : (wsize asked : ℕ) (room : Bool) (told : _) (s : Saving) (back : Pending) (next : _) (new : Saving) (after : Pending)
       → saves.TakesWrite wsize asked xid room told s back next new after → Free back → After Free (λ call. AllMade) (syncs.sync_next next) after
   write-made wsize asked room told s back next new after g free =
-      goes-made wsize room true (saves.refused_by g.refusal s) g.between next new after g.goes
+      goes-made wsize room g.counts (saves.refused_by g.refusal s) g.between next new after g.goes
       (out-free xid asked s.file back g.between (lands-out asked s.file told back g.between g.refusal g.lands) free)
 
   renamed-made : (asked : ℕ) (file : List ℕ) (old new : Pending) → OnFile old new file (with_xid asked xid (of_file file old))

@@ -70,7 +70,7 @@ module _ (wsize : ℕ) (sent turn : Turn) where
   write-less : (told : _) (s : Saving) (back : Pending) (next : _) (new : Saving) (after : Pending)
       → saves.TakesWrite wsize sent.xid turn.xid turn.room told s back next new after → Less back after
   write-less told s back next new after t =
-      less-less back t.between after t.total (goes-less wsize turn.xid turn.room true (saves.refused_by t.refusal s) t.between next new after t.goes)
+      less-less back t.between after t.total (goes-less wsize turn.xid turn.room t.counts (saves.refused_by t.refusal s) t.between next new after t.goes)
 
   commit-less : (told : Result Verf Fault) (s : Saving) (back : Pending) (next : _) (new : Saving) (after : Pending)
       → saves.TakesCommit wsize turn.xid turn.room told s back next new after → Less back after

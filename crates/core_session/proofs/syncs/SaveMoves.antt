@@ -113,7 +113,7 @@ module _ (O : List ℕ → Type 0) (P : Pending → Type 0) where
         → ((file : List ℕ) (old new : Pending) (refusal : Option Fault) → O file → saves.Lands asked file t old new refusal → P old → P new)
         → saves.TakesWrite wsize asked to room t s back next new after → P back → P after
     write-kept wsize room t s back next new after o lands g p =
-        goes-kept wsize room true (saves.refused_by g.refusal s) g.between next new after (subst O (sym (refused-file g.refusal s).0) o) g.goes (lands s.file back g.between g.refusal o g.lands p)
+        goes-kept wsize room g.counts (saves.refused_by g.refusal s) g.between next new after (subst O (sym (refused-file g.refusal s).0) o) g.goes (lands s.file back g.between g.refusal o g.lands p)
 
     -- ---- the reply to a COMMIT
 

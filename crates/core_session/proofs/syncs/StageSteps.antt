@@ -192,7 +192,7 @@ module _ (file : List ℕ) (place byte number : ℕ) (Fresh : ℕ → ℕ → Ty
         → saves.TakesWrite wsize sent.xid turn.xid turn.room told (saves.less_waiting s) back next new after → Is (of_file file after)
     write-known told lands t =
         let mid = lands t.between t.refusal t.lands in
-        goes-known now wsize turn.xid fresh since turn.room true (saves.refused_by t.refusal (saves.less_waiting s)) t.between next new after mid.1 mid.0 t.goes
+        goes-known now wsize turn.xid fresh since turn.room t.counts (saves.refused_by t.refusal (saves.less_waiting s)) t.between next new after mid.1 mid.0 t.goes
 
     repeats-known : (again : Bool) (told : _) → ((between : Pending) (now : Option Fault) → saves.Lands sent.xid s.file told back between now → Is (of_file file between) × EachSound between)
         → saves.RepeatsWrite again wsize sent turn told s back next new after → Is (of_file file after)

@@ -140,7 +140,7 @@ module _ (f : List ℕ) where
   write-took wsize asked xid room told s back gives new after t =
       let same = phase-refused t.refusal s in
       spent-as (left_to (saves.refused_by t.refusal s)) (left_to s) (syncs.sync_next gives) new (omega (arith, same))
-      (goes-spent wsize xid room true (saves.refused_by t.refusal s) t.between gives new after t.goes)
+      (goes-spent wsize xid room t.counts (saves.refused_by t.refusal s) t.between gives new after t.goes)
 
   told-took : (busy : Bool) (wsize : ℕ) (sent turn : Turn) (told : _) (repeats : List Repeat) (s : Saving) (back : Pending) (gives : _) (new : Saving) (after : Pending) (later : List Repeat)
       → saves.TakesToldIf busy wsize sent turn told repeats s back gives new after later → Took sent turn repeats later s (syncs.sync_next gives) new

@@ -83,7 +83,7 @@ module _ (f : List ℕ) (i y : ℕ) where
         fewer-then f i y back g.between after
         (returned-fewer f i y back g.between s.file sound
         (subst (λ (n : ℕ). OnFile back g.between s.file (at_xid (landed by_change.Return) n (of_file s.file back))) own g.lands.1))
-        (goes-fewer wsize turn.xid turn.room true (saves.refused_by g.refusal s) g.between next new after g.goes)
+        (goes-fewer wsize turn.xid turn.room g.counts (saves.refused_by g.refusal s) g.between next new after g.goes)
 
     first-err : (again : Bool) (s : Saving) (back : Pending) (next : _) (new : Saving) (after : Pending) → saves.TakesFirst again wsize turn (Err fault) s back next new after → Fewer f i y back after
     first-err true s back next new after g = same-fewer f i y back after g.1
@@ -189,7 +189,7 @@ module _ (f : List ℕ) (i y : ℕ) where
         fine-then f i y sent.xid s n m within back sound free few below g.between after
         (lands-told how size what g.refusal sv.file g.between g.lands
         (λ same. subst (λ (h : List ℕ). saves.LandsWhole (write_told how size what) (piece_under sent.xid (of_file h back).pieces) g.refusal) (sym same) g.whole) so)
-        (goes-fewer wsize turn.xid turn.room true (saves.refused_by g.refusal sv) g.between next new after g.goes)
+        (goes-fewer wsize turn.xid turn.room g.counts (saves.refused_by g.refusal sv) g.between next new after g.goes)
 
     gains-all : (how size : ℕ) (what : Result Reply Fault) (file : List ℕ) → Covered_ file (λ piece. Gain_)
         → Covered_ file (λ piece. saves.HasAll (write_told how size what) (length piece.bytes) ⊎ Gain_)

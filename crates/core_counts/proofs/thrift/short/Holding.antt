@@ -254,14 +254,14 @@ module _ (before next wsize : ℕ) (is_next : next ≡ before + 1) (some : 1 ≤
             flown true inside = inl (sym (fly-under sent.xid (of_file s.file b).pieces piece next (sound s.file).sent found inside))
             flown false inside = inr inside
 
-    back-open : (refusal : Option Fault) (between : Pending) (nx : _) (new : Saving) (after : Pending) → saves.Lands sent.xid s.file (saves.told_of sent.xid s.file b (Err fault)) b between refusal
-        → saves.Goes wsize turn.xid turn.room true (saves.refused_by refusal (saves.less_waiting s)) between nx new after → IsOpen s.upto (of_file s.file after)
-    back-open None between nx new after l g = absurd (let no_way : None ≡ Some fault = l.0 in cc)
-    back-open (Some now) between nx new after l g = subst (λ (p : Pending). IsOpen s.upto (of_file s.file p)) (sym g.1) (returned between l.1)
+    back-open : (refusal : Option Fault) (counts : Bool) (between : Pending) (nx : _) (new : Saving) (after : Pending) → saves.Lands sent.xid s.file (saves.told_of sent.xid s.file b (Err fault)) b between refusal
+        → saves.Goes wsize turn.xid turn.room counts (saves.refused_by refusal (saves.less_waiting s)) between nx new after → IsOpen s.upto (of_file s.file after)
+    back-open None counts between nx new after l g = absurd (let no_way : None ≡ Some fault = l.0 in cc)
+    back-open (Some now) counts between nx new after l g = subst (λ (p : Pending). IsOpen s.upto (of_file s.file p)) (sym g.1) (returned between l.1)
 
     unmade-in : (phase : Phase) → s.phase ≡ phase → (repeats later : List Repeat) (nx : _) (new : Saving) (after : Pending) → saves.TakesIn phase wsize sent turn (Err fault) repeats s b nx new after later → IsOpen s.upto (of_file s.file after)
-    unmade-in Sending is repeats later nx new after t = back-open t.0.refusal t.0.between nx new after t.0.lands t.0.goes
-    unmade-in Resending is repeats later nx new after t = back-open t.0.refusal t.0.between nx new after t.0.lands t.0.goes
+    unmade-in Sending is repeats later nx new after t = back-open t.0.refusal t.0.counts t.0.between nx new after t.0.lands t.0.goes
+    unmade-in Resending is repeats later nx new after t = back-open t.0.refusal t.0.counts t.0.between nx new after t.0.lands t.0.goes
     unmade-in Committing is repeats later nx new after t = absurd (let no_way : false ≡ true = hold-sends s b h Committing is in cc)
     unmade-in CommittingAgain is repeats later nx new after t = absurd (let no_way : false ≡ true = hold-sends s b h CommittingAgain is in cc)
 

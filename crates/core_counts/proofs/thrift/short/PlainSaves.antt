@@ -373,7 +373,7 @@ module _ (f : List ℕ) (i : ℕ) where
       write-plain : (how size : ℕ) (what : Result Reply Fault) (s : Saving) (next : _) (new : Saving) (after : Pending)
           → saves.TakesWrite wsize sent.xid turn.xid turn.room (write_told how size what) s back next new after → PlainAt back → PlainAt after
       write-plain how size what s next new after g k =
-          goes-plain wsize turn.xid turn.room true (saves.refused_by g.refusal s) g.between next new after g.goes (lands-plain how size what s.file g.between g.refusal g.lands k)
+          goes-plain wsize turn.xid turn.room g.counts (saves.refused_by g.refusal s) g.between next new after g.goes (lands-plain how size what s.file g.between g.refusal g.lands k)
 
       repeats-plain : (again : Bool) (how size : ℕ) (what : Result Reply Fault) (s : Saving) (next : _) (new : Saving) (after : Pending)
           → saves.RepeatsWrite again wsize sent turn (write_told how size what) s back next new after → PlainAt back → PlainAt after
@@ -418,7 +418,7 @@ module _ (f : List ℕ) (i : ℕ) where
       write-none : (how size : ℕ) (s : Saving) (back : Pending) (next : _) (new : Saving) (after : Pending) → EachSound back
           → saves.TakesWrite wsize sent.xid turn.xid turn.room (write_told how size (Err fault)) s back next new after → PlainAt back → PlainAt after
       write-none how size s back next new after sound g k =
-          goes-plain wsize turn.xid turn.room true (saves.refused_by g.refusal s) g.between next new after g.goes (back-plain back g.between s.file sound g.lands.1 k)
+          goes-plain wsize turn.xid turn.room g.counts (saves.refused_by g.refusal s) g.between next new after g.goes (back-plain back g.between s.file sound g.lands.1 k)
 
       first-none : (again : Bool) (s : Saving) (back : Pending) (next : _) (new : Saving) (after : Pending) → saves.TakesFirst again wsize turn (Err fault) s back next new after → PlainAt back → PlainAt after
       first-none true s back next new after g k = same-plain back after g.1 k
