@@ -396,24 +396,10 @@ takes_page terms w s = record {
   gives = thrift.last refl (omega arith) (omega arith) (omega arith) refl;
 }
 
-no_refusal : (r : Five) (y lane line : ℕ) → At (reads_twice r) y (Answered lane line (Refused faults.Memory)) → ⊥
-no_refusal r zero lane line is = absurd (cc is)
-no_refusal r (suc zero) lane line is = absurd (cc is)
-no_refusal r (suc (suc zero)) lane line is = absurd (cc is)
-no_refusal r (suc (suc (suc zero))) lane line is = absurd (cc is)
-no_refusal r (suc (suc (suc (suc zero)))) lane line is = absurd (cc is)
-no_refusal r (suc (suc (suc (suc (suc zero))))) lane line is = absurd (cc is)
-no_refusal r (suc (suc (suc (suc (suc (suc zero)))))) lane line is = absurd (cc is)
-no_refusal r (suc (suc (suc (suc (suc (suc (suc zero))))))) lane line is = absurd (cc is)
-no_refusal r (suc (suc (suc (suc (suc (suc (suc (suc zero)))))))) lane line is = absurd (cc is)
-no_refusal r (suc (suc (suc (suc (suc (suc (suc (suc (suc zero))))))))) lane line is = absurd (cc is)
-no_refusal r (suc (suc (suc (suc (suc (suc (suc (suc (suc (suc y)))))))))) lane line is = absurd (cc is)
-
 stays : (terms : Terms) (r : Five) → AreSpelled r → Unchanged terms (reads_twice r) 0 9 [] (stamp_of one_byte)
 stays terms r s = record {
   shown = shown_stamp r s 9;
   unwritten = λ call xid bytes changes heard after. no_change r s 9 call xid bytes changes heard;
-  room = λ lane x y op ended after before. no_refusal r y lane ended.line ended.answered;
   few = few_pages terms r s 9;
 }
 

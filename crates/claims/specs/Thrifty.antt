@@ -124,12 +124,10 @@ abbrev pub most_pages : ℕ
 most_pages = 1024
 
 -- From the place o to n each reply that shows attributes of the file shows this stamp, no reply answers a WRITE or SETATTR of
--- it, no operation is refused for want of memory (which may have come to its WRITE or SETATTR), and the reads that began by then meet no more
--- pages than are kept.
+-- it, and the reads that began by then meet no more pages than are kept.
 pub record Unchanged (terms : Terms) (h : List Entry) (o n : ℕ) (f : List ℕ) (stamp : Stamp) : Type 0 where
   pub shown : (call : Call) (reply : Reply) (attr : Attr) → CameWithin h o n call reply → ShowsAttr call reply f attr → stamp_of attr ≡ stamp
   pub unwritten : (call : Call) (xid : ℕ) (bytes : List ℕ) → ChangesFile f call → (heard : Heard h 0 n call xid bytes) → o < heard.got_at → ⊥
-  pub room : (lane x y : ℕ) (op : Op) → Ended h lane x op y (Refused faults.Memory) → o < y → y < n → ⊥
   pub few : (pages : List FilePage) → AllPairs (λ (a b : FilePage). a ≢ b) pages → All (IsMet terms h n) pages → length pages ≤ most_pages
 
 -- A reply gives the page whole; or it says that the file ends, and gives the page up to the size.

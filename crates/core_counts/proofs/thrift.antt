@@ -20,7 +20,6 @@ pub mod Parts
 pub mod PutOpenings
 pub mod Quiet
 pub mod ReadsLong
-pub mod SaveFails
 pub mod SaverPages
 pub mod SaverSteps
 pub mod Savers

@@ -29,4 +29,4 @@ pub mod Endings
 pub mod SaveCounts
 pub mod Landed
 pub mod Bare
-pub mod Failing
+pub mod Failed

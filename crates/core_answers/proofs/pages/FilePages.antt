@@ -80,7 +80,7 @@ use Rattle.file_ops.specs.Told.{got_by}
 use Rattle.file_ops.specs.TruncateFile as truncates
 use Rattle.file_ops.specs.WriteFile as writes
 use Rattle.file_ops.proofs.SaveCounts.{by-step, ends_as}
-use Rattle.file_ops.proofs.Failing.{failed-as}
+use Rattle.file_ops.proofs.Failed.{failed-as}
 use Rattle.op_machines.specs.declared.file_machine.FileMachine.{FileMachine}
 use Rattle.op_machines.specs.declared.file_machine.FileMachine.TheVariants as files
 use Rattle.op_machines.specs.FileSteps as steps

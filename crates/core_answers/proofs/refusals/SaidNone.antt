@@ -14,8 +14,9 @@ use Rattle.rpc_message.specs.declared.reply.ReplyFault.TheVariants.{NotReply, Xd
 use Rattle.rpc_message.specs.Reply.{RpcReply, Accepted, Refused, Denied, reply_at}
 use Rattle.world_model.specs.declared.answer.Fault.{Fault}
 use Rattle.world_model.specs.declared.answer.Fault.TheVariants as faults
+use Rattle.world_model.specs.declared.message.Reply.{Reply}
 use Rattle.world_model.specs.Rules.{most_bytes}
-use Rattle.client_shelf.specs.Unmade.{is_unmade}
+use Rattle.client_shelf.specs.Unmade.{is_unmade, came_unmade}
 use Rattle.call_replies.specs.Records.{results_by, results_read, results_in}
 use Rattle.call_replies.specs.Results.{dir_said, file_said, said_in}
 use Rattle.call_replies.specs.Says.{said_by, said_of}
@@ -101,5 +102,9 @@ said-by-made : (proc : ℕ) (results : Result (List ℕ) Fault) → FineResult I
 said-by-made proc (Ok results) f = in-made proc results
 said-by-made proc (Err fault) f = f
 
-pub said-made : (proc : ℕ) (rec : List ℕ) (fault : Fault) → said_of proc rec ≡ Err fault → is_unmade fault ≡ false
-said-made proc rec fault is = subst (FineResult IsMade) is (said-by-made proc (results_in rec) (results-made rec))
+came-made : (came : Result Reply Fault) → FineResult IsMade came → came_unmade came ≡ false
+came-made (Ok reply) f = refl
+came-made (Err fault) f = f
+
+pub said-made : (proc : ℕ) (rec : List ℕ) → came_unmade (said_of proc rec) ≡ false
+said-made proc rec = came-made (said_of proc rec) (said-by-made proc (results_in rec) (results-made rec))

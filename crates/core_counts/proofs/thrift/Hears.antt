@@ -16,7 +16,6 @@ use Rattle.rpc_retry.proofs.Lookups.{others_taken}
 use Rattle.rpc_retry.proofs.Records.{gone}
 use Rattle.page_cache.specs.Pages.{Pages, mark_of}
 use Rattle.world_model.specs.declared.answer.Fault.{Fault}
-use Rattle.world_model.specs.declared.answer.Fault.TheVariants as faults
 use Rattle.world_model.specs.declared.entry.Entry.{Entry}
 use Rattle.world_model.specs.declared.entry.Entry.TheVariants.{Sent, Delivered}
 use Rattle.world_model.specs.declared.message.Call.{Call}
@@ -29,7 +28,6 @@ use Rattle.claims.specs.Shown.{ShowsAttr, of_object, object_of}
 use Rattle.claims.specs.Thrifty.{read_call, CameWithin, ChangesFile}
 use Rattle.world_model.proofs.Places.{At-grow, At-below, length_last}
 use Rattle.call_replies.specs.Says.{said_of}
-use Rattle.client_shelf.specs.declared.next.Next.TheVariants as nexts
 use Rattle.file_ops.specs.PagesOpened.{is_late, opened_pages}
 use Rattle.file_ops.specs.ReadReply.{breaks_rule}
 use Rattle.file_ops.specs.Reading as reading
@@ -55,7 +53,7 @@ use Rattle.core_facts.proofs.Tales.{IsExpected, reached-good}
 use Rattle.core_answers.proofs.asks.Sendings.{NoCall, NoShelf, NoStory, no-laws}
 use Rattle.core_answers.proofs.bonds.Learnt.{IsOn}
 use Rattle.core_answers.proofs.writes.AllFits.{CallFits, fits-laws}
-use Rattle.core_counts.proofs.thrift.Calm.{Kind, quiet, putting, saver, Young, IsFailed, ThenFailed, quiet-fails, putting-fails, leads-calm}
+use Rattle.core_counts.proofs.thrift.Calm.{Kind, quiet, putting, saver, Young, leads-calm}
 use Rattle.core_counts.proofs.thrift.Came.{CameNow, CameLate, OutNow, out-now, came-now, came-within, came-late, Mine, mine-of}
 use Rattle.core_counts.proofs.thrift.Growth.{Tells, good-opened, good-known}
 use Rattle.core_counts.proofs.thrift.Holds.{HoldsPage}
@@ -65,8 +63,8 @@ use Rattle.core_counts.proofs.thrift.PageNames.{IsGiven}
 use Rattle.core_counts.proofs.thrift.PartSteps.{WasSent, was-met, few-bytes}
 use Rattle.core_counts.proofs.thrift.PutOpenings.{putting-takes, putting-pages}
 use Rattle.core_counts.proofs.thrift.Quiet.{takes-quiet}
-use Rattle.core_counts.proofs.thrift.Savers.{IsSaver, Free, Fails, cuts_of, saver-takes, saver-pages, written-changes, set-changes}
-use Rattle.core_counts.proofs.thrift.Stays.{Case, Follows, Unfailed, Met, GoodAt, Yet, is-yet, CalmHere, shows, grow-with, yet-grows, before-last, alone, failed-here, quiet-then, putting-then, saver-then, quiet-free}
+use Rattle.core_counts.proofs.thrift.Savers.{cuts_of, saver-takes, saver-pages, written-changes, set-changes}
+use Rattle.core_counts.proofs.thrift.Stays.{Case, Follows, Met, GoodAt, Yet, CalmHere, shows, grow-with, before-last, alone, quiet-then, putting-then, saver-then}
 use Rattle.core_counts.proofs.thrift.TakePages.{TakeLaws, quiet-takes}
 
 module _ (m : Mounted) (setup : Setup) (q : Case m setup) (h : List Entry) (old new : View) (rec : List ℕ) (xid : ℕ) (call : Waiting Purpose) (k : ℕ) (r : Reaches (machine_of m) setup h old)
@@ -121,12 +119,12 @@ module _ (m : Mounted) (setup : Setup) (q : Case m setup) (h : List Entry) (old 
   expected = ((reached-good (machine_of m) (begins-unbegun m) setup CallFits fits-laws NoCall NoShelf NoStory (no-laws (machine_of m) setup CallFits) h old r).each k
       (record { number = t.number; state = Busy t.machine }) t.there).0 xid call waits (sym of-lane)
 
-  flies-not : (failed : Bool) (g : List ℕ) → flies_of t.machine ≡ Some g → (g_ : List ℕ) (s : Stamp) (j : ℕ) → Unfailed m setup q h failed g_ s j → g_ ≡ g → ⊥
-  flies-not failed g flies g_ s j p same =
-      changes-not expected.made.asked expected.made.spells.spells g (written-changes expected.made.asked g (expected.expects.sends g flies)) (sym p.0.0 ∙ same) p.0.3
+  flies-not : (g : List ℕ) → flies_of t.machine ≡ Some g → (g_ : List ℕ) (s : Stamp) (j : ℕ) → Follows m setup q h g_ s j → g_ ≡ g → ⊥
+  flies-not g flies g_ s j p same =
+      changes-not expected.made.asked expected.made.spells.spells g (written-changes expected.made.asked g (expected.expects.sends g flies)) (sym p.0 ∙ same) p.3
 
-  cuts-not : (failed : Bool) (g : List ℕ) → cuts_of t.machine ≡ Some g → (g_ : List ℕ) (s : Stamp) (j : ℕ) → Unfailed m setup q h failed g_ s j → g_ ≡ g → ⊥
-  cuts-not failed g cuts g_ s j p same = changes-not asked mine.made.spells.spells g (set-changes t.machine asked g cuts mine.on.1) (sym p.0.0 ∙ same) p.0.3
+  cuts-not : (g : List ℕ) → cuts_of t.machine ≡ Some g → (g_ : List ℕ) (s : Stamp) (j : ℕ) → Follows m setup q h g_ s j → g_ ≡ g → ⊥
+  cuts-not g cuts g_ s j p same = changes-not asked mine.made.spells.spells g (set-changes t.machine asked g cuts mine.on.1) (sym p.0 ∙ same) p.3
 
   was-sent-so : (reply : Reply) → came ≡ Ok reply → WasSent h asked
   was-sent-so reply said = let n_ = told reply said in record { at = n_.from; xid = xid; bytes = call.bytes; sent = n_.out.sent.sent; spells = mine.made.spells.spells }
@@ -151,11 +149,11 @@ module _ (m : Mounted) (setup : Setup) (q : Case m setup) (h : List Entry) (old 
 
   module _ (c : CalmHere m setup q h old) where
     tells : (file : List ℕ) (attr : Attr) (reply : Reply) → came ≡ Ok reply → ((g : List ℕ) → g ≡ file → ShowsAttr asked reply g attr)
-        → Tells (Met m setup q) (Unfailed m setup q h c.failed) (λ g z j p. q.few) file (stamp_of attr)
-    tells file attr reply said shows_ g z j p same = shown reply attr said p.0.3 (subst (λ (x : List ℕ). ShowsAttr asked reply x attr) p.0.0 (shows_ g same)) ∙ sym p.0.1
+        → Tells (Met m setup q) (Follows m setup q h) (λ g z j p. q.few) file (stamp_of attr)
+    tells file attr reply said shows_ g z j p same = shown reply attr said p.3 (subst (λ (x : List ℕ). ShowsAttr asked reply x attr) p.0 (shows_ g same)) ∙ sym p.1
 
     module _ (young : Young c.b old) where
-      not-late : (file : List ℕ) (pages : Pages) → GoodAt m setup q h c.failed c.b pages → is_late file call.purpose.sent.moment pages ≡ false
+      not-late : (file : List ℕ) (pages : Pages) → GoodAt m setup q h c.b pages → is_late file call.purpose.sent.moment pages ≡ false
       not-late file pages good = by (mark_of file pages) refl
         where
           by : (x : Option ℕ) → mark_of file pages ≡ x → option_map_or (λ mark. nat_le call.purpose.sent.moment mark) x false ≡ false
@@ -169,24 +167,24 @@ module _ (m : Mounted) (setup : Setup) (q : Case m setup) (h : List Entry) (old 
                   let late = young xid call waits in
                   absurd (grind (arith, nat_tests))
 
-      opens-so : (file : List ℕ) (attr : Attr) (mark : ℕ) (pages : Pages) → mark ≤ c.b → came ≡ Ok (replies.File (kept.GetAttr attr)) → IsOn file asked → GoodAt m setup q h c.failed c.b pages
-          → GoodAt m setup q h c.failed c.b (opened_pages file attr mark call.purpose.sent (turn_at (taken_one old xid)) pages)
+      opens-so : (file : List ℕ) (attr : Attr) (mark : ℕ) (pages : Pages) → mark ≤ c.b → came ≡ Ok (replies.File (kept.GetAttr attr)) → IsOn file asked → GoodAt m setup q h c.b pages
+          → GoodAt m setup q h c.b (opened_pages file attr mark call.purpose.sent (turn_at (taken_one old xid)) pages)
       opens-so file attr mark pages low said on good =
-          rw (not-late file pages good) (good-opened (Met m setup q) (Unfailed m setup q h c.failed) (λ g z j p. q.few) c.b file (stamp_of attr) mark pages low
+          rw (not-late file pages good) (good-opened (Met m setup q) (Follows m setup q h) (λ g z j p. q.few) c.b file (stamp_of attr) mark pages low
           (tells file attr (replies.File (kept.GetAttr attr)) said (λ g same. of_object (subst (λ (x : List ℕ). IsOn x asked) (sym same) on) refl)) good)
 
       notes-so : (file : List ℕ) (attr : Option Attr) (counted_ : ℕ) (eof : Bool) (given : List ℕ) (place count : ℕ) (pages : Pages)
           → came ≡ Ok (replies.File (kept.Read attr counted_ eof given)) → asked ≡ calls.File (file_calls.Read file place count) → breaks_rule count counted_ eof given ≡ false
-          → GoodAt m setup q h c.failed c.b pages → GoodAt m setup q h c.failed c.b (reading.noted attr file call.purpose.sent.moment place given eof pages)
+          → GoodAt m setup q h c.b pages → GoodAt m setup q h c.b (reading.noted attr file call.purpose.sent.moment place given eof pages)
       notes-so file attr counted_ eof given place count pages said asked_is breaks good =
-          noted-good (Met m setup q) (Unfailed m setup q h c.failed) (λ g z j p. q.few) c.b attr file call.purpose.sent.moment place given eof pages
+          noted-good (Met m setup q) (Follows m setup q h) (λ g z j p. q.few) c.b attr file call.purpose.sent.moment place given eof pages
           (λ index ends g. met-so file place count index given ends (replies.File (kept.Read attr counted_ eof given)) said asked_is (few-bytes count counted_ eof given breaks) g)
           (λ a some. tells file a (replies.File (kept.Read attr counted_ eof given)) said (λ g same. of_object (ap object_of asked_is ∙ ap Some (sym same)) some)) good
 
-      take-laws : TakeLaws (GoodAt m setup q h c.failed c.b) c.b asked came call.purpose.sent (turn_at (taken_one old xid))
+      take-laws : TakeLaws (GoodAt m setup q h c.b) c.b asked came call.purpose.sent (turn_at (taken_one old xid))
       take-laws = record {
         opens = opens-so;
-        knows = λ file stamp mark pages low is_known. good-known (Met m setup q) (Unfailed m setup q h c.failed) (λ g z j p. q.few) c.b file stamp mark pages low is_known;
+        knows = λ file stamp mark pages low is_known. good-known (Met m setup q) (Follows m setup q h) (λ g z j p. q.few) c.b file stamp mark pages low is_known;
         notes = notes-so;
       }
 
@@ -220,10 +218,8 @@ module _ (m : Mounted) (setup : Setup) (q : Case m setup) (h : List Entry) (old 
     record AfterTaking : Type 0 where
       b : ℕ
       low : b ≤ mid.moments
-      pages : GoodAt m setup q h c.failed b t.shelf.pages
+      pages : GoodAt m setup q h b t.shelf.pages
       own : ThenOf (Kind b mid) (λ answer. Unit {0}) t.next t.after
-      free : (asked_next : Call) → t.next ≡ nexts.Send asked_next → IsSaver t.after → Free t.after
-      fails : IsFailed old → ThenFailed t.next t.after
 
     taken : Kind c.b old t.machine → AfterTaking
     taken (quiet young k_) =
@@ -231,56 +227,41 @@ module _ (m : Mounted) (setup : Setup) (q : Case m setup) (h : List Entry) (old 
         record {
           b = c.b;
           low = let low = c.low in omega (arith, low);
-          pages = quiet-takes (GoodAt m setup q h c.failed c.b) (shows m setup q h c.failed c.b) c.b asked came call.purpose.sent (turn_at (taken_one old xid)) (take-laws young) t.machine old.wsize old.shelf
+          pages = quiet-takes (GoodAt m setup q h c.b) (shows m setup q h c.b) c.b asked came call.purpose.sent (turn_at (taken_one old xid)) (take-laws young) t.machine old.wsize old.shelf
               t.next t.after t.shelf k_ (λ reply said. mine.on) t.takes c.pages;
           own = quiet-then m setup q c.b mid (young-mid young) t.next t.after then_;
-          free = quiet-free m setup q c.b t.next t.after then_;
-          fails = λ w. let f = failed-here m setup q old k t.number t.machine t.there only w in absurd (quiet-fails c.b f.fault t.machine k_ f.fails);
         }
     taken (putting young k_) =
         let then_ = putting-takes c.b came call.purpose.sent (turn_at (taken_one old xid)) t.machine old.wsize old.shelf t.next t.after t.shelf k_ t.takes in
         record {
           b = c.b;
           low = let low = c.low in omega (arith, low);
-          pages = putting-pages (GoodAt m setup q h c.failed c.b) (shows m setup q h c.failed c.b) c.b asked came call.purpose.sent (turn_at (taken_one old xid)) (take-laws young) t.machine old.wsize old.shelf
+          pages = putting-pages (GoodAt m setup q h c.b) (shows m setup q h c.b) c.b asked came call.purpose.sent (turn_at (taken_one old xid)) (take-laws young) t.machine old.wsize old.shelf
               t.next t.after t.shelf k_ (λ reply said. mine.on) t.takes c.pages;
-          own = putting-then m setup q c.b mid (young-mid young) t.next t.after then_.stays;
-          free = then_.frees;
-          fails = λ w. let f = failed-here m setup q old k t.number t.machine t.there only w in absurd (putting-fails c.b f.fault t.machine k_ f.fails);
+          own = putting-then m setup q c.b mid (young-mid young) t.next t.after then_;
         }
     taken (saver own) =
-        let then_ = saver-takes faults.Memory ⊥ t.machine old.wsize call.purpose.sent (turn_at (taken_one old xid)) came old.shelf t.next t.after t.shelf own (λ x. absurd x) t.takes in
+        let then_ = saver-takes t.machine old.wsize call.purpose.sent (turn_at (taken_one old xid)) came old.shelf t.next t.after t.shelf own t.takes in
         record {
           b = old.moments + 1;
           low = omega arith;
-          pages = saver-pages (Met m setup q) (Unfailed m setup q h c.failed) (λ g z j p. q.few) (old.moments + 1) came call.purpose.sent (turn_at (taken_one old xid)) old.shelf (omega arith)
-              (good-later (Met m setup q) (Unfailed m setup q h c.failed) (λ g z j p. q.few) c.b (Unfailed m setup q h c.failed) (λ g z j p. q.few) (old.moments + 1) old.shelf.pages
+          pages = saver-pages (Met m setup q) (Follows m setup q h) (λ g z j p. q.few) (old.moments + 1) came call.purpose.sent (turn_at (taken_one old xid)) old.shelf (omega arith)
+              (good-later (Met m setup q) (Follows m setup q h) (λ g z j p. q.few) c.b (Follows m setup q h) (λ g z j p. q.few) (old.moments + 1) old.shelf.pages
               (let low = c.low in omega (arith, low)) (λ g z j p. p) c.pages)
-              t.machine old.wsize t.next t.after t.shelf own (flies-not c.failed) (cuts-not c.failed) t.takes;
-          own = saver-then m setup q (old.moments + 1) mid t.next t.after then_.stays;
-          free = λ asked_next e kind. then_.frees asked_next e;
-          fails = λ w.
-              let f = failed-here m setup q old k t.number t.machine t.there only w in
-              record {
-                fault = f.fault;
-                want = f.want;
-                so = (saver-takes f.fault (Fails f.fault t.machine) t.machine old.wsize call.purpose.sent (turn_at (taken_one old xid)) came old.shelf t.next t.after t.shelf own (λ x. inl x) t.takes).so f.fails;
-              };
+              t.machine old.wsize t.next t.after t.shelf own (λ g is made. flies-not g is) (λ g is made. cuts-not g is) t.takes;
+          own = saver-then m setup q (old.moments + 1) mid t.next t.after then_;
         }
 
     pub takes-calm : (q.at ≡ length h → HoldsPage q.f q.s q.i t.shelf.pages) → CalmHere m setup q later new
     takes-calm held =
         let a = taken (c.lanes k t.number t.machine t.there) in
-        leads-calm (Met m setup q) q.few q.f (Yet m setup q later) (Follows m setup q later) (λ g z j p. p.0) (λ g z j p. p.3) (is-yet m setup q later) setup later mid new k t.number t.after t.next
+        leads-calm (Met m setup q) q.few (Follows m setup q later) setup later mid new k t.number t.after t.next
         ((rows-stay setup later).sets (taken_one old xid) k t.number (Busy t.machine) (Busy t.after) t.shelf t.there heard-rows)
         (record {
           b = a.b;
           low = a.low;
-          failed = c.failed;
-          pages = grow-with m setup q h (Delivered rec) c.failed a.b a.b t.shelf.pages (omega arith) held a.pages;
+          pages = grow-with m setup q h (Delivered rec) a.b a.b t.shelf.pages (omega arith) held a.pages;
           there = at-set old.lanes k (record { number = t.number; state = Busy t.machine }) (record { number = t.number; state = Busy t.after }) t.there;
           own = a.own;
-          free = a.free;
           alone = only-mid;
-          why = λ failed. let w = c.why failed in (yet-grows m setup q h (Delivered rec) w.0, a.fails w.1);
         }) t.leads

@@ -1,16 +1,15 @@
 -- A page that a READ gave isn't asked for again, as long as nothing shows a change.
-use Rattle.std.proofs.Common.{◌≡◌, ◌<◌, ◌≤◌, ◌+◌, ◌⊎◌, inl, inr, ℕ, Bool, true, false, List, [], ◌∷◌, ◌++◌, length, Option, Some, None, option_map, position, slice_get, refl, sym, ap, subst, ◌∙◌, arith}
+use Rattle.std.proofs.Common.{◌≡◌, ◌<◌, ◌≤◌, ◌+◌, ◌⊎◌, inl, inr, ℕ, false, List, [], ◌∷◌, ◌++◌, length, Option, Some, None, option_map, position, slice_get, refl, sym, ap, subst, ◌∙◌, arith}
 use Rattle.std.proofs.lemmas.List.Elements.{All-weaker}
 use Rattle.nfs_types.specs.declared.wcc.Stamp.{Stamp}
 use Rattle.rpc_message.specs.Call.{xid_at}
-use Rattle.rpc_message.proofs.CallLaws.{call_xid}
 use Rattle.rpc_retry.specs.declared.waiting.Waiting.{Waiting}
 use Rattle.rpc_retry.specs.Take.{awaited}
 use Rattle.rpc_retry.specs.Waiting.{waiting_at}
 use Rattle.world_model.specs.declared.entry.Entry.{Entry}
 use Rattle.world_model.specs.declared.entry.Entry.TheVariants.{Began, Sent, Delivered}
 use Rattle.world_model.specs.Entries.{At}
-use Rattle.world_model.specs.Messages.{SpellsCall, head_of}
+use Rattle.world_model.specs.Messages.{SpellsCall}
 use Rattle.claims.specs.Terms.{Terms}
 use Rattle.claims.specs.Thrifty.{read_call, MeetsPage, OneLane, TookPage, Unchanged, IsMet}
 use Rattle.world_model.specs.Waiting.{FirstSent}
@@ -21,7 +20,6 @@ use Rattle.op_machines.specs.declared.file_machine.FileMachine.TheVariants as fi
 use Rattle.op_machines.specs.declared.machine.Machine.TheVariants as machines
 use Rattle.op_machines.specs.Begun.{machine_of}
 use Rattle.client_core.specs.declared.lane.Purpose.{Purpose}
-use Rattle.client_core.specs.declared.lane.State.TheVariants.{Busy}
 use Rattle.client_core.specs.declared.setup.Setup.{Setup}
 use Rattle.client_core.specs.Lanes.{is_busy}
 use Rattle.client_core.specs.Steps.{TakesAt}
@@ -29,11 +27,9 @@ use Rattle.client_core.specs.View.{View}
 use Rattle.core_facts.specs.Reaches.{HearsRecord, Reaches}
 use Rattle.core_facts.proofs.AllCounts.{begins-unbegun}
 use Rattle.core_facts.proofs.Cases.{taken_one}
-use Rattle.core_facts.proofs.Grown.{one-xid}
-use Rattle.core_facts.proofs.Keeping.{Known, reached-all}
+use Rattle.core_facts.proofs.Keeping.{Known}
 use Rattle.core_session.specs.calls.Sessions.{IsSession}
 use Rattle.core_session.specs.calls.Whole.{GoesFrom}
-use Rattle.core_session.proofs.calls.Causes.{Spelt, Now}
 use Rattle.core_session.proofs.calls.Outgoing.{Outgoing}
 use Rattle.core_session.proofs.calls.Whole.{session, early-or}
 use Rattle.core_session.proofs.kept.OwnHeeds.{Awaits, AllHeard, HeardFrom, keeps-heard}
@@ -44,9 +40,9 @@ use Rattle.core_counts.proofs.thrift.DropsAlong.{KeepsMoments, reached-moments}
 use Rattle.core_counts.proofs.thrift.Hears.{takes-calm}
 use Rattle.core_counts.proofs.thrift.Holds.{HoldsPage}
 use Rattle.core_counts.proofs.thrift.MetReads.{MetBefore, met-is}
-use Rattle.core_counts.proofs.thrift.ReadsLong.{none-early, ranged}
-use Rattle.core_counts.proofs.thrift.Savers.{IsSaver, Fails}
-use Rattle.core_counts.proofs.thrift.Stays.{Case, CalmAt, CalmHere, alone, failed-here, calm-grows, before-last, shorter, fresh-calm, stirs-calm, starts-calm, answers-calm, same-calm}
+use Rattle.core_counts.proofs.thrift.ReadsLong.{none-early}
+use Rattle.core_counts.proofs.thrift.Savers.{IsSaver}
+use Rattle.core_counts.proofs.thrift.Stays.{Case, CalmAt, CalmHere, calm-grows, before-last, shorter, fresh-calm, stirs-calm, starts-calm, answers-calm, same-calm}
 use Rattle.core_counts.proofs.thrift.Taken.{read-machine, held-now}
 use Rattle.core_counts.proofs.thrift.UnkeptAsked.{none-at}
 
@@ -116,7 +112,7 @@ module _ (m : Mounted) (terms : Terms) (setup : Setup) (nocto : m.nocto ≡ term
       of = read-machine m terms setup nocto some_size q took h old new rec xid call k r found known fin hears named waits there t rest is within now
 
       by : Kind c.b old t.machine → HoldsPage q.f q.s q.i t.shelf.pages
-      by (quiet young z) = held-now m terms setup nocto some_size q took h old new rec xid call k r found known fin hears named waits there t rest is within now c.failed c.b c.pages young
+      by (quiet young z) = held-now m terms setup nocto some_size q took h old new rec xid call k r found known fin hears named waits there t rest is within now c.b c.pages young
       by (putting young z) = absurd (path-read z.m of.0 (sym z.is ∙ of.1))
       by (saver z) = absurd (subst IsSaver of.1 z)
 
@@ -129,7 +125,7 @@ module _ (m : Mounted) (terms : Terms) (setup : Setup) (nocto : m.nocto ≡ term
         let c = all (Delivered rec ∷ rest) (before-last m setup q h (Delivered rec) rest is) (shorter m setup q h (Delivered rec) within) in
         takes-calm m setup q h old new rec xid call k r found known fin hears named waits there t rest is within c
         (held h old new rec xid call k r found known fin hears named waits there t rest is within c);
-    answers = λ h old new k lane line answer reached found known a all. answers-calm m setup q h old new k lane line answer reached found known a all;
+    answers = λ h old new k lane line answer reached found known a all. answers-calm m setup q h old new k lane line answer known a all;
     same = λ h e old new plain lanes shelf wsize moments calls all. same-calm m setup q h e old new plain lanes shelf moments calls all;
     drops = λ h old fin rec r found known none hears all rest is within.
         calm-grows m setup q h (Delivered rec) old (not-dropped h old rec rest is r found none)
@@ -144,11 +140,6 @@ module _ (m : Mounted) (terms : Terms) (setup : Setup) (before h : List Entry) (
     (late : at < n) (met : MeetsPage offset count page) (so : Unchanged terms h o n f stamp) (w : Outgoing (machine_of m) (begins-unbegun m) setup h n bytes) where
   its : IsSession m terms setup h v
   its = session m terms setup before h v g
-
-  same-xid : w.xid ≡ xid
-  same-xid =
-      let s = (Now m terms setup h v its n bytes w).made in
-      one-xid w.xid xid bytes (call_xid (head_of w.xid (Spelt m terms setup h v its n bytes w)) s.spells.args bytes s.spells.head) sent.under
 
   opened : o < at
   opened =
@@ -172,12 +163,6 @@ module _ (m : Mounted) (terms : Terms) (setup : Setup) (before h : List Entry) (
     shown = so.shown;
     unwritten = so.unwritten;
     few = λ pages apart all. so.few pages apart (All-weaker (MetBefore h n) (IsMet terms h n) (met-is m terms setup before h v g n) pages all);
-    room = so.room;
-    xid = xid;
-    bytes = bytes;
-    first = sent;
-    low = subst (λ (x : ℕ). setup.first_xid ≤ x) same-xid w.low;
-    high = subst (λ (x : ℕ). x < setup.first_xid + setup.limit) same-xid w.high;
     after = opened;
     open_lane = took.lane;
     open_line = took.opens.ended.line;
@@ -193,20 +178,8 @@ module _ (m : Mounted) (terms : Terms) (setup : Setup) (before h : List Entry) (
   calm : CalmHere m setup case w.before w.old
   calm = calm-before m terms setup its.goes.nocto its.some case took w.before w.after w.old w.reached w.found (sym w.is) within
 
-  -- it isn't a lane that was refused
-  not-failed : calm.failed ≡ true → ⊥
-  not-failed is =
-      let known = reached-all (machine_of m) (begins-unbegun m) setup w.before w.old w.reached w.found in
-      let only = alone m setup case w.before w.after w.old (sym w.is) known w.at (record { number = w.waiting.purpose.lane; state = Busy w.machine }) w.busy in
-      let k = failed-here m setup case w.old w.at w.waiting.purpose.lane w.machine w.busy only (calm.why is).1 in
-      subst (Fails k.fault) (ranged m terms setup h v its n bytes w xid offset count f spells).is k.fails
-
   kept-still : HoldsPage f stamp page w.old.shelf.pages
-  kept-still = by calm.failed refl
-    where
-      by : (b : Bool) → calm.failed ≡ b → HoldsPage f stamp page w.old.shelf.pages
-      by true is = absurd (not-failed is)
-      by false is = calm.pages.holds f stamp page ((refl, refl, refl, (let there = w.there in omega (arith, there, late))), is)
+  kept-still = calm.pages.holds f stamp page (refl, refl, refl, (let there = w.there in omega (arith, there, late)))
 
   never-again : ⊥
   never-again = kept-still.there (none-at m terms setup h v its n bytes w xid offset count f spells one page met)

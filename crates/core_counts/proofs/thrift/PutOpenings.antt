@@ -42,8 +42,8 @@ use Rattle.core_answers.proofs.pages.NamePages.{SamePages, kept-as, walk-takes-k
 use Rattle.core_answers.proofs.pages.PageCalls.{Both}
 use Rattle.core_session.proofs.current.FedPages.{as-shelf}
 use Rattle.core_session.proofs.kept.OwnTold.{added-same}
-use Rattle.core_counts.proofs.thrift.SaverSteps.{PutFails, PutFree, PutSaves, StateSaves, StepThen, adds-then}
-use Rattle.core_counts.proofs.thrift.Savers.{FailsFile, FreeFile, SavesFile, SavesPath, IsSaver, Free, FileStep, AllStep, then-map, lift-step, as-path}
+use Rattle.core_counts.proofs.thrift.SaverSteps.{PutSaves, stays-any, stays-done, adds-then}
+use Rattle.core_counts.proofs.thrift.Savers.{SavesFile, IsSaver, FileStays, then-map, as-path}
 use Rattle.core_counts.proofs.thrift.TakePages.{TakeLaws, led-pages, follows-pages}
 
 -- A put that opens its file, or is on the way to it, with a moment that isn't later.
@@ -55,10 +55,12 @@ pub record IsPutting (b : ℕ) (machine : Machine) : Type 0 where
   pub low : q.opening.moment ≤ b
   pub there : m.arrived ≡ true → q.state ≡ putting.Opens
 
--- It goes on so, or makes its bytes stable; where it asks for a WRITE it wasn't refused.
-pub record PutThen (b : ℕ) (next : Next) (new : Machine) : Type 0 where
-  pub stays : ThenOf (λ (z : Machine). IsPutting b z ⊎ IsSaver z) (λ answer. Unit {0}) next new
-  pub frees : (call : Call) → next ≡ nexts.Send call → IsSaver new → Free new
+-- It goes on so, or makes its bytes stable.
+abbrev pub IsEither : ℕ → Machine → Type 0
+IsEither b z = IsPutting b z ⊎ IsSaver z
+
+abbrev pub PutThen : ℕ → Next → Machine → Type 0
+PutThen b next new = ThenOf (IsEither b) (λ answer. Unit {0}) next new
 
 put-is : (p q : PutFile) → files.Put p ≡ files.Put q → p ≡ q
 put-is p q e = cc
@@ -92,26 +94,10 @@ module _ (b : ℕ) where
   -- ---- what a step leads to
 
   then-done : (answer : Answer) (next : Next) (new : Machine) → next ≡ nexts.Done answer → PutThen b next new
-  then-done answer next new is = subst (λ (n : Next). PutThen b n new) (sym is) (record { stays = tt; frees = λ call e own. absurd (no-done call e) })
-    where
-      no-done : (call : Call) → nexts.Done answer ≡ nexts.Send call → ⊥
-      no-done call e = cc
-
-  -- of a put that opens nothing is said
-  put-free : (new : Machine) → IsPutting b new → IsSaver new → Free new
-  put-free new k own = absurd (by k.m.arrived refl (subst IsSaver k.is own))
-    where
-      by : (a : Bool) → k.m.arrived ≡ a → SavesPath k.m.arrived k.m.opener → ⊥
-      by true there s = subst StateSaves (k.there there) (subst (λ (o : Opener). SavesFile (file_of o)) k.opener (subst (λ (x : Bool). SavesPath x k.m.opener) there s))
-      by false there s = subst (λ (x : Bool). SavesPath x k.m.opener) there s
+  then-done answer next new is = stays-done (IsEither b) answer next new is
 
   then-goes : (next : Next) (new : Machine) → IsPutting b new → PutThen b next new
-  then-goes next new k = record { stays = by next; frees = λ call e own. put-free new k own }
-    where
-      by : (n : Next) → ThenOf (λ (z : Machine). IsPutting b z ⊎ IsSaver z) (λ answer. Unit {0}) n new
-      by (nexts.Send call) = inl k
-      by nexts.Wait = inl k
-      by (nexts.Done answer) = tt
+  then-goes next new k = stays-any (IsEither b) next new (inl k)
 
   as-machine : (m : PathMachine) (o : Opener) (q : PutFile) (p : PathMachine) (new : Machine) → new ≡ machines.Path p → p ≡ record m { opener = o } → o ≡ openers.Put q → q.opening.moment ≤ b
       → q.state ≡ putting.Opens → IsPutting b new
@@ -179,14 +165,9 @@ module _ (b : ℕ) where
     after-opening openings.Wait wsize m o q k took next p new after there is at opener low state a =
         then-goes next new (as-machine m o q p new is at (opener-put o q (opener ∙ ap files.Put a.machine_is)) low state)
     after-opening (openings.Ended (Ok file)) wsize m o q k took next p new after there is at opener low state a =
-        let own : StepThen (PutFails faults.Memory) PutFree PutSaves faults.Memory ⊥ next k = adds-then faults.Memory ⊥ wsize q file turn took next k after (λ x. x) a in
-        let file_step : FileStep faults.Memory ⊥ next (file_of o) = subst (FileStep faults.Memory ⊥ next) (sym opener)
-        (lift-step (PutFails faults.Memory) PutFree PutSaves (FailsFile faults.Memory) FreeFile SavesFile faults.Memory ⊥ next k (files.Put k) (λ z. z) (λ z. z) (λ z. z) own) in
-        let all : AllStep faults.Memory ⊥ next new = as-path faults.Memory ⊥ m o next p new there is at file_step in
-        record {
-          stays = then-map IsSaver (λ (z : Machine). IsPutting b z ⊎ IsSaver z) (λ answer. Unit {0}) next new new (λ z. inr z) all.stays;
-          frees = λ call e saver. all.frees call e;
-        }
+        let own : FileStays next (file_of o) = subst (FileStays next) (sym opener)
+        (then-map PutSaves SavesFile (λ answer. Unit {0}) next k (files.Put k) (λ z. z) (adds-then wsize q file turn took next k after a)) in
+        then-map IsSaver (IsEither b) (λ answer. Unit {0}) next new new (λ z. inr z) (as-path m o next p new there is at own)
     after-opening (openings.Ended (Err fault)) wsize m o q k took next p new after there is at opener low state a = then-done (answers.Refused fault) next new a.0
 
     path-takes : (a : Bool) (wsize : ℕ) (m : PathMachine) (q : PutFile) (old : Shelf) (next : Next) (p : PathMachine) (new : Machine) (after : Shelf) → m.opener ≡ openers.Put q

@@ -1,30 +1,29 @@
 -- Operations that make bytes stable or set a size, as any operation: what their steps lead to, and what becomes of the kept pages.
-use Rattle.std.proofs.Common.{◌≡◌, ◌≤◌, ◌-◌, ◌⊎◌, inl, inr, ℕ, Bool, true, false, List, [], Option, Some, None, Result, Ok, Err, refl, sym, ap, subst, ◌∙◌}
+use Rattle.std.proofs.Common.{◌≡◌, ◌≤◌, ◌-◌, ℕ, Bool, true, false, List, [], Option, Some, None, Result, Ok, Err, refl, sym, ap, subst, ◌∙◌}
 use Rattle.nfs_types.specs.declared.wcc.Stamp.{Stamp}
 use Rattle.nfs_types.specs.declared.wcc.Wcc.{Wcc}
 use Rattle.nfs_file_calls.specs.declared.call.FileCall.{FileCall}
 use Rattle.nfs_file_calls.specs.declared.call.FileCall.TheVariants as file_calls
 use Rattle.page_cache.specs.Pages.{Pages}
 use Rattle.world_model.specs.declared.answer.Answer.{Answer}
-use Rattle.world_model.specs.declared.answer.Answer.TheVariants as answers
 use Rattle.world_model.specs.declared.answer.Fault.{Fault}
-use Rattle.world_model.specs.declared.answer.Fault.TheVariants as faults
 use Rattle.world_model.specs.declared.message.Call.{Call}
 use Rattle.world_model.specs.declared.message.Call.TheVariants as calls
 use Rattle.world_model.specs.declared.message.Reply.{Reply}
 use Rattle.claims.specs.Thrifty.{ChangesFile}
 use Rattle.claims.specs.Thrifty as thrifty
-use Rattle.client_shelf.specs.Busy.{fails_busy, goes_again}
+use Rattle.client_shelf.specs.Unmade.{came_unmade}
 use Rattle.client_shelf.specs.declared.next.Next.{Next}
 use Rattle.client_shelf.specs.declared.next.Next.TheVariants as nexts
-use Rattle.client_shelf.specs.declared.repeats.Repeat.{Repeat}
 use Rattle.client_shelf.specs.declared.shelf.Shelf.{Shelf}
 use Rattle.client_shelf.specs.declared.turn.Turn.{Turn}
+use Rattle.file_ops.specs.declared.put_file.PutFile.{PutFile}
 use Rattle.file_ops.specs.declared.truncate_file.TruncateFile.{TruncateFile}
 use Rattle.file_ops.specs.declared.truncate_file.Truncating.{Truncating}
 use Rattle.file_ops.specs.declared.truncate_file.Truncating.TheVariants as truncating
 use Rattle.file_ops.specs.Saves as saves
 use Rattle.file_ops.specs.TruncateFile as truncates
+use Rattle.file_ops.proofs.Failed.{failed-as, failed-unmade}
 use Rattle.op_machines.specs.declared.file_machine.FileMachine.{FileMachine}
 use Rattle.op_machines.specs.declared.file_machine.FileMachine.TheVariants as files
 use Rattle.op_machines.specs.declared.machine.Machine.{Machine}
@@ -45,11 +44,10 @@ use Rattle.core_session.proofs.kept.OwnTold.{takes-wrote}
 use Rattle.core_counts.proofs.thrift.Distinct.{Few}
 use Rattle.core_counts.proofs.thrift.Growth.{GoodPages}
 use Rattle.core_counts.proofs.thrift.OtherPages.{good-wrote, good-cut}
-use Rattle.core_counts.proofs.thrift.SaveFails.{Unmade}
 use Rattle.core_counts.proofs.thrift.SaverPages.{write-none, sync-none, close-none, put-none}
-use Rattle.core_counts.proofs.thrift.SaverSteps.{StepThen, Any, WriteFails, WriteFree, SyncFails, SyncFree, CloseFails, CloseFree, PutFails, PutFree, PutSaves, sync-starts, sync-resumes, sync-takes, write-starts, write-resumes, write-takes, close-starts, close-resumes, close-takes, put-resumes, put-takes}
+use Rattle.core_counts.proofs.thrift.SaverSteps.{PutSaves, PutStays, stays-any, put-resumes, put-takes}
 
--- ---- which they are, which were refused, and which weren't as they send
+-- ---- which they are
 
 abbrev pub SavesFile : FileMachine → Type 0
 SavesFile (files.Open m) = ⊥
@@ -68,42 +66,6 @@ abbrev pub IsSaver : Machine → Type 0
 IsSaver (machines.File m) = SavesFile m
 IsSaver (machines.Path m) = SavesPath m.arrived m.opener
 IsSaver (machines.Name m) = ⊥
-
-abbrev pub FailsFile : Fault → FileMachine → Type 0
-FailsFile F (files.Open m) = ⊥
-FailsFile F (files.Read m) = ⊥
-FailsFile F (files.Write m) = WriteFails F m.state
-FailsFile F (files.Sync m) = SyncFails F m.state
-FailsFile F (files.Close m) = CloseFails F m.state
-FailsFile F (files.Truncate m) = ⊥
-FailsFile F (files.Put m) = PutFails F m
-
-abbrev pub FailsPath : Fault → Bool → Opener → Type 0
-FailsPath F true opener = FailsFile F (file_of opener)
-FailsPath F false opener = ⊥
-
-abbrev pub Fails : Fault → Machine → Type 0
-Fails F (machines.File m) = FailsFile F m
-Fails F (machines.Path m) = FailsPath F m.arrived m.opener
-Fails F (machines.Name m) = ⊥
-
-abbrev pub FreeFile : FileMachine → Type 0
-FreeFile (files.Open m) = Unit {0}
-FreeFile (files.Read m) = Unit {0}
-FreeFile (files.Write m) = WriteFree m.state
-FreeFile (files.Sync m) = SyncFree m.state
-FreeFile (files.Close m) = CloseFree m.state
-FreeFile (files.Truncate m) = Unit {0}
-FreeFile (files.Put m) = PutFree m
-
-abbrev pub FreePath : Bool → Opener → Type 0
-FreePath true opener = FreeFile (file_of opener)
-FreePath false opener = Unit {0}
-
-abbrev pub Free : Machine → Type 0
-Free (machines.File m) = FreeFile m
-Free (machines.Path m) = FreePath m.arrived m.opener
-Free (machines.Name m) = Unit {0}
 
 -- the file of which a SETATTR waits
 abbrev pub cuts_in : Truncating → Option (List ℕ)
@@ -127,14 +89,6 @@ then-map P Q A (nexts.Send call) s t f k = f k
 then-map P Q A nexts.Wait s t f k = f k
 then-map P Q A (nexts.Done answer) s t f k = k
 
-pub lift-step : {S T : Type 0} → (Fa Fr Is : S → Type 0) (Fb Fs It : T → Type 0) (F : Fault) (X : Type 0) (next : Next) (s : S) (t : T) → (Is s → It t) → (Fr s → Fs t) → (Fa s → Fb t)
-    → StepThen Fa Fr Is F X next s → StepThen Fb Fs It F X next t
-lift-step Fa Fr Is Fb Fs It F X next s t own free fails k = record {
-  stays = then-map Is It (λ answer. Unit {0}) next s t own k.stays;
-  frees = λ call e. free (k.frees call e);
-  so = λ x. then-map Fa Fb (λ answer. answer ≡ answers.Refused F) next s t fails (k.so x);
-}
-
 -- those that save from their start
 abbrev pub Stores : FileMachine → Type 0
 Stores (files.Open m) = ⊥
@@ -145,163 +99,90 @@ Stores (files.Close m) = Unit {0}
 Stores (files.Truncate m) = Unit {0}
 Stores (files.Put m) = ⊥
 
-module _ (F : Fault) (X : Type 0) where
-  abbrev pub FileStep : Next → FileMachine → Type 0
-  FileStep next new = StepThen (FailsFile F) FreeFile SavesFile F X next new
+abbrev pub FileStays : Next → FileMachine → Type 0
+FileStays next new = ThenOf SavesFile (λ answer. Unit {0}) next new
 
-  abbrev pub AllStep : Next → Machine → Type 0
-  AllStep next new = StepThen (Fails F) Free IsSaver F X next new
+abbrev pub AllStays : Next → Machine → Type 0
+AllStays next new = ThenOf IsSaver (λ answer. Unit {0}) next new
 
-  truncate-step : (next : Next) (m : TruncateFile) (new : FileMachine) → new ≡ files.Truncate m → (X → ⊥) → FileStep next new
-  truncate-step next m new is no_way = subst (FileStep next) (sym is) (record { stays = by next; frees = λ call e. tt; so = λ x. absurd (no_way x) })
-    where
-      by : (n : Next) → ThenOf SavesFile (λ answer. Unit {0}) n (files.Truncate m)
-      by (nexts.Send call) = tt
-      by nexts.Wait = tt
-      by (nexts.Done answer) = tt
+-- It stays what it is until it is answered.
+one-stays : (next : Next) (to new : FileMachine) → new ≡ to → SavesFile to → FileStays next new
+one-stays next to new is own = stays-any SavesFile next new (subst SavesFile (sym is) own)
 
-  file-starts : (k : FileMachine) (wsize : ℕ) (turn : Turn) (old : Shelf) (next : Next) (new : FileMachine) (after : Shelf) → Stores k → (X → ⊥) → steps.Starts wsize k turn old next new after
-      → FileStep next new
-  file-starts (files.Open m) wsize turn old next new after own no_way s = absurd own
-  file-starts (files.Read m) wsize turn old next new after own no_way s = absurd own
-  file-starts (files.Write m) wsize turn old next new after own no_way s =
-      subst (FileStep next) (sym s.machine_is)
-      (lift-step (WriteFails F) WriteFree Any (FailsFile F) FreeFile SavesFile F X next s.machine.state (files.Write s.machine) (λ k. tt) (λ k. k) (λ k. k)
-      (write-starts F X wsize m turn old next s.machine after no_way s.step))
-  file-starts (files.Sync m) wsize turn old next new after own no_way s =
-      subst (FileStep next) (sym s.machine_is)
-      (lift-step (SyncFails F) SyncFree Any (FailsFile F) FreeFile SavesFile F X next s.state (files.Sync (record m { state = s.state })) (λ k. tt) (λ k. k) (λ k. k)
-      (sync-starts F X wsize m turn old next s.state after no_way s.step))
-  file-starts (files.Close m) wsize turn old next new after own no_way s =
-      subst (FileStep next) (sym s.machine_is)
-      (lift-step (CloseFails F) CloseFree Any (FailsFile F) FreeFile SavesFile F X next s.state (files.Close (record m { state = s.state })) (λ k. tt) (λ k. k) (λ k. k)
-      (close-starts F X wsize m turn old next s.state after no_way s.step))
-  file-starts (files.Truncate m) wsize turn old next new after own no_way s = truncate-step next _ new s.machine_is no_way
-  file-starts (files.Put m) wsize turn old next new after own no_way s = absurd own
+put-stays : (next : Next) (put : PutFile) (new : FileMachine) → new ≡ files.Put put → PutStays next put → FileStays next new
+put-stays next put new is k = subst (FileStays next) (sym is) (then-map PutSaves SavesFile (λ answer. Unit {0}) next put (files.Put put) (λ z. z) k)
 
-  file-resumes : (k : FileMachine) (wsize : ℕ) (turn : Turn) (old : Shelf) (next : Next) (new : FileMachine) (after : Shelf) → SavesFile k → (X → FailsFile F k)
-      → steps.Resumes wsize k turn old next new after → FileStep next new
-  file-resumes (files.Open m) wsize turn old next new after own f s = absurd own
-  file-resumes (files.Read m) wsize turn old next new after own f s = absurd own
-  file-resumes (files.Write m) wsize turn old next new after own f s =
-      subst (FileStep next) (sym s.machine_is)
-      (lift-step (WriteFails F) WriteFree Any (FailsFile F) FreeFile SavesFile F X next s.state (files.Write (record m { state = s.state })) (λ k. tt) (λ k. k) (λ k. k)
-      (write-resumes F X m.state wsize m.lane turn old next s.state after f s.step))
-  file-resumes (files.Sync m) wsize turn old next new after own f s =
-      subst (FileStep next) (sym s.machine_is)
-      (lift-step (SyncFails F) SyncFree Any (FailsFile F) FreeFile SavesFile F X next s.state (files.Sync (record m { state = s.state })) (λ k. tt) (λ k. k) (λ k. k)
-      (sync-resumes F X m.state wsize m turn old next s.state after f s.step))
-  file-resumes (files.Close m) wsize turn old next new after own f s =
-      subst (FileStep next) (sym s.machine_is)
-      (lift-step (CloseFails F) CloseFree Any (FailsFile F) FreeFile SavesFile F X next s.state (files.Close (record m { state = s.state })) (λ k. tt) (λ k. k) (λ k. k)
-      (close-resumes F X m.state wsize m turn old next s.state after f s.step))
-  file-resumes (files.Truncate m) wsize turn old next new after own f s = truncate-step next _ new s.machine_is f
-  file-resumes (files.Put m) wsize turn old next new after own f s =
-      subst (FileStep next) (sym s.machine_is)
-      (lift-step (PutFails F) PutFree PutSaves (FailsFile F) FreeFile SavesFile F X next s.machine (files.Put s.machine) (λ k. k) (λ k. k) (λ k. k)
-      (put-resumes F X m.state wsize m turn old next s.machine after refl own f s.step))
+file-starts : (k : FileMachine) (wsize : ℕ) (turn : Turn) (old : Shelf) (next : Next) (new : FileMachine) (after : Shelf) → Stores k → steps.Starts wsize k turn old next new after
+    → FileStays next new
+file-starts (files.Open m) wsize turn old next new after own s = absurd own
+file-starts (files.Read m) wsize turn old next new after own s = absurd own
+file-starts (files.Write m) wsize turn old next new after own s = one-stays next _ new s.machine_is tt
+file-starts (files.Sync m) wsize turn old next new after own s = one-stays next _ new s.machine_is tt
+file-starts (files.Close m) wsize turn old next new after own s = one-stays next _ new s.machine_is tt
+file-starts (files.Truncate m) wsize turn old next new after own s = one-stays next _ new s.machine_is tt
+file-starts (files.Put m) wsize turn old next new after own s = absurd own
 
-  file-takes : (k : FileMachine) (wsize : ℕ) (sent turn : Turn) (came : Result Reply Fault) (old : Shelf) (next : Next) (new : FileMachine) (after : Shelf) → SavesFile k
-      → (X → FailsFile F k ⊎ Unmade F came (FreeFile k) (flies_file k)) → steps.Takes wsize k sent turn came old next new after → FileStep next new
-  file-takes (files.Open m) wsize sent turn came old next new after own f s = absurd own
-  file-takes (files.Read m) wsize sent turn came old next new after own f s = absurd own
-  file-takes (files.Write m) wsize sent turn came old next new after own f s =
-      subst (FileStep next) (sym s.machine_is)
-      (lift-step (WriteFails F) WriteFree Any (FailsFile F) FreeFile SavesFile F X next s.state (files.Write (record m { state = s.state })) (λ k. tt) (λ k. k) (λ k. k)
-      (write-takes F X m.state wsize m sent turn came old next s.state after f s.step))
-  file-takes (files.Sync m) wsize sent turn came old next new after own f s =
-      subst (FileStep next) (sym s.machine_is)
-      (lift-step (SyncFails F) SyncFree Any (FailsFile F) FreeFile SavesFile F X next s.state (files.Sync (record m { state = s.state })) (λ k. tt) (λ k. k) (λ k. k)
-      (sync-takes F X m.state wsize m sent turn came old next s.state after f s.step))
-  file-takes (files.Close m) wsize sent turn came old next new after own f s =
-      subst (FileStep next) (sym s.machine_is)
-      (lift-step (CloseFails F) CloseFree Any (FailsFile F) FreeFile SavesFile F X next s.state (files.Close (record m { state = s.state })) (λ k. tt) (λ k. k) (λ k. k)
-      (close-takes F X m.state wsize m sent turn came old next s.state after f s.step))
-  file-takes (files.Truncate m) wsize sent turn came old next new after own f s = truncate-step next _ new s.machine_is (λ x. by (f x))
-    where
-      by : ⊥ ⊎ Unmade F came (Unit {0}) None → ⊥
-      by (inl none) = none
-      by (inr u) = let no_way : None ≡ Some u.file = u.sends in absurd (cc)
-  file-takes (files.Put m) wsize sent turn came old next new after own f s =
-      subst (FileStep next) (sym s.machine_is)
-      (lift-step (PutFails F) PutFree PutSaves (FailsFile F) FreeFile SavesFile F X next s.machine (files.Put s.machine) (λ k. k) (λ k. k) (λ k. k)
-      (put-takes F X m.state wsize m sent turn came old next s.machine after refl own f s.step))
+file-resumes : (k : FileMachine) (wsize : ℕ) (turn : Turn) (old : Shelf) (next : Next) (new : FileMachine) (after : Shelf) → SavesFile k → steps.Resumes wsize k turn old next new after
+    → FileStays next new
+file-resumes (files.Open m) wsize turn old next new after own s = absurd own
+file-resumes (files.Read m) wsize turn old next new after own s = absurd own
+file-resumes (files.Write m) wsize turn old next new after own s = one-stays next _ new s.machine_is tt
+file-resumes (files.Sync m) wsize turn old next new after own s = one-stays next _ new s.machine_is tt
+file-resumes (files.Close m) wsize turn old next new after own s = one-stays next _ new s.machine_is tt
+file-resumes (files.Truncate m) wsize turn old next new after own s = one-stays next _ new s.machine_is tt
+file-resumes (files.Put m) wsize turn old next new after own s = put-stays next s.machine new s.machine_is (put-resumes m.state wsize m turn old next s.machine after own s.step)
 
-  -- ---- as any operation
+file-takes : (k : FileMachine) (wsize : ℕ) (sent turn : Turn) (came : Result Reply Fault) (old : Shelf) (next : Next) (new : FileMachine) (after : Shelf) → SavesFile k
+    → steps.Takes wsize k sent turn came old next new after → FileStays next new
+file-takes (files.Open m) wsize sent turn came old next new after own s = absurd own
+file-takes (files.Read m) wsize sent turn came old next new after own s = absurd own
+file-takes (files.Write m) wsize sent turn came old next new after own s = one-stays next _ new s.machine_is tt
+file-takes (files.Sync m) wsize sent turn came old next new after own s = one-stays next _ new s.machine_is tt
+file-takes (files.Close m) wsize sent turn came old next new after own s = one-stays next _ new s.machine_is tt
+file-takes (files.Truncate m) wsize sent turn came old next new after own s = one-stays next _ new s.machine_is tt
+file-takes (files.Put m) wsize sent turn came old next new after own s =
+    put-stays next s.machine new s.machine_is (put-takes m.state wsize m sent turn came old next s.machine after own s.step)
 
-  as-file : (next : Next) (m : FileMachine) (new : Machine) → new ≡ machines.File m → FileStep next m → AllStep next new
-  as-file next m new is k =
-      subst (AllStep next) (sym is) (lift-step (FailsFile F) FreeFile SavesFile (Fails F) Free IsSaver F X next m (machines.File m) (λ z. z) (λ z. z) (λ z. z) k)
+-- ---- as any operation
 
-  pub as-path : (m : PathMachine) (o : Opener) (next : Next) (p : PathMachine) (new : Machine) → m.arrived ≡ true → new ≡ machines.Path p → p ≡ record m { opener = o }
-      → FileStep next (file_of o) → AllStep next new
-  as-path m o next p new there is at k =
-      subst (AllStep next) (sym is) (subst (λ (q : PathMachine). AllStep next (machines.Path q)) (sym at)
-      (lift-step (FailsFile F) FreeFile SavesFile (Fails F) Free IsSaver F X next (file_of o) (machines.Path (record m { opener = o }))
-      (λ z. subst (λ (b : Bool). SavesPath b o) (sym there) z) (λ z. subst (λ (b : Bool). FreePath b o) (sym there) z) (λ z. subst (λ (b : Bool). FailsPath F b o) (sym there) z) k))
+as-file : (next : Next) (m : FileMachine) (new : Machine) → new ≡ machines.File m → FileStays next m → AllStays next new
+as-file next m new is k = subst (AllStays next) (sym is) (then-map SavesFile IsSaver (λ answer. Unit {0}) next m (machines.File m) (λ z. z) k)
 
-  pub saver-starts : (k : FileMachine) (wsize : ℕ) (turn : Turn) (old : Shelf) (next : Next) (new : Machine) (after : Shelf) → Stores k → (X → ⊥)
-      → Starts wsize (machines.File k) turn old next new after → AllStep next new
-  saver-starts k wsize turn old next new after own no_way s = as-file next s.machine new s.machine_is (file-starts k wsize turn old next s.machine after own no_way s.step)
+pub as-path : (m : PathMachine) (o : Opener) (next : Next) (p : PathMachine) (new : Machine) → m.arrived ≡ true → new ≡ machines.Path p → p ≡ record m { opener = o }
+    → FileStays next (file_of o) → AllStays next new
+as-path m o next p new there is at k =
+    subst (AllStays next) (sym is) (subst (λ (q : PathMachine). AllStays next (machines.Path q)) (sym at)
+    (then-map SavesFile IsSaver (λ answer. Unit {0}) next (file_of o) (machines.Path (record m { opener = o })) (λ z. subst (λ (b : Bool). SavesPath b o) (sym there) z) k))
 
-  path-resumes : (b : Bool) (wsize : ℕ) (m : PathMachine) (turn : Turn) (old : Shelf) (next : Next) (p : PathMachine) (new : Machine) (after : Shelf) → m.arrived ≡ b → SavesPath b m.opener
-      → (X → FailsPath F b m.opener) → new ≡ machines.Path p → paths.PathResumes b wsize m turn old next p after → AllStep next new
-  path-resumes false wsize m turn old next p new after there own f is r = absurd own
-  path-resumes true wsize m turn old next p new after there own f is r =
-      as-path m r.opener next p new there is r.machine_is (file-resumes (file_of m.opener) wsize turn old next (file_of r.opener) after own f r.step)
+pub saver-starts : (k : FileMachine) (wsize : ℕ) (turn : Turn) (old : Shelf) (next : Next) (new : Machine) (after : Shelf) → Stores k → Starts wsize (machines.File k) turn old next new after
+    → AllStays next new
+saver-starts k wsize turn old next new after own s = as-file next s.machine new s.machine_is (file-starts k wsize turn old next s.machine after own s.step)
 
-  pub saver-resumes : (m : Machine) (wsize : ℕ) (turn : Turn) (old : Shelf) (next : Next) (new : Machine) (after : Shelf) → IsSaver m → (X → Fails F m) → Resumes wsize m turn old next new after
-      → AllStep next new
-  saver-resumes (machines.File m) wsize turn old next new after own f s = as-file next s.machine new s.machine_is (file-resumes m wsize turn old next s.machine after own f s.step)
-  saver-resumes (machines.Path m) wsize turn old next new after own f s = path-resumes m.arrived wsize m turn old next s.machine new after refl own f s.machine_is s.step
-  saver-resumes (machines.Name m) wsize turn old next new after own f s = absurd own
+path-resumes : (b : Bool) (wsize : ℕ) (m : PathMachine) (turn : Turn) (old : Shelf) (next : Next) (p : PathMachine) (new : Machine) (after : Shelf) → m.arrived ≡ b → SavesPath b m.opener
+    → new ≡ machines.Path p → paths.PathResumes b wsize m turn old next p after → AllStays next new
+path-resumes false wsize m turn old next p new after there own is r = absurd own
+path-resumes true wsize m turn old next p new after there own is r =
+    as-path m r.opener next p new there is r.machine_is (file-resumes (file_of m.opener) wsize turn old next (file_of r.opener) after own r.step)
 
-  path-takes : (b : Bool) (wsize : ℕ) (m : PathMachine) (sent turn : Turn) (came : Result Reply Fault) (old : Shelf) (next : Next) (p : PathMachine) (new : Machine) (after : Shelf)
-      → m.arrived ≡ b → SavesPath b m.opener → (X → FailsPath F b m.opener ⊎ Unmade F came (FreePath b m.opener) (flies_path b m.opener)) → new ≡ machines.Path p
-      → paths.PathTakes b wsize m sent turn came old next p after → AllStep next new
-  path-takes false wsize m sent turn came old next p new after there own f is t = absurd own
-  path-takes true wsize m sent turn came old next p new after there own f is t =
-      as-path m t.opener next p new there is t.machine_is (file-takes (file_of m.opener) wsize sent turn came old next (file_of t.opener) after own f t.step)
+pub saver-resumes : (m : Machine) (wsize : ℕ) (turn : Turn) (old : Shelf) (next : Next) (new : Machine) (after : Shelf) → IsSaver m → Resumes wsize m turn old next new after → AllStays next new
+saver-resumes (machines.File m) wsize turn old next new after own s = as-file next s.machine new s.machine_is (file-resumes m wsize turn old next s.machine after own s.step)
+saver-resumes (machines.Path m) wsize turn old next new after own s = path-resumes m.arrived wsize m turn old next s.machine new after refl own s.machine_is s.step
+saver-resumes (machines.Name m) wsize turn old next new after own s = absurd own
 
-  pub saver-takes : (m : Machine) (wsize : ℕ) (sent turn : Turn) (came : Result Reply Fault) (old : Shelf) (next : Next) (new : Machine) (after : Shelf) → IsSaver m
-      → (X → Fails F m ⊎ Unmade F came (Free m) (flies_of m)) → Takes wsize m sent turn came old next new after → AllStep next new
-  saver-takes (machines.File m) wsize sent turn came old next new after own f s = as-file next s.machine new s.machine_is (file-takes m wsize sent turn came old next s.machine after own f s.step)
-  saver-takes (machines.Path m) wsize sent turn came old next new after own f s = path-takes m.arrived wsize m sent turn came old next s.machine new after refl own f s.machine_is s.step
-  saver-takes (machines.Name m) wsize sent turn came old next new after own f s = absurd own
+path-takes : (b : Bool) (wsize : ℕ) (m : PathMachine) (sent turn : Turn) (came : Result Reply Fault) (old : Shelf) (next : Next) (p : PathMachine) (new : Machine) (after : Shelf)
+    → m.arrived ≡ b → SavesPath b m.opener → new ≡ machines.Path p → paths.PathTakes b wsize m sent turn came old next p after → AllStays next new
+path-takes false wsize m sent turn came old next p new after there own is t = absurd own
+path-takes true wsize m sent turn came old next p new after there own is t =
+    as-path m t.opener next p new there is t.machine_is (file-takes (file_of m.opener) wsize sent turn came old next (file_of t.opener) after own t.step)
 
--- ---- a SETATTR that isn't made
-
--- out of memory, or as many calls were made as may be
-abbrev pub IsWant : Fault → Type 0
-IsWant faults.Memory = Unit {0}
-IsWant faults.Spent = Unit {0}
-IsWant fault = ⊥
-
-want-calm : (F : Fault) (sent turn : Turn) (repeats : List Repeat) → IsWant F → goes_again (fails_busy (truncates.size_told (Err F))) sent turn repeats ≡ false
-want-calm faults.Memory sent turn repeats want = refl
-want-calm faults.Spent sent turn repeats want = refl
-want-calm F sent turn repeats want = absurd want
-
-cut-ends : (F : Fault) (sent turn : Turn) (m : TruncateFile) (repeats : List Repeat) (next : Next) (at : Truncating) (g : List ℕ) → IsWant F → cuts_in at ≡ Some g
-    → next ≡ truncates.took_next at m (Err F) sent turn repeats → next ≡ nexts.Done (answers.Refused F)
-cut-ends F sent turn m repeats next truncating.Idle g want is e = absurd (let no_way : None ≡ Some g = is in cc)
-cut-ends F sent turn m repeats next (truncating.Queued file upto) g want is e = absurd (let no_way : None ≡ Some g = is in cc)
-cut-ends F sent turn m repeats next (truncating.Asked file upto) g want is e = e ∙ ap (λ (b : Bool). truncates.ended_next b m file (Err F)) (want-calm F sent turn repeats want)
+pub saver-takes : (m : Machine) (wsize : ℕ) (sent turn : Turn) (came : Result Reply Fault) (old : Shelf) (next : Next) (new : Machine) (after : Shelf) → IsSaver m
+    → Takes wsize m sent turn came old next new after → AllStays next new
+saver-takes (machines.File m) wsize sent turn came old next new after own s = as-file next s.machine new s.machine_is (file-takes m wsize sent turn came old next s.machine after own s.step)
+saver-takes (machines.Path m) wsize sent turn came old next new after own s = path-takes m.arrived wsize m sent turn came old next s.machine new after refl own s.machine_is s.step
+saver-takes (machines.Name m) wsize sent turn came old next new after own s = absurd own
 
 none-cuts : {A : Type 0} → (g : List ℕ) → None ≡ Some g → A
 none-cuts g e = absurd (cc)
-
-pub cut-unmade : (F : Fault) (m : Machine) (wsize : ℕ) (sent turn : Turn) (old : Shelf) (next : Next) (new : Machine) (after : Shelf) (g : List ℕ) → IsWant F → cuts_of m ≡ Some g
-    → Takes wsize m sent turn (Err F) old next new after → next ≡ nexts.Done (answers.Refused F)
-cut-unmade F (machines.File (files.Open m)) wsize sent turn old next new after g want is t = none-cuts g is
-cut-unmade F (machines.File (files.Read m)) wsize sent turn old next new after g want is t = none-cuts g is
-cut-unmade F (machines.File (files.Write m)) wsize sent turn old next new after g want is t = none-cuts g is
-cut-unmade F (machines.File (files.Sync m)) wsize sent turn old next new after g want is t = none-cuts g is
-cut-unmade F (machines.File (files.Close m)) wsize sent turn old next new after g want is t = none-cuts g is
-cut-unmade F (machines.File (files.Truncate m)) wsize sent turn old next new after g want is t = cut-ends F sent turn m old.repeats next m.state g want is t.step.next_is
-cut-unmade F (machines.File (files.Put m)) wsize sent turn old next new after g want is t = none-cuts g is
-cut-unmade F (machines.Path m) wsize sent turn old next new after g want is t = none-cuts g is
-cut-unmade F (machines.Name m) wsize sent turn old next new after g want is t = none-cuts g is
 
 -- ---- which call changes a file
 
@@ -356,21 +237,33 @@ module _ (M : List ℕ → ℕ → Type 0) (P : List ℕ → Stamp → ℕ → T
   abbrev pub Off : List ℕ → Type 0
   Off g = (f : List ℕ) (s : Stamp) (i : ℕ) → P f s i → f ≡ g → ⊥
 
+  -- nor where its call was made
+  abbrev pub OffIfMade : List ℕ → Type 0
+  OffIfMade g = came_unmade came ≡ false → Off g
+
   as-pages : (after : Shelf) → SamePages old after → T after.pages
   as-pages after is = subst T (sym is) good
 
   size-pages : (told : Result Wcc Fault) (g : List ℕ) (size : ℕ) → Off g → T (truncates.told_pages told g size (turn.moment - 1) old.pages)
   size-pages (Ok wcc) g size off = good-cut M P few b g wcc size (turn.moment - 1) old.pages low off good
-  size-pages (Err fault) g size off = good-wrote M P few b g (record { before = None; after = None }) 0 [] (turn.moment - 1) old.pages low off good
+  size-pages (Err fault) g size off = failed-as T g (turn.moment - 1) fault old.pages good (good-wrote M P few b g saves.untold 0 [] (turn.moment - 1) old.pages low off good)
 
-  truncate-pages : (at : Truncating) (m : TruncateFile) (attrs : _) (back : _) (after : Shelf) → ((g : List ℕ) → cuts_in at ≡ Some g → Off g)
+  unmade-cut : (what : Result Reply Fault) → came_unmade what ≡ true → (g : List ℕ) (size : ℕ) → T (truncates.told_pages (truncates.size_told what) g size (turn.moment - 1) old.pages)
+  unmade-cut (Ok reply) e g size = absurd (let no_way : false ≡ true = e in cc)
+  unmade-cut (Err fault) e g size = failed-unmade T g (turn.moment - 1) fault old.pages e good
+
+  cut-pages : (u : Bool) → came_unmade came ≡ u → (g : List ℕ) (size : ℕ) → OffIfMade g → T (truncates.told_pages (truncates.size_told came) g size (turn.moment - 1) old.pages)
+  cut-pages true e g size off = unmade-cut came e g size
+  cut-pages false e g size off = size-pages (truncates.size_told came) g size (off e)
+
+  truncate-pages : (at : Truncating) (m : TruncateFile) (attrs : _) (back : _) (after : Shelf) → ((g : List ℕ) → cuts_in at ≡ Some g → OffIfMade g)
       → after ≡ truncates.took_shelf at m came sent turn attrs back old → T after.pages
   truncate-pages truncating.Idle m attrs back after off is = as-pages after (kept-as old old after is refl)
   truncate-pages (truncating.Queued file upto) m attrs back after off is = as-pages after (kept-as old old after is refl)
   truncate-pages (truncating.Asked file upto) m attrs back after off is =
-      subst T (sym (ap (λ (s : Shelf). s.pages) is)) (size-pages (truncates.size_told came) file m.size (off file refl))
+      subst T (sym (ap (λ (s : Shelf). s.pages) is)) (cut-pages (came_unmade came) refl file m.size (off file refl))
 
-  file-none : (m : FileMachine) (wsize : ℕ) (next : Next) (new : FileMachine) (after : Shelf) → SavesFile m → flies_file m ≡ None → ((g : List ℕ) → cuts_file m ≡ Some g → Off g)
+  file-none : (m : FileMachine) (wsize : ℕ) (next : Next) (new : FileMachine) (after : Shelf) → SavesFile m → flies_file m ≡ None → ((g : List ℕ) → cuts_file m ≡ Some g → OffIfMade g)
       → steps.Takes wsize m sent turn came old next new after → T after.pages
   file-none (files.Open m) wsize next new after own none off t = absurd own
   file-none (files.Read m) wsize next new after own none off t = absurd own
@@ -380,7 +273,7 @@ module _ (M : List ℕ → ℕ → Type 0) (P : List ℕ → Stamp → ℕ → T
   file-none (files.Truncate m) wsize next new after own none off t = truncate-pages m.state m after.attrs after.back after off t.shelf_is
   file-none (files.Put m) wsize next new after own none off t = as-pages after (put-none came sent turn old m.state wsize m next t.machine after own none t.step)
 
-  none-opener : (o : Opener) (g : List ℕ) → cuts_file (file_of o) ≡ Some g → Off g
+  none-opener : (o : Opener) (g : List ℕ) → cuts_file (file_of o) ≡ Some g → OffIfMade g
   none-opener (openers.Open m) g is = none-cuts g is
   none-opener (openers.Put m) g is = none-cuts g is
 
@@ -389,19 +282,19 @@ module _ (M : List ℕ → ℕ → Type 0) (P : List ℕ → Stamp → ℕ → T
   path-none false m wsize next new after own none t = absurd own
   path-none true m wsize next new after own none t = file-none (file_of m.opener) wsize next (file_of t.opener) after own none (none-opener m.opener) t.step
 
-  none-pages : (m : Machine) (wsize : ℕ) (next : Next) (new : Machine) (after : Shelf) → IsSaver m → flies_of m ≡ None → ((g : List ℕ) → cuts_of m ≡ Some g → Off g)
+  none-pages : (m : Machine) (wsize : ℕ) (next : Next) (new : Machine) (after : Shelf) → IsSaver m → flies_of m ≡ None → ((g : List ℕ) → cuts_of m ≡ Some g → OffIfMade g)
       → Takes wsize m sent turn came old next new after → T after.pages
   none-pages (machines.File m) wsize next new after own none off t = file-none m wsize next t.machine after own none off t.step
   none-pages (machines.Path m) wsize next new after own none off t = path-none m.arrived m wsize next t.machine after own none t.step
   none-pages (machines.Name m) wsize next new after own none off t = absurd own
 
-  -- Those that are followed stay, where it sends no WRITE of their file and sets no size of it.
-  pub saver-pages : (m : Machine) (wsize : ℕ) (next : Next) (new : Machine) (after : Shelf) → IsSaver m → ((g : List ℕ) → flies_of m ≡ Some g → Off g) → ((g : List ℕ) → cuts_of m ≡ Some g → Off g)
+  -- Those that are followed stay, where no WRITE of their file is answered and no size of it is set.
+  pub saver-pages : (m : Machine) (wsize : ℕ) (next : Next) (new : Machine) (after : Shelf) → IsSaver m → ((g : List ℕ) → flies_of m ≡ Some g → OffIfMade g) → ((g : List ℕ) → cuts_of m ≡ Some g → OffIfMade g)
       → Takes wsize m sent turn came old next new after → T after.pages
   saver-pages m wsize next new after own flies cuts t = by (flies_of m) refl
     where
       by : (o : Option (List ℕ)) → flies_of m ≡ o → T after.pages
       by None is = none-pages m wsize next new after own is cuts t
       by (Some g) is =
-          takes-wrote T g came sent turn old (good-wrote M P few b g saves.untold 0 [] (turn.moment - 1) old.pages low (flies g is) good)
-          (λ offset bytes wcc count committed verf said. good-wrote M P few b g wcc offset bytes (turn.moment - 1) old.pages low (flies g is) good) m wsize next new after is t
+          takes-wrote T g came sent turn old (λ unmade. good) (λ made. good-wrote M P few b g saves.untold 0 [] (turn.moment - 1) old.pages low (flies g is made) good)
+          (λ offset bytes wcc count committed verf said. good-wrote M P few b g wcc offset bytes (turn.moment - 1) old.pages low (flies g is (ap came_unmade said)) good) m wsize next new after is t

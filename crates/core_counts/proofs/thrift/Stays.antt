@@ -9,21 +9,16 @@ use Rattle.rpc_retry.specs.declared.waiting.Waiting.{Waiting}
 use Rattle.rpc_retry.specs.Waiting.{waiting_at}
 use Rattle.page_cache.specs.Pages.{Pages, after_page}
 use Rattle.world_model.specs.declared.answer.Answer.{Answer}
-use Rattle.world_model.specs.declared.answer.Answer.TheVariants as answers
-use Rattle.world_model.specs.declared.answer.Fault.{Fault}
-use Rattle.world_model.specs.declared.answer.Fault.TheVariants as faults
 use Rattle.world_model.specs.declared.entry.Entry.{Entry}
-use Rattle.world_model.specs.declared.entry.Entry.TheVariants.{Began, Answered, Sent, Delivered}
+use Rattle.world_model.specs.declared.entry.Entry.TheVariants.{Began, Answered, Delivered}
 use Rattle.world_model.specs.declared.message.Call.{Call}
 use Rattle.world_model.specs.declared.message.Reply.{Reply}
 use Rattle.world_model.specs.declared.op.Op.{Op}
 use Rattle.world_model.specs.Entries.{At}
 use Rattle.world_model.specs.Heard.{Heard}
-use Rattle.world_model.specs.Operations.{Ended, AnsweredBefore}
 use Rattle.claims.specs.Shown.{ShowsAttr}
 use Rattle.claims.specs.Thrifty.{OneLane, CameWithin, ChangesFile}
-use Rattle.world_model.specs.Waiting.{FirstSent}
-use Rattle.world_model.proofs.Places.{At-grow, At-below, At-back, At-cases, At-last, At-one, length_last}
+use Rattle.world_model.proofs.Places.{At-grow, At-back, At-last, length_last}
 use Rattle.client_shelf.specs.declared.next.Next.{Next}
 use Rattle.client_shelf.specs.declared.next.Next.TheVariants as nexts
 use Rattle.client_shelf.specs.declared.shelf.Shelf.{Shelf}
@@ -42,31 +37,28 @@ use Rattle.client_core.specs.View.{View, turn_at}
 use Rattle.core_facts.specs.Reaches.{IsSetUp, Reaches}
 use Rattle.core_facts.proofs.AllCounts.{begins-unbegun}
 use Rattle.core_facts.proofs.Keeping.{Known}
-use Rattle.core_facts.proofs.LaneMarks.{lanes-under-way, reached-lanes, idle-numbers, number_of}
+use Rattle.core_facts.proofs.LaneMarks.{lanes-under-way, idle-numbers, number_of}
 use Rattle.core_facts.proofs.Lists.{at-set, at-push, get-push, get-remove, skip, skip-other, to-map}
 use Rattle.core_facts.proofs.Owning.{reached-owned}
 use Rattle.core_facts.proofs.Rows.{Rows, rows-stay, same-rows, silent-grow}
 use Rattle.core_facts.proofs.Steps.{ThenOf}
 use Rattle.core_facts.proofs.Stories.{set-other}
-use Rattle.core_answers.proofs.limits.AllSent.{sent-by-then}
 use Rattle.core_answers.proofs.writes.Along.{SameCalls}
 use Rattle.core_session.proofs.current.FedMachines.{pages-starts, pages-resumes}
-use Rattle.core_counts.proofs.thrift.Calm.{Calm, CalmStep, Kind, quiet, putting, saver, Young, IsFailed, fails_busy, fails_over, ThenFailed, quiet-fails, quiet-saver, putting-fails, same-state, same-busy, over-busy, leads-calm}
+use Rattle.core_counts.proofs.thrift.Calm.{Calm, Kind, quiet, putting, saver, Young, leads-calm}
 use Rattle.core_counts.proofs.thrift.Distinct.{Few}
 use Rattle.core_counts.proofs.thrift.DropsAlong.{IsPlain}
-use Rattle.core_counts.proofs.thrift.Given.{ended-on}
 use Rattle.core_counts.proofs.thrift.Growth.{GoodPages, good-shown}
 use Rattle.core_counts.proofs.thrift.Holds.{HoldsPage}
 use Rattle.core_counts.proofs.thrift.MetReads.{MetBefore}
 use Rattle.core_counts.proofs.thrift.OpKinds.{OpKind, reads, stores, puts, op-kind}
-use Rattle.core_counts.proofs.thrift.PutOpenings.{IsPutting, putting-starts, putting-resumes}
+use Rattle.core_counts.proofs.thrift.PutOpenings.{IsEither, PutThen, putting-starts, putting-resumes}
 use Rattle.core_counts.proofs.thrift.Quiet.{ThenQuiet, starts-quiet, resumes-quiet}
-use Rattle.core_counts.proofs.thrift.Savers.{IsSaver, Free, Fails, IsWant, saver-starts, saver-resumes}
+use Rattle.core_counts.proofs.thrift.Savers.{IsSaver, saver-starts, saver-resumes}
 
 -- ---- the session
 
--- A session of one lane, in which a page of a file was given at the place `at`, after the open at the place o. From o to n nothing shows a change, and at n a
--- record is sent for the first time.
+-- A session of one lane, in which a page of a file was given at the place `at`, after the open at the place o. From o to n nothing shows a change.
 pub record Case (m : Mounted) (setup : Setup) : Type 0 where
   pub H : List Entry
   pub one : OneLane H
@@ -79,12 +71,6 @@ pub record Case (m : Mounted) (setup : Setup) : Type 0 where
   pub shown : (call : Call) (reply : Reply) (attr : Attr) → CameWithin H o n call reply → ShowsAttr call reply f attr → stamp_of attr ≡ s
   pub unwritten : (call : Call) (xid : ℕ) (bytes : List ℕ) → ChangesFile f call → (heard : Heard H 0 n call xid bytes) → o < heard.got_at → ⊥
   pub few : Few (λ (g : List ℕ) (j : ℕ). MetBefore H n (g, j))
-  pub room : (lane x y : ℕ) (op : Op) → Ended H lane x op y (answers.Refused faults.Memory) → o < y → y < n → ⊥
-  pub xid : ℕ
-  pub bytes : List ℕ
-  pub first : FirstSent H n xid bytes
-  pub low : setup.first_xid ≤ xid
-  pub high : xid < setup.first_xid + setup.limit
   pub after : o < at
   pub open_lane : ℕ
   pub open_line : ℕ
@@ -108,52 +94,38 @@ module _ (m : Mounted) (setup : Setup) (q : Case m setup) where
   abbrev pub Follows : List Entry → List ℕ → Stamp → ℕ → Type 0
   Follows h g t j = (g ≡ q.f) × (t ≡ q.s) × (j ≡ q.i) × (q.at < length h)
 
-  -- those that are followed, unless the operation failed
-  abbrev pub Unfailed : List Entry → Bool → List ℕ → Stamp → ℕ → Type 0
-  Unfailed h failed g t j = Follows h g t j × (failed ≡ false)
-
   abbrev pub Met : List ℕ → ℕ → Type 0
   Met g j = MetBefore q.H q.n (g, j)
 
-  abbrev pub GoodAt : List Entry → Bool → ℕ → Pages → Type 0
-  GoodAt h failed b c = GoodPages Met (Unfailed h failed) (λ g t j p. q.few) b c
+  abbrev pub GoodAt : List Entry → ℕ → Pages → Type 0
+  GoodAt h b c = GoodPages Met (Follows h) (λ g t j p. q.few) b c
 
   abbrev pub Yet : List Entry → Type 0
   Yet h = q.at < length h
 
-  pub is-yet : (h : List Entry) → Yet h ⊎ (Yet h → ⊥)
-  is-yet h = by (cases_lt q.at (length h))
-    where
-      by : (q.at < length h) ⊎ (length h ≤ q.at) → Yet h ⊎ (Yet h → ⊥)
-      by (inl low) = inl low
-      by (inr high) = inr (λ low. omega (arith, low, high))
-
   abbrev pub CalmHere : List Entry → View → Type 0
-  CalmHere h v = Calm Met q.few q.f (Yet h) (Follows h) (λ g t j p. p.0) (λ g t j p. p.3) (is-yet h) v
-
-  abbrev StepHere : List Entry → View → ℕ → ℕ → Machine → Next → Type 0
-  StepHere h v k number machine next = CalmStep Met q.few q.f (Yet h) (Follows h) (λ g t j p. p.0) (λ g t j p. p.3) (is-yet h) v k number machine next
+  CalmHere h v = Calm Met q.few (Follows h) v
 
   abbrev pub CalmAt : List Entry → View → Type 0
   CalmAt h v = (rest : List Entry) → h ++ rest ≡ q.H → length h ≤ q.n → CalmHere h v
 
-  pub shows : (h : List Entry) (failed : Bool) (b : ℕ) (file : List ℕ) (index : ℕ) (c : Pages) → GoodAt h failed b c → GoodAt h failed b (after_page file index c)
-  shows h failed b file index c k = good-shown Met (Unfailed h failed) (λ g t j p. q.few) b file index c k
+  pub shows : (h : List Entry) (b : ℕ) (file : List ℕ) (index : ℕ) (c : Pages) → GoodAt h b c → GoodAt h b (after_page file index c)
+  shows h b file index c k = good-shown Met (Follows h) (λ g t j p. q.few) b file index c k
 
-  pub grow-with : (h : List Entry) (e : Entry) (failed : Bool) (b more : ℕ) (c : Pages) → b ≤ more → (q.at ≡ length h → HoldsPage q.f q.s q.i c) → GoodAt h failed b c → GoodAt (h ++ e ∷ []) failed more c
-  grow-with h e failed b more c le held k = record {
+  pub grow-with : (h : List Entry) (e : Entry) (b more : ℕ) (c : Pages) → b ≤ more → (q.at ≡ length h → HoldsPage q.f q.s q.i c) → GoodAt h b c → GoodAt (h ++ e ∷ []) more c
+  grow-with h e b more c le held k = record {
     marks = λ g j is. let low = k.marks g j is in omega (arith, low, le);
     met = k.met;
     distinct = k.distinct;
     holds = λ g t j p. by g t j p (cases_lt q.at (length h));
   }
     where
-      by : (g : List ℕ) (t : Stamp) (j : ℕ) → Unfailed (h ++ e ∷ []) failed g t j → (q.at < length h) ⊎ (length h ≤ q.at) → HoldsPage g t j c
-      by g t j p (inl low) = k.holds g t j ((p.0.0, p.0.1, p.0.2, low), p.1)
+      by : (g : List ℕ) (t : Stamp) (j : ℕ) → Follows (h ++ e ∷ []) g t j → (q.at < length h) ⊎ (length h ≤ q.at) → HoldsPage g t j c
+      by g t j p (inl low) = k.holds g t j (p.0, p.1, p.2, low)
       by g t j p (inr high) =
           let more_ = length_last h e in
-          let within = p.0.3 in
-          subst (λ (x : List ℕ). HoldsPage x t j c) (sym p.0.0) (subst (λ (x : Stamp). HoldsPage q.f x j c) (sym p.0.1) (subst (λ (x : ℕ). HoldsPage q.f q.s x c) (sym p.0.2)
+          let within = p.3 in
+          subst (λ (x : List ℕ). HoldsPage x t j c) (sym p.0) (subst (λ (x : Stamp). HoldsPage q.f x j c) (sym p.1) (subst (λ (x : ℕ). HoldsPage q.f q.s x c) (sym p.2)
           (held (omega (arith, high, more_, within)))))
 
   pub not-now : (h : List Entry) (e : Entry) (rest : List Entry) → (h ++ e ∷ []) ++ rest ≡ q.H → ((bytes : List ℕ) → e ≡ Delivered bytes → ⊥) → q.at ≡ length h → ⊥
@@ -161,17 +133,12 @@ module _ (m : Mounted) (setup : Setup) (q : Case m setup) where
       let here : At q.H (length h) e = subst (λ (k : List Entry). At k (length h) e) is (At-grow (h ++ e ∷ []) rest (length h) e (At-last h e)) in
       other q.given_bytes (some-entry e (Delivered q.given_bytes) (sym here ∙ ap (slice_get q.H) (sym same) ∙ q.given_at))
 
-  pub yet-grows : (h : List Entry) (e : Entry) → Yet h → Yet (h ++ e ∷ [])
-  yet-grows h e yet = let more = length_last h e in omega (arith, yet, more)
-
   pub calm-grows : (h : List Entry) (e : Entry) (v : View) → (q.at ≡ length h → ⊥) → CalmHere h v → CalmHere (h ++ e ∷ []) v
   calm-grows h e v off c = record {
     b = c.b;
     low = c.low;
-    failed = c.failed;
-    pages = grow-with h e c.failed c.b c.b v.shelf.pages (omega arith) (λ same. absurd (off same)) c.pages;
+    pages = grow-with h e c.b c.b v.shelf.pages (omega arith) (λ same. absurd (off same)) c.pages;
     lanes = c.lanes;
-    why = λ is. let w = c.why is in (yet-grows h e w.0, w.1);
   }
 
   pub before-last : (h : List Entry) (e : Entry) (rest : List Entry) → (h ++ e ∷ []) ++ rest ≡ q.H → h ++ (e ∷ rest) ≡ q.H
@@ -192,21 +159,6 @@ module _ (m : Mounted) (setup : Setup) (q : Case m setup) where
       (subst (λ (z : List Entry). At z x.x (Began lane.number x.under_way.line x.op)) is (At-grow h rest x.x (Began lane.number x.under_way.line x.op) x.under_way.began)) in
       under.apart j k other lane here there same
 
-  -- its operation was refused, where one was
-  pub record FailsHere (machine : Machine) : Type 0 where
-    pub fault : Fault
-    pub want : IsWant fault
-    pub fails : Fails fault machine
-
-  pub failed-here : (v : View) (k number : ℕ) (machine : Machine) → slice_get v.lanes k ≡ Some (record { number = number; state = Busy machine })
-      → ((j : ℕ) (other : Lane) → slice_get v.lanes j ≡ Some other → j ≡ k) → IsFailed v → FailsHere machine
-  failed-here v k number machine there only (fails_busy F want j n other here fails) =
-      let same = only j (record { number = n; state = Busy other }) here in
-      record { fault = F; want = want; fails = subst (Fails F) (same-busy n number other machine (sym here ∙ ap (slice_get v.lanes) same ∙ there)) fails }
-  failed-here v k number machine there only (fails_over F want j n here) =
-      let same = only j (record { number = n; state = Over (answers.Refused F) }) here in
-      absurd (over-busy (answers.Refused F) machine (same-state n number (Over (answers.Refused F)) (Busy machine) (sym here ∙ ap (slice_get v.lanes) same ∙ there)))
-
   -- ---- steps of each kind
 
   pub quiet-then : (b : ℕ) (v : View) → Young b v → (next : Next) (new : Machine) → ThenQuiet b next new → ThenOf (Kind b v) (λ answer. Unit {0}) next new
@@ -214,11 +166,11 @@ module _ (m : Mounted) (setup : Setup) (q : Case m setup) where
   quiet-then b v young nexts.Wait new k = quiet young k
   quiet-then b v young (nexts.Done answer) new k = tt
 
-  either : (b : ℕ) (v : View) → Young b v → (new : Machine) → IsPutting b new ⊎ IsSaver new → Kind b v new
+  either : (b : ℕ) (v : View) → Young b v → (new : Machine) → IsEither b new → Kind b v new
   either b v young new (inl k) = putting young k
   either b v young new (inr k) = saver k
 
-  pub putting-then : (b : ℕ) (v : View) → Young b v → (next : Next) (new : Machine) → ThenOf (λ (z : Machine). IsPutting b z ⊎ IsSaver z) (λ answer. Unit {0}) next new
+  pub putting-then : (b : ℕ) (v : View) → Young b v → (next : Next) (new : Machine) → PutThen b next new
       → ThenOf (Kind b v) (λ answer. Unit {0}) next new
   putting-then b v young (nexts.Send call) new k = either b v young new k
   putting-then b v young nexts.Wait new k = either b v young new k
@@ -229,36 +181,23 @@ module _ (m : Mounted) (setup : Setup) (q : Case m setup) where
   saver-then b v nexts.Wait new k = saver k
   saver-then b v (nexts.Done answer) new k = tt
 
-  pub quiet-free : (b : ℕ) (next : Next) (new : Machine) → ThenQuiet b next new → (call : Call) → next ≡ nexts.Send call → IsSaver new → Free new
-  quiet-free b (nexts.Send other) new k call is own = absurd (quiet-saver b new k own)
-  quiet-free b nexts.Wait new k call is own = absurd (cc)
-  quiet-free b (nexts.Done answer) new k call is own = absurd (cc)
-
-  -- a step as it leaves the lane: what it is then, and how it failed if it did
-  record Moved (b : ℕ) (v : View) (next : Next) (new : Machine) (failing : Type 0) : Type 0 where
-    own : ThenOf (Kind b v) (λ answer. Unit {0}) next new
-    free : (call : Call) → next ≡ nexts.Send call → IsSaver new → Free new
-    fails : failing → ThenFailed next new
-
   -- ---- where nothing comes
 
   pub fresh-calm : (h : List Entry) (v : View) → IsSetUp setup h → IsFresh setup v → CalmAt h v
   fresh-calm h v up fresh rest is within = record {
     b = 0;
     low = omega arith;
-    failed = false;
-    pages = subst (GoodAt h false 0) (sym fresh.pages) (record {
+    pages = subst (GoodAt h 0) (sym fresh.pages) (record {
       marks = λ g k at_. absurd (cc);
       met = All-nil (λ p. Met p.0.file p.0.index);
       distinct = tt;
       holds = λ g t j p.
-          let low = p.0.3 in
+          let low = p.3 in
           let first = q.after in
           absurd (up.unbegun q.o q.open_lane q.open_line q.open_op
           (At-back h rest q.o (Began q.open_lane q.open_line q.open_op) (subst (λ (k : List Entry). At k q.o (Began q.open_lane q.open_line q.open_op)) (sym is) q.opened_at) (omega (arith, low, first))));
     });
     lanes = λ k number machine there. absurd (none-busy number machine (ap (λ (ls : List Lane). slice_get ls k) (sym fresh.lanes) ∙ there));
-    why = λ failed. false-true failed;
   }
 
   -- ---- where its machine goes on
@@ -277,50 +216,24 @@ module _ (m : Mounted) (setup : Setup) (q : Case m setup) where
         by true e = eqb-true j k e
         by false e = only j other (sym (set-other old.lanes k j (record { number = t.number; state = Busy t.after }) (eqb-false j k e)) ∙ here)
 
-    stirred : Kind c.b old t.machine → Moved c.b mid t.next t.after (IsFailed old)
+    stirred : Kind c.b old t.machine → ThenOf (Kind c.b mid) (λ answer. Unit {0}) t.next t.after
     stirred (quiet young k_) =
-        let then_ = resumes-quiet c.b t.machine old.wsize (turn_at old) old.shelf t.next t.after t.shelf k_ t.resumes in
-        record {
-          own = quiet-then c.b mid young t.next t.after then_;
-          free = quiet-free c.b t.next t.after then_;
-          fails = λ w. let f = failed-here old k t.number t.machine t.there only w in absurd (quiet-fails c.b f.fault t.machine k_ f.fails);
-        }
+        quiet-then c.b mid young t.next t.after (resumes-quiet c.b t.machine old.wsize (turn_at old) old.shelf t.next t.after t.shelf k_ t.resumes)
     stirred (putting young k_) =
-        let then_ = putting-resumes c.b t.machine old.wsize (turn_at old) old.shelf t.next t.after t.shelf k_ t.resumes in
-        record {
-          own = putting-then c.b mid young t.next t.after then_.stays;
-          free = then_.frees;
-          fails = λ w. let f = failed-here old k t.number t.machine t.there only w in absurd (putting-fails c.b f.fault t.machine k_ f.fails);
-        }
-    stirred (saver own) =
-        let then_ = saver-resumes faults.Memory ⊥ t.machine old.wsize (turn_at old) old.shelf t.next t.after t.shelf own (λ x. absurd x) t.resumes in
-        record {
-          own = saver-then c.b mid t.next t.after then_.stays;
-          free = λ call e kind. then_.frees call e;
-          fails = λ w.
-              let f = failed-here old k t.number t.machine t.there only w in
-              record {
-                fault = f.fault;
-                want = f.want;
-                so = (saver-resumes f.fault (Fails f.fault t.machine) t.machine old.wsize (turn_at old) old.shelf t.next t.after t.shelf own (λ x. x) t.resumes).so f.fails;
-              };
-        }
+        putting-then c.b mid young t.next t.after (putting-resumes c.b t.machine old.wsize (turn_at old) old.shelf t.next t.after t.shelf k_ t.resumes)
+    stirred (saver own) = saver-then c.b mid t.next t.after (saver-resumes t.machine old.wsize (turn_at old) old.shelf t.next t.after t.shelf own t.resumes)
 
     pub stirs-here : CalmHere h new
     stirs-here =
-        let moved = stirred (c.lanes k t.number t.machine t.there) in
-        leads-calm Met q.few q.f (Yet h) (Follows h) (λ g t_ j p. p.0) (λ g t_ j p. p.3) (is-yet h) setup h mid new k t.number t.after t.next
+        leads-calm Met q.few (Follows h) setup h mid new k t.number t.after t.next
         ((rows-stay setup h).sets old k t.number (Busy t.machine) (Busy t.after) t.shelf t.there known.rows)
         (record {
           b = c.b;
           low = c.low;
-          failed = c.failed;
-          pages = pages-resumes (GoodAt h c.failed c.b) (shows h c.failed c.b) t.machine old.wsize (turn_at old) old.shelf t.next t.after t.shelf t.resumes c.pages;
+          pages = pages-resumes (GoodAt h c.b) (shows h c.b) t.machine old.wsize (turn_at old) old.shelf t.next t.after t.shelf t.resumes c.pages;
           there = at-set old.lanes k (record { number = t.number; state = Busy t.machine }) (record { number = t.number; state = Busy t.after }) t.there;
-          own = moved.own;
-          free = moved.free;
+          own = stirred (c.lanes k t.number t.machine t.there);
           alone = only-mid;
-          why = λ failed. let w = c.why failed in (w.0, moved.fails w.1);
         }) t.leads
 
   pub stirs-calm : (h : List Entry) (old new : View) (k : ℕ) → Known setup h old → Stirs old k new → CalmAt h old → CalmAt h new
@@ -354,34 +267,18 @@ module _ (m : Mounted) (setup : Setup) (q : Case m setup) where
     none-young : (b : ℕ) → Young b begun_mid
     none-young b xid w waits = absurd (none-waits xid w waits)
 
-    none-failed : IsFailed old → ⊥
-    none-failed (fails_busy F want k number machine there fails) = none-before k (record { number = number; state = Busy machine }) there
-    none-failed (fails_over F want k number there) = none-before k (record { number = number; state = Over (answers.Refused F) }) there
-
-    started : OpKind m lane op → Moved (old.moments + 1) begun_mid t.next t.after (IsFailed old)
+    started : OpKind m lane op → ThenOf (Kind (old.moments + 1) begun_mid) (λ answer. Unit {0}) t.next t.after
     started (reads only) =
-        let then_ = starts-quiet (old.moments + 1) m lane op old.wsize (turn_at (counted old now)) old.shelf t.next t.after t.shelf (omega arith) only t.starts in
-        record {
-          own = quiet-then (old.moments + 1) begun_mid (none-young (old.moments + 1)) t.next t.after then_;
-          free = quiet-free (old.moments + 1) t.next t.after then_;
-          fails = λ w. absurd (none-failed w);
-        }
+        quiet-then (old.moments + 1) begun_mid (none-young (old.moments + 1)) t.next t.after
+        (starts-quiet (old.moments + 1) m lane op old.wsize (turn_at (counted old now)) old.shelf t.next t.after t.shelf (omega arith) only t.starts)
     started (stores file at_ own) =
-        let s = subst (λ (z : Machine). Starts old.wsize z (turn_at (counted old now)) old.shelf t.next t.after t.shelf) at_ t.starts in
-        let then_ = saver-starts faults.Memory ⊥ file old.wsize (turn_at (counted old now)) old.shelf t.next t.after t.shelf own (λ x. x) s in
-        record {
-          own = saver-then (old.moments + 1) begun_mid t.next t.after then_.stays;
-          free = λ call e kind. then_.frees call e;
-          fails = λ w. absurd (none-failed w);
-        }
+        saver-then (old.moments + 1) begun_mid t.next t.after
+        (saver-starts file old.wsize (turn_at (counted old now)) old.shelf t.next t.after t.shelf own
+        (subst (λ (z : Machine). Starts old.wsize z (turn_at (counted old now)) old.shelf t.next t.after t.shelf) at_ t.starts))
     started (puts path put at_ opener way) =
-        let s = subst (λ (z : Machine). Starts old.wsize z (turn_at (counted old now)) old.shelf t.next t.after t.shelf) at_ t.starts in
-        let then_ = putting-starts (old.moments + 1) path put old.wsize (turn_at (counted old now)) old.shelf t.next t.after t.shelf opener (omega arith) way s in
-        record {
-          own = putting-then (old.moments + 1) begun_mid (none-young (old.moments + 1)) t.next t.after then_.stays;
-          free = then_.frees;
-          fails = λ w. absurd (none-failed w);
-        }
+        putting-then (old.moments + 1) begun_mid (none-young (old.moments + 1)) t.next t.after
+        (putting-starts (old.moments + 1) path put old.wsize (turn_at (counted old now)) old.shelf t.next t.after t.shelf opener (omega arith) way
+        (subst (λ (z : Machine). Starts old.wsize z (turn_at (counted old now)) old.shelf t.next t.after t.shelf) at_ t.starts))
 
     only-begun : (j : ℕ) (other : Lane) → slice_get begun_mid.lanes j ≡ Some other → j ≡ length old.lanes
     only-begun j other here = by (get-push old.lanes (record { number = lane; state = Busy t.after }) j other here)
@@ -395,22 +292,17 @@ module _ (m : Mounted) (setup : Setup) (q : Case m setup) where
 
     pub starts-here : CalmHere (h ++ Began lane line op ∷ []) new
     starts-here =
-        let moved = started (op-kind m lane op) in
-        leads-calm Met q.few q.f (Yet (h ++ Began lane line op ∷ [])) (Follows (h ++ Began lane line op ∷ [])) (λ g t_ j p. p.0) (λ g t_ j p. p.3) (is-yet (h ++ Began lane line op ∷ []))
-        setup (h ++ Began lane line op ∷ []) begun_mid new (length old.lanes) lane t.after t.next (same-rows setup (h ++ Began lane line op ∷ []) (counted old now) begun_mid refl begun-rows)
+        leads-calm Met q.few (Follows (h ++ Began lane line op ∷ [])) setup (h ++ Began lane line op ∷ []) begun_mid new (length old.lanes) lane t.after t.next (same-rows setup (h ++ Began lane line op ∷ []) (counted old now) begun_mid refl begun-rows)
         (record {
           b = old.moments + 1;
           low = omega arith;
-          failed = c.failed;
-          pages = pages-starts (GoodAt (h ++ Began lane line op ∷ []) c.failed (old.moments + 1)) (shows (h ++ Began lane line op ∷ []) c.failed (old.moments + 1)) (machine_of m lane op) old.wsize
+          pages = pages-starts (GoodAt (h ++ Began lane line op ∷ []) (old.moments + 1)) (shows (h ++ Began lane line op ∷ []) (old.moments + 1)) (machine_of m lane op) old.wsize
               (turn_at (counted old now)) old.shelf t.next t.after t.shelf t.starts
-              (grow-with h (Began lane line op) c.failed c.b (old.moments + 1) old.shelf.pages (let low = c.low in omega (arith, low))
+              (grow-with h (Began lane line op) c.b (old.moments + 1) old.shelf.pages (let low = c.low in omega (arith, low))
               (λ same. absurd (not-now h (Began lane line op) rest is (λ bytes e. cc) same)) c.pages);
           there = at-push old.lanes (record { number = lane; state = Busy t.after });
-          own = moved.own;
-          free = moved.free;
+          own = started (op-kind m lane op);
           alone = only-begun;
-          why = λ failed. let w = c.why failed in (yet-grows h (Began lane line op) w.0, moved.fails w.1);
         }) t.leads
 
   pub starts-calm : (h : List Entry) (old new : View) (lane line : ℕ) (op : Op) (now : ℕ) → Reaches (machine_of m) setup h old → old.lost ≡ false → Known setup h old → IsIdle lane old.lanes
@@ -426,21 +318,7 @@ module _ (m : Mounted) (setup : Setup) (q : Case m setup) where
   kind-same b old new machine f (putting young k) = putting (f young) k
   kind-same b old new machine f (saver k) = saver k
 
-  no-lanes : (lanes : List Lane) → ((j : ℕ) (lane : Lane) → slice_get lanes j ≡ Some lane → ⊥) → lanes ≡ []
-  no-lanes [] none = refl
-  no-lanes (lane ∷ lanes) none = absurd (none 0 lane refl)
-
-  same-answer : (a b c d : ℕ) (x y : Answer) → Answered a b x ≡ Answered c d y → x ≡ y
-  same-answer a b c d x y e = cc
-
-  began-parts : (a b c d : ℕ) (x y : Op) → Began a b x ≡ Began c d y → (a ≡ c) × (b ≡ d) × (x ≡ y)
-  began-parts a b c d x y e = (cc, cc, cc)
-
-  over-is : (a b : Answer) → Over a ≡ Over b → a ≡ b
-  over-is a b e = cc
-
-  module _ (h : List Entry) (old new : View) (k lane line : ℕ) (answer : Answer) (reached : Reaches (machine_of m) setup (h ++ Answered lane line answer ∷ []) new) (found : new.lost ≡ false)
-      (known : Known setup h old) (a : AnswersAt old k lane (Some answer) new) (rest : List Entry) (is : (h ++ Answered lane line answer ∷ []) ++ rest ≡ q.H)
+  module _ (h : List Entry) (old new : View) (k lane line : ℕ) (answer : Answer) (known : Known setup h old) (a : AnswersAt old k lane (Some answer) new) (rest : List Entry) (is : (h ++ Answered lane line answer ∷ []) ++ rest ≡ q.H)
       (within : length (h ++ Answered lane line answer ∷ []) ≤ q.n) (c : CalmHere h old) where
     whole : h ++ (Answered lane line answer ∷ rest) ≡ q.H
     whole = before-last h (Answered lane line answer) rest is
@@ -451,99 +329,6 @@ module _ (m : Mounted) (setup : Setup) (q : Case m setup) where
     none-left : (j : ℕ) (other : Lane) → slice_get (remove old.lanes k) j ≡ Some other → ⊥
     none-left j other here = skip-other k j (only-over (skip k j) other (get-remove old.lanes k j other here))
 
-    lanes-left : new.lanes ≡ []
-    lanes-left = ap (λ (v : View). v.lanes) a.is ∙ no-lanes (remove old.lanes k) none-left
-
-    none-number : (at_ : ℕ) → slice_get (numbers_of new.lanes) at_ ≡ Some lane → ⊥
-    none-number at_ e = let no_way : None ≡ Some lane = ap (λ (ls : List Lane). slice_get (numbers_of ls) at_) (sym lanes-left) ∙ e in cc
-
-    its-answer : answer ≡ a.answer
-    its-answer = by answer a.answer a.gives
-      where
-        by : (x y : Answer) → Some x ≡ Some y → x ≡ y
-        by x y e = cc
-
-    -- the operation ends here, with this answer
-    record EndsNow : Type 0 where
-      x : ℕ
-      op : Op
-      line_began : ℕ
-      began : At h x (Began lane line_began op)
-      ends_now : Ended (h ++ Answered lane line answer ∷ []) lane x op (length h) answer
-
-    ends-now : EndsNow
-    ends-now =
-        let u = (lanes-under-way h old known.lanes).busy k (record { number = lane; state = Over a.answer }) a.there in
-        by u.x u.op u.under_way.line u.under_way.began u.under_way.unanswered
-        ((reached-lanes (machine_of m) setup (h ++ Answered lane line answer ∷ []) new reached).rest lane none-number).answered
-      where
-        of : (x : ℕ) (op : Op) (line_began : ℕ) → At h x (Began lane line_began op) → (AnsweredBefore h x (length h) → ⊥)
-            → AnsweredBefore (h ++ Answered lane line answer ∷ []) x (length (h ++ Answered lane line answer ∷ [])) → EndsNow
-        of x op line_began began open_ b = place (At-cases h (Answered lane line answer) b.y (Answered b.lane b.ended.line b.answer) b.ended.answered)
-          where
-            same : (b.lane ≡ lane) × (b.ended.line ≡ line_began) × (b.op ≡ op)
-            same = began-parts b.lane b.ended.line lane line_began b.op op
-                (At-one (h ++ Answered lane line answer ∷ []) x (Began b.lane b.ended.line b.op) (Began lane line_began op) b.ended.began (At-grow h (Answered lane line answer ∷ []) x (Began lane line_began op) began))
-
-            place : At h b.y (Answered b.lane b.ended.line b.answer) ⊎ ((b.y ≡ length h) × (Answered lane line answer ≡ Answered b.lane b.ended.line b.answer)) → EndsNow
-            place (inl there) = absurd (open_ (record {
-              lane = b.lane;
-              op = b.op;
-              y = b.y;
-              answer = b.answer;
-              ended = record {
-                line = b.ended.line;
-                began = At-back h (Answered lane line answer ∷ []) x (Began b.lane b.ended.line b.op) b.ended.began (At-below h x (Began lane line_began op) began);
-                answered = there;
-                later = b.ended.later;
-                first = λ j z at_ late. b.ended.first j z (At-grow h (Answered lane line answer ∷ []) j (Answered b.lane b.ended.line z) at_) late;
-              };
-              before = At-below h b.y (Answered b.lane b.ended.line b.answer) there;
-            }))
-            place (inr here) = record {
-              x = x;
-              op = op;
-              line_began = line_began;
-              began = began;
-              ends_now = subst (λ (z : Answer). Ended (h ++ Answered lane line answer ∷ []) lane x op (length h) z) (sym (same-answer lane line b.lane b.ended.line answer b.answer here.1))
-                  (subst (λ (y : ℕ). Ended (h ++ Answered lane line answer ∷ []) lane x op y b.answer) here.0
-                  (subst (λ (o : Op). Ended (h ++ Answered lane line answer ∷ []) lane x o b.y b.answer) same.2
-                  (subst (λ (l : ℕ). Ended (h ++ Answered lane line answer ∷ []) l x b.op b.y b.answer) same.0 b.ended)));
-            }
-
-        by : (x : ℕ) (op : Op) (line_began : ℕ) → At h x (Began lane line_began op) → (AnsweredBefore h x (length h) → ⊥)
-            → ((k_ its_line : ℕ) (o : Op) → At (h ++ Answered lane line answer ∷ []) k_ (Began lane its_line o) → AnsweredBefore (h ++ Answered lane line answer ∷ []) k_ (length (h ++ Answered lane line answer ∷ [])))
-            → EndsNow
-        by x op line_began began open_ all = of x op line_began began open_ (all x line_began op (At-grow h (Answered lane line answer ∷ []) x (Began lane line_began op) began))
-
-    -- It isn't refused for want of memory, nor because all calls were made.
-    not-wanting : (F : Fault) → IsWant F → answer ≡ answers.Refused F → Yet h → ⊥
-    not-wanting faults.Memory want is_ yet =
-        let e = ends-now in
-        let first = q.after in
-        let more = length_last h (Answered lane line answer) in
-        q.room lane e.x (length h) e.op
-        (subst (λ (z : Answer). Ended q.H lane e.x e.op (length h) z) is_ (subst (λ (z : List Entry). Ended z lane e.x e.op (length h) answer) is
-        (ended-on (h ++ Answered lane line answer ∷ []) rest lane e.x (length h) e.op answer e.ends_now)))
-        (omega (arith, first, yet)) (omega (arith, more, within))
-    not-wanting faults.Spent want is_ yet =
-        let e = ends-now in
-        let more = length_last h (Answered lane line answer) in
-        let w = sent-by-then m setup (h ++ Answered lane line answer ∷ []) h new lane line e.x e.line_began e.op reached (ap (λ (z : Answer). h ++ Answered lane line z ∷ []) is_) e.began found lanes-left q.xid
-        q.low q.high in
-        let late = q.first.first w.at w.bytes (subst (λ (z : List Entry). At z w.at (Sent w.bytes)) whole (At-grow h (Answered lane line answer ∷ rest) w.at (Sent w.bytes) w.sent)) w.under in
-        let early = w.before in
-        omega (arith, late, early, more, within)
-    not-wanting F want is_ yet = absurd want
-
-    fails-not : IsFailed old → Yet h → ⊥
-    fails-not (fails_busy F want j n machine here fails) yet =
-        let same = only-over j (record { number = n; state = Busy machine }) here in
-        over-busy a.answer machine (same-state lane n (Over a.answer) (Busy machine) (sym a.there ∙ ap (slice_get old.lanes) (sym same) ∙ here))
-    fails-not (fails_over F want j n here) yet =
-        let same = only-over j (record { number = n; state = Over (answers.Refused F) }) here in
-        not-wanting F want (its-answer ∙ over-is a.answer (answers.Refused F) (same-state lane n (Over a.answer) (Over (answers.Refused F)) (sym a.there ∙ ap (slice_get old.lanes) (sym same) ∙ here))) yet
-
     pub answers-here : CalmHere (h ++ Answered lane line answer ∷ []) new
     unfolding calm-grows
     answers-here =
@@ -551,23 +336,16 @@ module _ (m : Mounted) (setup : Setup) (q : Case m setup) where
         subst (CalmHere (h ++ Answered lane line answer ∷ [])) (sym a.is) (record {
           b = g.b;
           low = g.low;
-          failed = g.failed;
           pages = g.pages;
           lanes = λ j number machine here. absurd (none-left j (record { number = number; state = Busy machine }) here);
-          why = λ failed. absurd (let w = c.why failed in fails-not w.1 w.0);
         })
 
-  pub answers-calm : (h : List Entry) (old new : View) (k lane line : ℕ) (answer : Answer) → Reaches (machine_of m) setup (h ++ Answered lane line answer ∷ []) new → new.lost ≡ false → Known setup h old
-      → AnswersAt old k lane (Some answer) new → CalmAt h old → CalmAt (h ++ Answered lane line answer ∷ []) new
-  answers-calm h old new k lane line answer reached found known a all rest is within =
-      answers-here h old new k lane line answer reached found known a rest is within
+  pub answers-calm : (h : List Entry) (old new : View) (k lane line : ℕ) (answer : Answer) → Known setup h old → AnswersAt old k lane (Some answer) new → CalmAt h old → CalmAt (h ++ Answered lane line answer ∷ []) new
+  answers-calm h old new k lane line answer known a all rest is within =
+      answers-here h old new k lane line answer known a rest is within
       (all (Answered lane line answer ∷ rest) (before-last h (Answered lane line answer) rest is) (shorter h (Answered lane line answer) within))
 
   -- ---- where lanes, shelf and calls stay
-
-  lanes-failed : (old new : View) → new.lanes ≡ old.lanes → IsFailed old → IsFailed new
-  lanes-failed old new same (fails_busy F want k number machine there fails) = fails_busy F want k number machine (ap (λ (ls : List Lane). slice_get ls k) same ∙ there) fails
-  lanes-failed old new same (fails_over F want k number there) = fails_over F want k number (ap (λ (ls : List Lane). slice_get ls k) same ∙ there)
 
   pub same-calm : (h : List Entry) (e : Entry) (old new : View) → IsPlain e → new.lanes ≡ old.lanes → new.shelf ≡ old.shelf → new.moments ≡ old.moments → SameCalls old.calls.calls new.calls.calls
       → CalmAt h old → CalmAt (h ++ e ∷ []) new
@@ -576,10 +354,8 @@ module _ (m : Mounted) (setup : Setup) (q : Case m setup) where
       record {
         b = c.b;
         low = subst (λ (k : ℕ). c.b ≤ k) (sym moments) c.low;
-        failed = c.failed;
-        pages = subst (λ (z : Shelf). GoodAt (h ++ e ∷ []) c.failed c.b z.pages) (sym shelf) c.pages;
+        pages = subst (λ (z : Shelf). GoodAt (h ++ e ∷ []) c.b z.pages) (sym shelf) c.pages;
         lanes = λ j number machine here. kind-same c.b old new machine
             (λ young xid w waits. let k = same.waited xid w waits in subst (λ (p : Purpose). c.b < p.sent.moment) (sym k.purpose) (young xid k.was k.waited))
             (c.lanes j number machine (ap (λ (ls : List Lane). slice_get ls j) (sym lanes) ∙ here));
-        why = λ failed. let w = c.why failed in (w.0, lanes-failed old new lanes w.1);
       }

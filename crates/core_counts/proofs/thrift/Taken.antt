@@ -84,7 +84,7 @@ use Rattle.core_counts.proofs.thrift.KnownStates.{opened-state}
 use Rattle.core_counts.proofs.thrift.Noted.{noted-held}
 use Rattle.core_counts.proofs.thrift.PartSteps.{few-bytes}
 use Rattle.core_counts.proofs.thrift.ReadsLong.{read-parts}
-use Rattle.core_counts.proofs.thrift.Stays.{Case, Unfailed, Met, GoodAt}
+use Rattle.core_counts.proofs.thrift.Stays.{Case, Follows, Met, GoodAt}
 
 some-nat : (a c : ℕ) → Some a ≡ Some c → a ≡ c
 some-nat a c e = cc
@@ -274,13 +274,13 @@ module _ (m : Mounted) (terms : Terms) (setup : Setup) (nocto : m.nocto ≡ term
   pub read-machine : (z : ReadFile) × (t.machine ≡ machines.File (files.Read z))
   read-machine = (run.of, run.is)
 
-  module _ (failed : Bool) (b : ℕ) (good_ : GoodAt m setup q h failed b old.shelf.pages) (young : Young b old) where
+  module _ (b : ℕ) (good_ : GoodAt m setup q h b old.shelf.pages) (young : Young b old) where
     noted-now : HoldsPage q.f q.s q.i (reading.noted (Some took.shows) q.f call.purpose.sent.moment took.offset took.data_ took.eof old.shelf.pages)
     noted-now =
         let state = first-state q.f (sym read-now.file ∙ read-now.same_file) in
         let low = good_.marks q.f state.0.mark (ap (option_map (λ (z : FileState). z.mark)) state.1) in
         let late = young xid call waits in
-        noted-held (Met m setup q) (Unfailed m setup q h failed) (λ g z j p. q.few) q.few b q.f q.s q.i call.purpose.sent.moment took.offset took.data_ took.shows took.eof old.shelf.pages state.0
+        noted-held (Met m setup q) (Follows m setup q h) (λ g z j p. q.few) q.few b q.f q.s q.i call.purpose.sent.moment took.offset took.data_ took.shows took.eof old.shelf.pages state.0
         (λ index ends g. met-so m setup q h old new rec xid call k r found known fin hears named waits there t rest is within q.f took.offset took.count index took.data_ ends reply came-is other-is small g)
         (λ g z j p same. sym p.0.1) took.same state.1 (omega (arith, low, late)) took.gives good_
 

@@ -384,7 +384,7 @@ module _ (mounted : Mounted) (modes : Modes) (same : mounted.nocto ≡ modes.noc
           sent = λ y w left late i bs at_ has. let low = m.timely y w (left-waits y w left) in absurd (omega (arith, low, late));
         };
         after = newly (AfterIn wcc later d f k_) h old r found known xid call waits at t.number t.machine t.there lane-is mine.made asked-is came its-reply
-            (λ fault is_. said-made call.purpose.proc rec fault is_) (turn_at (taken_one old xid))
+            (said-made call.purpose.proc rec) (turn_at (taken_one old xid))
             (wrote-pages saves.untold 0 [] (λ attr is_. absurd (none-attr attr is_))) (λ place bs. wrote-pages wcc place bs (λ attr is_. is_)) cut-pages t.next t.after t.shelf t.takes;
       }
         where

@@ -13,7 +13,7 @@ use Rattle.world_model.specs.declared.message.Reply.TheVariants as replies
 use Rattle.write_back.specs.Files.{of_file}
 use Rattle.write_back.specs.Pieces.{Sent, piece_under}
 use Rattle.client_shelf.specs.LaneFiles.{is_first}
-use Rattle.client_shelf.specs.Unmade.{is_unmade}
+use Rattle.client_shelf.specs.Unmade.{is_unmade, came_unmade}
 use Rattle.client_shelf.specs.declared.next.Next.{Next}
 use Rattle.client_shelf.specs.declared.next.Next.TheVariants as nexts
 use Rattle.client_shelf.specs.declared.shelf.Shelf.{Shelf}
@@ -40,7 +40,7 @@ use Rattle.file_ops.specs.Saves as saves
 use Rattle.file_ops.specs.SlotFiles.{joined}
 use Rattle.file_ops.specs.Syncs as syncs
 use Rattle.file_ops.specs.WriteFile as writes
-use Rattle.file_ops.proofs.Failing.{failed-made, failed-unmade}
+use Rattle.file_ops.proofs.Failed.{failed-made, failed-unmade}
 use Rattle.file_ops.proofs.SaveCounts.{by-step, ends_as}
 use Rattle.op_machines.specs.declared.file_machine.FileMachine.{FileMachine}
 use Rattle.op_machines.specs.declared.file_machine.FileMachine.TheVariants as files
@@ -148,8 +148,8 @@ none-flies f e = absurd (let no_way : None ≡ Some f = e in cc)
 one-file : (a b : List ℕ) → Some a ≡ Some b → a ≡ b
 one-file a b e = cc
 
-module _ (T : Pages → Type 0) (f : List ℕ) (came : Result Reply Fault) (sent turn : Turn) (old : Shelf) (unmade : (fault : Fault) → came ≡ Err fault → is_unmade fault ≡ true → T old.pages)
-    (drops : T (wrote f saves.untold 0 [] (turn.moment - 1) old.pages))
+module _ (T : Pages → Type 0) (f : List ℕ) (came : Result Reply Fault) (sent turn : Turn) (old : Shelf) (unmade : came_unmade came ≡ true → T old.pages)
+    (drops : came_unmade came ≡ false → T (wrote f saves.untold 0 [] (turn.moment - 1) old.pages))
     (writes_ : (offset : ℕ) (bytes : List ℕ) (wcc : Wcc) (count committed : ℕ) (verf : Verf) → came ≡ Ok (replies.File (kept.Write wcc count committed verf))
     → T (wrote f wcc offset bytes (turn.moment - 1) old.pages)) where
   as-pages : (a b : Pages) → b ≡ a → T a → T b
@@ -164,26 +164,26 @@ module _ (T : Pages → Type 0) (f : List ℕ) (came : Result Reply Fault) (sent
     where
       by : (a b : Bool) → (nat_lt committed how || nat_lt 2 committed) ≡ a → ((count == 0) || nat_lt size count) ≡ b
           → T (saves.pages_told f offset bytes (turn.moment - 1) (written_by how size wcc count committed verf) old.pages)
-      by true b ea eb = rw ea drops
-      by false true ea eb = rw (ea, eb) drops
+      by true b ea eb = rw ea (drops (ap came_unmade is))
+      by false true ea eb = rw (ea, eb) (drops (ap came_unmade is))
       by false false ea eb = rw (ea, eb) (writes_ offset (take count bytes) wcc count committed verf is)
 
   file-told : (k : FileKept) (offset : ℕ) (bytes : List ℕ) (how size : ℕ) → came ≡ Ok (replies.File k)
       → T (saves.pages_told f offset bytes (turn.moment - 1) (write_told_by how size k) old.pages)
   file-told (kept.Write wcc count committed verf) offset bytes how size is = written-pages offset bytes how size wcc count committed verf is
-  file-told (kept.WriteFail status wcc) offset bytes how size is = drops
-  file-told k offset bytes how size is = drops
+  file-told (kept.WriteFail status wcc) offset bytes how size is = drops (ap came_unmade is)
+  file-told k offset bytes how size is = drops (ap came_unmade is)
 
   pages-told : (what : Result Reply Fault) (offset : ℕ) (bytes : List ℕ) (how size : ℕ) → came ≡ what
       → T (saves.pages_told f offset bytes (turn.moment - 1) (write_told how size what) old.pages)
   pages-told (Ok (replies.File k)) offset bytes how size is = file-told k offset bytes how size is
-  pages-told (Ok (replies.Dir k)) offset bytes how size is = drops
-  pages-told (Ok (replies.Mount k)) offset bytes how size is = drops
+  pages-told (Ok (replies.Dir k)) offset bytes how size is = drops (ap came_unmade is)
+  pages-told (Ok (replies.Mount k)) offset bytes how size is = drops (ap came_unmade is)
   pages-told (Err fault) offset bytes how size is = by (is_unmade fault) refl
     where
       by : (b : Bool) → is_unmade fault ≡ b → T (saves.pages_failed f (turn.moment - 1) fault old.pages)
-      by true e = failed-unmade T f (turn.moment - 1) fault old.pages e (unmade fault is e)
-      by false e = failed-made T f (turn.moment - 1) fault old.pages e drops
+      by true e = failed-unmade T f (turn.moment - 1) fault old.pages e (unmade (ap came_unmade is ∙ e))
+      by false e = failed-made T f (turn.moment - 1) fault old.pages e (drops (ap came_unmade is ∙ e))
 
   -- a save that sends bytes of the file
   saved-pages : (s : Saving) → flies_save s ≡ Some f → T (saves.pages_after sent.xid (turn.moment - 1) came s old.back old.pages)

@@ -14,7 +14,7 @@ use Rattle.world_model.specs.declared.message.Reply.{Reply}
 use Rattle.world_model.specs.declared.message.Reply.TheVariants as replies
 use Rattle.world_model.specs.Messages.{SpellsCall}
 use Rattle.law_stable.proofs.OneFileCall.{one_file_call}
-use Rattle.client_shelf.specs.Unmade.{is_unmade}
+use Rattle.client_shelf.specs.Unmade.{is_unmade, came_unmade}
 use Rattle.client_shelf.specs.declared.shelf.Shelf.{Shelf}
 use Rattle.client_shelf.specs.declared.turn.Turn.{Turn}
 use Rattle.file_ops.specs.declared.truncate_file.TruncateFile.{TruncateFile}
@@ -22,7 +22,7 @@ use Rattle.file_ops.specs.declared.truncate_file.Truncating.{Truncating}
 use Rattle.file_ops.specs.declared.truncate_file.Truncating.TheVariants as truncating
 use Rattle.file_ops.specs.Saves as saves
 use Rattle.file_ops.specs.TruncateFile as truncates
-use Rattle.file_ops.proofs.Failing.{failed-made}
+use Rattle.file_ops.proofs.Failed.{failed-made}
 use Rattle.op_machines.specs.declared.begun.Mounted.{Mounted}
 use Rattle.op_machines.specs.declared.file_machine.FileMachine.TheVariants as machines_of
 use Rattle.op_machines.specs.declared.machine.Machine.{Machine}
@@ -77,11 +77,11 @@ reply-made (kept.SetAttrFail status wcc) fault is = err-made _ fault refl is
 reply-made reply fault is = err-made _ fault refl is
 
 -- the SETATTR was made
-size-made : (came : Result Reply Fault) → ((fault : Fault) → came ≡ Err fault → is_unmade fault ≡ false) → (fault : Fault) → truncates.size_told came ≡ Err fault → is_unmade fault ≡ false
+size-made : (came : Result Reply Fault) → came_unmade came ≡ false → (fault : Fault) → truncates.size_told came ≡ Err fault → is_unmade fault ≡ false
 size-made (Ok (replies.File reply)) made fault is = reply-made reply fault is
 size-made (Ok (replies.Dir reply)) made fault is = err-made _ fault refl is
 size-made (Ok (replies.Mount reply)) made fault is = err-made _ fault refl is
-size-made (Err f) made fault is = err-made f fault (made f refl) is
+size-made (Err f) made fault is = err-made f fault made is
 
 told-so : (T : Pages → Type 0) (f : List ℕ) (wcc : Wcc) (size moment : ℕ) (pages : Pages) (told : Result Wcc Fault) → ((w : Wcc) → told ≡ Ok w → w ≡ wcc)
     → ((fault : Fault) → told ≡ Err fault → is_unmade fault ≡ false) → T (wrote f saves.untold 0 [] moment pages) → T (cut f wcc size moment pages)
