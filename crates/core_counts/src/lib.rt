@@ -129,7 +129,7 @@ pub fn kept_pages_arent_asked_for()
 {}
 
 /// Where all operations are of one lane, no READ is sent for a page that a READ gave under the stamp which its open was told, while each reply shows that stamp
-/// of the file, none answers a WRITE or SETATTR of it, no operation is refused for want of memory, and reads meet no more pages than are kept. Opens may go by
+/// of the file, none answers a WRITE or SETATTR of it, and reads meet no more pages than are kept. Opens may go by
 /// kept attributes (nfs(5), nocto).
 pub fn given_pages_are_asked_for_once()
     ensures { KeptOnce }
