@@ -17,13 +17,21 @@ abbrev pub reboot_of : List (List ℕ) → Option Event
 reboot_of [] = Some events.Reboot
 reboot_of (word ∷ words) = None
 
+-- a path other than `/` alone, which is no file and can't be renamed or removed
+abbrev pub named : List (List ℕ) → Option (List (List ℕ))
+named [] = None
+named (name ∷ names) = Some (name ∷ names)
+
+abbrev pub named_path_of : List ℕ → Option (List (List ℕ))
+named_path_of word = option_and_then named (path_of word)
+
 -- a path
 abbrev pub flush_of : List (List ℕ) → Option Event
-flush_of words = option_and_then (λ path. option_map (λ path. events.Flush path) (path_of path)) (one words)
+flush_of words = option_and_then (λ path. option_map (λ path. events.Flush path) (named_path_of path)) (one words)
 
 -- a path
 abbrev pub remove_of : List (List ℕ) → Option Event
-remove_of words = option_and_then (λ path. option_map (λ path. events.Remove path) (path_of path)) (one words)
+remove_of words = option_and_then (λ path. option_map (λ path. events.Remove path) (named_path_of path)) (one words)
 
 abbrev pub written : Option (List (List ℕ)) → Option ℕ → Option (List ℕ) → Option Event
 written (Some path) (Some offset) (Some bytes) = Some (events.Write path offset bytes)
@@ -31,7 +39,7 @@ written path offset bytes = None
 
 -- a path, an offset and bytes
 abbrev pub write_of : List (List ℕ) → Option Event
-write_of words = option_and_then (λ w. written (path_of w.0) (offset_of w.1) (contents_of w.2)) (three words)
+write_of words = option_and_then (λ w. written (named_path_of w.0) (offset_of w.1) (contents_of w.2)) (three words)
 
 abbrev pub truncated : Option (List (List ℕ)) → Option ℕ → Option Event
 truncated (Some path) (Some size) = Some (events.Truncate path size)
@@ -39,7 +47,7 @@ truncated path size = None
 
 -- a path and a size
 abbrev pub truncate_of : List (List ℕ) → Option Event
-truncate_of words = option_and_then (λ w. truncated (path_of w.0) (offset_of w.1)) (two words)
+truncate_of words = option_and_then (λ w. truncated (named_path_of w.0) (offset_of w.1)) (two words)
 
 abbrev pub created : Option (List (List ℕ)) → Option (List ℕ) → Option Event
 created (Some path) (Some bytes) = Some (events.Create path bytes)
@@ -47,7 +55,7 @@ created path bytes = None
 
 -- a path and bytes
 abbrev pub create_of : List (List ℕ) → Option Event
-create_of words = option_and_then (λ w. created (path_of w.0) (contents_of w.1)) (two words)
+create_of words = option_and_then (λ w. created (named_path_of w.0) (contents_of w.1)) (two words)
 
 abbrev pub renamed : Option (List (List ℕ)) → Option (List (List ℕ)) → Option Event
 renamed (Some from) (Some to) = Some (events.Rename from to)
@@ -55,7 +63,7 @@ renamed from to = None
 
 -- two paths
 abbrev pub rename_of : List (List ℕ) → Option Event
-rename_of words = option_and_then (λ w. renamed (path_of w.0) (path_of w.1)) (two words)
+rename_of words = option_and_then (λ w. renamed (named_path_of w.0) (named_path_of w.1)) (two words)
 
 -- by the word that names its kind
 abbrev pub event_named : List ℕ → List (List ℕ) → Option Event

@@ -2,7 +2,7 @@
 
 ghost use Rattle.std.specs.Prelude.{◌≡◌, IfOk};
 ghost use Rattle.script_text.specs.Lines.{words};
-ghost use Rattle.world_link.specs.Events.{offset_of, reboot_of, flush_of, write_of, truncate_of, create_of, remove_of, rename_of, event_named, event_of};
+ghost use Rattle.world_link.specs.Events.{offset_of, named_path_of, reboot_of, flush_of, write_of, truncate_of, create_of, remove_of, rename_of, event_named, event_of};
 
 use script_text::{contents, long_number, next_word, one_word, path, three_words, two_words};
 use std::alloc::Global;
@@ -98,7 +98,7 @@ fn flush(alloc: Global, line: &[u8]) -> Result<Option<Event>, Memory>
     let Some(word) = one_word(line) else {
         return Ok(None);
     };
-    match path(alloc, word)? {
+    match named_path(alloc, word)? {
         Some(path) => Ok(Some(Event::Flush(path))),
         None => Ok(None),
     }
@@ -110,7 +110,7 @@ fn remove(alloc: Global, line: &[u8]) -> Result<Option<Event>, Memory>
     let Some(word) = one_word(line) else {
         return Ok(None);
     };
-    match path(alloc, word)? {
+    match named_path(alloc, word)? {
         Some(path) => Ok(Some(Event::Remove(path))),
         None => Ok(None),
     }
@@ -125,7 +125,7 @@ fn write(alloc: Global, line: &[u8]) -> Result<Option<Event>, Memory>
     let Some(offset) = offset(digits) else {
         return Ok(None);
     };
-    let Some(path) = path(alloc, word)? else {
+    let Some(path) = named_path(alloc, word)? else {
         return Ok(None);
     };
     match contents(alloc, hex)? {
@@ -147,7 +147,7 @@ fn truncate(alloc: Global, line: &[u8]) -> Result<Option<Event>, Memory>
     let Some(size) = offset(digits) else {
         return Ok(None);
     };
-    match path(alloc, word)? {
+    match named_path(alloc, word)? {
         Some(path) => Ok(Some(Event::Truncate { path, size })),
         None => Ok(None),
     }
@@ -159,7 +159,7 @@ fn create(alloc: Global, line: &[u8]) -> Result<Option<Event>, Memory>
     let Some((word, hex)) = two_words(line) else {
         return Ok(None);
     };
-    let Some(path) = path(alloc, word)? else {
+    let Some(path) = named_path(alloc, word)? else {
         return Ok(None);
     };
     match contents(alloc, hex)? {
@@ -174,13 +174,26 @@ fn rename(alloc: Global, line: &[u8]) -> Result<Option<Event>, Memory>
     let Some((from, to)) = two_words(line) else {
         return Ok(None);
     };
-    let Some(from) = path(alloc, from)? else {
+    let Some(from) = named_path(alloc, from)? else {
         return Ok(None);
     };
-    match path(alloc, to)? {
+    match named_path(alloc, to)? {
         Some(to) => Ok(Some(Event::Rename { from, to })),
         None => Ok(None),
     }
+}
+
+/// A path other than `/` alone, which is no file and can't be renamed or removed.
+fn named_path(alloc: Global, word: &[u8]) -> Result<Option<Path>, Memory>
+    ensures { IfOk result (λ path. path ≡ named_path_of word.now) }
+{
+    let Some(path) = path(alloc, word)? else {
+        return Ok(None);
+    };
+    if path.names().is_empty() {
+        return Ok(None);
+    }
+    Ok(Some(path))
 }
 
 /// An offset or a size.
