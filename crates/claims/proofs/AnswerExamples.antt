@@ -71,12 +71,12 @@ may_not_open_unasked terms path row = unasked row.0
   where
     unasked : OpenOk terms (at_once (ops.OpenFile 1 modes.R path) ok) 0 1 (ops.OpenFile 1 modes.R path) modes.R path → ⊥
     unasked (asked f attr asks ends file) = none_came (ops.OpenFile 1 modes.R path) ok ends.last.at ends.last.bytes ends.last.got
-    unasked (known f attr call reply kept_ anew finds ends went gives shown file) = none_came (ops.OpenFile 1 modes.R path) ok ends.last.at ends.last.bytes ends.last.got
+    unasked (known f attr call reply kept_ finds ends went gives shown file) = none_came (ops.OpenFile 1 modes.R path) ok ends.last.at ends.last.bytes ends.last.got
 
 -- also where it was answered for an earlier open: no record was sent since this one began
 may_not_open_by_an_earlier_one : (terms : Terms) (h : List Entry) (x y : ℕ) (op : Op) (mode : Mode) (path : List (List ℕ)) → ((j : ℕ) (bytes : List ℕ) → At h j (Sent bytes) → x < j → ⊥) → OpenOk terms h x y op mode path → ⊥
 may_not_open_by_an_earlier_one terms h x y op mode path quiet (asked f attr asks ends file) = quiet ends.last.sent_at ends.last.record_sent ends.last.sent.sent ends.within
-may_not_open_by_an_earlier_one terms h x y op mode path quiet (known f attr call reply kept_ anew finds ends went gives shown file) = quiet ends.last.sent_at ends.last.record_sent ends.last.sent.sent ends.within
+may_not_open_by_an_earlier_one terms h x y op mode path quiet (known f attr call reply kept_ finds ends went gives shown file) = quiet ends.last.sent_at ends.last.record_sent ends.last.sent.sent ends.within
 
 -- a mkdir goes well only where MKDIR did
 may_not_mkdir_unasked : (terms : Terms) (path : List (List ℕ)) → OkRow terms (at_once (ops.MakeDir path) ok) 1 0 1 (ops.MakeDir path) values.Nothing → ⊥

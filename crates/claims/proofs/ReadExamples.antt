@@ -63,7 +63,7 @@ no_hole (hole q u z size lt p) = let r = pending_is one_put p.pending.w q u p.pe
 -- ---- since when
 
 abbrev asks_each : Modes
-asks_each = record { longest = 0; noac = true; nocto = false }
+asks_each = record { longest = 0; noac = true; nocto = false; apart = λ on. absurd cc }
 
 -- where each read asks again, moments before the read don't count
 not_before_the_read : Since asks_each [] 5 2 4 → ⊥

@@ -1,5 +1,5 @@
 -- What an answer that an operation went well shows of the history: a row for each operation.
-use Rattle.std.specs.Prelude.{◌≡◌, ◌≤◌, ◌↔◌, ◌++◌, ℕ, true, false, List, length, Contains, Option, Some}
+use Rattle.std.specs.Prelude.{◌≡◌, ◌≤◌, ◌↔◌, ◌++◌, ℕ, true, List, length, Contains, Option, Some}
 use Rattle.std.specs.Cmp.Lexicographic.{slice_cmp}
 use Rattle.std.specs.List.Sorted.{IsStrictlySortedBy}
 use Rattle.std.specs.Ordering.{nat_cmp}
@@ -41,7 +41,7 @@ pub data FindsFile (terms : Terms) (h : List Entry) (y : ℕ) (mode : Mode) (pat
 pub data OpenOk (terms : Terms) (h : List Entry) (x y : ℕ) (op : Op) (mode : Mode) (path : List (List ℕ)) : Type 0 where
   asked : (f : List ℕ) (attr : Attr) → Asks terms h x y op (calls.File (files.GetAttr f))
       → EndsWith h x y (calls.File (files.GetAttr f)) (replies.File (kept.GetAttr attr)) → attr.kind ≡ 1 → OpenOk terms h x y op mode path
-  known : (f : List ℕ) (attr : Attr) (call : Call) (reply : Reply) → terms.modes.nocto ≡ true → terms.modes.noac ≡ false → FindsFile terms h y mode path call
+  known : (f : List ℕ) (attr : Attr) (call : Call) (reply : Reply) → terms.modes.nocto ≡ true → FindsFile terms h y mode path call
       → EndsWith h x y call reply → status_of reply ≡ 0 → given_object reply ≡ Some f
       → ShownWithin h 0 y f attr → attr.kind ≡ 1 → OpenOk terms h x y op mode path
 

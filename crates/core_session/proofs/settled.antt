@@ -1,4 +1,5 @@
 pub mod Converted
+pub mod Evident
 pub mod Given
 pub mod Joined
 pub mod Leaving

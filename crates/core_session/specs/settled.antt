@@ -1,3 +1,4 @@
+pub mod Evident
 pub mod Lone
 pub mod Settling
 pub mod Synced

@@ -7,6 +7,7 @@ ghost use Rattle.core_session.specs.order.Earlier.{EarlierHeard};
 ghost use Rattle.core_session.specs.order.Sizes.{NoSizesMade, SizesAsked};
 ghost use Rattle.core_session.specs.drops.Told.{SlotsHoldOneFile, RefusedClosesAreOwed, OwedClosesLeave, GuardsAreKept};
 ghost use Rattle.core_session.specs.syncs.Synced.{SyncedBytes};
+ghost use Rattle.core_session.specs.settled.Evident.{SettledEvident};
 ghost use Rattle.core_session.specs.settled.Lone.{WritesGiven, LonePutsStay};
 ghost use Rattle.core_session.specs.settled.Settling.{SettledStay};
 ghost use Rattle.core_session.specs.settled.Synced.{SyncedStay};
@@ -114,6 +115,12 @@ pub fn lone_puts_stay()
 /// it from then on, and stable, as long as nothing of this client, and no other client, may have changed its place (RFC 1813, sections 3.3.7, 3.3.21 and 4.8).
 pub fn synced_bytes_stay()
     ensures { SyncedStay }
+{}
+
+/// Of each byte that a sync, close or put settled the messages alone show that it was written and made stable by then, unless this client overtook it: `Evident` of
+/// `claims`, in sessions that are lost later, too (RFC 1813, sections 3.3.7 and 3.3.21).
+pub fn settled_bytes_are_evident()
+    ensures { SettledEvident }
 {}
 
 /// Each byte that was settled stays, and stable, unless it was touched: world_model's `Settled`, whatever became of closes and puts (RFC 1813, sections 3.3.7,

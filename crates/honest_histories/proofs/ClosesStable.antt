@@ -35,12 +35,12 @@ use Rattle.world_model.specs.Once.{Once}
 use Rattle.world_model.specs.Service.{Serves, refused, done}
 use Rattle.world_model.proofs.Places.{At-below}
 use Rattle.claims.specs.Modes.{Modes}
-use Rattle.claims.specs.Settled.{HoldsStable, SettledBy, later}
+use Rattle.claims.specs.Settled.{Evidence, HoldsStable, SettledBy, at_once, later}
 use Rattle.claims.specs.Touched.{Wrote, write, MadeStable, close}
 use Rattle.honest_histories.proofs.SmallServer.{State, empty_server, serve, file, other_places, stays, the_file, verf, no_wcc, wrote_of, commit}
 use Rattle.honest_histories.proofs.Written.{Talk, talk, results_of, file_fits, no_wcc_fits, verf_fits, call_record, reply_record, call_under, talk_mount, talk_info, talk_lookup, talk_attr}
 use Rattle.honest_histories.proofs.Made.{◌⍮◌, Event, Begins, Answers, Sends, Does, Comes, Looks, entries_of, made, Right, idle, did, came, newer, lawful, fresh, once, one_xid}
-use Rattle.honest_histories.proofs.Seen.{SpellsAll, ended, no_proc_sent, none_under}
+use Rattle.honest_histories.proofs.Seen.{SpellsAll, asked, ended, no_proc_sent, none_under}
 use Rattle.honest_histories.proofs.Opened.{ok, opening, right_from, opened_by, is_of}
 use Rattle.honest_histories.proofs.RestartedPut.{empty_is_plain, the_write}
 
@@ -144,6 +144,26 @@ it_settled m = later 28 (record { lane = 1; op = the_op; y = 17; answer = ok; en
 -- and its byte is stable
 it_stands : HoldsStable ((made empty_server closes_stable).at 30) the_file 0 1
 it_stands = record { now = 1 ∷ []; stable = 1 ∷ []; has = record { file = file steady_write; is = refl; holds = refl }; holds = refl; steady = refl }
+
+-- The reply to the WRITE, which called the byte stable, is the evidence of it.
+it_is_evident : Evidence (entries_of closes_stable) 16 29 the_file 0 1
+it_is_evident = record {
+  middle = 29;
+  firm = 2;
+  verf = verf 1;
+  by = omega arith;
+  wrote = record {
+    offset = 0;
+    how = 0;
+    bytes = 1 ∷ [];
+    wcc = no_wcc;
+    count = 1;
+    asked = asked closes_stable 16 29 20 22 4 the_write wrote_stable refl refl refl refl refl (omega arith) (omega arith) (omega arith) (omega arith) write_talk;
+    covers = record { k = 0; place = refl; byte = refl };
+    reached = omega arith;
+  };
+  made = at_once (omega arith);
+}
 
 -- ---- no COMMIT went well
 

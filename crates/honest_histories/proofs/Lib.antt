@@ -13,3 +13,4 @@ pub mod RepeatedCalls
 pub mod CopyAfterReply
 pub mod PutSettles
 pub mod ClosesStable
+pub mod UnsentCloses

@@ -17,18 +17,21 @@ use Rattle.world_model.specs.declared.message.Reply.{Reply}
 use Rattle.world_model.specs.declared.op.Op.{Op}
 use Rattle.world_model.specs.declared.op.Op.TheVariants as ops
 use Rattle.world_model.specs.Entries.{At}
+use Rattle.world_model.specs.Heard.{Asked}
 use Rattle.world_model.specs.Messages.{HasXid, SpellsCall, proc_of, head_of}
 use Rattle.world_model.specs.Mounts.{Origin}
 use Rattle.world_model.specs.Operations.{Ended, AnsweredBefore, LastReply}
 use Rattle.world_model.specs.Server.{Bytes, Object, Server, HasBytes}
 use Rattle.world_model.specs.Waiting.{FirstSent}
 use Rattle.claims.specs.Modes.{Modes}
-use Rattle.claims.specs.Settled.{HoldsStable}
-use Rattle.claims.specs.Slots.{InSlot, asked}
+use Rattle.claims.specs.Settled.{HoldsStable, Overtaken}
+use Rattle.claims.specs.Settled as settled
+use Rattle.claims.specs.Slots.{InSlot}
+use Rattle.claims.specs.Slots as slots
 use Rattle.claims.specs.Touched.{Touched, foreign, written, cut, gone, given_up, write, fill, put, ChangesPlace}
 use Rattle.honest_histories.proofs.SmallServer.{State, the_file, file, serve, get_attr, none_gone}
 use Rattle.honest_histories.proofs.Made.{Event, Begins, Answers, Sends, Does, Comes, Others, Restarts, Fails, Looks, entry_of, entries_of, after, state_at, made, behind, all_are, all_at, xid_fits, one_xid, small_xid, reply_behind, reply_xid}
-use Rattle.honest_histories.proofs.Written.{call_record, reply_record, call_under, reply_under}
+use Rattle.honest_histories.proofs.Written.{Talk, call_record, reply_record, call_under, reply_under}
 
 -- ---- none such in a part of a list
 
@@ -247,20 +250,56 @@ last_reply es n at sent xid call reply fits was_sent came small asked_ before fi
   asked = asked_;
 }
 
+-- A call that was sent at one place, the first one under its xid, was answered at another.
+pub asked : (es : List Event) (from to sent got xid : ℕ) (call : Call) (reply : Reply) → all_are xid_fits es ≡ true → At (entries_of es) sent (entries.Sent (call_record xid call))
+    → At (entries_of es) got (entries.Delivered (reply_record xid reply)) → quiet (is_sending xid) 0 sent es ≡ true → quiet (comes_under xid) sent got es ≡ true
+    → xid < 2 ^ 32 → from ≤ sent → sent < got → got < to → Talk xid call reply → Asked (entries_of es) from to call reply
+asked es from to sent got xid call reply fits was_sent came first none small after later before talk = record {
+  xid = xid;
+  bytes = reply_record xid reply;
+  heard = record {
+    sent_at = sent;
+    record_sent = call_record xid call;
+    got_at = got;
+    sent = first_sent es sent xid call fits was_sent small first;
+    spells = talk.call_is;
+    got = record {
+      got = came;
+      under = reply_under xid reply small;
+      waits = record {
+        at = sent;
+        bytes = call_record xid call;
+        sent = was_sent;
+        under = call_under xid call small;
+        before = later;
+        unanswered = λ j b at under past soon. (let low = none_under es sent got xid fits none j b at under soon in omega (arith, low, past));
+      };
+    };
+    after = after;
+    later = later;
+    before = before;
+  };
+  spells = talk.reply_is;
+}
+
 -- ---- slots
 
-no_closes : (es : List Event) (to : ℕ) → quiet (begins is_close) 0 to (entries_of es) ≡ true → (lane c slot k : ℕ) (answer : Answer) → Ended (entries_of es) lane c (ops.Close slot) k answer → k < to → ⊥
-no_closes es to q lane c slot k answer e lt =
+-- a close that begins no earlier than the place `to` is answered after it
+closed_late : (es : List Event) (to : ℕ) → quiet (begins is_close) 0 to (entries_of es) ≡ true → (lane c slot k : ℕ) (answer : Answer) → Ended (entries_of es) lane c (ops.Close slot) k answer → k ≤ to → ⊥
+closed_late es to q lane c slot k answer e le =
     let later = e.later in
-    let low = begins_outside es is_close 0 to q c lane e.line (ops.Close slot) e.began refl (omega (arith, later, lt)) in
+    let low = begins_outside es is_close 0 to q c lane e.line (ops.Close slot) e.began refl (omega (arith, later, le)) in
     omega (arith, low)
+
+no_closes : (es : List Event) (to : ℕ) → quiet (begins is_close) 0 to (entries_of es) ≡ true → (lane c slot k : ℕ) (answer : Answer) → Ended (entries_of es) lane c (ops.Close slot) k answer → k < to → ⊥
+no_closes es to q lane c slot k answer e lt = closed_late es to q lane c slot k answer e (omega (arith, lt))
 
 -- The slot holds what an open found that was answered at the place y, where none was closed.
 pub holds : (m : Modes) (es : List Event) (n lane slot x y : ℕ) (mode : Mode) (path : List (List ℕ)) (value : Value) → Ended (entries_of es) lane x (ops.OpenFile slot mode path) y (Done value)
     → LastReply (entries_of es) y get_attr → y < n → quiet (begins is_close) 0 n (entries_of es) ≡ true → InSlot m (entries_of es) n lane slot x the_file
 holds m es n lane slot x y mode path value e last before q = record {
   y = y;
-  opens = record { mode = mode; path = path; value = value; ended = e; finds = asked last };
+  opens = record { mode = mode; path = path; value = value; ended = e; finds = slots.asked last };
   before = before;
   kept = λ c k answer close after lt. no_closes es n q lane c slot k answer close lt;
 }
@@ -283,6 +322,14 @@ untouched m origin first es w p i a (cut x other before unanswered cuts) = unans
 untouched m origin first es w p i a (gone o is lost) = none_gone (state_at first es p) the_file o is lost
 untouched m origin first es w p i a (given_up k after before left) = a.no_close left.left.lane left.left.close left.left.slot k left.left.answer left.left.ended before
 
+-- nor is it overtaken
+pub not_overtaken : (m : Modes) (origin : Origin) (es : List Event) (w p i : ℕ) → Alone es w p i → Overtaken m origin (entries_of es) w p the_file i → ⊥
+not_overtaken m origin es w p i a (settled.written x v other before unanswered (write slot offset bytes of covers) kept) = unanswered (a.others x of.lane of.line (ops.Write slot offset bytes) of.began refl other before)
+not_overtaken m origin es w p i a (settled.written x v other before unanswered (fill slot offset count of low high) kept) = unanswered (a.others x of.lane of.line (ops.Fill slot offset count v) of.began refl other before)
+not_overtaken m origin es w p i a (settled.written x v other before unanswered (put lane line offset n path bytes began ends leads covers) kept) = unanswered (a.others x lane line (ops.Put path offset bytes) began refl other before)
+not_overtaken m origin es w p i a (settled.cut x other before unanswered cuts) = unanswered (a.others x cuts.of.lane cuts.of.line (ops.Truncate cuts.slot cuts.size) cuts.of.began refl other before)
+not_overtaken m origin es w p i a (settled.given_up k after before left gives) = a.no_close left.lane left.close left.slot k left.answer left.ended before
+
 pub sooner : (es : List Event) (w p q i : ℕ) → q ≤ p → Alone es w p i → Alone es w q i
 sooner es w p q i le a = record {
   others = λ x lane line op at such other before. a.others x lane line op at such other (omega (arith, before, le));
@@ -290,17 +337,22 @@ sooner es w p q i le a = record {
   no_close = λ lane c slot k answer close before. a.no_close lane c slot k answer close (omega (arith, before, le));
 }
 
--- there is one change, and none of another client
-pub only_change : (es : List Event) (w p i : ℕ) → quiet (begins is_change) 0 w (entries_of es) ≡ true → quiet (begins is_change) (suc w) p (entries_of es) ≡ true → quiet is_foreign (suc w) p (entries_of es) ≡ true → quiet (begins is_close) 0 p (entries_of es) ≡ true
-    → Alone es w p i
-only_change es w p i earlier later foreign_ close = record {
+-- there is one change, and a close, which begins at the place q, just before p
+pub closing_change : (es : List Event) (w q p i : ℕ) → p ≤ suc q → quiet (begins is_change) 0 w (entries_of es) ≡ true → quiet (begins is_change) (suc w) p (entries_of es) ≡ true → quiet is_foreign (suc w) p (entries_of es) ≡ true
+    → quiet (begins is_close) 0 q (entries_of es) ≡ true → Alone es w p i
+closing_change es w q p i next earlier later foreign_ close = record {
   others = λ x lane line op at such other before. elim (cases_lt x w) [
     | inl lt ↦ (let low = begins_outside es is_change 0 w earlier x lane line op at such lt in absurd (omega (arith, low)))
     | inr le ↦ (let low = begins_outside es is_change (suc w) p later x lane line op at such before in absurd (other (omega (arith, low, le))))
   ];
   spared = λ n call reply late before at t changes. (let low = none_foreign es (suc w) p foreign_ n call reply at before in omega (arith, low, late));
-  no_close = λ lane c slot k answer done before. no_closes es p close lane c slot k answer done before;
+  no_close = λ lane c slot k answer done before. closed_late es q close lane c slot k answer done (omega (arith, before, next));
 }
+
+-- there is one change, and none of another client
+pub only_change : (es : List Event) (w p i : ℕ) → quiet (begins is_change) 0 w (entries_of es) ≡ true → quiet (begins is_change) (suc w) p (entries_of es) ≡ true → quiet is_foreign (suc w) p (entries_of es) ≡ true → quiet (begins is_close) 0 p (entries_of es) ≡ true
+    → Alone es w p i
+only_change es w p i earlier later foreign_ close = closing_change es w p p i (omega arith) earlier later foreign_ close
 
 -- there are two, of which the one at the place x was answered before the other began
 pub second_change : (es : List Event) (x w p i : ℕ) → AnsweredBefore (entries_of es) x w → quiet (begins is_change) 0 x (entries_of es) ≡ true → quiet (begins is_change) (suc x) w (entries_of es) ≡ true → quiet (begins is_change) (suc w) p (entries_of es) ≡ true

@@ -1,5 +1,5 @@
 -- What the parts of a session's work do.
-use Rattle.std.specs.Prelude.{◌≡◌, ◌≢◌, ◌≤◌, ◌<◌, ◌⊎◌, ◌-◌, ◌+◌, ℕ, suc, List, [], ◌∷◌, ◌++◌, length, position, replicate, slice_get, option_map, Bool, true, false, Option, Some, None, Result, Ok, Err}
+use Rattle.std.specs.Prelude.{◌≡◌, ◌≢◌, ◌≤◌, ◌<◌, ◌⊎◌, ◌-◌, ◌+◌, ℕ, suc, List, [], ◌∷◌, ◌++◌, length, position, replicate, slice_get, option_map, Bool, true, false, not, ◌&&◌, Option, Some, None, Result, Ok, Err}
 use Rattle.rpc_retry.specs.Waiting.{first_due}
 use Rattle.rpc_retry.specs.declared.waiting.Waiting.{Waiting}
 use Rattle.client_core.specs.declared.lane.Purpose.{Purpose}
@@ -27,7 +27,7 @@ use Rattle.lane_session.specs.Holding.{IsLive, IsAlive, IsQuiet, AreQuiet, Lesse
 -- ---- a session that begins
 
 abbrev pub mounted_by : Settings → Setup → Mounted
-mounted_by s setup = record { root = setup.root; rsize = setup.rsize; noac = s.noac; nocto = s.nocto }
+mounted_by s setup = record { root = setup.root; rsize = setup.rsize; noac = s.noac; nocto = not s.noac && s.nocto }
 
 abbrev pub first_place : Place
 first_place = record { next = 0; line = None }

@@ -92,7 +92,7 @@ impl Session {
                 root: setup.root,
                 rsize: setup.rsize,
                 noac: settings.noac,
-                nocto: settings.nocto,
+                nocto: !settings.noac && settings.nocto,
             },
             port: settings.nfs_port,
             core: Core::new(alloc, setup)?,

@@ -14,7 +14,7 @@ use Rattle.world_model.specs.FileService.{Puts, steady_after}
 use Rattle.world_model.specs.History.{History}
 use Rattle.world_model.specs.Lawful.{Lawful}
 use Rattle.world_model.specs.Server.{Bytes, Object, Server, HasBytes}
-use Rattle.claims.specs.Settled.{HoldsStable}
+use Rattle.claims.specs.Settled.{HoldsStable, WroteAt, MadeFirm, at_once, by_commit, written_at}
 use Rattle.claims.specs.Touched.{Covers, foreign}
 use Rattle.world_model.proofs.Doing.{write_done, commit_done}
 use Rattle.world_model.proofs.Lasting.{entry_at}
@@ -22,7 +22,6 @@ use Rattle.world_model.proofs.Places.{At-below}
 use Rattle.world_model.proofs.Verifiers.{never_again}
 use Rattle.law_calls.specs.Calls.{Numbered}
 use Rattle.law_stable.proofs.Bytes.{get_take, put_here}
-use Rattle.law_stable.specs.Evidence.{WroteAt, MadeFirm, at_once, by_commit, written_at}
 use Rattle.law_stable.specs.Stable.{HoldsNow, WrittenThere, EvidenceStable, EvidenceThere, UntouchedUnforeign}
 use Rattle.law_stable.proofs.Executions.{ran}
 use Rattle.law_stable.proofs.Spared.{Spares, spares}

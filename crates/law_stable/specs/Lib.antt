@@ -1,4 +1,3 @@
-pub mod Evidence
 pub mod OwnCalls
 pub mod Stable
 pub mod Cut

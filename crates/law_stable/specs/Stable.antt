@@ -7,10 +7,9 @@ use Rattle.claims.specs.Modes.{Modes}
 use Rattle.world_model.specs.Mounts.{Origin}
 use Rattle.world_model.specs.Once.{Once}
 use Rattle.world_model.specs.Server.{Server, HasBytes}
-use Rattle.claims.specs.Settled.{HoldsStable}
+use Rattle.claims.specs.Settled.{HoldsStable, WroteAt, Evidence, written_at}
 use Rattle.claims.specs.Touched.{Touched}
 use Rattle.law_calls.specs.Calls.{Numbered}
-use Rattle.law_stable.specs.Evidence.{WroteAt, Evidence, written_at}
 use Rattle.law_stable.specs.OwnCalls.{OwnCalls, NoForeign}
 
 -- the file holds the byte at the place i

@@ -1,5 +1,6 @@
 -- A small run of the machine, with each kind of move.
 use Rattle.std.specs.Prelude.{◌≡◌, ◌≤◌, ℕ, true, false, List, [], ◌∷◌, Some, None, length, bytes_eq, if◌then◌else◌}
+use Rattle.std.proofs.Common.{refl}
 use Rattle.nfs_types.specs.declared.attr.Attr.{Attr}
 use Rattle.nfs_types.specs.declared.mode.Mode.{Mode}
 use Rattle.nfs_dir_calls.specs.declared.call.DirCall.TheVariants as dirs
@@ -64,7 +65,7 @@ kinds m origin t _ _ (moves h c b r k) = kind_of m (length h) b c k ∷ kinds m 
 
 -- attributes are kept for a minute at most, and an open may go by them
 abbrev pub the_modes : Modes
-the_modes = record { longest = 60000; noac = false; nocto = true }
+the_modes = record { longest = 60000; noac = false; nocto = true; apart = λ on. refl }
 
 abbrev pub the_root : Handle
 the_root = 2 ∷ []

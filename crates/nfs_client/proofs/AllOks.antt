@@ -1,5 +1,5 @@
--- Each operation that goes well has its row: an open where the settings are those of a command.
-use Rattle.std.proofs.Common.{◌≡◌, ℕ, Bool, true, false, List, Option, refl, sym, ◌∙◌}
+-- Each operation that goes well has its row.
+use Rattle.std.proofs.Common.{ℕ, List}
 use Rattle.world_model.specs.declared.answer.Answer.TheVariants.{Done}
 use Rattle.world_model.specs.declared.answer.Value.{Value}
 use Rattle.world_model.specs.declared.entry.Entry.{Entry}
@@ -23,41 +23,28 @@ use Rattle.core_answers.proofs.answers.StatStory.{stats-ok}
 use Rattle.core_session.specs.calls.Sessions.{AreAsked}
 use Rattle.core_session.proofs.outcomes.OpenRows.{opens-well}
 use Rattle.core_session.proofs.outcomes.RemoveRows.{removes-well}
-use Rattle.session_words.specs.declared.settings.Settings.{Settings}
-use Rattle.session_words.specs.Words.{IsNocto}
-use Rattle.nfs_client.specs.Given.{terms_by}
-use Rattle.nfs_client.specs.Shown.{AreGiven, by_words, by_modes, IsOpen, OksShown}
-use Rattle.core_session.specs.outcomes.Opened.{KeepsThem}
-
--- words never give both (nfs(5), noac)
-never-both : (noac : Bool) (text : Option (List ℕ)) (nocto : Bool) → IsNocto noac text nocto → nocto ≡ true → noac ≡ false
-never-both true text nocto is may = absurd (let no_way : true ≡ false = sym may ∙ is in cc)
-never-both false text nocto is may = refl
-
-pub keeps-them : (s : Settings) (first : ℕ) → AreGiven s → KeepsThem (terms_by s first)
-keeps-them s first (by_words words command) may = never-both s.noac _ s.nocto command.gives.nocto may
-keeps-them s first (by_modes either) may = either may
+use Rattle.nfs_client.specs.Shown.{OksShown}
 
 module _ (m : Mounted) (terms : Terms) (setup : Setup) (h : List Entry) (v : View) (g : GoesWith m terms setup h v) (known : KnowsRoot terms.origin h m.root) where
-  by-op : (lane x y : ℕ) (op : Op) (value : Value) → (IsOpen op → KeepsThem terms) → IsAsked op → Ended h lane x op y (Done value) → OkRow terms h lane x y op value
-  by-op lane x y (ops.OpenFile slot mode path) value keeps may d = opens-well m terms setup h v g (keeps tt) known lane x y slot mode path value may d
-  by-op lane x y (ops.Read slot offset count) value keeps may d = slot-rows m terms setup h v g lane x y (ops.Read slot offset count) value tt d
-  by-op lane x y (ops.Write slot offset bytes) value keeps may d = slot-rows m terms setup h v g lane x y (ops.Write slot offset bytes) value tt d
-  by-op lane x y (ops.Fill slot offset count byte) value keeps may d = slot-rows m terms setup h v g lane x y (ops.Fill slot offset count byte) value tt d
-  by-op lane x y (ops.Put path offset bytes) value keeps may d = puts-shown m setup h v g.reaches terms known lane x path offset bytes y value may.0 d
-  by-op lane x y (ops.Sync slot) value keeps may d = slot-rows m terms setup h v g lane x y (ops.Sync slot) value tt d
-  by-op lane x y (ops.Close slot) value keeps may d = slot-rows m terms setup h v g lane x y (ops.Close slot) value tt d
-  by-op lane x y (ops.Truncate slot size) value keeps may d = truncates-ok m terms setup h v g lane x slot size y value d
-  by-op lane x y (ops.Stat path) value keeps may d = stats-ok m setup h v g.reaches terms known lane x path y value d
-  by-op lane x y (ops.Access path bits) value keeps may d = one-calls-done m setup h v g.reaches terms known lane x (ops.Access path bits) y value tt may d
-  by-op lane x y (ops.MakeDir path) value keeps may d = one-calls-done m setup h v g.reaches terms known lane x (ops.MakeDir path) y value tt may d
-  by-op lane x y (ops.RemoveDir path) value keeps may d = one-calls-done m setup h v g.reaches terms known lane x (ops.RemoveDir path) y value tt may d
-  by-op lane x y (ops.Remove path) value keeps may d = removes-well m terms setup h v g known lane x y path value may d
-  by-op lane x y (ops.Rename from to) value keeps may d = one-calls-done m setup h v g.reaches terms known lane x (ops.Rename from to) y value tt may d
-  by-op lane x y (ops.Link from to) value keeps may d = one-calls-done m setup h v g.reaches terms known lane x (ops.Link from to) y value tt may d
-  by-op lane x y (ops.SymLink path target) value keeps may d = one-calls-done m setup h v g.reaches terms known lane x (ops.SymLink path target) y value tt may d
-  by-op lane x y (ops.ReadLink path) value keeps may d = one-calls-done m setup h v g.reaches terms known lane x (ops.ReadLink path) y value tt may d
-  by-op lane x y (ops.List path) value keeps may d = lists-shown m setup h v g.reaches terms known lane x path y value d
+  by-op : (lane x y : ℕ) (op : Op) (value : Value) → IsAsked op → Ended h lane x op y (Done value) → OkRow terms h lane x y op value
+  by-op lane x y (ops.OpenFile slot mode path) value may d = opens-well m terms setup h v g known lane x y slot mode path value may d
+  by-op lane x y (ops.Read slot offset count) value may d = slot-rows m terms setup h v g lane x y (ops.Read slot offset count) value tt d
+  by-op lane x y (ops.Write slot offset bytes) value may d = slot-rows m terms setup h v g lane x y (ops.Write slot offset bytes) value tt d
+  by-op lane x y (ops.Fill slot offset count byte) value may d = slot-rows m terms setup h v g lane x y (ops.Fill slot offset count byte) value tt d
+  by-op lane x y (ops.Put path offset bytes) value may d = puts-shown m setup h v g.reaches terms known lane x path offset bytes y value may.0 d
+  by-op lane x y (ops.Sync slot) value may d = slot-rows m terms setup h v g lane x y (ops.Sync slot) value tt d
+  by-op lane x y (ops.Close slot) value may d = slot-rows m terms setup h v g lane x y (ops.Close slot) value tt d
+  by-op lane x y (ops.Truncate slot size) value may d = truncates-ok m terms setup h v g lane x slot size y value d
+  by-op lane x y (ops.Stat path) value may d = stats-ok m setup h v g.reaches terms known lane x path y value d
+  by-op lane x y (ops.Access path bits) value may d = one-calls-done m setup h v g.reaches terms known lane x (ops.Access path bits) y value tt may d
+  by-op lane x y (ops.MakeDir path) value may d = one-calls-done m setup h v g.reaches terms known lane x (ops.MakeDir path) y value tt may d
+  by-op lane x y (ops.RemoveDir path) value may d = one-calls-done m setup h v g.reaches terms known lane x (ops.RemoveDir path) y value tt may d
+  by-op lane x y (ops.Remove path) value may d = removes-well m terms setup h v g known lane x y path value may d
+  by-op lane x y (ops.Rename from to) value may d = one-calls-done m setup h v g.reaches terms known lane x (ops.Rename from to) y value tt may d
+  by-op lane x y (ops.Link from to) value may d = one-calls-done m setup h v g.reaches terms known lane x (ops.Link from to) y value tt may d
+  by-op lane x y (ops.SymLink path target) value may d = one-calls-done m setup h v g.reaches terms known lane x (ops.SymLink path target) y value tt may d
+  by-op lane x y (ops.ReadLink path) value may d = one-calls-done m setup h v g.reaches terms known lane x (ops.ReadLink path) y value tt may d
+  by-op lane x y (ops.List path) value may d = lists-shown m setup h v g.reaches terms known lane x path y value d
 
-  pub all-oks : (s : Settings) → AreAsked h → (AreGiven s → KeepsThem terms) → OksShown s terms h
-  all-oks s asked so lane x y op value open_ ended = by-op lane x y op value (λ o. so (open_ o)) (asked x lane ended.line op ended.began) ended
+  pub all-oks : AreAsked h → OksShown terms h
+  all-oks asked lane x y op value ended = by-op lane x y op value (asked x lane ended.line op ended.began) ended

@@ -10,20 +10,19 @@ use Rattle.claims.specs.Caused.{Caused, calls_in}
 use Rattle.world_model.specs.Operations.{Ended}
 use Rattle.claims.specs.Terms.{Terms}
 use Rattle.lane_session.specs.Bonds.{StaysLost}
-use Rattle.session_words.specs.declared.settings.Settings.{Settings}
-use Rattle.nfs_client.specs.Shown.{AllRowed, AreGiven, OksShown, SlotsShown}
+use Rattle.nfs_client.specs.Shown.{AllRowed, OksShown, SlotsShown}
 
 -- at this status an operation is refused for want of calls only where all were made
 abbrev pub AllSpent : Terms → ℕ → List Entry → Type 0
 AllSpent terms status h = (lane x y : ℕ) (op : Op) → (status ≡ 0) ⊎ (status ≡ 1) → Ended h lane x op y (Refused faults.Spent) → calls_in h ≡ terms.calls
 
-module _ (s : Settings) (terms : Terms) (script : List Entry) (status : ℕ) (h : List Entry) where
-  pub all-caused : CallsAsked terms h → CallCounts terms script h → AreGiven s → OksShown s terms h → AllRowed terms h → SlotsShown terms h → StaysLost h → AllSpent terms status h
+module _ (terms : Terms) (script : List Entry) (status : ℕ) (h : List Entry) where
+  pub all-caused : CallsAsked terms h → CallCounts terms script h → OksShown terms h → AllRowed terms h → SlotsShown terms h → StaysLost h → AllSpent terms status h
       → Caused terms script status h
-  all-caused calls counts are oks rows slots stays spent = record {
+  all-caused calls counts oks rows slots stays spent = record {
     calls = calls;
     counts = counts;
-    ok = λ lane x y op value ended. oks lane x y op value (λ open_. are) ended;
+    ok = oks;
     refused = rows;
     slot = λ lane x y op answer ended tried none. (slots.places lane x y op answer ended tried).slot none;
     mode = λ lane x y op answer ended tried none. (slots.places lane x y op answer ended tried).mode none;

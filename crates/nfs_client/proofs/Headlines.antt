@@ -26,8 +26,8 @@ use Rattle.script_runs.proofs.LaneRuns.{fresh, fewer}
 use Rattle.nfs_client.specs.Given.{modes_of, terms_by}
 use Rattle.nfs_client.specs.Headline.{Promises, Headline}
 use Rattle.nfs_client.specs.Run.{Shows}
-use Rattle.nfs_client.specs.Shown.{RunShows, by_modes}
-use Rattle.nfs_client.proofs.Quiet.{IsQuiet, quiet-caused, quiet-thrifty, quiet-completes, quiet-settled, quiet-cuts, quiet-current, quiet-read, quiet-short, quiet-names, quiet-ages, quiet-lists}
+use Rattle.nfs_client.specs.Shown.{RunShows}
+use Rattle.nfs_client.proofs.Quiet.{IsQuiet, quiet-caused, quiet-thrifty, quiet-completes, quiet-evident, quiet-settled, quiet-cuts, quiet-current, quiet-read, quiet-short, quiet-names, quiet-ages, quiet-lists}
 use Rattle.nfs_client.proofs.SetUpAlone.{lost-quiet, early-quiet, empty-quiet}
 
 -- ---- readings of the clock
@@ -82,8 +82,9 @@ ready-headline s lines first ms rest v before h status text some unmarked is sho
   together = is.together;
   clock = clocked status ms rest before h unmarked is.clock is.timed;
   ends = ran is.ends says;
-  caused = λ keeps. shows.caused (by_modes keeps) lines status is.follows is.ends;
+  caused = shows.caused lines status is.follows is.ends;
   thrifty = shows.thrift;
+  evidence = shows.evidence;
   server = ready-promises s first v before h shows;
 }
 
@@ -117,8 +118,9 @@ lost-headline s lines first ms rest tally before h status text some so is only s
       together = is.together;
       clock = clocked status ms rest before h so.unmarked is.clock is.timed;
       ends = ran is.ends says;
-      caused = λ keeps. quiet-caused (terms_by s first) h quiet _ status;
+      caused = quiet-caused (terms_by s first) h quiet _ status;
       thrifty = quiet-thrifty (terms_by s first) h quiet;
+      evidence = quiet-evident (terms_by s first) h quiet (modes_of s) (origin_of s.export);
       server = quiet-promises s first h quiet;
     }
 
@@ -142,8 +144,9 @@ early-headline s lines first ms h status text some unmarked quiet ends =
         timed = none.timed;
       };
       ends = ends;
-      caused = λ keeps. quiet-caused (terms_by s first) h quiet _ status;
+      caused = quiet-caused (terms_by s first) h quiet _ status;
       thrifty = quiet-thrifty (terms_by s first) h quiet;
+      evidence = quiet-evident (terms_by s first) h quiet (modes_of s) (origin_of s.export);
       server = quiet-promises s first h quiet;
     }
 
@@ -174,8 +177,9 @@ empty-headline s given h status text none is says =
         timed = is.timed;
       };
       ends = ran is.ends says;
-      caused = λ keeps. quiet-caused (terms_by s 1) h quiet _ status;
+      caused = quiet-caused (terms_by s 1) h quiet _ status;
       thrifty = quiet-thrifty (terms_by s 1) h quiet;
+      evidence = quiet-evident (terms_by s 1) h quiet (modes_of s) (origin_of s.export);
       server = quiet-promises s 1 h quiet;
     }
 

@@ -33,7 +33,7 @@ use Rattle.claims.specs.Modes.{Modes}
 use Rattle.claims.specs.ReadTrue.{ReadCurrent, ReadShort, ReadTrue}
 use Rattle.claims.specs.Recent.{AttrAge, ListTrue, NamesTrue}
 use Rattle.claims.specs.RefusalRows.{RefusalRow}
-use Rattle.claims.specs.Settled.{Settled}
+use Rattle.claims.specs.Settled.{Evident, Settled}
 use Rattle.claims.specs.Terms.{Terms}
 use Rattle.claims.specs.Thrifty.{Thrifty}
 use Rattle.claims.specs.Touched.{Wrote}
@@ -210,6 +210,14 @@ module _ (terms : Terms) (h : List Entry) (q : IsQuiet terms h) where
     writes = λ one never i x end w op f short uncut latest last. absurd (no-write i short.xid short.offset short.how f short.data_ short.bytes short.sent.sent short.spells);
   }
 
+  wrote-none : (m : Modes) (w y i v : ℕ) (f : List ℕ) → Wrote m h w y f i v → ⊥
+  wrote-none m w y i v f (touched.write lane slot offset bytes value of ended covers) = none-done lane w y _ value ended
+  wrote-none m w y i v f (touched.fill lane slot offset count value of ended low high) = none-done lane w y _ value ended
+  wrote-none m w y i v f (touched.put offset bytes p covers) = none-done p.lane w y _ p.value p.ended
+
+  pub quiet-evident : (m : Modes) (origin : Origin) → Evident m origin h
+  quiet-evident m origin w y f i v j wrote settled free = absurd (wrote-none m w y i v f wrote)
+
 -- ---- of the server at each moment
 
 module _ (terms : Terms) (t : History) (q : IsQuiet terms t.entries) where
@@ -217,9 +225,7 @@ module _ (terms : Terms) (t : History) (q : IsQuiet terms t.entries) where
   none-ended = none-done terms t.entries q
 
   none-wrote : (m : Modes) (w y i v : ℕ) (f : List ℕ) → Wrote m t.entries w y f i v → ⊥
-  none-wrote m w y i v f (touched.write lane slot offset bytes value of ended covers) = none-ended lane w y _ value ended
-  none-wrote m w y i v f (touched.fill lane slot offset count value of ended low high) = none-ended lane w y _ value ended
-  none-wrote m w y i v f (touched.put offset bytes p covers) = none-ended p.lane w y _ p.value p.ended
+  none-wrote = wrote-none terms t.entries q
 
   pub quiet-completes : Completes terms t
   quiet-completes u lane x y op answer e = absurd (u.kept y (q.lost y lane e.line answer e.answered).1)

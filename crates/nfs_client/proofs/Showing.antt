@@ -89,6 +89,7 @@ use Rattle.core_answers.proofs.refusals.OwnRows.{refusals-owned}
 use Rattle.core_session.proofs.saves.Lone.{puts-written}
 use Rattle.core_session.specs.settled.Settling.{OnlySetsUp}
 use Rattle.core_session.proofs.settled.LonePuts.{lone-puts-stay}
+use Rattle.core_session.proofs.settled.Evident.{settled-evident}
 use Rattle.core_session.proofs.settled.Synced.{synced-stay, settled-stay}
 use Rattle.core_session.specs.syncs.Synced.{PutsNamed}
 use Rattle.core_session.proofs.kept.OwnShows.{own-bytes-read, reads-end-rightly}
@@ -114,7 +115,7 @@ use Rattle.script_runs.specs.LaneRuns.{setup_of}
 use Rattle.nfs_client.specs.Given.{longest_of, modes_of, terms_by}
 use Rattle.nfs_client.specs.Shown.{AllRowed, CallsShown, CountsShown, OksShown, SlotsShown, PutsShown, CompleteShown, FaultsShown, KeptShown, RestShown, StableShown, HonestShown, RunShows, NoneUnderWay}
 use Rattle.nfs_client.proofs.AllAsked.{goes-from, only-sets-up}
-use Rattle.nfs_client.proofs.AllOks.{all-oks, keeps-them}
+use Rattle.nfs_client.proofs.AllOks.{all-oks}
 use Rattle.nfs_client.proofs.Causes.{all-caused}
 use Rattle.nfs_client.proofs.Spent.{ended-sent}
 
@@ -351,7 +352,7 @@ module _ (s : Settings) (first : ℕ) (v : SetUp) (before h : List Entry) (so : 
         pages = pages-few mounted terms (setup_of s v) before h has.core from has.notes;
         hidden = hidden-few mounted terms (setup_of s v) before h has.core from has.notes script follows;
       } in
-      let oks : OksShown s terms h = all-oks mounted terms (setup_of s v) h has.core (record { nocto = refl; reaches = reaches }) root s asked (keeps-them s first) in
+      let oks : OksShown terms h = all-oks mounted terms (setup_of s v) h has.core (record { nocto = refl; reaches = reaches }) root asked in
       let slots : SlotsShown terms h = slots-shown mounted (setup_of s v) h has.core reaches terms refl in
       let rows : AllRowed terms h = refusals-all-rowed mounted terms (setup_of s v) before h has.core from has.notes in
       record {
@@ -375,11 +376,12 @@ module _ (s : Settings) (first : ℕ) (v : SetUp) (before h : List Entry) (so : 
             (record { goes = record { nocto = refl; reaches = reaches }; noac = refl; some = (reached-may (machine_of mounted) (setup_of s v) h has.core reaches).sizes.read; known = root })
             rows;
         rest = rest-shown mounted (setup_of s v) h has.core reaches;
-        caused = λ are lines status follows ends.
-            all-caused s terms (entries_of lines) status h calls.asked (counts (entries_of lines) follows) are oks rows slots has.stays
+        caused = λ lines status follows ends.
+            all-caused terms (entries_of lines) status h calls.asked (counts (entries_of lines) follows) oks rows slots has.stays
             (λ lane x y op by_itself ended.
             calls-sent mounted (setup_of s v) h has.core reaches before has.since terms calls sent-early fits.total lane x op y ended
             (ended-sent mounted (setup_of s v) h has.core reaches lines status ends by_itself));
+        evidence = settled-evident mounted terms (setup_of s v) h has.core (record { nocto = refl; reaches = reaches }) root (puts-named h asked);
         kept = kept-shown mounted (setup_of s v) h has.core reaches terms refl root (puts-named h asked);
         complete = λ t is. complete-shown mounted terms (setup_of s v) before t has.core (subst (λ (k : List Entry). GoesFrom mounted terms (setup_of s v) before k has.core) (sym is) from)
             (subst (λ (k : List Entry). Notes (machine_of mounted) (setup_of s v) k has.core) (sym is) has.notes);

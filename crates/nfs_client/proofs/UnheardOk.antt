@@ -1,5 +1,5 @@
 -- A client that answers `ok` where no server can be reached isn't one of which the headline holds: the history of such an answer breaks it.
-use Rattle.std.proofs.Common.{◌≡◌, ◌<◌, ◌≤◌, ℕ, zero, suc, true, false, List, [], ◌∷◌, refl, arith}
+use Rattle.std.proofs.Common.{◌≡◌, ◌<◌, ◌≤◌, ℕ, zero, suc, List, [], ◌∷◌, refl, arith}
 use Rattle.world_model.specs.declared.answer.Answer.{Answer}
 use Rattle.world_model.specs.declared.answer.Answer.TheVariants.{Done}
 use Rattle.world_model.specs.declared.answer.Value.{Value}
@@ -16,10 +16,10 @@ use Rattle.nfs_client.specs.Given.{terms_by}
 use Rattle.nfs_client.specs.Headline.{Headline}
 
 -- no directory was made if no record came
-pub unheard : (s : Settings) (lines : List ScriptLine) (given : List ℕ) (h : List Entry) (status : ℕ) (text : List ℕ) → (s.nocto ≡ true → s.noac ≡ false) → Headline s lines given h status text
+pub unheard : (s : Settings) (lines : List ScriptLine) (given : List ℕ) (h : List Entry) (status : ℕ) (text : List ℕ) → Headline s lines given h status text
     → ((i : ℕ) (bytes : List ℕ) → At h i (Delivered bytes) → ⊥) → (lane x y : ℕ) (path : List (List ℕ)) (value : Value) → Ended h lane x (ops.MakeDir path) y (Done value) → ⊥
-unheard s lines given h status text keeps head none lane x y path value ended =
-    let ok : ActOk (terms_by s head.first) h x y (ops.MakeDir path) value = (head.caused keeps).ok lane x y (ops.MakeDir path) value ended in
+unheard s lines given h status text head none lane x y path value ended =
+    let ok : ActOk (terms_by s head.first) h x y (ops.MakeDir path) value = head.caused.ok lane x y (ops.MakeDir path) value ended in
     none ok.ends.last.at ok.ends.last.bytes ok.ends.last.got
 
 -- four dials failed, and then a directory was said to have been made
@@ -49,6 +49,6 @@ ended : Ended unreachable 1 9 (ops.MakeDir ((100 ∷ []) ∷ [])) 10 (Done value
 unfolding unreachable
 ended = record { line = 1; began = refl; answered = refl; later = omega arith; first = first-answer }
 
-pub unreachable-refused : (s : Settings) (lines : List ScriptLine) (given : List ℕ) (status : ℕ) (text : List ℕ) → (s.nocto ≡ true → s.noac ≡ false)
+pub unreachable-refused : (s : Settings) (lines : List ScriptLine) (given : List ℕ) (status : ℕ) (text : List ℕ)
     → Headline s lines given unreachable status text → ⊥
-unreachable-refused s lines given status text keeps head = unheard s lines given unreachable status text keeps head none-came 1 9 10 ((100 ∷ []) ∷ []) values.Nothing ended
+unreachable-refused s lines given status text head = unheard s lines given unreachable status text head none-came 1 9 10 ((100 ∷ []) ∷ []) values.Nothing ended

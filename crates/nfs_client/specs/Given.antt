@@ -1,7 +1,7 @@
 -- What a session is given by its settings.
 use Rattle.std.specs.Prelude.{ℕ, max}
 use Rattle.attr_cache.specs.declared.lives.Lives.{Lives}
-use Rattle.claims.specs.Modes.{Modes}
+use Rattle.claims.specs.Modes.{Modes, modes_with}
 use Rattle.claims.specs.Terms.{Terms}
 use Rattle.session_words.specs.declared.settings.Settings.{Settings}
 use Rattle.session_setup.specs.Origins.{origin_of}
@@ -11,7 +11,7 @@ abbrev pub longest_of : Lives → ℕ
 longest_of l = max (max l.reg_min l.reg_max) (max l.dir_min l.dir_max)
 
 abbrev pub modes_of : Settings → Modes
-modes_of s = record { longest = longest_of s.lives; noac = s.noac; nocto = s.nocto }
+modes_of s = modes_with (longest_of s.lives) s.noac s.nocto
 
 -- the terms of a session whose calls have xids from the first one on
 abbrev pub terms_by : Settings → ℕ → Terms

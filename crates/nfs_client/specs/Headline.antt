@@ -1,5 +1,5 @@
 -- What a session promises, in the words of the model alone.
-use Rattle.std.specs.Prelude.{◌≡◌, ℕ, List, [], true, false}
+use Rattle.std.specs.Prelude.{◌≡◌, ℕ, List, []}
 use Rattle.world_model.specs.declared.entry.Entry.{Entry}
 use Rattle.world_model.specs.Follows.{Follows}
 use Rattle.world_model.specs.Fresh.{Fresh}
@@ -13,7 +13,7 @@ use Rattle.claims.specs.Complete.{Completes}
 use Rattle.claims.specs.Cuts.{CutsStay}
 use Rattle.claims.specs.ReadTrue.{ReadCurrent, ReadShort, ReadTrue}
 use Rattle.claims.specs.Recent.{AttrAge, ListTrue, NamesTrue}
-use Rattle.claims.specs.Settled.{Settled}
+use Rattle.claims.specs.Settled.{Evident, Settled}
 use Rattle.claims.specs.Thrifty.{Thrifty}
 use Rattle.nfs_script.specs.declared.script.ScriptLine.{ScriptLine}
 use Rattle.session_words.specs.declared.settings.Settings.{Settings}
@@ -43,6 +43,7 @@ pub record Headline (s : Settings) (lines : List ScriptLine) (given : List ℕ) 
   pub together : LanesTogether (entries_of lines) h
   pub clock : IsClocked status given h
   pub ends : EndsSo s lines h status text
-  pub caused : (s.nocto ≡ true → s.noac ≡ false) → Caused (terms_by s first) (entries_of lines) status h
+  pub caused : Caused (terms_by s first) (entries_of lines) status h
   pub thrifty : Thrifty (terms_by s first) h
+  pub evidence : Evident (modes_of s) (origin_of s.export) h
   pub server : (t : History) → t.entries ≡ h → Promises s first t

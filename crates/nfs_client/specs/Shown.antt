@@ -42,7 +42,7 @@ use Rattle.claims.specs.ReadTrue.{ReadCurrent, ReadShort, ReadsBytes, ReadTrue}
 use Rattle.claims.specs.Recent.{AttrAge, ListTrue, NamesTrue}
 use Rattle.claims.specs.RefusalRows.{RefusalRow}
 use Rattle.world_model.specs.Rising.{Rising}
-use Rattle.claims.specs.Settled.{HoldsStable, SettledBy, Settled}
+use Rattle.claims.specs.Settled.{Evident, HoldsStable, SettledBy, Settled}
 use Rattle.claims.specs.Terms.{Terms, jukebox}
 use Rattle.claims.specs.Thrifty.{Thrifty}
 use Rattle.claims.specs.Touched.{Wrote}
@@ -82,7 +82,6 @@ use Rattle.core_answers.specs.writes.Flights.{IsInFlight}
 use Rattle.core_answers.specs.writes.Written.{PlaceWritten}
 use Rattle.nfs_script.specs.declared.script.ScriptLine.{ScriptLine}
 use Rattle.session_words.specs.declared.settings.Settings.{Settings}
-use Rattle.session_words.specs.Words.{IsCommand}
 use Rattle.session_setup.specs.declared.opening.SetUp.{SetUp}
 use Rattle.script_runs.specs.LaneRuns.{setup_of}
 use Rattle.nfs_client.specs.Given.{longest_of, modes_of, terms_by}
@@ -90,13 +89,6 @@ use Rattle.session_setup.specs.Origins.{origin_of}
 use Rattle.lane_session.specs.Bonds.{HasCore}
 use Rattle.lane_session.specs.Running.{mounted_by}
 use Rattle.lane_session.specs.Endings.{EndsAs, entries_of}
-
--- ---- what a session is given
-
--- The settings of a command; or others by which opens go by kept attributes only where attributes are kept (nfs(5), nocto and noac).
-pub data AreGiven (s : Settings) : Type 0 where
-  by_words : (words : List (List ℕ)) → IsCommand words s → AreGiven s
-  by_modes : (s.nocto ≡ true → s.noac ≡ false) → AreGiven s
 
 -- ---- calls
 
@@ -126,14 +118,9 @@ WritesShown m setup before h = (i xid offset how : ℕ) (file bytes rec : List �
 
 -- ---- answers
 
--- an open
-abbrev pub IsOpen : Op → Type 0
-IsOpen (ops.OpenFile slot mode path) = Unit {0}
-IsOpen op = ⊥
-
--- An operation goes well only where it has its row; of an open this is said where the settings are those of a command.
-abbrev pub OksShown : Settings → Terms → List Entry → Type 0
-OksShown s terms h = (lane x y : ℕ) (op : Op) (value : Value) → (IsOpen op → AreGiven s) → Ended h lane x op y (Done value) → OkRow terms h lane x y op value
+-- An operation goes well only where it has its row.
+abbrev pub OksShown : Terms → List Entry → Type 0
+OksShown terms h = (lane x y : ℕ) (op : Op) (value : Value) → Ended h lane x op y (Done value) → OkRow terms h lane x y op value
 
 -- An operation on a slot goes well only where the slot holds an open as it begins, for reading or writing as it needs. One that finds no such place is
 -- refused so, and no other is. Each byte that a read answers is one that an operation gave to its place, or that a kept page or the reply to a READ of its own
@@ -208,8 +195,8 @@ pub record KeptShown (terms : Terms) (setup : Setup) (h : List Entry) (core : Vi
 -- The history of a session that follows a script and ends with a status is `Caused`, by `world_model`: each call was asked for, and not too many were made;
 -- each answer has its row; a missing place or right is answered so; a session that is lost stays lost; and where an operation was refused since all calls
 -- were made, at status 0 or 1, they were.
-abbrev pub CausedShown : Settings → Terms → List Entry → Type 0
-CausedShown s terms h = AreGiven s → (lines : List ScriptLine) (status : ℕ) → Follows (entries_of lines) h → EndsAs lines h status
+abbrev pub CausedShown : Terms → List Entry → Type 0
+CausedShown terms h = (lines : List ScriptLine) (status : ℕ) → Follows (entries_of lines) h → EndsAs lines h status
     → Caused terms (entries_of lines) status h
 
 -- ---- an honest server
@@ -230,7 +217,7 @@ pub record HonestShown (s : Settings) (root : List ℕ) (core : View) (t : Histo
       → ReadsBytes (modes_of s) t.entries x y o f offset count bytes
       → ReadRecent (modes_of s) t x y o f offset count bytes
   pub read_true : ReadCurrent (modes_of s) (origin_of s.export) t
-  pub read_back : s.nocto ≡ false → (x y o : ℕ) (f : List ℕ) (offset count : ℕ) (bytes : List ℕ)
+  pub read_back : (modes_of s).nocto ≡ false → (x y o : ℕ) (f : List ℕ) (offset count : ℕ) (bytes : List ℕ)
       → ReadsBytes (modes_of s) t.entries x y o f offset count bytes
       → (e k b : ℕ) → e < o → k < count → IsStable (modes_of s) t e y f (offset + k) b → slice_get bytes k ≡ Some b
   pub stood : (dir name found : List ℕ) (kept : KeptAttr) → kept_of dir core.shelf.attrs ≡ Some kept
@@ -281,12 +268,13 @@ pub record RunShows (s : Settings) (first : ℕ) (v : SetUp) (before h : List En
   pub counts : CountsShown (terms_by s first) h
   pub thrift : Thrifty (terms_by s first) h
   pub writes : WritesShown (mounted_by s (setup_of s v)) (setup_of s v) before h
-  pub oks : OksShown s (terms_by s first) h
+  pub oks : OksShown (terms_by s first) h
   pub slots : SlotsShown (terms_by s first) h
   pub puts : PutsShown (terms_by s first) h
   pub faults : FaultsShown (terms_by s first) (setup_of s v) h has.core
   pub rest : RestShown has.core
-  pub caused : CausedShown s (terms_by s first) h
+  pub caused : CausedShown (terms_by s first) h
+  pub evidence : Evident (modes_of s) (origin_of s.export) h
   pub kept : KeptShown (terms_by s first) (setup_of s v) h has.core
   pub complete : (t : History) → t.entries ≡ h → CompleteShown (terms_by s first) t
   pub stable : (t : History) → t.entries ≡ h → Lawful t → Once t.entries → StableShown s t

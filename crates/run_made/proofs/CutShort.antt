@@ -114,8 +114,9 @@ headline_by s lines given h ran status text c k = record {
   together = k.together;
   clock = clocked ran status given h c k.clock;
   ends = ends s lines h ran status text c k.ends;
-  caused = λ keeps. caused _ _ h ran status c (k.caused keeps);
+  caused = caused _ _ h ran status c k.caused;
   thrifty = k.thrifty;
+  evidence = k.evidence;
   server = k.server;
 }
 

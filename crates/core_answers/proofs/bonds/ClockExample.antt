@@ -15,7 +15,7 @@ abbrev the_history : List Entry
 the_history = Clock 10 ∷ Began 1 1 (ops.Stat []) ∷ Clock 21 ∷ Began 2 2 (ops.Stat []) ∷ Clock 5 ∷ Began 1 3 (ops.Stat []) ∷ []
 
 abbrev the_modes : Modes
-the_modes = record { longest = 10; noac = false; nocto = false }
+the_modes = record { longest = 10; noac = false; nocto = false; apart = λ on. refl }
 
 last-time : began_at the_history 5 ≡ 21
 last-time = refl

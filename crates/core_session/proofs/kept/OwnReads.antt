@@ -25,7 +25,7 @@ use Rattle.law_calls.specs.Calls.{Numbered}
 use Rattle.law_own.proofs.OneByte.{HasByte, wrote-byte, writes-byte, one-byte, touched-later}
 use Rattle.law_reads.specs.Kept.{Done, HasStamp}
 use Rattle.law_stable.proofs.Bytes.{some_or_past}
-use Rattle.law_stable.specs.Evidence.{Evidence, WroteAt, written_at}
+use Rattle.claims.specs.Settled.{Evidence, WroteAt, written_at}
 use Rattle.law_stable.specs.Stable.{HoldsNow}
 use Rattle.op_machines.specs.declared.begun.Mounted.{Mounted}
 use Rattle.op_machines.specs.Begun.{machine_of}

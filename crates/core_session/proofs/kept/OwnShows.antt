@@ -13,13 +13,12 @@ use Rattle.world_model.specs.Lawful.{Lawful}
 use Rattle.world_model.specs.Once.{Once}
 use Rattle.claims.specs.Pending.{Pending}
 use Rattle.claims.specs.ReadTrue.{ReadsBytes}
-use Rattle.claims.specs.Settled.{SettledBy}
+use Rattle.claims.specs.Settled.{SettledBy, MadeFirm, at_once, by_commit}
 use Rattle.claims.specs.Slots.{IsOf}
 use Rattle.claims.specs.Terms.{Terms}
 use Rattle.claims.specs.Touched.{Wrote, Touched, written}
 use Rattle.world_model.proofs.Places.{At-below}
 use Rattle.law_own.proofs.OneByte.{HasByte, wrote-byte, writes-byte, one-byte}
-use Rattle.law_stable.specs.Evidence.{MadeFirm, at_once, by_commit}
 use Rattle.op_machines.specs.declared.begun.Mounted.{Mounted}
 use Rattle.op_machines.specs.declared.machine.Machine.{Machine}
 use Rattle.op_machines.specs.Begun.{machine_of}

@@ -20,11 +20,10 @@ use Rattle.world_model.specs.Lawful.{Lawful}
 use Rattle.world_model.specs.Messages.{SpellsCall}
 use Rattle.world_model.specs.Once.{Once}
 use Rattle.world_model.specs.Operations.{AnsweredBefore}
-use Rattle.claims.specs.Settled.{HoldsStable}
+use Rattle.claims.specs.Settled.{HoldsStable, written_at, Evidence, MadeFirm, at_once, by_commit}
 use Rattle.claims.specs.Terms.{Terms}
 use Rattle.claims.specs.Touched.{Cuts}
 use Rattle.world_model.specs.Waiting.{FirstSent}
-use Rattle.law_stable.specs.Evidence.{written_at}
 use Rattle.law_stable.specs.OwnCalls.{Alters, writes, sizes, HeardBefore, OwnCalls, NoForeign}
 use Rattle.world_model.specs.Mounts.{info_call}
 use Rattle.law_stable.proofs.OneFileCall.{one_file_call}
@@ -53,7 +52,6 @@ use Rattle.world_model.proofs.Verifiers.{never_again}
 use Rattle.law_calls.specs.Calls.{Numbered}
 use Rattle.law_reads.specs.Kept.{Done}
 use Rattle.law_stable.proofs.Bytes.{get_take, put_here}
-use Rattle.law_stable.specs.Evidence.{Evidence, MadeFirm, at_once, by_commit}
 use Rattle.law_stable.specs.Stable.{HoldsNow}
 use Rattle.law_stable.proofs.Executions.{Ran, ran}
 use Rattle.law_stable.proofs.Spared.{spares}

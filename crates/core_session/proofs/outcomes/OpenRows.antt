@@ -29,12 +29,12 @@ use Rattle.core_answers.proofs.asks.WalkAsks.{leads-on}
 use Rattle.core_answers.specs.bonds.Kept.{LastAtMost}
 use Rattle.core_answers.proofs.refusals.Answering.{reached-answered}
 use Rattle.core_answers.proofs.refusals.OpenAsking as asking
-use Rattle.core_session.specs.outcomes.Opened.{KeepsThem, OpensWell}
+use Rattle.core_session.specs.outcomes.Opened.{OpensWell}
 use Rattle.core_session.proofs.outcomes.OpenGiven.{Finds, looks, makes}
 use Rattle.core_session.proofs.outcomes.OpenStory.{KnownShown, Story, Seen, NoLane, open-laws, sees}
 
 module _ (m : Mounted) (terms : Terms) (most : ℕ) (before after : List Entry) (x y slot : ℕ) (mode : Mode) (path : List (List ℕ)) (named : IsNamed path) (there : length before ≡ y)
-    (rooted : Rooted terms.origin (before ++ after) y m.root) (same : m.nocto ≡ terms.modes.nocto) (keeps : KeepsThem terms) where
+    (rooted : Rooted terms.origin (before ++ after) y m.root) (same : m.nocto ≡ terms.modes.nocto) where
   place : (d : List ℕ) → LeadsTo m.root before (front_of path) d → PlaceOf terms.origin (before ++ after) y path d (last_of path)
   place d leads = record { earlier = front_of path; is = front-last path named; leads = leads-on m.root terms before after x y (ops.OpenFile slot mode path) there rooted (front_of path) d leads }
 
@@ -56,7 +56,7 @@ module _ (m : Mounted) (terms : Terms) (most : ℕ) (before after : List Entry) 
   row-of d leads (inl s) = asked s.got.f s.attr (gets d s.got.f leads s.got.of) (ends-until before after x y _ _ there s.got.ends) s.kind
   row-of d leads (inr k) =
       let nocto : terms.modes.nocto ≡ true = sym same ∙ k.nocto in
-      known k.file k.attr k.given.call k.given.reply nocto (keeps nocto) (finds d k.given.call leads k.given.finds) (ends-until before after x y k.given.call k.given.reply there k.given.ends)
+      known k.file k.attr k.given.call k.given.reply nocto (finds d k.given.call leads k.given.finds) (ends-until before after x y k.given.call k.given.reply there k.given.ends)
       k.given.went k.given.gives
       (record { call = k.shown.call; reply = k.shown.reply; asked = asked-now 0 k.shown.call k.shown.reply k.shown.asked; shows = k.shown.shows }) k.kind
 
@@ -68,7 +68,7 @@ lasts-at-most : (setup : Setup) → LastAtMost setup.lives (longest setup)
 lasts-at-most setup = record { reg_min = omega arith; reg_max = omega arith; dir_min = omega arith; dir_max = omega arith }
 
 pub opens-well : OpensWell
-opens-well m terms setup h v g keeps known_root lane x y slot mode path value named ended =
+opens-well m terms setup h v g known_root lane x y slot mode path value named ended =
     let since = ended.later in
     let op = ops.OpenFile slot mode path in
     let most = longest setup in
@@ -77,4 +77,4 @@ opens-well m terms setup h v g keeps known_root lane x y slot mode path value na
     (asking.Caused m) (asking.Shelved m) (Story m most) (open-laws m most setup) h v g.reaches lane x op y (answers.Done value) ended in
     let w = s.story slot mode path refl named in
     subst (λ (k : List Entry). OkRow terms k lane x y op value) (sym s.is)
-    (row-of m terms most s.before s.after x y slot mode path named s.there (subst (λ (k : List Entry). Rooted terms.origin k y m.root) s.is rooted) g.nocto keeps w.d w.leads w.well, w.gives)
+    (row-of m terms most s.before s.after x y slot mode path named s.there (subst (λ (k : List Entry). Rooted terms.origin k y m.root) s.is rooted) g.nocto w.d w.leads w.well, w.gives)

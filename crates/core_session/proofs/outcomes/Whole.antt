@@ -16,10 +16,10 @@ use Rattle.core_session.proofs.outcomes.OpenRows.{opens-well}
 use Rattle.core_session.proofs.outcomes.RemoveRows.{removes-well}
 
 pub oks-rowed : OksRowed
-oks-rowed m terms setup h v g keeps known lane x y op value asked ended = by op asked ended
+oks-rowed m terms setup h v g known lane x y op value asked ended = by op asked ended
   where
     by : (o : Op) → IsAsked o → Ended h lane x o y (Done value) → OkRow terms h lane x y o value
-    by (ops.OpenFile slot mode path) named d = opens-well m terms setup h v g keeps known lane x y slot mode path value named d
+    by (ops.OpenFile slot mode path) named d = opens-well m terms setup h v g known lane x y slot mode path value named d
     by (ops.Read slot offset count) named d = slot-rows m terms setup h v g lane x y (ops.Read slot offset count) value tt d
     by (ops.Write slot offset bytes) named d = slot-rows m terms setup h v g lane x y (ops.Write slot offset bytes) value tt d
     by (ops.Fill slot offset count byte) named d = slot-rows m terms setup h v g lane x y (ops.Fill slot offset count byte) value tt d

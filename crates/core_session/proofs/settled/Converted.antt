@@ -4,8 +4,8 @@ use Rattle.std.proofs.lemmas.Bool.{leb-true, ltb-true}
 use Rattle.std.proofs.lemmas.Option.{slice_get-get_or}
 use Rattle.nfs_types.specs.declared.verf.Verf.{Verf}
 use Rattle.world_model.specs.declared.entry.Entry.{Entry}
-use Rattle.law_stable.specs.Evidence.{WroteAt, Evidence}
-use Rattle.law_stable.specs.Evidence as stably
+use Rattle.claims.specs.Settled.{WroteAt, Evidence}
+use Rattle.claims.specs.Settled as stably
 use Rattle.core_session.specs.saves.Evidence.{WroteByte, MadeStable, at_once, by_commit}
 
 both-left : (a b : Bool) → (a && b) ≡ true → a ≡ true

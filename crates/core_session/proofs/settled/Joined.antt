@@ -21,12 +21,11 @@ use Rattle.world_model.specs.Messages.{SpellsCall}
 use Rattle.claims.specs.Modes.{Modes}
 use Rattle.world_model.specs.Once.{Once}
 use Rattle.world_model.specs.Operations.{AnsweredBefore}
-use Rattle.claims.specs.Settled.{HoldsStable}
+use Rattle.claims.specs.Settled.{HoldsStable, written_at}
 use Rattle.claims.specs.Terms.{Terms}
 use Rattle.claims.specs.Touched.{Wrote, write, fill, put, Cuts, cut}
 use Rattle.world_model.specs.Waiting.{FirstSent}
 use Rattle.world_model.proofs.Places.{At-one}
-use Rattle.law_stable.specs.Evidence.{written_at}
 use Rattle.law_stable.specs.OwnCalls.{Alters, writes, sizes, HeardBefore, OwnCalls, NoForeign}
 use Rattle.world_model.specs.Mounts.{info_call}
 use Rattle.law_stable.proofs.Deciding.{stable_decided}

@@ -10,10 +10,9 @@ use Rattle.world_model.specs.History.{History}
 use Rattle.claims.specs.Modes.{Modes}
 use Rattle.world_model.specs.Mounts.{Origin}
 use Rattle.world_model.specs.Operations.{Ended}
-use Rattle.claims.specs.Settled.{SettledBy, later, itself}
+use Rattle.claims.specs.Settled.{SettledBy, later, itself, MadeFirm, at_once, by_commit}
 use Rattle.claims.specs.Touched.{Wrote, write, fill, put, StableSince, IsAnsweredPut, Touched, given_up}
 use Rattle.world_model.proofs.Places.{At-one}
-use Rattle.law_stable.specs.Evidence.{MadeFirm, at_once, by_commit}
 use Rattle.core_session.specs.settled.Settling.{IsSaved, AreSaved}
 
 -- ---- by a later place

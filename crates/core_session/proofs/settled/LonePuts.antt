@@ -15,7 +15,7 @@ use Rattle.world_model.specs.Messages.{SpellsCall}
 use Rattle.claims.specs.Terms.{Terms}
 use Rattle.claims.specs.Touched.{Covers}
 use Rattle.world_model.proofs.Places.{At-one}
-use Rattle.law_stable.specs.Evidence.{WroteAt, Evidence}
+use Rattle.claims.specs.Settled.{WroteAt, Evidence}
 use Rattle.op_machines.specs.declared.begun.Mounted.{Mounted}
 use Rattle.client_core.specs.declared.setup.Setup.{Setup}
 use Rattle.client_core.specs.View.{View}

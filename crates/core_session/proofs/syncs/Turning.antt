@@ -42,7 +42,7 @@ pub data IsFixed (h : List Entry) (v : View) (x : ℕ) (answer : Answer) : Type 
 
 -- the modes aren't spoken of here
 any_modes : Modes
-any_modes = record { longest = 0; noac = false; nocto = false }
+any_modes = record { longest = 0; noac = false; nocto = false; apart = λ on. refl }
 
 module _ (h : List Entry) (e : Entry) where
   pub under-on : (n y : ℕ) (o : Op) → ((line : ℕ) (answer : Answer) → e ≡ Answered n line answer → ⊥) → UnderWay h n y (length h) o → UnderWay (h ++ e ∷ []) n y (length (h ++ e ∷ [])) o

@@ -1,5 +1,5 @@
 -- What an open shows that goes well, in any session.
-use Rattle.std.specs.Prelude.{◌≡◌, ℕ, true, false, List}
+use Rattle.std.specs.Prelude.{ℕ, List}
 use Rattle.nfs_types.specs.declared.mode.Mode.{Mode}
 use Rattle.world_model.specs.declared.answer.Answer.TheVariants.{Done}
 use Rattle.world_model.specs.declared.answer.Value.{Value}
@@ -15,14 +15,10 @@ use Rattle.client_core.specs.View.{View}
 use Rattle.core_facts.specs.Naming.{KnowsRoot}
 use Rattle.core_facts.specs.SlotAnswers.{GoesWith}
 
--- a session that opens files by kept attributes keeps them (nfs(5), nocto and noac)
-abbrev pub KeepsThem : Terms → Type 0
-KeepsThem terms = terms.modes.nocto ≡ true → terms.modes.noac ≡ false
-
 -- An open goes well only so: it ends with the reply to GETATTR of its file, of kind 1; or, where the session may go by kept attributes, with the reply to the
 -- LOOKUP or CREATE that gave the file, of which a reply before showed kind 1 (RFC 1813, sections 3.3.1, 3.3.3 and 3.3.8).
 abbrev pub OpensWell : Type 0
-OpensWell = (m : Mounted) (terms : Terms) (setup : Setup) (h : List Entry) (v : View) → GoesWith m terms setup h v → KeepsThem terms
+OpensWell = (m : Mounted) (terms : Terms) (setup : Setup) (h : List Entry) (v : View) → GoesWith m terms setup h v
     → KnowsRoot terms.origin h m.root
     → (lane x y slot : ℕ) (mode : Mode) (path : List (List ℕ)) (value : Value) → IsNamed path → Ended h lane x (ops.OpenFile slot mode path) y (Done value)
     → OkRow terms h lane x y (ops.OpenFile slot mode path) value

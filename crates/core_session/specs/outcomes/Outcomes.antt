@@ -13,10 +13,9 @@ use Rattle.client_core.specs.declared.setup.Setup.{Setup}
 use Rattle.client_core.specs.View.{View}
 use Rattle.core_facts.specs.Naming.{KnowsRoot}
 use Rattle.core_facts.specs.SlotAnswers.{GoesWith}
-use Rattle.core_session.specs.outcomes.Opened.{KeepsThem}
 
 -- Each operation of a script that goes well has its row.
 abbrev pub OksRowed : Type 0
-OksRowed = (m : Mounted) (terms : Terms) (setup : Setup) (h : List Entry) (v : View) → GoesWith m terms setup h v → KeepsThem terms
+OksRowed = (m : Mounted) (terms : Terms) (setup : Setup) (h : List Entry) (v : View) → GoesWith m terms setup h v
     → KnowsRoot terms.origin h m.root
     → (lane x y : ℕ) (op : Op) (value : Value) → IsAsked op → Ended h lane x op y (Done value) → OkRow terms h lane x y op value

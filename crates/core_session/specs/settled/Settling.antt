@@ -13,10 +13,9 @@ use Rattle.world_model.specs.Messages.{SpellsCall}
 use Rattle.claims.specs.Modes.{Modes}
 use Rattle.world_model.specs.Mounts.{Origin, mount_call, info_call}
 use Rattle.world_model.specs.Once.{Once}
-use Rattle.claims.specs.Settled.{SettledBy, Settled}
+use Rattle.claims.specs.Settled.{SettledBy, Settled, Evidence}
 use Rattle.claims.specs.Terms.{Terms}
 use Rattle.claims.specs.Touched.{Wrote, Left, GivesUp, Touched}
-use Rattle.law_stable.specs.Evidence.{Evidence}
 use Rattle.op_machines.specs.declared.begun.Mounted.{Mounted}
 use Rattle.client_core.specs.declared.setup.Setup.{Setup}
 use Rattle.client_core.specs.View.{View}
