@@ -1,15 +1,6 @@
 -- What holds of a history and the core's view that goes with it, where answers are noted before records are sent and received, if each entry keeps it.
-use Rattle.std.proofs.Common.{inl, inr, ◌≡◌, ℕ, List, [], ◌∷◌, ◌++◌, length, Bool, true, false, refl, sym, ap, subst, ◌∙◌}
-use Rattle.world_model.specs.declared.entry.Entry.{Entry}
-use Rattle.world_model.specs.declared.entry.Entry.TheVariants.{Began, Answered, Dialed, Sent, Executed, Foreign, Flushed, Reboot, Delivered, Failed, Clock}
-use Rattle.world_model.specs.declared.op.Op.{Op}
+use Rattle.core_facts.proofs.Prelude.{inl, inr, ◌≡◌, ℕ, List, [], ◌∷◌, ◌++◌, length, Bool, true, false, refl, sym, ap, subst, ◌∙◌, Entry, Began, Answered, Dialed, Sent, Executed, Foreign, Flushed, Reboot, Delivered, Failed, Clock, Op, Machine, Setup, IsFresh, BeginsIf, lost, View, MaySetUp, IsSetUp, StepsTo, last_reading}
 use Rattle.world_model.specs.Lost.{Loses}
-use Rattle.op_machines.specs.declared.machine.Machine.{Machine}
-use Rattle.client_core.specs.declared.setup.Setup.{Setup}
-use Rattle.client_core.specs.Fresh.{IsFresh}
-use Rattle.client_core.specs.Steps.{BeginsIf, lost}
-use Rattle.client_core.specs.View.{View}
-use Rattle.core_facts.specs.Reaches.{MaySetUp, IsSetUp, StepsTo, last_reading}
 use Rattle.core_facts.proofs.Cases.{heard, sent_now, FailedNow, goes_on, gives_up, failed_now, answered_now}
 use Rattle.core_facts.proofs.Counting.{heard-lost}
 use Rattle.core_facts.specs.Notes.{NoneReady, ComesAfter, Notes, notes_fresh, notes_step, notes_lost}

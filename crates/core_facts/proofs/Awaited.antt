@@ -1,36 +1,15 @@
 -- For which call an operation on names, and an open on its way, waits: for one at most.
-use Rattle.std.proofs.Common.{◌≡◌, ◌<◌, ◌≤◌, ◌+◌, ◌-◌, ◌⊎◌, inl, inr, ◌||◌, ℕ, not, Bool, true, false, List, Option, Some, None, Result, Ok, Err, refl, sym, ap, subst, ◌∙◌, arith}
-use Rattle.std.specs.Prelude.{if◌then◌else◌}
+use Rattle.core_facts.proofs.Prelude.{◌≡◌, ◌<◌, ◌≤◌, ◌+◌, ◌-◌, ◌⊎◌, inl, inr, ◌||◌, ℕ, not, Bool, true, false, List, Option, Some, None, Result, Ok, Err, refl, sym, ap, subst, ◌∙◌, arith, if◌then◌else◌, Attr, Step, More, End, ListFault, Answer, Fault, Call, Reply, Next, Shelf, Turn, ListDir, Pair, PairNext, Stat, Visit, VisitNext, Walk, WalkNext, look_up, found_by, look_again, of_walk, visit_by, of_visit, pair_by, of_pair}
 use Rattle.attr_cache.specs.Attrs as attrs
-use Rattle.nfs_types.specs.declared.attr.Attr.{Attr}
-use Rattle.dir_list.specs.declared.progress.Step.{Step}
-use Rattle.dir_list.specs.declared.progress.Step.TheVariants.{More, End}
-use Rattle.dir_list.specs.declared.progress.ListFault.{ListFault}
-use Rattle.world_model.specs.declared.answer.Answer.{Answer}
 use Rattle.world_model.specs.declared.answer.Answer.TheVariants as answers
-use Rattle.world_model.specs.declared.answer.Fault.{Fault}
-use Rattle.world_model.specs.declared.message.Call.{Call}
-use Rattle.world_model.specs.declared.message.Reply.{Reply}
-use Rattle.client_shelf.specs.declared.next.Next.{Next}
 use Rattle.client_shelf.specs.declared.next.Next.TheVariants as nexts
-use Rattle.client_shelf.specs.declared.shelf.Shelf.{Shelf}
-use Rattle.client_shelf.specs.declared.turn.Turn.{Turn}
-use Rattle.name_ops.specs.declared.list_dir.ListDir.{ListDir}
-use Rattle.name_ops.specs.declared.pair.Pair.{Pair}
-use Rattle.name_ops.specs.declared.pair.PairNext.{PairNext}
 use Rattle.name_ops.specs.declared.pair.PairNext.TheVariants as two
-use Rattle.name_ops.specs.declared.stat.Stat.{Stat}
-use Rattle.name_ops.specs.declared.visit.Visit.{Visit}
-use Rattle.name_ops.specs.declared.visit.VisitNext.{VisitNext}
 use Rattle.name_ops.specs.declared.visit.VisitNext.TheVariants as visits
-use Rattle.name_ops.specs.declared.walk.Walk.{Walk}
-use Rattle.name_ops.specs.declared.walk.WalkNext.{WalkNext}
 use Rattle.name_ops.specs.declared.walk.WalkNext.TheVariants as walks
-use Rattle.name_ops.specs.Looking.{look_up, found_by, look_again}
 use Rattle.name_ops.specs.Pairs as pairs
 use Rattle.name_ops.specs.Visiting as visiting
 use Rattle.name_ops.specs.Walking as walking
-use Rattle.core_facts.specs.InFlight.{of_name, of_walk, visit_by, of_visit, pair_by, of_pair}
+use Rattle.core_facts.specs.InFlight.{of_name}
 use Rattle.core_facts.proofs.NameCounts.{unasked}
 
 -- ---- walks

@@ -1,14 +1,9 @@
 -- The calls of the core by what they may be: nothing, or one kind of change.
-use Rattle.std.proofs.Common.{◌≡◌, ◌+◌, ℕ, List, Bool, true, false, Option, Some, None, MatchOption, option_map, position, refl, ap, subst}
-use Rattle.rpc_message.specs.Call.{xid_at}
-use Rattle.rpc_retry.specs.Take.{awaited, after_taking}
-use Rattle.rpc_retry.specs.Waiting.{first_due, first_given_up, waiting_at, without, sent}
-use Rattle.rpc_retry.specs.declared.waiting.Waiting.{Waiting}
-use Rattle.world_model.specs.declared.answer.Answer.{Answer}
-use Rattle.client_core.specs.declared.lane.Purpose.{Purpose}
+use Rattle.core_facts.proofs.Prelude.{◌≡◌, ◌+◌, ℕ, List, Bool, true, false, Option, Some, None, MatchOption, option_map, position, refl, ap, subst, xid_at, awaited, waiting_at, without, Waiting, Answer, Purpose, View, HearsFor, failed_view, lost, AnswersAt}
+use Rattle.rpc_retry.specs.Take.{after_taking}
+use Rattle.rpc_retry.specs.Waiting.{first_due, first_given_up, sent}
 use Rattle.client_core.specs.Lanes.{is_over}
-use Rattle.client_core.specs.View.{View}
-use Rattle.client_core.specs.Steps.{taken, HearsFor, Hears, SendsIf, SendsBy, FailsAs, FailsBy, failed_view, lost, AnswersAt, AnswersBy}
+use Rattle.client_core.specs.Steps.{taken, Hears, SendsIf, SendsBy, FailsAs, FailsBy, AnswersBy}
 
 -- the call under the xid waits no more
 abbrev pub taken_one : View → ℕ → View

@@ -1,31 +1,14 @@
 -- What each step of a close makes of the table of opens: its slot is free once its sync has ended.
-use Rattle.std.proofs.Common.{◌≡◌, ◌≢◌, ℕ, Bool, true, false, List, Option, Some, None, option_map, Result, refl, sym, ap, subst, ◌∙◌}
+use Rattle.core_facts.proofs.Prelude.{◌≡◌, ◌≢◌, ℕ, Bool, true, false, List, Option, Some, None, option_map, Result, refl, sym, ap, subst, ◌∙◌, Opened, Place, Opens, of_file, last_end, Fault, Reply, is_first, goes_again, Next, Shelf, Turn, CloseFile, Closing, Removal, Saving, closed_answer, refusal_of, remove_of, file_at, joined, by-step}
 use Rattle.std.specs.FinMap as finite
-use Rattle.open_files.specs.declared.opened.Opened.{Opened}
-use Rattle.open_files.specs.Slots.{Place, Opens}
 use Rattle.open_files.proofs.Laws.{get-close_same, get-close_other}
-use Rattle.write_back.specs.Files.{of_file}
-use Rattle.write_back.specs.Segments.{last_end}
 use Rattle.world_model.specs.declared.answer.Answer.TheVariants as answers
-use Rattle.world_model.specs.declared.answer.Fault.{Fault}
 use Rattle.world_model.specs.declared.answer.Fault.TheVariants as faults
-use Rattle.world_model.specs.declared.message.Reply.{Reply}
-use Rattle.client_shelf.specs.LaneFiles.{is_first}
-use Rattle.client_shelf.specs.Busy.{goes_again}
-use Rattle.client_shelf.specs.declared.next.Next.{Next}
 use Rattle.client_shelf.specs.declared.next.Next.TheVariants as nexts
-use Rattle.client_shelf.specs.declared.shelf.Shelf.{Shelf}
-use Rattle.client_shelf.specs.declared.turn.Turn.{Turn}
-use Rattle.file_ops.specs.declared.close_file.CloseFile.{CloseFile}
-use Rattle.file_ops.specs.declared.close_file.Closing.{Closing}
 use Rattle.file_ops.specs.declared.close_file.Closing.TheVariants as closing
-use Rattle.file_ops.specs.declared.closing.Removal.{Removal}
-use Rattle.file_ops.specs.declared.saving.Saving.{Saving}
 use Rattle.file_ops.specs.Closes as closes
-use Rattle.file_ops.specs.Closings.{closed_answer, refusal_of, remove_of, remove_busy}
+use Rattle.file_ops.specs.Closings.{remove_busy}
 use Rattle.file_ops.specs.Saves as saves
-use Rattle.file_ops.specs.SlotFiles.{file_at, joined}
-use Rattle.file_ops.proofs.SaveCounts.{by-step}
 use Rattle.core_facts.proofs.Steps.{ThenOf}
 
 -- A holds of what the slot holds, until the slot is free.

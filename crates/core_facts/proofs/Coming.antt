@@ -1,30 +1,11 @@
 -- What a lane without an answer waits for, and that where no call waits each has its answer.
-use Rattle.std.proofs.Common.{◌≡◌, ◌≢◌, ◌<◌, ◌≤◌, ◌+◌, ◌⊎◌, inl, inr, ℕ, zero, suc, List, [], ◌∷◌, length, Bool, true, false, nat_eq, nat_lt, Option, Some, None, slice_get, refl, sym, ap, subst, ◌∙◌, arith}
-use Rattle.std.proofs.lemmas.Bool.{eqb-true, eq-eqb}
-use Rattle.rpc_retry.specs.Held.{next_xid}
-use Rattle.rpc_retry.specs.declared.waiting.Waiting.{Waiting}
-use Rattle.world_model.specs.declared.entry.Entry.{Entry}
+use Rattle.core_facts.proofs.Prelude.{◌≡◌, ◌≢◌, ◌<◌, ◌≤◌, ◌+◌, ◌⊎◌, inl, inr, ℕ, zero, suc, List, [], ◌∷◌, length, Bool, true, false, nat_eq, Option, Some, None, slice_get, refl, sym, ap, subst, ◌∙◌, arith, eqb-true, eq-eqb, next_xid, Waiting, Entry, Pending, of_file, is_first, Wait, Shelf, IsUnused, Mounted, Machine, machine_of, Resumes, Purpose, Busy, Setup, IsBusyAt, View, turn_at, where_, calls_for, in_flight, Reaches, NoneBusy}
+use Rattle.std.proofs.Common.{nat_lt}
 use Rattle.write_back.specs.Pieces.{Sent, piece_under}
-use Rattle.write_back.specs.Files.{Pending, of_file}
-use Rattle.client_shelf.specs.LaneFiles.{is_first}
-use Rattle.client_shelf.specs.declared.next.Next.TheVariants.{Wait}
-use Rattle.client_shelf.specs.declared.shelf.Shelf.{Shelf}
 use Rattle.file_ops.specs.Quiet.{are_none, is_quiet}
-use Rattle.file_ops.specs.SlotFiles.{IsUnused}
-use Rattle.op_machines.specs.declared.begun.Mounted.{Mounted}
-use Rattle.op_machines.specs.declared.machine.Machine.{Machine}
-use Rattle.op_machines.specs.Begun.{machine_of}
-use Rattle.op_machines.specs.Steps.{Resumes}
-use Rattle.client_core.specs.declared.lane.Purpose.{Purpose}
-use Rattle.client_core.specs.declared.lane.State.TheVariants.{Busy}
-use Rattle.client_core.specs.declared.setup.Setup.{Setup}
-use Rattle.client_core.specs.Steps.{IsBusyAt, Rests}
-use Rattle.client_core.specs.View.{View, has_room, turn_at}
-use Rattle.core_facts.specs.Counted.{where_, calls_for}
-use Rattle.core_facts.specs.InFlight.{in_flight}
+use Rattle.client_core.specs.Steps.{Rests}
+use Rattle.client_core.specs.View.{has_room}
 use Rattle.core_facts.specs.Progress.{HasCall, HasPlace, IsBehind, WaitsForBytes, WaitsFor, own_call, crowded, behind, bytes}
-use Rattle.core_facts.specs.Reaches.{Reaches}
-use Rattle.core_facts.specs.Resting.{NoneBusy}
 use Rattle.core_facts.proofs.AllCounts.{begins-unbegun}
 use Rattle.core_facts.proofs.AllSeats.{seat_of, all-on}
 use Rattle.core_facts.proofs.FileOns.{HeldUp, OnOr}

@@ -1,36 +1,10 @@
 -- As many calls wait as the operations know of.
-use Rattle.std.proofs.Common.{◌≡◌, ◌≤◌, ◌+◌, ◌-◌, inl, inr, ℕ, zero, suc, List, [], ◌∷◌, ◌++◌, length, remove, Bool, true, false, cond, nat_eq, Option, Some, None, MatchOption, position, slice_get, slice_set, Err, refl, sym, ap, subst, ◌∙◌, arith}
-use Rattle.std.proofs.lemmas.Bool.{eq-eqb, ne_eqb}
+use Rattle.core_facts.proofs.Prelude.{◌≡◌, ◌≤◌, ◌+◌, ◌-◌, inl, inr, ℕ, zero, suc, List, [], ◌∷◌, ◌++◌, length, remove, Bool, true, false, cond, nat_eq, Option, Some, None, MatchOption, position, slice_get, slice_set, Err, refl, sym, ap, subst, ◌∙◌, arith, eq-eqb, ne_eqb, Waiting, failed_after, Held, next_xid, made_call, waiting_at, without, Answer, Entry, Began, Answered, Dialed, Sent, Executed, Foreign, Flushed, Reboot, Delivered, Failed, Clock, Op, proc_of, said_of, Next, Send, Wait, Done, Shelf, Machine, Lane, Purpose, State, Busy, Over, Setup, IsFresh, is_busy, IsOther, numbers_of, IsBusyAt, with_state, record_of, IsRefused, Leads, Stirs, Moves, moves_none, moves_more, counted, StartsLane, BeginsIf, TakesAt, AnswersAt, View, turn_at, unmade_turn, in_flight, IsUnbegun, IsCounted, Counts, where_, calls_for, StepsTo, Reaches, begins, goes, loses, last_reading}
 use Rattle.std.proofs.lemmas.Option.{get_or_from_slice_get, slice_get_within}
 use borrow.Author.Tests.{eqb-true}
-use Rattle.rpc_retry.specs.declared.waiting.Waiting.{Waiting}
-use Rattle.rpc_retry.specs.Fail.{failed_after}
-use Rattle.rpc_retry.specs.Held.{Held, next_xid}
-use Rattle.rpc_retry.specs.Waiting.{made_call, waiting_at, without, sent, sent_call, failed}
+use Rattle.rpc_retry.specs.Waiting.{sent, sent_call, failed}
 use Rattle.rpc_retry.proofs.Dues.{fails_everywhere}
-use Rattle.world_model.specs.declared.answer.Answer.{Answer}
-use Rattle.world_model.specs.declared.entry.Entry.{Entry}
-use Rattle.world_model.specs.declared.entry.Entry.TheVariants.{Began, Answered, Dialed, Sent, Executed, Foreign, Flushed, Reboot, Delivered, Failed, Clock}
-use Rattle.world_model.specs.declared.op.Op.{Op}
-use Rattle.world_model.specs.Messages.{proc_of}
-use Rattle.call_replies.specs.Says.{said_of}
-use Rattle.client_shelf.specs.declared.next.Next.{Next}
-use Rattle.client_shelf.specs.declared.next.Next.TheVariants.{Send, Wait, Done}
-use Rattle.client_shelf.specs.declared.shelf.Shelf.{Shelf}
-use Rattle.op_machines.specs.declared.machine.Machine.{Machine}
-use Rattle.client_core.specs.declared.lane.Lane.{Lane}
-use Rattle.client_core.specs.declared.lane.Purpose.{Purpose}
-use Rattle.client_core.specs.declared.lane.State.{State}
-use Rattle.client_core.specs.declared.lane.State.TheVariants.{Busy, Over}
-use Rattle.client_core.specs.declared.setup.Setup.{Setup}
-use Rattle.client_core.specs.Fresh.{IsFresh}
-use Rattle.client_core.specs.Lanes.{is_busy}
-use Rattle.client_core.specs.Numbers.{IsOther, numbers_of}
-use Rattle.client_core.specs.Steps.{IsBusyAt, with_state, record_of, IsRefused, Leads, Stirs, Moves, moves_none, moves_more, counted, StartsLane, BeginsIf, TakesAt, AnswersAt}
-use Rattle.client_core.specs.View.{View, turn_at, unmade_turn}
-use Rattle.core_facts.specs.InFlight.{in_flight, IsUnbegun, IsCounted, Counts}
-use Rattle.core_facts.specs.Counted.{where_, calls_for, known_in, known_by, AreCounted}
-use Rattle.core_facts.specs.Reaches.{StepsTo, Reaches, begins, goes, loses, last_reading}
+use Rattle.core_facts.specs.Counted.{known_in, known_by, AreCounted}
 use Rattle.core_facts.proofs.AllCounts.{counts-calls}
 use Rattle.core_facts.proofs.Cases.{Heard, dropped, replied, heard, sent_now, FailedNow, goes_on, gives_up, failed_now, answered_now, taken_one}
 use Rattle.core_facts.proofs.LaneMarks.{lanes-under-way, reached-lanes, idle-numbers, number_of}

@@ -1,47 +1,22 @@
 -- For which calls the operations wait that open a file or make one stable.
-use Rattle.std.proofs.Common.{◌≡◌, ◌≤◌, ◌+◌, ◌-◌, ℕ, Bool, true, false, List, [], Option, Some, None, Result, Ok, refl, sym, ap, subst, ◌∙◌, arith}
-use Rattle.nfs_types.specs.declared.verf.Verf.{Verf}
-use Rattle.world_model.specs.declared.answer.Answer.{Answer}
+use Rattle.core_facts.proofs.Prelude.{◌≡◌, ◌≤◌, ◌+◌, ◌-◌, ℕ, Bool, true, false, List, [], Option, Some, None, Result, Ok, refl, sym, ap, subst, ◌∙◌, arith, Verf, Answer, Fault, Call, Reply, is_first, Next, Shelf, Turn, OpenFile, PutFile, Putting, Saving, SyncFile, Syncing, commit_told, file_at, joined, by-step, WalkNext, FileMachine, Machine, Opener, PathMachine, file_of, slot_taken, begun_at, placed, Starts, Resumes, Takes, of_walk, of_opening, of_saving, of_syncing, in_flight}
 use Rattle.world_model.specs.declared.answer.Answer.TheVariants as answers
-use Rattle.world_model.specs.declared.answer.Fault.{Fault}
 use Rattle.world_model.specs.declared.answer.Fault.TheVariants as faults
-use Rattle.world_model.specs.declared.message.Call.{Call}
-use Rattle.world_model.specs.declared.message.Reply.{Reply}
-use Rattle.client_shelf.specs.LaneFiles.{is_first}
-use Rattle.client_shelf.specs.declared.next.Next.{Next}
 use Rattle.client_shelf.specs.declared.next.Next.TheVariants as nexts
-use Rattle.client_shelf.specs.declared.shelf.Shelf.{Shelf}
-use Rattle.client_shelf.specs.declared.turn.Turn.{Turn}
-use Rattle.file_ops.specs.declared.open_file.OpenFile.{OpenFile}
-use Rattle.file_ops.specs.declared.put_file.PutFile.{PutFile}
-use Rattle.file_ops.specs.declared.put_file.Putting.{Putting}
 use Rattle.file_ops.specs.declared.put_file.Putting.TheVariants as putting
-use Rattle.file_ops.specs.declared.saving.Saving.{Saving}
-use Rattle.file_ops.specs.declared.sync_file.SyncFile.{SyncFile}
-use Rattle.file_ops.specs.declared.sync_file.Syncing.{Syncing}
 use Rattle.file_ops.specs.declared.sync_file.Syncing.TheVariants as syncing
-use Rattle.file_ops.specs.Judging.{commit_told}
 use Rattle.file_ops.specs.OpenFile as opens
 use Rattle.file_ops.specs.Opening.{opening_again, led_on}
 use Rattle.file_ops.specs.Saves as saves
-use Rattle.file_ops.specs.SlotFiles.{file_at, joined}
 use Rattle.file_ops.specs.Syncs as syncs
-use Rattle.file_ops.proofs.SaveCounts.{by-step}
-use Rattle.name_ops.specs.declared.walk.WalkNext.{WalkNext}
 use Rattle.name_ops.specs.declared.walk.WalkNext.TheVariants as walks
 use Rattle.name_ops.specs.Walking as walking
-use Rattle.op_machines.specs.declared.file_machine.FileMachine.{FileMachine}
 use Rattle.op_machines.specs.declared.file_machine.FileMachine.TheVariants as files
-use Rattle.op_machines.specs.declared.machine.Machine.{Machine}
 use Rattle.op_machines.specs.declared.machine.Machine.TheVariants as machines
-use Rattle.op_machines.specs.declared.opener.Opener.{Opener}
 use Rattle.op_machines.specs.declared.opener.Opener.TheVariants as openers
-use Rattle.op_machines.specs.declared.path_machine.PathMachine.{PathMachine}
 use Rattle.op_machines.specs.FileSteps as steps
-use Rattle.op_machines.specs.Openers.{file_of, slot_taken, begun_at, placed}
 use Rattle.op_machines.specs.PathSteps as paths
-use Rattle.op_machines.specs.Steps.{Starts, Resumes, Takes}
-use Rattle.core_facts.specs.InFlight.{of_walk, of_opening, of_saving, of_syncing, of_file, in_flight}
+use Rattle.core_facts.specs.InFlight.{of_file}
 use Rattle.core_facts.proofs.AllCounts.{of_path, path-file, path-walk, placed-none}
 use Rattle.core_facts.proofs.OpenSteps.{OpenExpects, OpenSteps, open-resumes, open-takes}
 use Rattle.core_facts.proofs.NameCounts.{WalkCounts, walk-counts, walk-takes, took-counts}

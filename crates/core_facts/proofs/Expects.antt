@@ -1,14 +1,5 @@
 -- What is wanted of a relation that says for which calls the operations wait.
-use Rattle.std.proofs.Common.{◌≡◌, ◌+◌, ℕ, Result}
-use Rattle.world_model.specs.declared.answer.Fault.{Fault}
-use Rattle.world_model.specs.declared.message.Call.{Call}
-use Rattle.world_model.specs.declared.message.Reply.{Reply}
-use Rattle.client_shelf.specs.declared.next.Next.{Next}
-use Rattle.client_shelf.specs.declared.shelf.Shelf.{Shelf}
-use Rattle.client_shelf.specs.declared.turn.Turn.{Turn}
-use Rattle.op_machines.specs.declared.machine.Machine.{Machine}
-use Rattle.op_machines.specs.Steps.{Starts, Resumes, Takes}
-use Rattle.core_facts.specs.InFlight.{in_flight}
+use Rattle.core_facts.proofs.Prelude.{◌≡◌, ◌+◌, ℕ, Result, Fault, Call, Reply, Next, Shelf, Turn, Machine, Starts, Resumes, Takes, in_flight}
 use Rattle.core_facts.proofs.Steps.{AskedOf, KeptOf}
 
 -- It holds of each call that a step asks for, and goes on holding of those that wait.

@@ -1,48 +1,13 @@
 -- Along a history the bytes in flight under an xid are of the operation whose call waits under it.
-use Rattle.std.proofs.Common.{◌≡◌, ◌≢◌, ◌≤◌, ◌<◌, ◌+◌, ◌-◌, ◌⊎◌, inl, inr, ℕ, zero, suc, List, [], ◌∷◌, ◌++◌, length, remove, Bool, true, false, nat_eq, Option, Some, None, option_map, position, slice_get, slice_set, Result, Err, refl, sym, ap, subst, ◌∙◌, arith}
-use Rattle.std.proofs.lemmas.Bool.{eqb-true, eqb-false, eq-eqb, ne_eqb}
+use Rattle.core_facts.proofs.Prelude.{◌≡◌, ◌≢◌, ◌≤◌, ◌<◌, ◌+◌, ◌-◌, ◌⊎◌, inl, inr, ℕ, zero, suc, List, [], ◌∷◌, ◌++◌, length, remove, Bool, true, false, nat_eq, Option, Some, None, option_map, position, slice_get, slice_set, Result, Err, refl, sym, ap, subst, ◌∙◌, arith, eqb-true, eqb-false, eq-eqb, ne_eqb, Waiting, Held, next_xid, waiting_at, without, at_made, others_made, others_taken, gone, Answer, Fault, Entry, Began, Reply, Op, Pending, of_file, said_of, Next, Send, Wait, Done, Shelf, Turn, Saving, IsUnused, Mounted, Machine, Opener, machine_of, file_of, Starts, Resumes, Takes, Lane, Purpose, State, Busy, Over, Setup, is_busy, with_state, IsRefused, Leads, Stirs, counted, StartsLane, TakesAt, View, turn_at, unmade_turn, in_flight, Counts, where_, calls_for}
 use Rattle.rpc_message.specs.declared.cred.Cred.{Cred}
-use Rattle.rpc_retry.specs.declared.waiting.Waiting.{Waiting}
-use Rattle.rpc_retry.specs.Held.{Held, next_xid}
 use Rattle.rpc_retry.specs.Sound.{AreSound}
-use Rattle.rpc_retry.specs.Waiting.{waiting_at, without}
-use Rattle.rpc_retry.proofs.Lookups.{waits_early, at_made, others_made, others_taken}
-use Rattle.rpc_retry.proofs.Records.{gone}
-use Rattle.world_model.specs.declared.answer.Answer.{Answer}
-use Rattle.world_model.specs.declared.answer.Fault.{Fault}
-use Rattle.world_model.specs.declared.entry.Entry.{Entry}
-use Rattle.world_model.specs.declared.entry.Entry.TheVariants.{Began}
-use Rattle.world_model.specs.declared.message.Reply.{Reply}
-use Rattle.world_model.specs.declared.op.Op.{Op}
-use Rattle.write_back.specs.Files.{Pending, of_file}
-use Rattle.call_replies.specs.Says.{said_of}
-use Rattle.client_shelf.specs.declared.next.Next.{Next}
-use Rattle.client_shelf.specs.declared.next.Next.TheVariants.{Send, Wait, Done}
-use Rattle.client_shelf.specs.declared.shelf.Shelf.{Shelf}
-use Rattle.client_shelf.specs.declared.turn.Turn.{Turn}
-use Rattle.file_ops.specs.declared.saving.Saving.{Saving}
-use Rattle.file_ops.specs.SlotFiles.{IsUnused}
+use Rattle.rpc_retry.proofs.Lookups.{waits_early}
 use Rattle.file_ops.proofs.Unmade.{InFile, Mine, AnyCall, UnusedSave, carries-mine, replies-mine}
 use Rattle.file_ops.proofs.Walks.{LeftAs}
-use Rattle.op_machines.specs.declared.begun.Mounted.{Mounted}
-use Rattle.op_machines.specs.declared.machine.Machine.{Machine}
 use Rattle.op_machines.specs.declared.machine.Machine.TheVariants as machines
-use Rattle.op_machines.specs.declared.opener.Opener.{Opener}
-use Rattle.op_machines.specs.Begun.{machine_of}
-use Rattle.op_machines.specs.Openers.{file_of}
-use Rattle.op_machines.specs.Steps.{Starts, Resumes, Takes}
 use Rattle.op_machines.proofs.Walk.{has-any, has-all}
-use Rattle.client_core.specs.declared.lane.Lane.{Lane}
-use Rattle.client_core.specs.declared.lane.Purpose.{Purpose}
-use Rattle.client_core.specs.declared.lane.State.{State}
-use Rattle.client_core.specs.declared.lane.State.TheVariants.{Busy, Over}
-use Rattle.client_core.specs.declared.setup.Setup.{Setup}
-use Rattle.client_core.specs.Lanes.{is_busy}
 use Rattle.client_core.specs.Numbers.{IsIdle}
-use Rattle.client_core.specs.Steps.{with_state, IsRefused, Leads, Stirs, counted, StartsLane, TakesAt}
-use Rattle.client_core.specs.View.{View, turn_at, unmade_turn}
-use Rattle.core_facts.specs.InFlight.{in_flight, Counts}
-use Rattle.core_facts.specs.Counted.{where_, calls_for}
 use Rattle.core_facts.specs.Lanes.{AreApart}
 use Rattle.core_facts.proofs.AllCounts.{counts-calls, begins-unbegun}
 use Rattle.core_facts.proofs.AllWalks.{PathHas, HasAll, all-starts, all-resumes, all-takes}

@@ -1,17 +1,10 @@
 -- What a history shows of calls, it shows as well with one entry more.
-use Rattle.std.proofs.Common.{◌≡◌, ◌<◌, ◌≤◌, ◌⊎◌, inl, inr, ℕ, List, [], ◌∷◌, ◌++◌, length, Some, sym, ◌∙◌, arith}
-use Rattle.rpc_retry.specs.declared.waiting.Waiting.{Waiting}
-use Rattle.world_model.specs.declared.entry.Entry.{Entry}
-use Rattle.world_model.specs.declared.entry.Entry.TheVariants.{Sent, Delivered}
-use Rattle.world_model.specs.Entries.{At}
+use Rattle.core_facts.proofs.Prelude.{◌≡◌, ◌<◌, ◌≤◌, ◌⊎◌, inl, inr, ℕ, List, [], ◌∷◌, ◌++◌, length, Some, sym, ◌∙◌, arith, Waiting, Entry, Sent, Delivered, At, HasXid, FirstSent-grow, At-grow, At-below, At-cases, length_last, Purpose, IsOutstanding, Tried, unsent, runs}
 use Rattle.world_model.specs.Lost.{FailedAttempt}
-use Rattle.world_model.specs.Messages.{HasXid}
 use Rattle.world_model.specs.Waiting.{Answers}
-use Rattle.world_model.proofs.Growth.{FirstSent-grow, Waits-back}
-use Rattle.world_model.proofs.Places.{At-grow, At-below, At-cases, length_last}
+use Rattle.world_model.proofs.Growth.{Waits-back}
 use Rattle.law_calls.specs.Calls.{Numbered}
-use Rattle.client_core.specs.declared.lane.Purpose.{Purpose}
-use Rattle.core_facts.specs.Tries.{IsUnsent, IsOutstanding, FailedTries, one, more, IsRunning, Tried, unsent, runs, ended}
+use Rattle.core_facts.specs.Tries.{IsUnsent, FailedTries, one, more, IsRunning, ended}
 
 -- the entry is no record under the xid that was sent or came
 pub record IsQuiet (xid : ℕ) (e : Entry) : Type 0 where

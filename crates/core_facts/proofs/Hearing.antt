@@ -1,28 +1,12 @@
 -- A record under the xid of a call that waits answers a call of the operation that is under way.
-use Rattle.std.proofs.Common.{◌≡◌, ◌<◌, ◌≤◌, ◌+◌, ℕ, zero, suc, List, [], ◌∷◌, ◌++◌, length, true, false, cond, nat_eq, Bool, Option, Some, None, MatchOption, sym, ap, subst, ◌∙◌, arith}
-use Rattle.rpc_message.specs.Call.{xid_at}
-use Rattle.rpc_retry.specs.declared.waiting.Waiting.{Waiting}
-use Rattle.rpc_retry.specs.Take.{awaited}
-use Rattle.rpc_retry.specs.Waiting.{waiting_at}
-use Rattle.world_model.specs.declared.entry.Entry.{Entry}
-use Rattle.world_model.specs.declared.entry.Entry.TheVariants.{Sent, Delivered}
-use Rattle.world_model.specs.declared.message.Call.{Call}
-use Rattle.world_model.specs.declared.op.Op.{Op}
+use Rattle.core_facts.proofs.Prelude.{◌≡◌, ◌<◌, ◌≤◌, ◌+◌, ℕ, zero, suc, List, [], ◌∷◌, ◌++◌, length, true, false, cond, nat_eq, Bool, Option, Some, None, MatchOption, sym, ap, subst, ◌∙◌, arith, xid_at, Waiting, awaited, waiting_at, Entry, Sent, Delivered, Call, Op, HasXid, FirstSent-grow, At-grow, At-below, At-back, At-last, said_of, Machine, Purpose, Setup, HearsFor, View, IsUnbegun, Reaches, HearsRecord, IsOutstanding, Tried, unsent, runs}
 use Rattle.world_model.specs.Heard.{Heard}
-use Rattle.world_model.specs.Messages.{HasXid, SpellsCall}
-use Rattle.world_model.proofs.Growth.{FirstSent-grow}
-use Rattle.world_model.proofs.Places.{At-grow, At-below, At-back, At-last}
-use Rattle.call_replies.specs.Says.{said_of, IsCallOf, Says}
-use Rattle.op_machines.specs.declared.machine.Machine.{Machine}
-use Rattle.client_core.specs.declared.lane.Purpose.{Purpose}
-use Rattle.client_core.specs.declared.setup.Setup.{Setup}
-use Rattle.client_core.specs.Steps.{WereSent, Hears, HearsFor, taken}
-use Rattle.client_core.specs.View.{View}
-use Rattle.core_facts.specs.InFlight.{IsUnbegun}
+use Rattle.world_model.specs.Messages.{SpellsCall}
+use Rattle.call_replies.specs.Says.{IsCallOf, Says}
+use Rattle.client_core.specs.Steps.{WereSent, Hears, taken}
 use Rattle.core_facts.specs.Counted.{IsOfOperation}
 use Rattle.core_facts.specs.Hearing.{IsAnswer}
-use Rattle.core_facts.specs.Reaches.{Reaches, HearsRecord}
-use Rattle.core_facts.specs.Tries.{IsOutstanding, Tried, unsent, runs, ended, IsMade}
+use Rattle.core_facts.specs.Tries.{ended, IsMade}
 use Rattle.core_facts.proofs.Owning.{reached-owned}
 use Rattle.core_facts.proofs.Rows.{reached-rows}
 

@@ -1,30 +1,7 @@
 -- What the steps of lanes keep of the core's view, as long as the session isn't lost.
-use Rattle.std.proofs.Common.{◌≡◌, ◌≢◌, ◌+◌, ◌-◌, inl, inr, ℕ, List, [], ◌∷◌, ◌++◌, Bool, true, false, cond, nat_eq, Option, Some, None, MatchOption, option_map, position, slice_get, Result, refl, sym, ap, subst, ◌∙◌, arith}
-use Rattle.std.proofs.lemmas.Bool.{eqb-true}
-use Rattle.rpc_message.specs.Call.{xid_at}
-use Rattle.rpc_retry.specs.declared.waiting.Waiting.{Waiting}
-use Rattle.rpc_retry.specs.Fail.{failed_after}
-use Rattle.rpc_retry.specs.Waiting.{waiting_at, sent, sent_call, failed, failed_call}
-use Rattle.world_model.specs.declared.answer.Answer.{Answer}
-use Rattle.world_model.specs.declared.entry.Entry.{Entry}
-use Rattle.world_model.specs.declared.entry.Entry.TheVariants.{Began, Answered, Dialed, Sent, Executed, Foreign, Flushed, Reboot, Delivered, Failed, Clock}
-use Rattle.world_model.specs.declared.op.Op.{Op}
-use Rattle.call_replies.specs.Says.{said_of}
-use Rattle.client_shelf.specs.declared.shelf.Shelf.{Shelf}
-use Rattle.op_machines.specs.declared.machine.Machine.{Machine}
-use Rattle.client_core.specs.declared.lane.Lane.{Lane}
-use Rattle.client_core.specs.declared.lane.Purpose.{Purpose}
-use Rattle.client_core.specs.declared.lane.State.{State}
-use Rattle.client_core.specs.declared.lane.State.TheVariants.{Busy}
-use Rattle.client_core.specs.declared.setup.Setup.{Setup}
-use Rattle.client_core.specs.Fresh.{IsFresh}
-use Rattle.client_core.specs.Lanes.{is_busy}
-use Rattle.client_core.specs.Numbers.{IsIdle, numbers_of}
-use Rattle.client_core.specs.Steps.{Stirs, Moves, moves_none, moves_more, counted, StartsLane, BeginsIf, TakesAt, AnswersAt}
-use Rattle.client_core.specs.View.{View}
-use Rattle.core_facts.specs.InFlight.{in_flight, IsUnbegun}
-use Rattle.core_facts.specs.Counted.{calls_for}
-use Rattle.core_facts.specs.Reaches.{StepsTo, HearsRecord, Reaches, begins, goes, loses, last_reading}
+use Rattle.core_facts.proofs.Prelude.{◌≡◌, ◌≢◌, ◌+◌, ◌-◌, inl, inr, ℕ, List, [], ◌∷◌, ◌++◌, Bool, true, false, cond, nat_eq, Option, Some, None, MatchOption, option_map, position, slice_get, Result, refl, sym, ap, subst, ◌∙◌, arith, eqb-true, xid_at, Waiting, failed_after, waiting_at, Answer, Entry, Began, Answered, Dialed, Sent, Executed, Foreign, Flushed, Reboot, Delivered, Failed, Clock, Op, said_of, Shelf, Machine, Lane, Purpose, State, Busy, Setup, IsFresh, is_busy, numbers_of, Stirs, Moves, moves_none, moves_more, counted, StartsLane, BeginsIf, TakesAt, AnswersAt, View, in_flight, IsUnbegun, calls_for, StepsTo, HearsRecord, Reaches, begins, goes, loses, last_reading}
+use Rattle.rpc_retry.specs.Waiting.{sent, sent_call, failed, failed_call}
+use Rattle.client_core.specs.Numbers.{IsIdle}
 use Rattle.core_facts.proofs.Cases.{Heard, dropped, replied, heard, sent_now, FailedNow, goes_on, gives_up, failed_now, answered_now, taken_one}
 use Rattle.core_facts.proofs.Counting.{IsKnown, calls-some, known-only, stirs-count, starts-count, hears-count, reached-count, none-busy, heard-lost}
 use Rattle.core_facts.proofs.Lists.{at-position}

@@ -1,26 +1,11 @@
 -- The lanes of the core are those that have an operation under way.
-use Rattle.std.proofs.Common.{◌≡◌, ◌≢◌, ◌<◌, ◌≤◌, ◌⊎◌, inl, inr, ℕ, zero, suc, List, [], ◌∷◌, ◌++◌, length, map, remove, slice_get, true, false, nat_eq, Some, None, refl, sym, ap, subst, ◌∙◌, arith, append_assoc, append-nil}
+use Rattle.core_facts.proofs.Prelude.{◌≡◌, ◌≢◌, ◌<◌, ◌≤◌, ◌⊎◌, inl, inr, ℕ, zero, suc, List, [], ◌∷◌, ◌++◌, length, map, remove, slice_get, true, false, nat_eq, Some, None, refl, sym, ap, subst, ◌∙◌, arith, append_assoc, Answer, Entry, Began, Answered, Dialed, Sent, Executed, Foreign, Flushed, Reboot, Delivered, Failed, Clock, Op, At, AnsweredBefore, At-grow, At-below, At-last, At-cases, At-one, Machine, Lane, State, Over, Setup, IsFresh, lost_lane, IsOther, numbers_of, View, IsSetUp, StepsTo, Reaches, begins, goes, loses, last_reading}
+use Rattle.std.proofs.Common.{append-nil}
 use borrow.Author.Tests.{eqb-true, eqb-false}
-use Rattle.world_model.specs.declared.answer.Answer.{Answer}
-use Rattle.world_model.specs.declared.entry.Entry.{Entry}
-use Rattle.world_model.specs.declared.entry.Entry.TheVariants.{Began, Answered, Dialed, Sent, Executed, Foreign, Flushed, Reboot, Delivered, Failed, Clock}
-use Rattle.world_model.specs.declared.op.Op.{Op}
-use Rattle.world_model.specs.Entries.{At}
 use Rattle.world_model.specs.Follows.{marks_of, Alternates}
 use Rattle.world_model.specs.LanesTogether.{IsBusy}
-use Rattle.world_model.specs.Operations.{AnsweredBefore}
-use Rattle.world_model.proofs.Places.{At-grow, At-below, At-last, At-cases, At-one}
-use Rattle.op_machines.specs.declared.machine.Machine.{Machine}
-use Rattle.client_core.specs.declared.lane.Lane.{Lane}
-use Rattle.client_core.specs.declared.lane.State.{State}
-use Rattle.client_core.specs.declared.lane.State.TheVariants.{Over}
-use Rattle.client_core.specs.declared.setup.Setup.{Setup}
-use Rattle.client_core.specs.Fresh.{IsFresh}
-use Rattle.client_core.specs.Lanes.{lost_lane}
-use Rattle.client_core.specs.Numbers.{IsOther, numbers_of}
-use Rattle.client_core.specs.View.{View}
 use Rattle.core_facts.specs.Lanes.{AreUnderWay}
-use Rattle.core_facts.specs.Reaches.{IsSetUp, IsOpenLine, StepsTo, Reaches, begins, goes, loses, last_reading}
+use Rattle.core_facts.specs.Reaches.{IsOpenLine}
 use Rattle.core_facts.proofs.Cases.{Heard, dropped, replied, heard, sent_now, FailedNow, goes_on, gives_up, failed_now, answered_now, taken_one}
 use Rattle.core_facts.proofs.Grown.{longer}
 use Rattle.core_facts.proofs.Lists.{map-set, map-push, map-remove, to-map, skip, get-remove, still-there, get-push, at-push, before-push, skip-apart, skip-other}

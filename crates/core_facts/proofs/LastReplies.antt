@@ -1,15 +1,8 @@
 -- The last record that came, and what the history shows of it when it goes on.
-use Rattle.std.proofs.Common.{◌≡◌, ◌<◌, ◌≤◌, inl, inr, ℕ, List, [], ◌∷◌, ◌++◌, length, arith}
-use Rattle.world_model.specs.declared.entry.Entry.{Entry}
-use Rattle.world_model.specs.declared.entry.Entry.TheVariants.{Sent, Delivered}
-use Rattle.world_model.specs.declared.message.Call.{Call}
-use Rattle.world_model.specs.declared.message.Reply.{Reply}
-use Rattle.world_model.specs.Messages.{HasXid, SpellsCall, SpellsReply}
-use Rattle.world_model.specs.Operations.{EndsWith, LastReply}
+use Rattle.core_facts.proofs.Prelude.{◌≡◌, ◌<◌, ◌≤◌, inl, inr, ℕ, List, [], ◌∷◌, ◌++◌, length, arith, Entry, Sent, Delivered, Call, Reply, HasXid, SpellsReply, EndsWith, FirstSent-grow, At-grow, At-below, At-back, At-last, At-cases, length_last, IsOutstanding}
+use Rattle.world_model.specs.Messages.{SpellsCall}
+use Rattle.world_model.specs.Operations.{LastReply}
 use Rattle.world_model.specs.Waiting.{FirstSent}
-use Rattle.world_model.proofs.Growth.{FirstSent-grow}
-use Rattle.world_model.proofs.Places.{At-grow, At-below, At-back, At-last, At-cases, length_last}
-use Rattle.core_facts.specs.Tries.{IsOutstanding}
 
 -- the record that comes now answers the call
 pub ends-of : (h : List Entry) (rec : List ℕ) (xid from x : ℕ) (asked : Call) (bytes : List ℕ) (reply : Reply) → IsOutstanding h xid bytes from → SpellsCall xid asked bytes

@@ -1,32 +1,18 @@
 -- A walk leads along its path: by names that are kept, each of which a LOOKUP was answered with, and by the replies to its own.
-use Rattle.std.proofs.Common.{◌≡◌, ◌<◌, ◌≤◌, ◌+◌, ◌-◌, ℕ, zero, suc, Bool, true, false, All, List, [], ◌∷◌, ◌++◌, length, take, Option, Some, None, Result, Ok, Err, slice_get, refl, sym, ap, subst, ◌∙◌, arith}
-use Rattle.std.proofs.lemmas.Bool.{cases_lt}
-use Rattle.std.specs.Prelude.{if◌then◌else◌}
+use Rattle.core_facts.proofs.Prelude.{◌≡◌, ◌<◌, ◌≤◌, ◌+◌, ◌-◌, ℕ, zero, suc, Bool, true, false, List, [], ◌∷◌, ◌++◌, length, take, Option, Some, None, Result, Ok, Err, slice_get, refl, sym, ap, subst, ◌∙◌, arith, cases_lt, if◌then◌else◌, Attr, DirKept, Fault, Entry, Call, Reply, Asked, Rooted, Asked-wide, length_last, Shelf, Turn, Walk, WalkNext, look_up, found_by, look_again}
+use Rattle.std.proofs.Common.{All}
 use Rattle.attr_cache.specs.Attrs as attrs
 use Rattle.name_cache.specs.declared.entry.KeptName.{KeptName}
 use Rattle.name_cache.specs.declared.entry.Place.{Place}
 use Rattle.name_cache.specs.Names as names
 use Rattle.name_cache.proofs.Entries.{looked-kept}
-use Rattle.nfs_types.specs.declared.attr.Attr.{Attr}
 use Rattle.nfs_types.specs.Stamps.{stamp_of}
-use Rattle.nfs_dir_calls.specs.declared.keeping.DirKept.{DirKept}
 use Rattle.nfs_dir_calls.specs.declared.keeping.DirKept.TheVariants as kept
-use Rattle.world_model.specs.declared.answer.Fault.{Fault}
-use Rattle.world_model.specs.declared.entry.Entry.{Entry}
-use Rattle.world_model.specs.declared.message.Call.{Call}
-use Rattle.world_model.specs.declared.message.Reply.{Reply}
 use Rattle.world_model.specs.declared.message.Reply.TheVariants as replies
-use Rattle.world_model.specs.Heard.{Asked}
 use Rattle.world_model.specs.Leads.{Leads, root, step}
-use Rattle.world_model.specs.Mounts.{Origin, Given, Rooted}
-use Rattle.world_model.proofs.Growth.{Asked-grow, Asked-wide}
-use Rattle.world_model.proofs.Places.{length_last}
-use Rattle.client_shelf.specs.declared.shelf.Shelf.{Shelf}
-use Rattle.client_shelf.specs.declared.turn.Turn.{Turn}
+use Rattle.world_model.specs.Mounts.{Origin, Given}
+use Rattle.world_model.proofs.Growth.{Asked-grow}
 use Rattle.name_ops.specs.declared.walk.Spot.{Spot}
-use Rattle.name_ops.specs.declared.walk.Walk.{Walk}
-use Rattle.name_ops.specs.declared.walk.WalkNext.{WalkNext}
-use Rattle.name_ops.specs.Looking.{look_up, found_by, look_again}
 use Rattle.name_ops.specs.Walking as walking
 use Rattle.core_facts.proofs.NamesKept.{Told, Tells, CallTells, passed-told, looked-told}
 use Rattle.core_facts.proofs.Awaited.{WalkAwaits}

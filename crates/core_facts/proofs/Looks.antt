@@ -1,10 +1,5 @@
 -- What is told of the operation with a number, among the lanes.
-use Rattle.std.proofs.Common.{◌≡◌, ◌≢◌, ◌+◌, ℕ, zero, suc, List, [], ◌∷◌, ◌++◌, remove, Bool, true, false, nat_eq, Option, Some, None, slice_get, slice_set, refl, sym, ap, subst, ◌∙◌, arith}
-use Rattle.std.specs.Prelude.{if◌then◌else◌}
-use Rattle.std.proofs.lemmas.Bool.{eqb-true, eqb-false, eq-eqb, ne_eqb}
-use Rattle.client_core.specs.declared.lane.Lane.{Lane}
-use Rattle.client_core.specs.declared.lane.State.{State}
-use Rattle.client_core.specs.Numbers.{IsOther, numbers_of}
+use Rattle.core_facts.proofs.Prelude.{◌≡◌, ◌≢◌, ◌+◌, ℕ, zero, suc, List, [], ◌∷◌, ◌++◌, remove, Bool, true, false, nat_eq, Option, Some, None, slice_get, slice_set, refl, sym, ap, subst, ◌∙◌, arith, if◌then◌else◌, eqb-true, eqb-false, eq-eqb, ne_eqb, Lane, State, IsOther, numbers_of}
 use Rattle.core_facts.specs.Lanes.{AreApart}
 use Rattle.core_facts.proofs.Orders.{seat_with, seat-own, seat-other}
 

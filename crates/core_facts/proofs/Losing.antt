@@ -1,25 +1,12 @@
 -- A lost session has one of three causes.
-use Rattle.std.proofs.Common.{◌≡◌, ◌≤◌, inl, inr, ℕ, suc, List, [], ◌∷◌, ◌++◌, length, true, false, Option, Some, option_map, refl, sym, ap, subst, ◌∙◌, arith}
-use Rattle.rpc_retry.specs.declared.waiting.Waiting.{Waiting}
-use Rattle.rpc_retry.specs.Fail.{failed_after}
-use Rattle.rpc_retry.specs.Held.{next_xid}
-use Rattle.rpc_retry.specs.Waiting.{waiting_at, first_given_up, failed_call}
+use Rattle.core_facts.proofs.Prelude.{◌≡◌, ◌≤◌, inl, inr, ℕ, suc, List, [], ◌∷◌, ◌++◌, length, true, false, Option, Some, option_map, refl, sym, ap, subst, ◌∙◌, arith, Waiting, failed_after, next_xid, waiting_at, Entry, Began, Answered, Dialed, Sent, Executed, Foreign, Flushed, Reboot, Delivered, Failed, Clock, Op, IsLost, At-grow, At-below, At-back, Machine, Purpose, Setup, failed_view, lost, View, StepsTo, Reaches, begins, goes, loses, last_reading, Tried, unsent, runs}
+use Rattle.rpc_retry.specs.Waiting.{first_given_up, failed_call}
 use Rattle.rpc_retry.proofs.GivenUp.{oldest_given_up}
 use Rattle.rpc_retry.proofs.Lookups.{all_failed}
-use Rattle.world_model.specs.declared.entry.Entry.{Entry}
-use Rattle.world_model.specs.declared.entry.Entry.TheVariants.{Began, Answered, Dialed, Sent, Executed, Foreign, Flushed, Reboot, Delivered, Failed, Clock}
-use Rattle.world_model.specs.declared.op.Op.{Op}
-use Rattle.world_model.specs.Lost.{FailedAttempt, FailedDial, Loses, given_up, undialed, dropped, IsLost}
+use Rattle.world_model.specs.Lost.{FailedAttempt, FailedDial, Loses, given_up, undialed, dropped}
 use Rattle.world_model.specs.Rows.{most_dropped}
 use Rattle.world_model.proofs.Growth.{DropRun-grow}
-use Rattle.world_model.proofs.Places.{At-grow, At-below, At-back}
-use Rattle.op_machines.specs.declared.machine.Machine.{Machine}
-use Rattle.client_core.specs.declared.lane.Purpose.{Purpose}
-use Rattle.client_core.specs.declared.setup.Setup.{Setup}
-use Rattle.client_core.specs.Steps.{failed_view, lost}
-use Rattle.client_core.specs.View.{View}
-use Rattle.core_facts.specs.Reaches.{StepsTo, Reaches, begins, goes, loses, last_reading}
-use Rattle.core_facts.specs.Tries.{FailedTries, one, more, Tried, unsent, runs, ended}
+use Rattle.core_facts.specs.Tries.{FailedTries, one, more, ended}
 use Rattle.core_facts.proofs.Cases as cases
 use Rattle.core_facts.proofs.Cases.{Heard, replied, heard, sent_now, FailedNow, goes_on, gives_up, failed_now, answered_now, taken_one}
 use Rattle.core_facts.proofs.Grown.{longer, attempt-grow}

@@ -1,27 +1,13 @@
 -- An operation is answered that the session is lost only where the history shows it.
-use Rattle.std.proofs.Common.{◌≤◌, ℕ, List, [], ◌∷◌, ◌++◌, length, Result, Ok, Err, sym, subst, arith, append_assoc}
+use Rattle.core_facts.proofs.Prelude.{◌≤◌, ℕ, List, [], ◌∷◌, ◌++◌, length, Result, Ok, Err, sym, subst, arith, append_assoc, DirKept, FileKept, Answer, Refused, Fault, Reply, Entry, Op, IsLost, length_last, Next, Mounted, Machine, machine_of, State, Busy, Over}
 use Rattle.std.proofs.lemmas.List.{append-nil}
-use Rattle.nfs_dir_calls.specs.declared.keeping.DirKept.{DirKept}
 use Rattle.nfs_dir_calls.specs.declared.keeping.DirKept.TheVariants as found
-use Rattle.nfs_file_calls.specs.declared.owned.FileKept.{FileKept}
 use Rattle.nfs_file_calls.specs.declared.owned.FileKept.TheVariants as kept
-use Rattle.world_model.specs.declared.answer.Answer.{Answer}
-use Rattle.world_model.specs.declared.answer.Answer.TheVariants.{Done, Refused}
-use Rattle.world_model.specs.declared.answer.Fault.{Fault}
+use Rattle.world_model.specs.declared.answer.Answer.TheVariants.{Done}
 use Rattle.world_model.specs.declared.answer.Fault.TheVariants as faults
-use Rattle.world_model.specs.declared.message.Reply.{Reply}
 use Rattle.world_model.specs.declared.message.Reply.TheVariants as replies
-use Rattle.world_model.specs.declared.entry.Entry.{Entry}
-use Rattle.world_model.specs.declared.op.Op.{Op}
-use Rattle.world_model.specs.Lost.{Loses, IsLost}
-use Rattle.world_model.proofs.Places.{length_last}
-use Rattle.client_shelf.specs.declared.next.Next.{Next}
+use Rattle.world_model.specs.Lost.{Loses}
 use Rattle.client_shelf.specs.declared.next.Next.TheVariants as nexts
-use Rattle.op_machines.specs.declared.begun.Mounted.{Mounted}
-use Rattle.op_machines.specs.declared.machine.Machine.{Machine}
-use Rattle.op_machines.specs.Begun.{machine_of}
-use Rattle.client_core.specs.declared.lane.State.{State}
-use Rattle.client_core.specs.declared.lane.State.TheVariants.{Busy, Over}
 use Rattle.core_facts.specs.Lanes.{LostAnswersShown}
 use Rattle.core_facts.proofs.AllCounts.{begins-unbegun}
 use Rattle.core_facts.proofs.AllFaults as steps

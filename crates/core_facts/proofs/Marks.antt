@@ -1,14 +1,8 @@
 -- Where a lane begins and answers its lines, in a history with one entry more.
-use Rattle.std.proofs.Common.{◌≡◌, ◌≢◌, ◌≤◌, inl, inr, ℕ, List, [], ◌∷◌, ◌++◌, true, false, cond, nat_eq, refl, sym, ap, ap₂, subst, ◌∙◌, arith}
-use Rattle.std.proofs.lemmas.Bool.{eq-eqb, ne_eqb}
+use Rattle.core_facts.proofs.Prelude.{◌≡◌, ◌≢◌, ◌≤◌, inl, inr, ℕ, List, [], ◌∷◌, ◌++◌, true, false, cond, nat_eq, refl, sym, ap, subst, ◌∙◌, arith, eq-eqb, ne_eqb, Answer, Entry, Began, Answered, Dialed, Sent, Executed, Foreign, Flushed, Reboot, Delivered, Failed, Clock, Op, AnsweredBefore, At-grow, At-below, At-cases}
+use Rattle.std.proofs.Common.{ap₂}
 use Rattle.rpc_retry.proofs.Dues.{if_true, if_false}
-use Rattle.world_model.specs.declared.answer.Answer.{Answer}
-use Rattle.world_model.specs.declared.entry.Entry.{Entry}
-use Rattle.world_model.specs.declared.entry.Entry.TheVariants.{Began, Answered, Dialed, Sent, Executed, Foreign, Flushed, Reboot, Delivered, Failed, Clock}
-use Rattle.world_model.specs.declared.op.Op.{Op}
 use Rattle.world_model.specs.Follows.{marks_of, Alternates, none, busy, answered}
-use Rattle.world_model.specs.Operations.{AnsweredBefore}
-use Rattle.world_model.proofs.Places.{At-grow, At-below, At-cases}
 
 pub marks-push : (lane : ℕ) (h : List Entry) (e : Entry) → marks_of lane (h ++ e ∷ []) ≡ marks_of lane h ++ marks_of lane (e ∷ [])
 marks-push lane [] e = refl

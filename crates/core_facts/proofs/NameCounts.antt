@@ -1,46 +1,22 @@
 -- How many calls of an operation on names wait after each of its steps.
-use Rattle.std.proofs.Common.{◌≡◌, ◌+◌, ◌-◌, ℕ, Bool, true, false, List, Option, Some, None, Result, Ok, Err, inl, inr, refl, sym, ap, subst, ◌∙◌, arith}
-use Rattle.std.specs.Prelude.{if◌then◌else◌}
-use Rattle.nfs_types.specs.declared.attr.Attr.{Attr}
+use Rattle.core_facts.proofs.Prelude.{◌≡◌, ◌+◌, ◌-◌, ℕ, Bool, true, false, List, Option, Some, None, Result, Ok, Err, inl, inr, refl, sym, ap, subst, ◌∙◌, arith, if◌then◌else◌, Attr, Step, More, End, ListFault, Answer, Fault, Value, Call, Reply, goes_again, Next, Shelf, Turn, ListDir, Stat, SymLink, Told, Visit, VisitNext, Walk, WalkNext, found_by, look_again, text_call, TakesText, shown_answer, TakesShow, sym_link_call, sym_linked_told, CopiesBy, ChangesByCopy, TakesSymLink, lacking, one_if, of_walk, visit_by, of_visit, of_stat}
 use Rattle.attr_cache.specs.Attrs as attrs
-use Rattle.dir_list.specs.declared.progress.Step.{Step}
-use Rattle.dir_list.specs.declared.progress.Step.TheVariants.{More, End}
-use Rattle.dir_list.specs.declared.progress.ListFault.{ListFault}
 use Rattle.dir_list.specs.Listings.{page_step}
-use Rattle.world_model.specs.declared.answer.Answer.{Answer}
 use Rattle.world_model.specs.declared.answer.Answer.TheVariants as answers
-use Rattle.world_model.specs.declared.answer.Fault.{Fault}
 use Rattle.world_model.specs.declared.answer.Fault.TheVariants as faults
-use Rattle.world_model.specs.declared.answer.Value.{Value}
 use Rattle.world_model.specs.declared.answer.Value.TheVariants as values
-use Rattle.world_model.specs.declared.message.Call.{Call}
-use Rattle.world_model.specs.declared.message.Reply.{Reply}
-use Rattle.client_shelf.specs.Busy.{fails_busy, goes_again}
-use Rattle.client_shelf.specs.declared.next.Next.{Next}
+use Rattle.client_shelf.specs.Busy.{fails_busy}
 use Rattle.client_shelf.specs.declared.next.Next.TheVariants as nexts
-use Rattle.client_shelf.specs.declared.shelf.Shelf.{Shelf}
-use Rattle.client_shelf.specs.declared.turn.Turn.{Turn}
-use Rattle.name_ops.specs.declared.list_dir.ListDir.{ListDir}
 use Rattle.name_ops.specs.declared.list_dir.PageStart.{PageStart}
-use Rattle.name_ops.specs.declared.stat.Stat.{Stat}
-use Rattle.name_ops.specs.declared.sym_link.SymLink.{SymLink}
-use Rattle.name_ops.specs.declared.told.Told.{Told}
-use Rattle.name_ops.specs.declared.visit.Visit.{Visit}
-use Rattle.name_ops.specs.declared.visit.VisitNext.{VisitNext}
 use Rattle.name_ops.specs.declared.visit.VisitNext.TheVariants as visits
-use Rattle.name_ops.specs.declared.walk.Walk.{Walk}
-use Rattle.name_ops.specs.declared.walk.WalkNext.{WalkNext}
 use Rattle.name_ops.specs.declared.walk.WalkNext.TheVariants as walks
 use Rattle.name_ops.specs.Changing as changing
 use Rattle.name_ops.specs.ListDir as listing
-use Rattle.name_ops.specs.Looking.{found_by, look_again}
-use Rattle.name_ops.specs.ReadLink.{text_call, TakesText}
-use Rattle.name_ops.specs.Showing.{shown_answer, Shows, TakesShow}
+use Rattle.name_ops.specs.Showing.{Shows}
 use Rattle.name_ops.specs.Stat as stats
-use Rattle.name_ops.specs.SymLink.{sym_link_call, sym_linked_told, CopiesBy, ChangesByCopy, TakesSymLink, lacking}
 use Rattle.name_ops.specs.Visiting as visiting
 use Rattle.name_ops.specs.Walking as walking
-use Rattle.core_facts.specs.InFlight.{one_if, of_name, of_walk, visit_by, of_visit, own_or, of_stat, Leaves}
+use Rattle.core_facts.specs.InFlight.{of_name, own_or, Leaves}
 
 -- ---- what a step leads to
 

@@ -1,15 +1,6 @@
 -- A history in which answers are noted before records are sent and received is one that the core goes with, and shows it at each place.
-use Rattle.std.proofs.Common.{inl, inr, ◌⊎◌, ◌≡◌, ◌<◌, ℕ, List, [], ◌∷◌, ◌++◌, length, sym, ap, subst, ◌∙◌, arith, append_assoc}
-use Rattle.world_model.specs.declared.entry.Entry.{Entry}
-use Rattle.world_model.specs.declared.entry.Entry.TheVariants.{Began}
-use Rattle.world_model.specs.declared.op.Op.{Op}
+use Rattle.core_facts.proofs.Prelude.{inl, inr, ◌⊎◌, ◌≡◌, ◌<◌, ℕ, List, [], ◌∷◌, ◌++◌, length, sym, ap, subst, ◌∙◌, arith, append_assoc, Entry, Began, Op, At, At-back, At-below, At-cases, Machine, Setup, View, StepsTo, Reaches, begins, goes, loses}
 use Rattle.claims.specs.CallsAsked.{NoneBegan}
-use Rattle.world_model.specs.Entries.{At}
-use Rattle.world_model.proofs.Places.{At-back, At-below, At-cases}
-use Rattle.op_machines.specs.declared.machine.Machine.{Machine}
-use Rattle.client_core.specs.declared.setup.Setup.{Setup}
-use Rattle.client_core.specs.View.{View}
-use Rattle.core_facts.specs.Reaches.{StepsTo, Reaches, begins, goes, loses}
 use Rattle.core_facts.specs.Notes.{NoneReady, ComesAfter, Notes, notes_fresh, notes_step, notes_lost, IsAfterAnswers}
 
 pub notes-reach : (machine_of : ℕ → Op → Machine) (setup : Setup) (h : List Entry) (v : View) → Notes machine_of setup h v → Reaches machine_of setup h v

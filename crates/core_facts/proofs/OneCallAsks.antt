@@ -1,31 +1,15 @@
 -- For which call an operation of one call waits: for one that it asks for.
-use Rattle.std.proofs.Common.{◌≡◌, ◌≤◌, ◌+◌, ◌-◌, ℕ, zero, suc, Bool, true, false, List, [], ◌∷◌, ◌++◌, length, take, drop, Contains, slice_get, Option, Some, None, refl, sym, ap, subst, ◌∙◌, arith, append_assoc}
-use Rattle.std.specs.Prelude.{if◌then◌else◌}
-use Rattle.world_model.specs.declared.entry.Entry.{Entry}
-use Rattle.world_model.specs.declared.message.Call.{Call}
-use Rattle.world_model.specs.declared.op.Op.{Op}
+use Rattle.core_facts.proofs.Prelude.{◌≡◌, ◌≤◌, ◌+◌, ◌-◌, ℕ, zero, suc, Bool, true, false, List, [], ◌∷◌, ◌++◌, length, take, slice_get, Option, Some, None, refl, sym, ap, subst, ◌∙◌, arith, append_assoc, if◌then◌else◌, Entry, Call, Op, Rooted, Terms, Next, Pair, Visit, Walk, access_call, deed_call, link_call, text_call, rename_call, sym_link_call, Machine, IsNamed, front_of, last_of, of_walk, visit_by, of_visit, pair_by, of_pair, in_flight, Counts}
+use Rattle.std.proofs.Common.{drop, Contains}
 use Rattle.world_model.specs.declared.op.Op.TheVariants as ops
 use Rattle.claims.specs.Asks.{Asks, Acts, Opening, Stabilizes, IsWriter, found_by, look_up}
 use Rattle.claims.specs.Asks as asks
-use Rattle.world_model.specs.Mounts.{Rooted}
 use Rattle.claims.specs.Paths.{paths_of}
-use Rattle.claims.specs.Terms.{Terms}
-use Rattle.client_shelf.specs.declared.next.Next.{Next}
 use Rattle.client_shelf.specs.declared.next.Next.TheVariants as nexts
 use Rattle.name_ops.specs.declared.dir_change.DirDeed.TheVariants as deeds
-use Rattle.name_ops.specs.declared.pair.Pair.{Pair}
-use Rattle.name_ops.specs.declared.visit.Visit.{Visit}
-use Rattle.name_ops.specs.declared.walk.Walk.{Walk}
-use Rattle.name_ops.specs.Access.{access_call}
-use Rattle.name_ops.specs.DirChange.{deed_call}
-use Rattle.name_ops.specs.Link.{link_call}
-use Rattle.name_ops.specs.ReadLink.{text_call}
-use Rattle.name_ops.specs.Rename.{rename_call}
-use Rattle.name_ops.specs.SymLink.{sym_link_call}
 use Rattle.name_ops.specs.Walking as walking
-use Rattle.op_machines.specs.declared.machine.Machine.{Machine}
-use Rattle.op_machines.specs.Begun.{IsAsked, IsNamed, front_of, last_of}
-use Rattle.core_facts.specs.InFlight.{of_name, of_walk, visit_by, of_visit, pair_by, of_pair, in_flight, Counts}
+use Rattle.op_machines.specs.Begun.{IsAsked}
+use Rattle.core_facts.specs.InFlight.{of_name}
 use Rattle.core_facts.specs.Naming.{IsOneCall}
 use Rattle.core_facts.proofs.AllAwaited.{Awaits}
 use Rattle.core_facts.proofs.Awaited.{WalkAwaits, OwnOr, PairOr}

@@ -1,61 +1,26 @@
 -- An operation that makes one call goes well only where its paths lead to the objects of the call, which was answered with status 0.
-use Rattle.std.proofs.Common.{◌≡◌, ◌≤◌, ◌+◌, ◌-◌, ◌⊎◌, inl, inr, ℕ, zero, suc, Bool, true, false, List, [], ◌∷◌, ◌++◌, length, take, slice_get, unwrap_or, Option, None, Result, Ok, refl, sym, ap, subst, ◌∙◌, arith}
-use Rattle.nfs_types.specs.declared.attr.Attr.{Attr}
-use Rattle.world_model.specs.declared.answer.Answer.{Answer}
+use Rattle.core_facts.proofs.Prelude.{◌≡◌, ◌≤◌, ◌+◌, ◌-◌, ◌⊎◌, inl, inr, ℕ, zero, suc, Bool, true, false, List, [], ◌∷◌, ◌++◌, length, take, slice_get, Option, None, Result, Ok, refl, sym, ap, subst, ◌∙◌, arith, Attr, Answer, Fault, Value, Entry, Delivered, Call, Reply, Op, At, Rooted, EndsWith, Terms, Asked-wide, FirstSent-grow, At-grow, At-below, At-back, At-cases, length_last, goes_again, Next, Shelf, Turn, Link, Pair, Rename, SymLink, Told, Visit, access_call, access_told, deed_call, deed_told, link_call, linked_told, TakesLink, moved_told, text_call, TakesText, rename_call, TakesRename, shown_answer, TakesShow, sym_link_call, sym_linked_told, ChangesByCopy, TakesSymLink, lacking, Machine, NameMachine, IsNamed, front_of, last_of, Resumes, Takes, State, Busy, Over}
+use Rattle.std.proofs.Common.{unwrap_or}
 use Rattle.world_model.specs.declared.answer.Answer.TheVariants as answers
-use Rattle.world_model.specs.declared.answer.Fault.{Fault}
 use Rattle.world_model.specs.declared.answer.Fault.TheVariants as faults
-use Rattle.world_model.specs.declared.answer.Value.{Value}
 use Rattle.world_model.specs.declared.answer.Value.TheVariants as values
-use Rattle.world_model.specs.declared.entry.Entry.{Entry}
-use Rattle.world_model.specs.declared.entry.Entry.TheVariants.{Delivered}
-use Rattle.world_model.specs.declared.message.Call.{Call}
-use Rattle.world_model.specs.declared.message.Reply.{Reply}
-use Rattle.world_model.specs.declared.op.Op.{Op}
 use Rattle.world_model.specs.declared.op.Op.TheVariants as ops
 use Rattle.claims.specs.Asks.{Acts}
 use Rattle.claims.specs.Asks as asks
-use Rattle.world_model.specs.Entries.{At}
-use Rattle.world_model.specs.Mounts.{Origin, Given, Rooted}
+use Rattle.world_model.specs.Mounts.{Origin, Given}
 use Rattle.claims.specs.OkRows.{ActOk}
-use Rattle.world_model.specs.Operations.{EndsWith}
 use Rattle.claims.specs.Paths.{PlaceOf}
-use Rattle.claims.specs.Terms.{Terms}
 use Rattle.world_model.specs.Waiting.{IsDelivered}
-use Rattle.world_model.proofs.Growth.{Asked-wide, FirstSent-grow, Waits-grow}
-use Rattle.world_model.proofs.Places.{At-grow, At-below, At-back, At-cases, length_last}
-use Rattle.client_shelf.specs.Busy.{goes_again}
-use Rattle.client_shelf.specs.declared.next.Next.{Next}
+use Rattle.world_model.proofs.Growth.{Waits-grow}
 use Rattle.client_shelf.specs.declared.next.Next.TheVariants as nexts
-use Rattle.client_shelf.specs.declared.shelf.Shelf.{Shelf}
-use Rattle.client_shelf.specs.declared.turn.Turn.{Turn}
 use Rattle.name_ops.specs.declared.dir_change.DirDeed.{DirDeed}
 use Rattle.name_ops.specs.declared.dir_change.DirDeed.TheVariants as deeds
-use Rattle.name_ops.specs.declared.link.Link.{Link}
-use Rattle.name_ops.specs.declared.pair.Pair.{Pair}
-use Rattle.name_ops.specs.declared.rename.Rename.{Rename}
-use Rattle.name_ops.specs.declared.sym_link.SymLink.{SymLink}
-use Rattle.name_ops.specs.declared.told.Told.{Told}
-use Rattle.name_ops.specs.declared.visit.Visit.{Visit}
-use Rattle.name_ops.specs.Access.{access_call, access_told}
 use Rattle.name_ops.specs.Changing as changing
-use Rattle.name_ops.specs.DirChange.{deed_call, deed_told}
-use Rattle.name_ops.specs.Link.{link_call, linked_told, TakesLink}
-use Rattle.name_ops.specs.Moving.{moved_told}
 use Rattle.name_ops.specs.Pairs as pairs
-use Rattle.name_ops.specs.ReadLink.{text_call, TakesText}
-use Rattle.name_ops.specs.Rename.{rename_call, TakesRename}
-use Rattle.name_ops.specs.Showing.{shown_answer, TakesShow}
-use Rattle.name_ops.specs.SymLink.{sym_link_call, sym_linked_told, ChangesByCopy, TakesSymLink, lacking}
 use Rattle.name_ops.specs.Visiting as visiting
-use Rattle.op_machines.specs.declared.machine.Machine.{Machine}
 use Rattle.op_machines.specs.declared.machine.Machine.TheVariants as machines
-use Rattle.op_machines.specs.declared.name_machine.NameMachine.{NameMachine}
 use Rattle.op_machines.specs.declared.name_machine.NameMachine.TheVariants as names
-use Rattle.op_machines.specs.Begun.{IsAsked, IsNamed, front_of, last_of}
-use Rattle.op_machines.specs.Steps.{Resumes, Takes}
-use Rattle.client_core.specs.declared.lane.State.{State}
-use Rattle.client_core.specs.declared.lane.State.TheVariants.{Busy, Over}
+use Rattle.op_machines.specs.Begun.{IsAsked}
 use Rattle.core_facts.specs.Naming.{IsOneCall}
 use Rattle.core_facts.proofs.AllAwaited.{Awaits}
 use Rattle.core_facts.proofs.Awaited.{OwnOr, PairOr}

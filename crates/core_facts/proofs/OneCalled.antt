@@ -1,36 +1,16 @@
 -- Which calls operations of one call ask for, and what their answers show.
-use Rattle.std.proofs.Common.{◌≡◌, ◌+◌, ◌-◌, ◌⊎◌, inl, inr, ℕ, List, [], ◌∷◌, ◌++◌, length, take, Result, refl, sym, ap, subst, arith}
+use Rattle.core_facts.proofs.Prelude.{◌≡◌, ◌+◌, ◌-◌, ◌⊎◌, inl, inr, ℕ, List, [], ◌∷◌, ◌++◌, length, take, Result, refl, sym, ap, subst, arith, Fault, Value, Entry, Began, Call, Reply, Op, Rooted, Terms, At-grow, At-back, length_last, Next, Shelf, Turn, Link, Rename, SymLink, Mounted, Machine, front_of, machine_of, Starts, Setup, Answered, UnderWay, in_flight, IsCounted, Counts}
 use Rattle.std.proofs.lemmas.List.Elements.{All-nil}
 use Rattle.world_model.specs.declared.answer.Answer.TheVariants as answers
-use Rattle.world_model.specs.declared.answer.Fault.{Fault}
-use Rattle.world_model.specs.declared.answer.Value.{Value}
-use Rattle.world_model.specs.declared.entry.Entry.{Entry}
-use Rattle.world_model.specs.declared.entry.Entry.TheVariants.{Began}
-use Rattle.world_model.specs.declared.message.Call.{Call}
-use Rattle.world_model.specs.declared.message.Reply.{Reply}
-use Rattle.world_model.specs.declared.op.Op.{Op}
 use Rattle.world_model.specs.declared.op.Op.TheVariants as ops
 use Rattle.world_model.specs.Leads as leads
-use Rattle.world_model.specs.Mounts.{Rooted}
 use Rattle.claims.specs.OkRows.{ActOk, OkRow}
-use Rattle.claims.specs.Terms.{Terms}
 use Rattle.world_model.proofs.Growth.{Rooted-wide}
-use Rattle.world_model.proofs.Places.{At-grow, At-back, length_last}
-use Rattle.client_shelf.specs.declared.next.Next.{Next}
 use Rattle.client_shelf.specs.declared.next.Next.TheVariants as nexts
-use Rattle.client_shelf.specs.declared.shelf.Shelf.{Shelf}
-use Rattle.client_shelf.specs.declared.turn.Turn.{Turn}
-use Rattle.name_ops.specs.declared.link.Link.{Link}
-use Rattle.name_ops.specs.declared.rename.Rename.{Rename}
-use Rattle.name_ops.specs.declared.sym_link.SymLink.{SymLink}
 use Rattle.name_ops.specs.Pairs as pairs
 use Rattle.name_ops.specs.Pairs.{walk_of}
 use Rattle.name_ops.specs.Visiting as visiting
-use Rattle.op_machines.specs.declared.begun.Mounted.{Mounted}
-use Rattle.op_machines.specs.declared.machine.Machine.{Machine}
-use Rattle.op_machines.specs.Begun.{IsAsked, front_of, machine_of}
-use Rattle.op_machines.specs.Steps.{Starts}
-use Rattle.client_core.specs.declared.setup.Setup.{Setup}
+use Rattle.op_machines.specs.Begun.{IsAsked}
 use Rattle.core_facts.specs.Naming.{IsOneCall, OneCallsDone}
 use Rattle.core_facts.proofs.AllAwaited.{Awaits, awaits-laws}
 use Rattle.core_facts.proofs.AllCounts.{begins-unbegun}
@@ -39,11 +19,8 @@ use Rattle.core_facts.proofs.Leading.{IsNameTold, NamesTold, names-later, WalkLe
 use Rattle.core_facts.proofs.OneCalls.{VisitStory, PairStory}
 use Rattle.core_facts.proofs.Steps.{ThenOf}
 use Rattle.core_facts.proofs.Tales.{IsTold, AsksFor, TaleLaws, reached-answered}
-use Rattle.world_model.specs.declared.entry.Entry.TheVariants.{Answered}
 use Rattle.claims.specs.Asks.{Asks}
 use Rattle.claims.specs.CallsAsked.{NoneBegan}
-use Rattle.world_model.specs.Operations.{UnderWay}
-use Rattle.core_facts.specs.InFlight.{in_flight, IsCounted, Counts}
 use Rattle.core_facts.specs.Asked.{IsMadeFor, CallsCaused}
 use Rattle.core_facts.proofs.AllCounts.{counts-calls}
 use Rattle.core_facts.proofs.OneCallAsks.{AsksNow, asks-new, asks-from}

@@ -1,54 +1,26 @@
 -- An open goes well, or is refused for the kind of its file, only where its last reply shows it.
-use Rattle.std.proofs.Common.{◌≡◌, ◌+◌, ◌-◌, inl, inr, ℕ, Bool, true, false, List, [], ◌∷◌, ◌++◌, length, take, Result, refl, sym, ap, subst, arith}
+use Rattle.core_facts.proofs.Prelude.{◌≡◌, ◌+◌, ◌-◌, inl, inr, ℕ, Bool, true, false, List, [], ◌∷◌, ◌++◌, length, take, Result, refl, sym, ap, subst, arith, Attr, Mode, Answer, Fault, Entry, Began, Call, Reply, Op, At, Asked, Rooted, Ended, Terms, Asked-wide, length_last, Next, Shelf, Turn, OpenFile, Opening, OpeningStep, Mounted, Machine, PathMachine, IsNamed, front_of, last_of, machine_of, Starts, Resumes, Takes, State, Busy, Setup}
 use Rattle.std.proofs.lemmas.List.Elements.{All-nil}
-use Rattle.nfs_types.specs.declared.attr.Attr.{Attr}
-use Rattle.nfs_types.specs.declared.mode.Mode.{Mode}
 use Rattle.nfs_file_calls.specs.declared.call.FileCall.TheVariants as file_calls
-use Rattle.world_model.specs.declared.answer.Answer.{Answer}
 use Rattle.world_model.specs.declared.answer.Answer.TheVariants as answers
-use Rattle.world_model.specs.declared.answer.Fault.{Fault}
 use Rattle.world_model.specs.declared.answer.Fault.TheVariants as faults
-use Rattle.world_model.specs.declared.entry.Entry.{Entry}
-use Rattle.world_model.specs.declared.entry.Entry.TheVariants.{Began}
-use Rattle.world_model.specs.declared.message.Call.{Call}
 use Rattle.world_model.specs.declared.message.Call.TheVariants as calls
-use Rattle.world_model.specs.declared.message.Reply.{Reply}
-use Rattle.world_model.specs.declared.op.Op.{Op}
 use Rattle.world_model.specs.declared.op.Op.TheVariants as ops
 use Rattle.claims.specs.Asks.{Asks}
 use Rattle.claims.specs.Asks as asks
-use Rattle.world_model.specs.Entries.{At}
-use Rattle.world_model.specs.Heard.{Asked}
 use Rattle.world_model.specs.Leads as leads
-use Rattle.world_model.specs.Mounts.{Rooted}
 use Rattle.claims.specs.OkRows as rows
-use Rattle.world_model.specs.Operations.{Ended}
 use Rattle.claims.specs.RefusalRows.{IsNoFile}
-use Rattle.claims.specs.Terms.{Terms}
 use Rattle.world_model.specs.Waiting.{IsDelivered}
-use Rattle.world_model.proofs.Growth.{Asked-grow, Asked-wide, Rooted-wide}
-use Rattle.world_model.proofs.Places.{length_last}
-use Rattle.client_shelf.specs.declared.next.Next.{Next}
+use Rattle.world_model.proofs.Growth.{Asked-grow, Rooted-wide}
 use Rattle.client_shelf.specs.declared.next.Next.TheVariants as nexts
-use Rattle.client_shelf.specs.declared.shelf.Shelf.{Shelf}
-use Rattle.client_shelf.specs.declared.turn.Turn.{Turn}
-use Rattle.file_ops.specs.declared.open_file.OpenFile.{OpenFile}
-use Rattle.file_ops.specs.declared.opening.Opening.{Opening}
-use Rattle.file_ops.specs.declared.opening.OpeningStep.{OpeningStep}
 use Rattle.file_ops.specs.declared.opening.OpeningStep.TheVariants as opening_steps
 use Rattle.file_ops.specs.Opening as opening
 use Rattle.name_ops.specs.Pairs.{walk_of}
-use Rattle.op_machines.specs.declared.begun.Mounted.{Mounted}
-use Rattle.op_machines.specs.declared.machine.Machine.{Machine}
 use Rattle.op_machines.specs.declared.machine.Machine.TheVariants as machines
 use Rattle.op_machines.specs.declared.opener.Opener.TheVariants as openers
-use Rattle.op_machines.specs.declared.path_machine.PathMachine.{PathMachine}
-use Rattle.op_machines.specs.Begun.{IsNamed, front_of, last_of, machine_of}
 use Rattle.op_machines.specs.PathSteps as paths
-use Rattle.op_machines.specs.Steps.{Starts, Resumes, Takes}
-use Rattle.client_core.specs.declared.lane.State.{State}
-use Rattle.client_core.specs.declared.lane.State.TheVariants.{Busy, Over as Ends}
-use Rattle.client_core.specs.declared.setup.Setup.{Setup}
+use Rattle.client_core.specs.declared.lane.State.TheVariants.{Over as Ends}
 use Rattle.core_facts.specs.Opened.{OpensShown, KindsShown}
 use Rattle.core_facts.proofs.AllAwaited.{Awaits, awaits-laws}
 use Rattle.core_facts.proofs.AllCounts.{begins-unbegun}

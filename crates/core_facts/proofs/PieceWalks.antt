@@ -1,33 +1,14 @@
 -- What no step of an operation adds to what is in flight of a file, but under the xid of its turn.
-use Rattle.std.proofs.Common.{◌≡◌, ◌≢◌, ◌&&◌, ◌⊎◌, inl, inr, ℕ, Bool, true, false, nat_eq, List, [], ◌∷◌, ◌++◌, Option, Some, None, Result, Ok, Err, refl, sym, ap, subst, ◌∙◌}
-use Rattle.std.specs.Prelude.{if◌then◌else◌, nat_lt}
-use Rattle.std.proofs.lemmas.Bool.{eq-eqb, ne_eqb, eqb-true, eqb-false}
-use Rattle.commit_verf.specs.declared.commit.Verdict.{Verdict}
-use Rattle.commit_verf.specs.declared.commit.Verdict.TheVariants.{AllStable, SendAgain}
+use Rattle.core_facts.proofs.Prelude.{◌≡◌, ◌≢◌, ◌&&◌, ◌⊎◌, inl, inr, ℕ, Bool, true, false, nat_eq, List, [], ◌∷◌, ◌++◌, Option, Some, None, Result, Ok, Err, refl, sym, ap, subst, ◌∙◌, if◌then◌else◌, nat_lt, eq-eqb, ne_eqb, eqb-true, eqb-false, Verdict, AllStable, SendAgain, Verf, Fault, Call, Reply, chosen, Pending, of_file, Segments, Repeat, Turn, goes_again, Phase, Sending, Committing, Resending, CommittingAgain, Saving, commit_told, IsUnused, by-step}
 use Rattle.commit_verf.specs.Decisions.{verdict_of}
-use Rattle.nfs_types.specs.declared.verf.Verf.{Verf}
-use Rattle.world_model.specs.declared.answer.Fault.{Fault}
 use Rattle.world_model.specs.declared.answer.Fault.TheVariants as faults
-use Rattle.world_model.specs.declared.message.Call.{Call}
-use Rattle.world_model.specs.declared.message.Reply.{Reply}
 use Rattle.write_back.specs.Changes.{lost}
-use Rattle.write_back.specs.Choice.{chosen}
-use Rattle.write_back.specs.Files.{Pending, of_file, OnFile, IsFree}
+use Rattle.write_back.specs.Files.{OnFile, IsFree}
 use Rattle.write_back.specs.Pieces.{Sent, FilePending, piece_under, without, renumbered}
-use Rattle.write_back.specs.Segments.{Segments}
 use Rattle.write_back.proofs.WritesByFile.{same-or}
-use Rattle.client_shelf.specs.declared.repeats.Repeat.{Repeat}
-use Rattle.client_shelf.specs.declared.turn.Turn.{Turn}
-use Rattle.client_shelf.specs.Busy.{goes_again}
-use Rattle.file_ops.specs.declared.saving.Phase.{Phase}
-use Rattle.file_ops.specs.declared.saving.Phase.TheVariants.{Sending, Committing, Resending, CommittingAgain}
-use Rattle.file_ops.specs.declared.saving.Saving.{Saving}
-use Rattle.file_ops.specs.Judging.{commit_told}
-use Rattle.file_ops.specs.SlotFiles.{IsUnused}
 use Rattle.file_ops.specs.Saves as saves
 use Rattle.file_ops.proofs.Free.{none-without}
 use Rattle.file_ops.proofs.Landed.{TakenOut, lands-out}
-use Rattle.file_ops.proofs.SaveCounts.{by-step}
 use Rattle.file_ops.proofs.Unmade.{InFile, MineIn, Mine, AnyCall}
 use Rattle.file_ops.proofs.Walks.{Left, Carries, CarriesReply, SamePieces, again-room}
 

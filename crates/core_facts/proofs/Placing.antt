@@ -1,32 +1,6 @@
 -- Along a history each operation is at work, and has its place in the order of its file.
-use Rattle.std.proofs.Common.{◌≡◌, ◌≢◌, ◌≤◌, ◌<◌, ◌+◌, ◌-◌, ◌⊎◌, inl, inr, ℕ, zero, suc, List, [], ◌∷◌, ◌++◌, length, remove, Bool, true, false, nat_eq, Option, Some, None, position, slice_get, slice_set, Err, refl, sym, ap, subst, ◌∙◌, arith}
-use Rattle.std.specs.Prelude.{if◌then◌else◌}
-use Rattle.std.proofs.lemmas.Bool.{eqb-true, eqb-false, eq-eqb, ne_eqb}
-use Rattle.rpc_retry.specs.declared.waiting.Waiting.{Waiting}
-use Rattle.rpc_retry.specs.Waiting.{waiting_at}
-use Rattle.world_model.specs.declared.answer.Answer.{Answer}
-use Rattle.world_model.specs.declared.entry.Entry.{Entry}
-use Rattle.world_model.specs.declared.entry.Entry.TheVariants.{Began}
-use Rattle.world_model.specs.declared.op.Op.{Op}
-use Rattle.call_replies.specs.Says.{said_of}
-use Rattle.client_shelf.specs.declared.lane_files.LaneFile.{LaneFile}
-use Rattle.client_shelf.specs.declared.next.Next.{Next}
-use Rattle.client_shelf.specs.declared.next.Next.TheVariants.{Send, Wait, Done}
-use Rattle.client_shelf.specs.declared.shelf.Shelf.{Shelf}
-use Rattle.op_machines.specs.declared.begun.Mounted.{Mounted}
-use Rattle.op_machines.specs.declared.machine.Machine.{Machine}
-use Rattle.op_machines.specs.Begun.{machine_of}
-use Rattle.client_core.specs.declared.lane.Lane.{Lane}
-use Rattle.client_core.specs.declared.lane.Purpose.{Purpose}
-use Rattle.client_core.specs.declared.lane.State.{State}
-use Rattle.client_core.specs.declared.lane.State.TheVariants.{Busy, Over}
-use Rattle.client_core.specs.declared.setup.Setup.{Setup}
-use Rattle.client_core.specs.Fresh.{IsFresh}
-use Rattle.client_core.specs.Lanes.{is_busy}
-use Rattle.client_core.specs.Numbers.{IsOther, IsIdle, numbers_of}
-use Rattle.client_core.specs.Steps.{with_state, IsRefused, Leads, Stirs, counted, StartsLane, TakesAt, AnswersAt}
-use Rattle.client_core.specs.View.{View, turn_at, unmade_turn}
-use Rattle.core_facts.specs.InFlight.{in_flight, Counts}
+use Rattle.core_facts.proofs.Prelude.{◌≡◌, ◌≢◌, ◌≤◌, ◌<◌, ◌+◌, ◌-◌, ◌⊎◌, inl, inr, ℕ, zero, suc, List, [], ◌∷◌, ◌++◌, length, remove, Bool, true, false, nat_eq, Option, Some, None, position, slice_get, slice_set, Err, refl, sym, ap, subst, ◌∙◌, arith, if◌then◌else◌, eqb-true, eqb-false, eq-eqb, ne_eqb, Waiting, waiting_at, Answer, Entry, Began, Op, said_of, LaneFile, Next, Send, Wait, Done, Shelf, Mounted, Machine, machine_of, Lane, Purpose, State, Busy, Over, Setup, IsFresh, is_busy, IsOther, numbers_of, with_state, IsRefused, Leads, Stirs, counted, StartsLane, TakesAt, AnswersAt, View, turn_at, unmade_turn, in_flight, Counts}
+use Rattle.client_core.specs.Numbers.{IsIdle}
 use Rattle.core_facts.specs.Lanes.{AreApart}
 use Rattle.core_facts.proofs.AllCounts.{counts-calls, begins-unbegun}
 use Rattle.core_facts.proofs.AllSeats.{seat_of, IsLive, begins-fresh, OfMachine, all-starts, all-resumes, all-takes}

@@ -1,32 +1,17 @@
 -- How many calls of a put wait after each of its steps.
-use Rattle.std.proofs.Common.{◌≡◌, ◌+◌, ℕ, Bool, true, false, List, Some, Result, Ok, Err, refl, sym, ap, subst, ◌∙◌, arith}
+use Rattle.core_facts.proofs.Prelude.{◌≡◌, ◌+◌, ℕ, Bool, true, false, List, Some, Result, Ok, Err, refl, sym, ap, subst, ◌∙◌, arith, Fault, Reply, is_first, Next, Shelf, Turn, Opening, OpeningNext, PutFile, Putting, Saving, Writing, closed_answer, refusal_of, joined, one_if, of_opening, of_saving, of_writing, of_putting, by-step}
 use Rattle.world_model.specs.declared.answer.Answer.TheVariants as answers
-use Rattle.world_model.specs.declared.answer.Fault.{Fault}
-use Rattle.world_model.specs.declared.message.Reply.{Reply}
-use Rattle.client_shelf.specs.LaneFiles.{is_first}
-use Rattle.client_shelf.specs.declared.next.Next.{Next}
 use Rattle.client_shelf.specs.declared.next.Next.TheVariants as nexts
-use Rattle.client_shelf.specs.declared.shelf.Shelf.{Shelf}
-use Rattle.client_shelf.specs.declared.turn.Turn.{Turn}
-use Rattle.file_ops.specs.declared.opening.Opening.{Opening}
-use Rattle.file_ops.specs.declared.opening.OpeningNext.{OpeningNext}
 use Rattle.file_ops.specs.declared.opening.OpeningNext.TheVariants as openings
-use Rattle.file_ops.specs.declared.put_file.PutFile.{PutFile}
-use Rattle.file_ops.specs.declared.put_file.Putting.{Putting}
 use Rattle.file_ops.specs.declared.put_file.Putting.TheVariants as putting
-use Rattle.file_ops.specs.declared.saving.Saving.{Saving}
-use Rattle.file_ops.specs.declared.write_file.Writing.{Writing}
-use Rattle.file_ops.specs.Closings.{closed_answer, refusal_of}
 use Rattle.file_ops.specs.OpenFile as opens
 use Rattle.file_ops.specs.Opening as opening
 use Rattle.file_ops.specs.PutFile as puts
 use Rattle.file_ops.specs.Saves as saves
-use Rattle.file_ops.specs.SlotFiles.{joined}
 use Rattle.file_ops.specs.WriteFile.{made_bytes}
-use Rattle.core_facts.specs.InFlight.{one_if, of_opening, of_saving, of_writing, of_putting}
 use Rattle.core_facts.proofs.FileCounts.{OpeningCounts, opening-goes, opening-leaves, opening-took, writes-leave, write-resumes, write-takes}
 use Rattle.core_facts.proofs.NameCounts.{sends-leaves, waits-leaves, done-leaves, Plain, from-none, leaves-after}
-use Rattle.file_ops.proofs.SaveCounts.{SaveCounts, by-step, save-goes, save-takes}
+use Rattle.file_ops.proofs.SaveCounts.{SaveCounts, save-goes, save-takes}
 
 -- how many calls of the put wait
 abbrev pub of_put : PutFile → ℕ

@@ -1,25 +1,12 @@
 -- A session that can't dial: the core follows its history into the loss, and an operation that begins then is answered so.
-use Rattle.std.proofs.Common.{◌≡◌, ℕ, suc, List, [], ◌∷◌, ◌++◌, Some, inr, false, refl, sym, ◌∙◌, subst, arith}
+use Rattle.core_facts.proofs.Prelude.{◌≡◌, ℕ, suc, List, [], ◌∷◌, ◌++◌, Some, inr, false, refl, sym, ◌∙◌, subst, arith, Refused, Entry, Began, Answered, Dialed, Failed, Clock, Op, At, Shelf, Machine, Over, Setup, IsFresh, lost, counted, View, MaySetUp, IsSetUp, Reaches, begins, goes, loses}
 use Rattle.std.specs.FinMap as map
 use Rattle.attr_cache.specs.Attrs.{nothing_learnt}
 use Rattle.page_cache.specs.Pages.{nothing_kept}
-use Rattle.world_model.specs.declared.answer.Answer.TheVariants.{Refused}
 use Rattle.world_model.specs.declared.answer.Fault.TheVariants as faults
-use Rattle.world_model.specs.declared.entry.Entry.{Entry}
-use Rattle.world_model.specs.declared.entry.Entry.TheVariants.{Began, Answered, Dialed, Failed, Clock}
-use Rattle.world_model.specs.declared.op.Op.{Op}
 use Rattle.world_model.specs.declared.op.Op.TheVariants.{Sync}
-use Rattle.world_model.specs.Entries.{At}
 use Rattle.world_model.specs.Lost.{FailedDial, IsTraffic, sent, came, dialed, Loses, undialed}
-use Rattle.client_shelf.specs.declared.shelf.Shelf.{Shelf}
-use Rattle.op_machines.specs.declared.machine.Machine.{Machine}
 use Rattle.op_machines.specs.Fits.{Fits}
-use Rattle.client_core.specs.declared.lane.State.TheVariants.{Over}
-use Rattle.client_core.specs.declared.setup.Setup.{Setup}
-use Rattle.client_core.specs.Fresh.{IsFresh}
-use Rattle.client_core.specs.Steps.{lost, counted}
-use Rattle.client_core.specs.View.{View}
-use Rattle.core_facts.specs.Reaches.{MaySetUp, IsSetUp, Reaches, begins, goes, loses}
 
 -- ---- the core at first
 

@@ -1,36 +1,15 @@
 -- After each entry of a history no lane can go on, or no further call may wait.
-use Rattle.std.proofs.Common.{◌≡◌, ◌+◌, ℕ, zero, suc, List, [], ◌∷◌, ◌++◌, length, map, Bool, true, false, Option, Some, None, MatchOption, position, slice_get, nat_lt, refl, sym, ap, subst, ◌∙◌, inl, inr}
+use Rattle.core_facts.proofs.Prelude.{◌≡◌, ◌+◌, ℕ, zero, suc, List, [], ◌∷◌, ◌++◌, length, map, Bool, true, false, Option, Some, None, MatchOption, position, slice_get, refl, sym, ap, subst, ◌∙◌, inl, inr, xid_at, next_xid, failed_after, awaited, Waiting, Answer, Entry, Began, Answered, Dialed, Sent, Executed, Foreign, Flushed, Reboot, Delivered, Failed, Clock, Op, said_of, Next, Send, Wait, Done, Shelf, Turn, Machine, Resumes, Lane, Purpose, State, Busy, Over, Setup, NoneBusy, IsFresh, is_busy, lost_lane, Reaches, begins, goes, loses, StepsTo, last_reading, IsBusyAt, with_state, Leads, Moves, moves_none, moves_more, BeginsIf, counted, TakesAt, HearsFor, failed_view, lost, AnswersAt, View, turn_at}
+use Rattle.std.proofs.Common.{nat_lt}
 use Rattle.std.specs.Prelude.{remove}
-use Rattle.rpc_message.specs.Call.{xid_at}
-use Rattle.rpc_retry.specs.Held.{next_xid}
 use Rattle.rpc_retry.specs.Waiting.{sent, first_given_up}
-use Rattle.rpc_retry.specs.Fail.{after_failure, failed_after}
-use Rattle.rpc_retry.specs.Take.{awaited}
-use Rattle.rpc_retry.specs.declared.waiting.Waiting.{Waiting}
-use Rattle.world_model.specs.declared.answer.Answer.{Answer}
+use Rattle.rpc_retry.specs.Fail.{after_failure}
 use Rattle.world_model.specs.declared.answer.Answer.TheVariants as answers
 use Rattle.world_model.specs.declared.answer.Fault.TheVariants as faults
-use Rattle.world_model.specs.declared.entry.Entry.{Entry}
-use Rattle.world_model.specs.declared.entry.Entry.TheVariants.{Began, Answered, Dialed, Sent, Executed, Foreign, Flushed, Reboot, Delivered, Failed, Clock}
-use Rattle.world_model.specs.declared.op.Op.{Op}
-use Rattle.call_replies.specs.Says.{said_of}
-use Rattle.client_shelf.specs.declared.next.Next.{Next}
-use Rattle.client_shelf.specs.declared.next.Next.TheVariants.{Send, Wait, Done}
-use Rattle.client_shelf.specs.declared.shelf.Shelf.{Shelf}
-use Rattle.client_shelf.specs.declared.turn.Turn.{Turn}
-use Rattle.op_machines.specs.declared.machine.Machine.{Machine}
-use Rattle.op_machines.specs.Steps.{Resumes}
-use Rattle.client_core.specs.declared.lane.Lane.{Lane}
-use Rattle.client_core.specs.declared.lane.Purpose.{Purpose}
-use Rattle.client_core.specs.declared.lane.State.{State}
-use Rattle.client_core.specs.declared.lane.State.TheVariants.{Busy, Over}
-use Rattle.client_core.specs.declared.setup.Setup.{Setup}
-use Rattle.core_facts.specs.Resting.{NoneBusy, IsSettled}
-use Rattle.client_core.specs.Fresh.{IsFresh}
-use Rattle.client_core.specs.Lanes.{is_busy, is_over, lost_lane, lost_state, busy_in}
-use Rattle.core_facts.specs.Reaches.{Reaches, begins, goes, loses, StepsTo, last_reading}
-use Rattle.client_core.specs.Steps.{IsBusyAt, with_state, Leads, Moves, moves_none, moves_more, Still, BeginsIf, Begins, counted, taken, TakesAt, HearsOwn, HearsFor, Hears, SendsIf, SendsBy, FailsAs, FailsBy, failed_view, lost, AnswersAt, AnswersBy}
-use Rattle.client_core.specs.View.{View, has_room, turn_at}
+use Rattle.core_facts.specs.Resting.{IsSettled}
+use Rattle.client_core.specs.Lanes.{is_over, lost_state, busy_in}
+use Rattle.client_core.specs.Steps.{Still, Begins, taken, HearsOwn, Hears, SendsIf, SendsBy, FailsAs, FailsBy, AnswersBy}
+use Rattle.client_core.specs.View.{has_room}
 use Rattle.rpc_retry.proofs.Dues.{length-sent}
 use Rattle.rpc_retry.proofs.Failing.{length-failed}
 

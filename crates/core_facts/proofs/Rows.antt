@@ -1,40 +1,21 @@
 -- Each call that waits is one that the history shows.
-use Rattle.std.proofs.Common.{◌≡◌, ◌<◌, ◌⊎◌, inl, inr, ℕ, suc, List, [], ◌∷◌, ◌++◌, length, Bool, true, false, cond, Option, Some, None, option_map, nat_eq, refl, sym, ap, subst, ◌∙◌, arith}
-use Rattle.std.proofs.lemmas.Bool.{eq-eqb}
+use Rattle.core_facts.proofs.Prelude.{◌≡◌, ◌<◌, ◌⊎◌, inl, inr, ℕ, suc, List, [], ◌∷◌, ◌++◌, length, Bool, true, false, cond, Option, Some, None, option_map, nat_eq, refl, sym, ap, subst, ◌∙◌, arith, eq-eqb, xid_at, Waiting, failed_after, Held, next_xid, awaited, made_call, waiting_at, without, at_made, others_made, others_taken, gone, Entry, Began, Answered, Dialed, Sent, Executed, Foreign, Flushed, Reboot, Delivered, Failed, Clock, Call, Op, At, HasXid, proc_of, At-grow, At-below, At-cases, At-last, Machine, Purpose, Setup, IsFresh, Makes, record_of, with_state, counted, View, turn_at, MaySetUp, IsSetUp, StepsTo, Reaches, begins, goes, loses, last_reading, IsOutstanding, Tried, unsent, runs}
 use borrow.Author.Tests.{eqb-true}
 use Rattle.nfs_types.specs.declared.program.TheConstants.{NFS_PROGRAM}
 use Rattle.rpc_message.specs.declared.call.CallHead.{CallHead}
 use Rattle.rpc_message.specs.declared.cred.Cred.{Cred}
-use Rattle.rpc_message.specs.Call.{xid_at, SpellsCallHead, call_head_bytes}
+use Rattle.rpc_message.specs.Call.{SpellsCallHead, call_head_bytes}
 use Rattle.rpc_message.proofs.CallLaws.{call_xid}
-use Rattle.rpc_retry.specs.declared.waiting.Waiting.{Waiting}
-use Rattle.rpc_retry.specs.Fail.{failed_after}
-use Rattle.rpc_retry.specs.Held.{Held, next_xid}
 use Rattle.rpc_retry.specs.Put.{call_head}
-use Rattle.rpc_retry.specs.Take.{awaited}
-use Rattle.rpc_retry.specs.Waiting.{made_call, waiting_at, without, first_due, sent, sent_call, failed, failed_call}
+use Rattle.rpc_retry.specs.Waiting.{first_due, sent, sent_call, failed, failed_call}
 use Rattle.rpc_retry.proofs.Apart.{sound_of}
-use Rattle.rpc_retry.proofs.Lookups.{waits_early, at_made, others_made, SentAt, at_sent, others_sent, others_taken, all_failed}
-use Rattle.rpc_retry.proofs.Records.{gone}
-use Rattle.world_model.specs.declared.entry.Entry.{Entry}
-use Rattle.world_model.specs.declared.entry.Entry.TheVariants.{Began, Answered, Dialed, Sent, Executed, Foreign, Flushed, Reboot, Delivered, Failed, Clock}
-use Rattle.world_model.specs.declared.message.Call.{Call}
+use Rattle.rpc_retry.proofs.Lookups.{waits_early, SentAt, at_sent, others_sent, all_failed}
 use Rattle.world_model.specs.declared.message.Call.TheVariants as calls
-use Rattle.world_model.specs.declared.op.Op.{Op}
-use Rattle.world_model.specs.Entries.{At}
 use Rattle.world_model.specs.Lost.{FailedAttempt}
-use Rattle.world_model.specs.Messages.{HasXid, head_of, program_of, proc_of}
-use Rattle.world_model.proofs.Places.{At-grow, At-below, At-cases, At-last}
+use Rattle.world_model.specs.Messages.{head_of, program_of}
 use Rattle.law_calls.specs.Calls.{Numbered}
 use Rattle.client_shelf.specs.Spelling.{IsSpellable}
-use Rattle.op_machines.specs.declared.machine.Machine.{Machine}
-use Rattle.client_core.specs.declared.lane.Purpose.{Purpose}
-use Rattle.client_core.specs.declared.setup.Setup.{Setup}
-use Rattle.client_core.specs.Fresh.{IsFresh}
-use Rattle.client_core.specs.Steps.{Makes, record_of, with_state, counted}
-use Rattle.client_core.specs.View.{View, turn_at}
-use Rattle.core_facts.specs.Reaches.{MaySetUp, IsSetUp, StepsTo, Reaches, begins, goes, loses, last_reading}
-use Rattle.core_facts.specs.Tries.{IsUnsent, IsOutstanding, FailedTries, one, more, IsRunning, Tried, unsent, runs, ended, IsKnown}
+use Rattle.core_facts.specs.Tries.{IsUnsent, FailedTries, one, more, IsRunning, ended, IsKnown}
 use Rattle.core_facts.proofs.Cases.{Heard, dropped, replied, heard, sent_now, FailedNow, goes_on, gives_up, failed_now, answered_now, taken_one}
 use Rattle.core_facts.proofs.Grown.{IsQuiet, longer, one-xid, outstanding-grow, tries-grow, tries-wide, tried-grow, FitsIn, numbered-grow}
 use Rattle.core_facts.proofs.Sound.{Sound, sound-stays, sound-taken, sound-step, sound-fresh, same-calls}

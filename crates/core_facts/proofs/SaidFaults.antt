@@ -1,24 +1,19 @@
 -- What is read from a record, and why a call isn't made, is no fault that an operation gives by itself.
-use Rattle.std.proofs.Common.{ℕ, Bool, true, false, List, length, Result, Ok, Err}
-use Rattle.std.specs.Prelude.{if◌then◌else◌, nat_lt}
+use Rattle.core_facts.proofs.Prelude.{ℕ, Bool, true, false, List, length, Result, Ok, Err, if◌then◌else◌, nat_lt, DirKept, FileKept, Fault, said_of, View}
 use Rattle.xdr_codec.specs.declared.reader.XdrFault.{XdrFault}
-use Rattle.nfs_dir_calls.specs.declared.keeping.DirKept.{DirKept}
 use Rattle.nfs_dir_calls.specs.Calls.{is_dir_proc}
 use Rattle.nfs_dir_calls.specs.Replies.{dir_reply_at}
-use Rattle.nfs_file_calls.specs.declared.owned.FileKept.{FileKept}
 use Rattle.nfs_file_calls.specs.Calls.{is_file_proc}
 use Rattle.nfs_file_calls.specs.Replies.{file_reply_at}
 use Rattle.rpc_message.specs.declared.reply.ReplyFault.{ReplyFault}
 use Rattle.rpc_message.specs.declared.reply.ReplyFault.TheVariants.{NotReply, Xdr}
 use Rattle.rpc_message.specs.Reply.{RpcReply, Accepted, Refused, Denied, reply_at}
-use Rattle.world_model.specs.declared.answer.Fault.{Fault}
 use Rattle.world_model.specs.declared.answer.Fault.TheVariants as faults
 use Rattle.world_model.specs.Rules.{most_bytes}
 use Rattle.call_replies.specs.Records.{results_by, results_read, results_in}
 use Rattle.call_replies.specs.Results.{dir_said, file_said, said_in}
-use Rattle.call_replies.specs.Says.{said_by, said_of}
+use Rattle.call_replies.specs.Says.{said_by}
 use Rattle.client_core.specs.Steps.{IsUnmade}
-use Rattle.client_core.specs.View.{View}
 use Rattle.core_facts.proofs.Faults.{IsOuter, FineResult}
 
 either-fine : {T : Type 0} → (b : Bool) (one other : Result T Fault) → FineResult IsOuter one → FineResult IsOuter other → FineResult IsOuter (if b then one else other)

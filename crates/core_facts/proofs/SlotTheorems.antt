@@ -1,21 +1,9 @@
 -- The answers of operations on a slot, from what their slots held.
-use Rattle.std.proofs.Common.{◌≡◌, ℕ, true, List, refl, ap, ◌∙◌, sym, subst}
-use Rattle.nfs_types.specs.declared.mode.Mode.{Mode}
+use Rattle.core_facts.proofs.Prelude.{◌≡◌, ℕ, true, List, refl, ap, ◌∙◌, sym, subst, Mode, Value, Entry, Op, Ended, can_write, slot_of, Terms, Mounted, machine_of, Setup, View, Reaches}
 use Rattle.world_model.specs.declared.answer.Answer.TheVariants as answers
 use Rattle.world_model.specs.declared.answer.Fault.TheVariants as faults
-use Rattle.world_model.specs.declared.answer.Value.{Value}
-use Rattle.world_model.specs.declared.entry.Entry.{Entry}
-use Rattle.world_model.specs.declared.op.Op.{Op}
 use Rattle.world_model.specs.declared.op.Op.TheVariants as ops
-use Rattle.world_model.specs.Operations.{Ended}
-use Rattle.claims.specs.Rights.{can_read, can_write, HoldsToRead, HoldsToWrite, NoPlace, taken}
-use Rattle.claims.specs.Slots.{slot_of}
-use Rattle.claims.specs.Terms.{Terms}
-use Rattle.op_machines.specs.declared.begun.Mounted.{Mounted}
-use Rattle.op_machines.specs.Begun.{machine_of}
-use Rattle.client_core.specs.declared.setup.Setup.{Setup}
-use Rattle.client_core.specs.View.{View}
-use Rattle.core_facts.specs.Reaches.{Reaches}
+use Rattle.claims.specs.Rights.{can_read, HoldsToRead, HoldsToWrite, NoPlace, taken}
 use Rattle.core_facts.specs.SlotAnswers.{GoesWith, SyncsOk, HoldOpens, SlotsHoldOpens, PlacesExact, PlacesCaused}
 use Rattle.core_facts.proofs.HeldSlots.{HeldIn, held-ended, held-in, always-later}
 use Rattle.core_facts.proofs.OpenRefusals.{taken-grow, refused-open}

@@ -1,48 +1,19 @@
 -- The table of opens says of each slot of an idle lane what the history shows; of a lane with an operation under way, but for the slot that
 -- this opens or closes.
-use Rattle.std.proofs.Common.{◌≡◌, ◌≢◌, inl, inr, ℕ, List, [], ◌∷◌, ◌++◌, length, Bool, true, false, nat_eq, Option, Some, None, Result, Ok, refl, sym, ap, subst, ◌∙◌, arith, Err, is_some, ◌≤◌, ◌+◌}
-use Rattle.std.proofs.lemmas.Bool.{eqb-true, eqb-false}
+use Rattle.core_facts.proofs.Prelude.{◌≡◌, ◌≢◌, inl, inr, ℕ, List, [], ◌∷◌, ◌++◌, length, Bool, true, false, nat_eq, Option, Some, None, Result, Ok, refl, sym, ap, subst, ◌∙◌, arith, Err, ◌≤◌, ◌+◌, eqb-true, eqb-false, Mode, DirKept, FileKept, Opened, Place, Opens, Answer, Fault, Value, Entry, Answered, Delivered, Call, Reply, Op, Modes, Ended, EndsWith, UnderWay, length_last, Next, Send, Wait, Done, Shelf, Turn, OpenFile, CloseFile, Closing, Machine, Opener, file_of, slot_taken, Starts, Resumes, Takes, State, Busy, Over}
+use Rattle.std.proofs.Common.{is_some}
 use Rattle.std.specs.FinMap as finite
-use Rattle.nfs_types.specs.declared.mode.Mode.{Mode}
-use Rattle.nfs_dir_calls.specs.declared.keeping.DirKept.{DirKept}
 use Rattle.nfs_dir_calls.specs.declared.keeping.DirKept.TheVariants as found
-use Rattle.nfs_file_calls.specs.declared.owned.FileKept.{FileKept}
 use Rattle.nfs_file_calls.specs.declared.owned.FileKept.TheVariants as kept
-use Rattle.open_files.specs.declared.opened.Opened.{Opened}
-use Rattle.open_files.specs.Slots.{Place, Opens}
 use Rattle.open_files.proofs.Laws.{get-put_same, get-put_other}
-use Rattle.world_model.specs.declared.answer.Answer.{Answer}
 use Rattle.world_model.specs.declared.answer.Answer.TheVariants as answers
-use Rattle.world_model.specs.declared.answer.Fault.{Fault}
 use Rattle.world_model.specs.declared.answer.Fault.TheVariants as faults
-use Rattle.world_model.specs.declared.answer.Value.{Value}
-use Rattle.world_model.specs.declared.entry.Entry.{Entry}
-use Rattle.world_model.specs.declared.entry.Entry.TheVariants.{Answered, Delivered}
-use Rattle.world_model.specs.declared.message.Call.{Call}
-use Rattle.world_model.specs.declared.message.Reply.{Reply}
 use Rattle.world_model.specs.declared.message.Reply.TheVariants as replies
-use Rattle.world_model.specs.declared.op.Op.{Op}
 use Rattle.world_model.specs.declared.op.Op.TheVariants as ops
-use Rattle.claims.specs.Modes.{Modes}
-use Rattle.world_model.specs.Operations.{Ended, EndsWith, UnderWay}
 use Rattle.claims.specs.Slots.{Finds, asked, looked_up, made}
-use Rattle.world_model.proofs.Places.{length_last}
-use Rattle.client_shelf.specs.declared.next.Next.{Next}
-use Rattle.client_shelf.specs.declared.next.Next.TheVariants.{Send, Wait, Done}
-use Rattle.client_shelf.specs.declared.shelf.Shelf.{Shelf}
-use Rattle.client_shelf.specs.declared.turn.Turn.{Turn}
-use Rattle.file_ops.specs.declared.open_file.OpenFile.{OpenFile}
-use Rattle.file_ops.specs.declared.close_file.CloseFile.{CloseFile}
-use Rattle.file_ops.specs.declared.close_file.Closing.{Closing}
 use Rattle.file_ops.specs.declared.close_file.Closing.TheVariants as closings
 use Rattle.op_machines.specs.declared.file_machine.FileMachine.TheVariants as files
-use Rattle.op_machines.specs.declared.machine.Machine.{Machine}
 use Rattle.op_machines.specs.declared.machine.Machine.TheVariants as machines
-use Rattle.op_machines.specs.declared.opener.Opener.{Opener}
-use Rattle.op_machines.specs.Openers.{file_of, slot_taken}
-use Rattle.op_machines.specs.Steps.{Starts, Resumes, Takes}
-use Rattle.client_core.specs.declared.lane.State.{State}
-use Rattle.client_core.specs.declared.lane.State.TheVariants.{Busy, Over}
 use Rattle.core_facts.proofs.CloseSlots.{ClosingHas, CloseSteps, close-starts, close-resumes, close-takes}
 use Rattle.core_facts.proofs.Expecting.{Expects}
 use Rattle.core_facts.proofs.OpenSlots.{IsPlain, Leaves, plain-starts, plain-resumes, plain-takes, IsAt, IsOpener, IsRefusal, opener-taken, FindsBy, by_attrs, by_lookup, by_create, OpenTook, table_stays, puts_open, opener-starts, opener-resumes, opener-takes}

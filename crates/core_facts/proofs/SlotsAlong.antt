@@ -1,42 +1,8 @@
 -- Along a history that the core goes with, its table of opens says of each slot what the history shows.
-use Rattle.std.proofs.Common.{◌≡◌, ◌≢◌, ◌<◌, ◌≤◌, ◌⊎◌, inl, inr, ℕ, zero, suc, List, [], ◌∷◌, ◌++◌, length, remove, Bool, true, false, nat_eq, Option, Some, None, MatchOption, position, slice_get, slice_set, Ok, Err, refl, sym, ap, subst, ◌∙◌, arith, ◌+◌}
-use Rattle.std.proofs.lemmas.Bool.{eqb-true, eqb-false, cases_lt}
+use Rattle.core_facts.proofs.Prelude.{◌≡◌, ◌≢◌, ◌<◌, ◌≤◌, ◌⊎◌, inl, inr, ℕ, zero, suc, List, [], ◌∷◌, ◌++◌, length, remove, Bool, true, false, nat_eq, Option, Some, None, MatchOption, position, slice_get, slice_set, Ok, Err, refl, sym, ap, subst, ◌∙◌, arith, ◌+◌, eqb-true, eqb-false, cases_lt, Opened, Place, Opens, xid_at, Waiting, waiting_at, Answer, Fault, Entry, Began, Answered, Dialed, Sent, Executed, Foreign, Flushed, Reboot, Delivered, Failed, Clock, Reply, Op, At, Modes, Ended, UnderWay, AnsweredBefore, At-grow, At-one, length_last, said_of, Next, Send, Wait, Done, Shelf, Mounted, Machine, machine_of, Lane, Purpose, State, Busy, Over, Setup, IsFresh, is_busy, IsOther, numbers_of, with_state, IsRefused, Leads, Stirs, Moves, moves_none, moves_more, counted, BeginsIf, TakesAt, View, turn_at, unmade_turn, IsSetUp, StepsTo, HearsRecord, Reaches, begins, goes, loses, last_reading, NoneBusy}
 use Rattle.std.specs.FinMap as finite
-use Rattle.open_files.specs.declared.opened.Opened.{Opened}
-use Rattle.open_files.specs.Slots.{Place, Opens, place_cmp}
-use Rattle.rpc_message.specs.Call.{xid_at}
-use Rattle.rpc_retry.specs.declared.waiting.Waiting.{Waiting}
-use Rattle.rpc_retry.specs.Waiting.{waiting_at}
-use Rattle.world_model.specs.declared.answer.Answer.{Answer}
-use Rattle.world_model.specs.declared.answer.Fault.{Fault}
-use Rattle.world_model.specs.declared.entry.Entry.{Entry}
-use Rattle.world_model.specs.declared.entry.Entry.TheVariants.{Began, Answered, Dialed, Sent, Executed, Foreign, Flushed, Reboot, Delivered, Failed, Clock}
-use Rattle.world_model.specs.declared.message.Reply.{Reply}
-use Rattle.world_model.specs.declared.op.Op.{Op}
+use Rattle.open_files.specs.Slots.{place_cmp}
 use Rattle.world_model.specs.declared.op.Op.TheVariants as ops
-use Rattle.world_model.specs.Entries.{At}
-use Rattle.claims.specs.Modes.{Modes}
-use Rattle.world_model.specs.Operations.{Ended, UnderWay, AnsweredBefore}
-use Rattle.world_model.proofs.Places.{At-grow, At-one, length_last}
-use Rattle.call_replies.specs.Says.{said_of}
-use Rattle.client_shelf.specs.declared.next.Next.{Next}
-use Rattle.client_shelf.specs.declared.next.Next.TheVariants.{Send, Wait, Done}
-use Rattle.client_shelf.specs.declared.shelf.Shelf.{Shelf}
-use Rattle.op_machines.specs.declared.begun.Mounted.{Mounted}
-use Rattle.op_machines.specs.declared.machine.Machine.{Machine}
-use Rattle.op_machines.specs.Begun.{machine_of}
-use Rattle.client_core.specs.declared.lane.Lane.{Lane}
-use Rattle.client_core.specs.declared.lane.Purpose.{Purpose}
-use Rattle.client_core.specs.declared.lane.State.{State}
-use Rattle.client_core.specs.declared.lane.State.TheVariants.{Busy, Over}
-use Rattle.client_core.specs.declared.setup.Setup.{Setup}
-use Rattle.client_core.specs.Fresh.{IsFresh}
-use Rattle.client_core.specs.Lanes.{is_busy}
-use Rattle.client_core.specs.Numbers.{IsOther, numbers_of}
-use Rattle.client_core.specs.Steps.{with_state, IsRefused, Leads, Stirs, Moves, moves_none, moves_more, counted, BeginsIf, TakesAt}
-use Rattle.client_core.specs.View.{View, turn_at, unmade_turn}
-use Rattle.core_facts.specs.Reaches.{IsSetUp, StepsTo, HearsRecord, Reaches, begins, goes, loses, last_reading}
-use Rattle.core_facts.specs.Resting.{NoneBusy}
 use Rattle.core_facts.proofs.AllCounts.{begins-unbegun}
 use Rattle.core_facts.proofs.Cases.{Heard, dropped, replied, heard, sent_now, FailedNow, goes_on, gives_up, failed_now, AnsweredNow, answered_now, taken_one}
 use Rattle.core_facts.proofs.Counting.{none-busy, reached-count}

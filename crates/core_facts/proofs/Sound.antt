@@ -1,26 +1,12 @@
 -- The calls that wait are sound after each call of the core.
-use Rattle.std.proofs.Common.{◌≡◌, ℕ, List, [], ◌∷◌, ◌++◌, inl, inr, Option, refl, sym, ap, ◌∙◌, subst, arith}
+use Rattle.core_facts.proofs.Prelude.{◌≡◌, ℕ, List, [], ◌∷◌, ◌++◌, inl, inr, Option, refl, sym, ap, ◌∙◌, subst, arith, Held, next_xid, failed_after, made_call, without, Entry, Began, Answered, Dialed, Sent, Executed, Foreign, Flushed, Reboot, Delivered, Failed, Clock, Call, Op, proc_of, Machine, Purpose, Setup, IsFresh, Makes, record_of, failed_view, View, turn_at, MaySetUp, StepsTo, Reaches, begins, goes, loses, last_reading}
 use Rattle.nfs_types.specs.declared.program.TheConstants.{NFS_PROGRAM}
-use Rattle.rpc_retry.specs.Held.{Held, next_xid}
-use Rattle.rpc_retry.specs.Fail.{failed_after}
 use Rattle.rpc_retry.specs.Sound.{IsSound}
-use Rattle.rpc_retry.specs.Waiting.{made_call, sent, without}
+use Rattle.rpc_retry.specs.Waiting.{sent}
 use Rattle.rpc_retry.proofs.Dues.{sound_next}
 use Rattle.rpc_retry.proofs.Failing.{sound_given, sound_resent}
 use Rattle.rpc_retry.proofs.Order.{sound_put}
 use Rattle.rpc_retry.proofs.Taking.{sound_taken}
-use Rattle.world_model.specs.declared.entry.Entry.{Entry}
-use Rattle.world_model.specs.declared.entry.Entry.TheVariants.{Began, Answered, Dialed, Sent, Executed, Foreign, Flushed, Reboot, Delivered, Failed, Clock}
-use Rattle.world_model.specs.declared.message.Call.{Call}
-use Rattle.world_model.specs.declared.op.Op.{Op}
-use Rattle.world_model.specs.Messages.{proc_of}
-use Rattle.op_machines.specs.declared.machine.Machine.{Machine}
-use Rattle.client_core.specs.declared.lane.Purpose.{Purpose}
-use Rattle.client_core.specs.declared.setup.Setup.{Setup}
-use Rattle.client_core.specs.Fresh.{IsFresh}
-use Rattle.client_core.specs.Steps.{Makes, record_of, failed_view}
-use Rattle.client_core.specs.View.{View, turn_at}
-use Rattle.core_facts.specs.Reaches.{MaySetUp, StepsTo, Reaches, begins, goes, loses, last_reading}
 use Rattle.core_facts.proofs.Cases.{Heard, dropped, replied, heard, sent_now, FailedNow, goes_on, gives_up, failed_now, answered_now, taken_one}
 use Rattle.core_facts.proofs.Walks.{Stays, begins-stay, hears-for-stay}
 

@@ -1,8 +1,5 @@
 -- What a step of an operation leads to: a call that it asks for, what it expected before, and what holds then.
-use Rattle.std.proofs.Common.{◌≤◌, ℕ}
-use Rattle.world_model.specs.declared.answer.Answer.{Answer}
-use Rattle.world_model.specs.declared.message.Call.{Call}
-use Rattle.client_shelf.specs.declared.next.Next.{Next}
+use Rattle.core_facts.proofs.Prelude.{◌≤◌, ℕ, Answer, Call, Next}
 use Rattle.client_shelf.specs.declared.next.Next.TheVariants as nexts
 
 -- it expects the call that it asks for

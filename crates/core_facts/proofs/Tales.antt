@@ -1,55 +1,18 @@
 -- What the steps of operations keep along a history, of the shelf, of each call that waits and of each operation under way, holds of each
 -- record that is sent and of each answer.
-use Rattle.std.proofs.Common.{◌≡◌, ◌≢◌, ◌<◌, ◌≤◌, ◌+◌, ◌-◌, ◌⊎◌, inl, inr, ℕ, zero, suc, List, [], ◌∷◌, ◌++◌, length, map, Bool, true, false, nat_eq, Option, Some, None, MatchOption, position, slice_get, slice_set, Result, Ok, Err, refl, sym, ap, subst, ◌∙◌, arith, append_assoc}
-use Rattle.std.proofs.lemmas.Bool.{eqb-true, eqb-false, eq-eqb, cases_lt}
-use Rattle.rpc_message.specs.Call.{xid_at}
-use Rattle.rpc_retry.specs.declared.waiting.Waiting.{Waiting}
-use Rattle.rpc_retry.specs.Fail.{failed_after}
-use Rattle.rpc_retry.specs.Held.{next_xid}
+use Rattle.core_facts.proofs.Prelude.{◌≡◌, ◌≢◌, ◌<◌, ◌≤◌, ◌+◌, ◌-◌, ◌⊎◌, inl, inr, ℕ, zero, suc, List, [], ◌∷◌, ◌++◌, length, map, Bool, true, false, nat_eq, Option, Some, None, MatchOption, position, slice_get, slice_set, Result, Ok, Err, refl, sym, ap, subst, ◌∙◌, arith, append_assoc, eqb-true, eqb-false, eq-eqb, cases_lt, xid_at, Waiting, failed_after, next_xid, made_call, waiting_at, without, at_made, others_made, others_taken, gone, Answer, Refused, Fault, Entry, Began, Answered, Dialed, Sent, Executed, Foreign, Flushed, Reboot, Delivered, Failed, Clock, Call, Reply, Op, At, Asked, IsLost, HasXid, SpellsReply, proc_of, Ended, AnsweredBefore, UnderWay, EndsWith, FirstSent-grow, At-grow, At-below, At-back, At-last, At-one, At-cases, length_last, said_of, Next, Send, Wait, Done, Shelf, Turn, Machine, Starts, Resumes, Takes, Lane, Purpose, State, Busy, Over, Setup, is_busy, lost_lane, IsOther, numbers_of, IsFresh, with_state, record_of, Makes, IsRefused, Leads, Stirs, Moves, moves_none, moves_more, counted, BeginsIf, TakesAt, View, turn_at, unmade_turn, in_flight, IsUnbegun, Counts, where_, calls_for, IsSetUp, StepsTo, HearsRecord, Reaches, begins, goes, loses, last_reading, NoneBusy, IsOutstanding, Tried, unsent, runs}
 use Rattle.rpc_retry.specs.Records.{WaitedAs}
-use Rattle.rpc_retry.specs.Waiting.{made_call, waiting_at, without}
-use Rattle.rpc_retry.proofs.Lookups.{at_made, at_sent, others_made, others_taken}
-use Rattle.rpc_retry.proofs.Records.{gone, before_sent, before_failed}
-use Rattle.world_model.specs.declared.answer.Answer.{Answer}
-use Rattle.world_model.specs.declared.answer.Answer.TheVariants.{Refused}
-use Rattle.world_model.specs.declared.answer.Fault.{Fault}
+use Rattle.rpc_retry.proofs.Lookups.{at_sent}
+use Rattle.rpc_retry.proofs.Records.{before_sent, before_failed}
 use Rattle.world_model.specs.declared.answer.Fault.TheVariants as faults
-use Rattle.world_model.specs.declared.entry.Entry.{Entry}
-use Rattle.world_model.specs.declared.entry.Entry.TheVariants.{Began, Answered, Dialed, Sent, Executed, Foreign, Flushed, Reboot, Delivered, Failed, Clock}
-use Rattle.world_model.specs.declared.message.Call.{Call}
-use Rattle.world_model.specs.declared.message.Reply.{Reply}
-use Rattle.world_model.specs.declared.op.Op.{Op}
-use Rattle.world_model.specs.Entries.{At}
-use Rattle.world_model.specs.Heard.{Asked, Refused as WasRefused, Refuses as IsRefusal, Heard as IsHeard}
+use Rattle.world_model.specs.Heard.{Refused as WasRefused, Refuses as IsRefusal, Heard as IsHeard}
 use Rattle.world_model.specs.LanesTogether.{IsBusy}
-use Rattle.world_model.specs.Lost.{IsLost}
-use Rattle.world_model.specs.Messages.{HasXid, SpellsCall, SpellsCallBy, SpellsReply, proc_of}
-use Rattle.world_model.specs.Operations.{Ended, AnsweredBefore, UnderWay, EndsWith}
+use Rattle.world_model.specs.Messages.{SpellsCall, SpellsCallBy}
 use Rattle.world_model.specs.Waiting.{IsDelivered}
-use Rattle.world_model.proofs.Growth.{FirstSent-grow}
-use Rattle.world_model.proofs.Places.{At-grow, At-below, At-back, At-last, At-one, At-cases, length_last}
-use Rattle.call_replies.specs.Says.{said_of, Says}
-use Rattle.client_shelf.specs.declared.next.Next.{Next}
-use Rattle.client_shelf.specs.declared.next.Next.TheVariants.{Send, Wait, Done}
-use Rattle.client_shelf.specs.declared.shelf.Shelf.{Shelf}
-use Rattle.client_shelf.specs.declared.turn.Turn.{Turn}
-use Rattle.op_machines.specs.declared.machine.Machine.{Machine}
-use Rattle.op_machines.specs.Steps.{Starts, Resumes, Takes}
-use Rattle.client_core.specs.declared.lane.Lane.{Lane}
-use Rattle.client_core.specs.declared.lane.Purpose.{Purpose}
-use Rattle.client_core.specs.declared.lane.State.{State}
-use Rattle.client_core.specs.declared.lane.State.TheVariants.{Busy, Over}
-use Rattle.client_core.specs.declared.setup.Setup.{Setup}
-use Rattle.client_core.specs.Lanes.{is_busy, lost_lane}
-use Rattle.client_core.specs.Numbers.{IsOther, numbers_of}
-use Rattle.client_core.specs.Fresh.{IsFresh}
-use Rattle.client_core.specs.Steps.{with_state, record_of, Makes, IsRefused, IsUnmade, SendsIf, Leads, Stirs, Moves, moves_none, moves_more, counted, BeginsIf, TakesAt}
-use Rattle.client_core.specs.View.{View, turn_at, unmade_turn}
-use Rattle.core_facts.specs.InFlight.{in_flight, IsUnbegun, Counts}
-use Rattle.core_facts.specs.Counted.{where_, calls_for, IsOfOperation}
-use Rattle.core_facts.specs.Reaches.{IsSetUp, StepsTo, HearsRecord, Reaches, begins, goes, loses, last_reading}
-use Rattle.core_facts.specs.Resting.{NoneBusy}
-use Rattle.core_facts.specs.Tries.{IsMade, IsOutstanding, Tried, unsent, runs, ended}
+use Rattle.call_replies.specs.Says.{Says}
+use Rattle.client_core.specs.Steps.{IsUnmade, SendsIf}
+use Rattle.core_facts.specs.Counted.{IsOfOperation}
+use Rattle.core_facts.specs.Tries.{IsMade, ended}
 use Rattle.core_facts.proofs.AllCounts.{counts-calls}
 use Rattle.core_facts.proofs.Cases.{Heard, dropped, replied, heard, SentNow, sent_now, FailedNow, goes_on, gives_up, failed_now, answered_now, taken_one}
 use Rattle.core_facts.proofs.Counting.{IsKnown, calls-some, calls-without, known-only, known-none, one_for, stirs-count, starts-count, hears-count, reached-count, none-busy, none-idle}

@@ -1,19 +1,7 @@
 -- A fact that the steps of lanes keep is kept by each call of the core.
-use Rattle.std.proofs.Common.{◌≡◌, inl, inr, ℕ, List, [], ◌∷◌, ◌++◌, length, Bool, true, false, Option, Some, None, MatchOption, position, slice_get, sym, subst}
-use Rattle.call_replies.specs.Says.{said_of}
-use Rattle.client_shelf.specs.declared.next.Next.{Next}
-use Rattle.client_shelf.specs.declared.next.Next.TheVariants.{Send, Wait, Done}
-use Rattle.client_shelf.specs.declared.shelf.Shelf.{Shelf}
-use Rattle.world_model.specs.declared.answer.Answer.TheVariants.{Refused}
+use Rattle.core_facts.proofs.Prelude.{◌≡◌, inl, inr, ℕ, List, [], ◌∷◌, ◌++◌, length, Bool, true, false, Option, Some, None, MatchOption, position, slice_get, sym, subst, said_of, Next, Send, Wait, Done, Shelf, Refused, Call, Machine, Purpose, State, Busy, Over, is_busy, View, IsBusyAt, with_state, Makes, Leads, Stirs, Moves, moves_none, moves_more, counted, StartsLane, BeginsIf, TakesAt, HearsFor}
 use Rattle.world_model.specs.declared.answer.Fault.TheVariants as faults
-use Rattle.world_model.specs.declared.message.Call.{Call}
-use Rattle.op_machines.specs.declared.machine.Machine.{Machine}
-use Rattle.client_core.specs.declared.lane.Purpose.{Purpose}
-use Rattle.client_core.specs.declared.lane.State.{State}
-use Rattle.client_core.specs.declared.lane.State.TheVariants.{Busy, Over}
-use Rattle.client_core.specs.Lanes.{is_busy}
-use Rattle.client_core.specs.View.{View}
-use Rattle.client_core.specs.Steps.{IsBusyAt, with_state, Makes, Leads, Stirs, Moves, moves_none, moves_more, counted, StartsLane, Begins, BeginsIf, TakesAt, HearsOwn, HearsFor}
+use Rattle.client_core.specs.Steps.{Begins, HearsOwn}
 use Rattle.core_facts.proofs.Lists.{at-set, at-push}
 
 -- The fact stays where a call is made, and where the lane at a place comes to another state with another shelf.
