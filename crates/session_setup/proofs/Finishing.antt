@@ -7,7 +7,8 @@ use Rattle.world_model.specs.declared.message.Call.{Call}
 use Rattle.claims.specs.CallsAsked.{mount, inform}
 use Rattle.world_model.specs.Messages.{SpellsCall}
 use Rattle.world_model.specs.Mounts.{Origin, Mounting, Given}
-use Rattle.link_dials.specs.Dials.{SendsTo, Reaches, GoesToPorts}
+use Rattle.link_dials.specs.Dials.{SendsTo, Reaches}
+use Rattle.link_dials.specs.Ports.{GoesToPorts}
 use Rattle.session_words.specs.declared.settings.Export.TheVariants as exports
 use Rattle.session_words.specs.declared.settings.Settings.{Settings}
 use Rattle.session_setup.specs.declared.opening.SetUp.{SetUp}
