@@ -12,7 +12,7 @@ use Rattle.world_model.specs.Told.{Adds, Tells, Relates}
 use Rattle.world_model.proofs.Histories.{IsQuiet, quiet_by, steps_on}
 use Rattle.world_model.proofs.Places.{At-grow, At-below, At-last, At-cases, At-back, length_last}
 use Rattle.link_dials.specs.Dials.{AreDialsOf, IsDialOf, Dials, DialsOnly, SendsTo}
-use Rattle.link_dials.specs.Ports.{DialedLast, port_for, GoesToPorts}
+use Rattle.link_dials.specs.Sendings.{DialedLast, port_for, GoesToPorts}
 use Rattle.link_dials.proofs.Dialing.{are-append, same-dials, then-dials}
 
 abbrev one : Entry → List Entry

@@ -5,7 +5,7 @@ use Rattle.world_model.specs.declared.entry.Entry.TheVariants.{Dialed, Sent}
 use Rattle.world_model.specs.Entries.{At}
 use Rattle.world_model.specs.History.{History}
 use Rattle.world_model.specs.Told.{Relates}
-use Rattle.link_dials.specs.Ports.{DialedLast}
+use Rattle.link_dials.specs.Sendings.{DialedLast}
 
 -- ---- one port
 

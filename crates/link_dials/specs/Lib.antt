@@ -1,2 +1,2 @@
 pub mod Dials
-pub mod Ports
+pub mod Sendings

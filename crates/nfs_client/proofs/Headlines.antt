@@ -8,7 +8,7 @@ use Rattle.world_model.specs.Clocked.{clocks}
 use Rattle.world_model.specs.Counts.{tally_of}
 use Rattle.world_model.specs.History.{History}
 use Rattle.world_model.specs.Transcript.{transcript}
-use Rattle.link_dials.specs.Ports.{GoesToPorts}
+use Rattle.link_dials.specs.Sendings.{GoesToPorts}
 use Rattle.nfs_script.specs.declared.script.ScriptLine.{ScriptLine}
 use Rattle.session_words.specs.declared.settings.Settings.{Settings}
 use Rattle.session_setup.specs.declared.opening.SetUp.{SetUp}

@@ -11,7 +11,7 @@ use Rattle.world_model.specs.declared.tally.Tally.{Tally}
 use Rattle.world_model.specs.Entries.{At, ours}
 use Rattle.world_model.specs.Messages.{SpellsCall, program_of}
 use Rattle.link_dials.specs.Dials.{IsDialOf, AreDialsOf, Dials}
-use Rattle.link_dials.specs.Ports.{port_for, GoesToPorts}
+use Rattle.link_dials.specs.Sendings.{port_for, GoesToPorts}
 use Rattle.link_dials.proofs.Ports.{behind, ports-none, ports-then, sends-none, sends-over}
 use Rattle.nfs_script.specs.declared.script.ScriptLine.{ScriptLine}
 use Rattle.session_words.specs.declared.settings.Settings.{Settings}

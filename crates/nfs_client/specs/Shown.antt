@@ -80,7 +80,7 @@ use Rattle.core_answers.specs.writes.Alone.{IsWaiting, IsQuiet, committed_file, 
 use Rattle.core_answers.specs.writes.Carried.{IsCarried}
 use Rattle.core_answers.specs.writes.Flights.{IsInFlight}
 use Rattle.core_answers.specs.writes.Written.{PlaceWritten}
-use Rattle.link_dials.specs.Ports.{GoesToPorts}
+use Rattle.link_dials.specs.Sendings.{GoesToPorts}
 use Rattle.nfs_script.specs.declared.script.ScriptLine.{ScriptLine}
 use Rattle.session_words.specs.declared.settings.Settings.{Settings}
 use Rattle.session_setup.specs.declared.opening.SetUp.{SetUp}

@@ -12,7 +12,7 @@ use Rattle.world_model.specs.Messages.{SpellsCall, program_of}
 use Rattle.world_model.specs.Mounts.{Origin, Mounting, Given, Rooted, mount_call, info_call}
 use Rattle.world_model.specs.Told.{Relates}
 use Rattle.link_dials.specs.Dials.{Dials, DialsOnly, SendsTo, Reaches}
-use Rattle.link_dials.specs.Ports.{DialedLast, port_for, GoesToPorts}
+use Rattle.link_dials.specs.Sendings.{DialedLast, port_for, GoesToPorts}
 use Rattle.link_dials.proofs.Ports.{behind, sends-none, sends-over, sends-then, ports-none, ports-mount, ports-then}
 use Rattle.session_setup.specs.declared.opening.SetUpFault.{SetUpFault}
 use Rattle.session_setup.specs.declared.opening.SetUpFault.TheVariants.{Refused, Lost, Memory}

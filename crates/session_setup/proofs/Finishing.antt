@@ -8,7 +8,7 @@ use Rattle.claims.specs.CallsAsked.{mount, inform}
 use Rattle.world_model.specs.Messages.{SpellsCall}
 use Rattle.world_model.specs.Mounts.{Origin, Mounting, Given}
 use Rattle.link_dials.specs.Dials.{SendsTo, Reaches}
-use Rattle.link_dials.specs.Ports.{GoesToPorts}
+use Rattle.link_dials.specs.Sendings.{GoesToPorts}
 use Rattle.session_words.specs.declared.settings.Export.TheVariants as exports
 use Rattle.session_words.specs.declared.settings.Settings.{Settings}
 use Rattle.session_setup.specs.declared.opening.SetUp.{SetUp}

@@ -10,7 +10,7 @@ use Rattle.world_model.specs.Mounts.{Origin, Rooted, Sized, mount_call}
 use Rattle.world_model.specs.ReadSize.{ReadSized, page_bytes}
 use Rattle.world_model.specs.Rows.{WasSent}
 use Rattle.world_model.specs.Waiting.{Waits}
-use Rattle.link_dials.specs.Ports.{DialedLast, GoesToPorts}
+use Rattle.link_dials.specs.Sendings.{DialedLast, GoesToPorts}
 use Rattle.session_words.specs.declared.settings.Export.{Export}
 use Rattle.session_words.specs.declared.settings.Export.TheVariants as exports
 use Rattle.session_words.specs.declared.settings.Settings.{Settings}
