@@ -74,6 +74,14 @@ reaches_over port result (Some a) (Some b) (Some c) p d =
     let o = sends-over port b.entries c.entries p.1 d in
     any-reaches port result a.entries c.entries (sends-then port a.entries b.entries c.entries p.0 o.0) o.1
 
+-- where it succeeds, and where it doesn't
+pub reaches_over_ok : (port : ℕ) (a b c : Option History) → Relates a b (λ h k. SendsTo port h k × DialedLast k (length k) port) → DialsOnly port b c
+    → Relates a c (λ h k. SendsTo port h k × DialedLast k (length k) port)
+reaches_over_ok port a b c p d = reaches_over {T = Unit {0}} {E = Unit {0}} port (Ok tt) a b c p d
+
+pub reaches_over_err : (port : ℕ) (a b c : Option History) → Relates a b (λ h k. SendsTo port h k × DialedLast k (length k) port) → DialsOnly port b c → Relates a c (SendsTo port)
+reaches_over_err port a b c p d = reaches_over {T = Unit {0}} {E = Unit {0}} port (Err tt) a b c p d
+
 -- no exchange follows
 pub reaches_less : (port : ℕ) (a b : Option History) → Relates a b (λ h k. SendsTo port h k × DialedLast k (length k) port) → Relates a b (SendsTo port)
 reaches_less port None b p = tt

@@ -1,6 +1,6 @@
 use Rattle.session_setup.proofs.Alongs.{along_less, along_then}
 use Rattle.session_setup.proofs.Phases.{inform_undialed, inform_unmade, inform_lost, inform_answered}
-use Rattle.session_setup.proofs.Dials.{reaches_less, reaches_over}
+use Rattle.session_setup.proofs.Dials.{reaches_less, reaches_over_ok, reaches_over_err}
 use Rattle.session_setup.proofs.opening.inform.Goals as goal
 
 pub returns-in-Err-clause-goes : goal.returns-in-Err-clause-goes
@@ -26,7 +26,7 @@ pub returns-in_default-clause-reaches : goal.returns-in_default-clause-reaches
 returns-in_default-clause-reaches g c = reaches_less c.args.settings.now.nfs_port _ _ c.in-Ok.ensures.reaches
 
 pub returns-in-Ok-exchange-clause-reaches : goal.returns-in-Ok-exchange-clause-reaches
-returns-in-Ok-exchange-clause-reaches g c = reaches_over c.args.settings.now.nfs_port _ _ _ _ c.in-Ok.ensures.reaches c.in-Ok-exchange.ensures.dials
+returns-in-Ok-exchange-clause-reaches g c = reaches_over_ok c.args.settings.now.nfs_port _ _ _ c.in-Ok.ensures.reaches c.in-Ok-exchange.ensures.dials
 
 pub returns-in-Err-exchange-clause-reaches : goal.returns-in-Err-exchange-clause-reaches
-returns-in-Err-exchange-clause-reaches g c = reaches_over c.args.settings.now.nfs_port _ _ _ _ c.in-Ok.ensures.reaches c.in-Err-exchange.ensures.dials
+returns-in-Err-exchange-clause-reaches g c = reaches_over_err c.args.settings.now.nfs_port _ _ _ c.in-Ok.ensures.reaches c.in-Err-exchange.ensures.dials

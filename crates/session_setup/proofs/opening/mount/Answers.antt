@@ -1,6 +1,6 @@
 use Rattle.session_setup.proofs.Alongs.{along_less, along_then}
 use Rattle.session_setup.proofs.Phases.{mount_undialed, mount_unmade, mount_lost, mount_answered}
-use Rattle.session_setup.proofs.Dials.{reaches_less, reaches_over}
+use Rattle.session_setup.proofs.Dials.{reaches_less, reaches_over, reaches_over_err}
 use Rattle.session_setup.proofs.opening.mount.Goals as goal
 
 pub returns-in-Err-clause-goes : goal.returns-in-Err-clause-goes
@@ -27,4 +27,4 @@ pub returns-in-Ok-exchange-clause-reaches : goal.returns-in-Ok-exchange-clause-r
 returns-in-Ok-exchange-clause-reaches g c = reaches_over c.args.port _ _ _ _ c.in-Ok.ensures.reaches c.in-Ok-exchange.ensures.dials
 
 pub returns-in-Err-exchange-clause-reaches : goal.returns-in-Err-exchange-clause-reaches
-returns-in-Err-exchange-clause-reaches g c = reaches_over c.args.port _ _ _ _ c.in-Ok.ensures.reaches c.in-Err-exchange.ensures.dials
+returns-in-Err-exchange-clause-reaches g c = reaches_over_err c.args.port _ _ _ c.in-Ok.ensures.reaches c.in-Err-exchange.ensures.dials
