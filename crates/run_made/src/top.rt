@@ -54,7 +54,8 @@ pub fn run_made<L: Link, C: Clock, K: Sink>(
     // 5 comes only where the sink failed.
     ensures sink { result ≡ 5 → Rose (K.faults out.old) (K.faults out.new) }
 
-    // A link that is honest stays so: what it tells is lawful.
+    // What the link's own calls keep stays, and a link that is honest stays so: what it tells is lawful.
+    ensures stays { (first : L) → L.stays first link.old → L.stays first link.new }
     ensures honest { L.honest link.old → L.honest link.new }
 
     // What a session of that script promises, in the words of the model alone: `Headline` of nfs_client/specs/Headline. Of what it writes this tells.

@@ -46,6 +46,7 @@ pub fn run_lanes<L: Link, C: Clock, K: Sink>(
     requires few { length script.now ≤ 16384 }
     ensures ending { IsEnding result }
     ensures sink { result ≡ 5 → Rose (K.faults out.old) (K.faults out.new) }
+    ensures stays { (first : L) → L.stays first link.old → L.stays first link.new }
     ensures honest { L.honest link.old → L.honest link.new }
     ensures shown { Says (K.written out.old) (K.written out.new) (λ text.
         Reads (C.readings clock.old) (C.readings clock.new) (λ given.
@@ -95,6 +96,7 @@ fn end_early<L: Link, C: Clock, K: Sink>(
     requires few { length script.now ≤ 16384 }
     ensures ending { IsEnding result }
     ensures sink { result ≡ 5 → Rose (K.faults out.old) (K.faults out.new) }
+    ensures stays { (first : L) → L.stays first link.old → L.stays first link.new }
     ensures honest { L.honest link.old → L.honest link.new }
     ensures shown { Says (K.written out.old) (K.written out.new) (λ text.
         Reads (C.readings clock.old) (C.readings clock.new) (λ given.

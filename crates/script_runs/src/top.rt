@@ -53,7 +53,8 @@ pub fn run<S: Source, L: Link, C: Clock, K: Sink>(
     ensures source { result ≡ 4 → Rose (S.faults script.old) (S.faults script.new) }
     ensures sink { result ≡ 5 → Rose (K.faults out.old) (K.faults out.new) }
 
-    // A link that is honest stays so: what it tells is lawful.
+    // What the link's own calls keep stays, and a link that is honest stays so: what it tells is lawful.
+    ensures stays { (first : L) → L.stays first link.old → L.stays first link.new }
     ensures honest { L.honest link.old → L.honest link.new }
 
     // What was written is what the history says, and so are the readings that the clock gave.
@@ -89,6 +90,7 @@ pub fn run_with<S: Source, L: Link, C: Clock, K: Sink>(
     ensures refused { result ≡ 3 → Says (K.written out.old) (K.written out.new) (RefusalIs (S.left script.old)) }
     ensures source { result ≡ 4 → Rose (S.faults script.old) (S.faults script.new) }
     ensures sink { result ≡ 5 → Rose (K.faults out.old) (K.faults out.new) }
+    ensures stays { (first : L) → L.stays first link.old → L.stays first link.new }
     ensures honest { L.honest link.old → L.honest link.new }
     ensures shown { Says (K.written out.old) (K.written out.new) (λ text.
         Reads (C.readings clock.old) (C.readings clock.new) (λ given.
