@@ -38,10 +38,10 @@ are-ours port (Clock ms ∷ more) es e s = let t : AreDialsOf port (Clock ms ∷
 
 -- ---- histories
 
-same-dials : (port : ℕ) (h : List Entry) → Dials port h h
+pub same-dials : (port : ℕ) (h : List Entry) → Dials port h h
 same-dials port h = record { more = []; is = sym (append-nil h); only = tt }
 
-then-dials : (port : ℕ) (h k l : List Entry) → Dials port h k → Dials port k l → Dials port h l
+pub then-dials : (port : ℕ) (h k l : List Entry) → Dials port h k → Dials port k l → Dials port h l
 then-dials port h k l p q = record {
   more = p.more ++ q.more;
   is = q.is ∙ ap (λ (t : List Entry). t ++ q.more) p.is ∙ append_assoc h p.more q.more;

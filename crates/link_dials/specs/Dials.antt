@@ -1,12 +1,11 @@
--- Which ports are dialed: that of MOUNT before FSINFO is sent, and that of NFS from then on (RFC 1813, sections 3.3.19 and 5.1).
-use Rattle.std.specs.Prelude.{◌≡◌, ◌≤◌, ◌<◌, ◌++◌, ℕ, List, [], ◌∷◌, length, Option}
+-- Which ports are dialed, and where the records go that are sent meanwhile.
+use Rattle.std.specs.Prelude.{◌≡◌, ◌≤◌, ◌++◌, ℕ, List, [], ◌∷◌, length, Option, Result, Ok, Err}
 use Rattle.world_model.specs.declared.entry.Entry.{Entry}
 use Rattle.world_model.specs.declared.entry.Entry.TheVariants.{Dialed, Sent}
 use Rattle.world_model.specs.Entries.{At}
 use Rattle.world_model.specs.History.{History}
-use Rattle.world_model.specs.Messages.{SpellsCall}
-use Rattle.world_model.specs.Mounts.{info_call}
 use Rattle.world_model.specs.Told.{Relates}
+use Rattle.link_dials.specs.Sendings.{DialedLast}
 
 -- ---- one port
 
@@ -29,16 +28,14 @@ pub record Dials (port : ℕ) (h k : List Entry) : Type 0 where
 abbrev pub DialsOnly : ℕ → Option History → Option History → Type 0
 DialsOnly port old new = Relates old new (Dials port)
 
--- ---- the ports of a session
+-- ---- where records go
 
--- Before the place `from` each dial is one of MOUNT's port, and from there on of NFS's. FSINFO isn't sent before it.
-pub record DialsPorts (mount nfs : ℕ) (h : List Entry) : Type 0 where
-  pub from : ℕ
-  pub within : from ≤ length h
-  pub mounting : (i port : ℕ) → At h i (Dialed port) → i < from → port ≡ mount
-  pub serving : (i port : ℕ) → At h i (Dialed port) → from ≤ i → port ≡ nfs
-  pub unasked : (i xid : ℕ) (root bytes : List ℕ) → At h i (Sent bytes) → SpellsCall xid (info_call root) bytes → from ≤ i
+-- A history goes on, no other port is dialed, and each record that is sent goes to this one.
+pub record SendsTo (port : ℕ) (h k : List Entry) : Type 0 where
+  pub dials : Dials port h k
+  pub sent : (i : ℕ) (bytes : List ℕ) → At k i (Sent bytes) → length h ≤ i → DialedLast k i port
 
--- What a link tells is so from its beginning, where it told nothing before.
-abbrev pub DialsInTurn : ℕ → ℕ → Option History → Option History → Type 0
-DialsInTurn mount nfs old new = Relates old new (λ before h. before ≡ [] → DialsPorts mount nfs h)
+-- the same, and where it succeeds what is sent next goes to the port, too
+abbrev pub Reaches : {T E : Type 0} → ℕ → Result T E → List Entry → List Entry → Type 0
+Reaches port (Ok x) h k = SendsTo port h k × DialedLast k (length k) port
+Reaches port (Err e) h k = SendsTo port h k

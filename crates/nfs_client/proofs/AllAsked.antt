@@ -20,7 +20,7 @@ use Rattle.core_session.specs.calls.Whole.{IsSetUpFor, GoesFrom}
 use Rattle.core_facts.proofs.Noting.{notes-reach}
 use Rattle.core_session.specs.settled.Settling as settling
 use Rattle.script_runs.specs.LaneRuns.{setup_of}
-use Rattle.nfs_client.specs.Given.{terms_by}
+use Rattle.nfs_client.specs.Headline.{terms_by}
 
 module _ (s : Settings) (first : ℕ) (v : SetUp) (before : List Entry) (so : SetsUp s first (Ok v) before) (fits : FitsSession s first v) where
   none-began : (i : ℕ) → NoneBegan before i

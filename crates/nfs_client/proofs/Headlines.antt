@@ -8,6 +8,7 @@ use Rattle.world_model.specs.Clocked.{clocks}
 use Rattle.world_model.specs.Counts.{tally_of}
 use Rattle.world_model.specs.History.{History}
 use Rattle.world_model.specs.Transcript.{transcript}
+use Rattle.link_dials.specs.Sendings.{GoesToPorts}
 use Rattle.nfs_script.specs.declared.script.ScriptLine.{ScriptLine}
 use Rattle.session_words.specs.declared.settings.Settings.{Settings}
 use Rattle.session_setup.specs.declared.opening.SetUp.{SetUp}
@@ -23,10 +24,10 @@ use Rattle.lane_session.proofs.Ending.{broken-none}
 use Rattle.script_runs.specs.Ends.{TellsMount, EndsSo, ran, unmounted, IsClocked}
 use Rattle.script_runs.specs.LaneRuns.{SetUpAndRun, ready, lost, refused, unready, SessionBy, no_lines, some_lines}
 use Rattle.script_runs.proofs.LaneRuns.{fresh, fewer}
-use Rattle.nfs_client.specs.Given.{modes_of, terms_by}
-use Rattle.nfs_client.specs.Headline.{Promises, Headline}
+use Rattle.nfs_client.specs.Headline.{Promises, Headline, modes_of, terms_by}
 use Rattle.nfs_client.specs.Run.{Shows}
 use Rattle.nfs_client.specs.Shown.{RunShows}
+use Rattle.nfs_client.proofs.Ports.{lost-ports, empty-ports}
 use Rattle.nfs_client.proofs.Quiet.{IsQuiet, quiet-caused, quiet-thrifty, quiet-completes, quiet-evident, quiet-settled, quiet-cuts, quiet-current, quiet-read, quiet-short, quiet-names, quiet-ages, quiet-lists}
 use Rattle.nfs_client.proofs.SetUpAlone.{lost-quiet, early-quiet, empty-quiet}
 
@@ -83,6 +84,7 @@ ready-headline s lines first ms rest v before h status text some unmarked is sho
   clock = clocked status ms rest before h unmarked is.clock is.timed;
   ends = ran is.ends says;
   caused = shows.caused lines status is.follows is.ends;
+  ports = shows.ports;
   thrifty = shows.thrift;
   evidence = shows.evidence;
   server = ready-promises s first v before h shows;
@@ -119,15 +121,16 @@ lost-headline s lines first ms rest tally before h status text some so is only s
       clock = clocked status ms rest before h so.unmarked is.clock is.timed;
       ends = ran is.ends says;
       caused = quiet-caused (terms_by s first) h quiet _ status;
+      ports = lost-ports s first tally before h lines so only;
       thrifty = quiet-thrifty (terms_by s first) h quiet;
       evidence = quiet-evident (terms_by s first) h quiet (modes_of s) (origin_of s.export);
       server = quiet-promises s first h quiet;
     }
 
 -- no line was begun, as memory ran out in the set-up or the mount was refused
-early-headline : (s : Settings) (lines : List ScriptLine) (first ms : ℕ) (h : List Entry) (status : ℕ) (text : List ℕ) → lines ≢ [] → IsUnmarked h → IsQuiet (terms_by s first) h → EndsSo s lines h status text
-    → Headline s lines (ms ∷ []) h status text
-early-headline s lines first ms h status text some unmarked quiet ends =
+early-headline : (s : Settings) (lines : List ScriptLine) (first ms : ℕ) (h : List Entry) (status : ℕ) (text : List ℕ) → lines ≢ [] → IsUnmarked h → GoesToPorts s.mount_port s.nfs_port h
+    → IsQuiet (terms_by s first) h → EndsSo s lines h status text → Headline s lines (ms ∷ []) h status text
+early-headline s lines first ms h status text some unmarked ports quiet ends =
     let none = broken-none lines h (fresh h unmarked) in
     record {
       first = first;
@@ -145,6 +148,7 @@ early-headline s lines first ms h status text some unmarked quiet ends =
       };
       ends = ends;
       caused = quiet-caused (terms_by s first) h quiet _ status;
+      ports = ports;
       thrifty = quiet-thrifty (terms_by s first) h quiet;
       evidence = quiet-evident (terms_by s first) h quiet (modes_of s) (origin_of s.export);
       server = quiet-promises s first h quiet;
@@ -178,6 +182,7 @@ empty-headline s given h status text none is says =
       };
       ends = ran is.ends says;
       caused = quiet-caused (terms_by s 1) h quiet _ status;
+      ports = empty-ports s h none;
       thrifty = quiet-thrifty (terms_by s 1) h quiet;
       evidence = quiet-evident (terms_by s 1) h quiet (modes_of s) (origin_of s.export);
       server = quiet-promises s 1 h quiet;
@@ -191,10 +196,10 @@ set-up-headline s lines first ms rest h status text some (ready v before so is s
 set-up-headline s lines first ms rest h status text some (lost tally before so is only gone says) = lost-headline s lines first ms rest tally before h status text some so is only says
 set-up-headline s lines first ms rest h status text some (refused fault none so tells) =
     subst (λ (g : List ℕ). Headline s lines (ms ∷ g) h status text) (sym none)
-    (early-headline s lines first ms h status text some so.unmarked (early-quiet s first _ h so) (refused-ends s lines first fault h status text so tells))
+    (early-headline s lines first ms h status text some so.unmarked so.ports (early-quiet s first _ h so) (refused-ends s lines first fault h status text so tells))
 set-up-headline s lines first ms rest h status text some (unready none so seven empty) =
     subst (λ (g : List ℕ). Headline s lines (ms ∷ g) h status text) (sym none)
-    (early-headline s lines first ms h status text some so.unmarked (early-quiet s first _ h so) (unready-ends s lines h status text seven empty))
+    (early-headline s lines first ms h status text some so.unmarked so.ports (early-quiet s first _ h so) (unready-ends s lines h status text seven empty))
 
 pub session-headline : (s : Settings) (lines : List ScriptLine) (given : List ℕ) (h : List Entry) (status : ℕ) (text : List ℕ) → SessionBy Shows s lines given h status text
     → Headline s lines given h status text

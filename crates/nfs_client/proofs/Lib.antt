@@ -3,6 +3,7 @@ pub mod AllAsked
 pub mod AllOks
 pub mod Spent
 pub mod Causes
+pub mod Ports
 pub mod Showing
 pub mod Quiet
 pub mod SetUpAlone

@@ -21,7 +21,7 @@ use Rattle.session_setup.specs.Outcomes.{SetsUp}
 use Rattle.session_setup.specs.Sendings.{IsSetUpCall, mounts, informs}
 use Rattle.lane_session.specs.Losing.{IsLosing}
 use Rattle.lane_session.proofs.CoreEnds.{loses-more}
-use Rattle.nfs_client.specs.Given.{terms_by}
+use Rattle.nfs_client.specs.Headline.{terms_by}
 use Rattle.nfs_client.proofs.Quiet.{IsQuiet, IsSetUpRecord}
 use Rattle.nfs_client.proofs.Quiet as quiet
 

@@ -101,6 +101,7 @@ use Rattle.core_answers.proofs.writes.PendingWritten.{pending-written}
 use Rattle.core_answers.proofs.writes.PiecesCarried.{pieces-carried}
 use Rattle.core_answers.proofs.writes.WholeWrites.{writes-whole}
 use Rattle.session_words.specs.declared.settings.Settings.{Settings}
+use Rattle.link_dials.specs.Dials.{Dials}
 use Rattle.session_setup.specs.declared.opening.SetUp.{SetUp}
 use Rattle.session_setup.specs.Origins.{origin_of}
 use Rattle.session_setup.specs.Outcomes.{FitsSession, SetsUp}
@@ -112,11 +113,12 @@ use Rattle.core_counts.proofs.coarse.Along.{writes-were-long}
 use Rattle.law_calls.proofs.CallsWait.{xid_of_call}
 use Rattle.core_counts.specs.coarse.WereLong.{write_call}
 use Rattle.script_runs.specs.LaneRuns.{setup_of}
-use Rattle.nfs_client.specs.Given.{longest_of, modes_of, terms_by}
+use Rattle.nfs_client.specs.Headline.{longest_of, modes_of, terms_by}
 use Rattle.nfs_client.specs.Shown.{AllRowed, CallsShown, CountsShown, OksShown, SlotsShown, PutsShown, CompleteShown, FaultsShown, KeptShown, RestShown, StableShown, HonestShown, RunShows, NoneUnderWay}
 use Rattle.nfs_client.proofs.AllAsked.{goes-from, only-sets-up}
 use Rattle.nfs_client.proofs.AllOks.{all-oks}
 use Rattle.nfs_client.proofs.Causes.{all-caused}
+use Rattle.nfs_client.proofs.Ports.{ready-ports}
 use Rattle.nfs_client.proofs.Spent.{ended-sent}
 
 -- ---- the root
@@ -333,8 +335,8 @@ module _ (s : Settings) (first : ℕ) (v : SetUp) (before h : List Entry) (so : 
       let at : At h w.at (Sent w.bytes) = subst (λ (k : List Entry). At k w.at (Sent w.bytes)) (sym grown.1) (At-grow before grown.0 w.at (Sent w.bytes) w.sent) in
       record { at = w.at; bytes = w.bytes; sent = at; under = w.under; before = At-below h w.at (Sent w.bytes) at }
 
-  pub run-shows : AllTimed h → AreAsked h → HasCore (mounted_by s (setup_of s v)) (setup_of s v) before h → RunShows s first v before h
-  run-shows timed asked has =
+  pub run-shows : AllTimed h → AreAsked h → HasCore (mounted_by s (setup_of s v)) (setup_of s v) before h → Dials s.nfs_port before h → RunShows s first v before h
+  run-shows timed asked has dials =
       let root = root-known s first v before so h grown in
       let takes : TakesReadings h = takes-readings s first v before h so grown timed has.takes in
       let mounted : Mounted = mounted_by s (setup_of s v) in
@@ -359,6 +361,7 @@ module _ (s : Settings) (first : ℕ) (v : SetUp) (before h : List Entry) (so : 
         has = has;
         calls = calls;
         counts = counts;
+        ports = ready-ports s first v before h so has dials;
         thrift = record {
           reads = reads-long mounted terms (setup_of s v) before h has.core from;
           pages = kept-once mounted terms (setup_of s v) before h has.core from;

@@ -19,7 +19,7 @@ use Rattle.nfs_client.proofs.Showing.{run-shows}
 set-up-shows : (s : Settings) (lines : List ScriptLine) (first : ℕ) (given : List ℕ) (h : List Entry) (status : ℕ) (text : List ℕ) → SetUpAndRun Leaves s lines first given h status text
     → SetUpAndRun Shows s lines first given h status text
 set-up-shows s lines first given h status text (ready v before so is leaves says) =
-    ready v before so is (run-shows s first v before h so leaves.fits is.grown is.timed (script-asked lines h leaves.asked is.follows) leaves.core) says
+    ready v before so is (run-shows s first v before h so leaves.fits is.grown is.timed (script-asked lines h leaves.asked is.follows) leaves.core leaves.dials) says
 set-up-shows s lines first given h status text (lost tally before so is only gone says) = lost tally before so is only gone says
 set-up-shows s lines first given h status text (refused fault none so tells) = refused fault none so tells
 set-up-shows s lines first given h status text (unready none so seven empty) = unready none so seven empty

@@ -1,4 +1,3 @@
-pub mod Given
 pub mod Headline
 pub mod Shown
 pub mod Run

@@ -80,11 +80,12 @@ use Rattle.core_answers.specs.writes.Alone.{IsWaiting, IsQuiet, committed_file, 
 use Rattle.core_answers.specs.writes.Carried.{IsCarried}
 use Rattle.core_answers.specs.writes.Flights.{IsInFlight}
 use Rattle.core_answers.specs.writes.Written.{PlaceWritten}
+use Rattle.link_dials.specs.Sendings.{GoesToPorts}
 use Rattle.nfs_script.specs.declared.script.ScriptLine.{ScriptLine}
 use Rattle.session_words.specs.declared.settings.Settings.{Settings}
 use Rattle.session_setup.specs.declared.opening.SetUp.{SetUp}
 use Rattle.script_runs.specs.LaneRuns.{setup_of}
-use Rattle.nfs_client.specs.Given.{longest_of, modes_of, terms_by}
+use Rattle.nfs_client.specs.Headline.{longest_of, modes_of, terms_by}
 use Rattle.session_setup.specs.Origins.{origin_of}
 use Rattle.lane_session.specs.Bonds.{HasCore}
 use Rattle.lane_session.specs.Running.{mounted_by}
@@ -266,6 +267,7 @@ pub record RunShows (s : Settings) (first : ℕ) (v : SetUp) (before h : List En
   pub has : HasCore (mounted_by s (setup_of s v)) (setup_of s v) before h
   pub calls : CallsShown (terms_by s first) (setup_of s v) before h
   pub counts : CountsShown (terms_by s first) h
+  pub ports : GoesToPorts s.mount_port s.nfs_port h
   pub thrift : Thrifty (terms_by s first) h
   pub writes : WritesShown (mounted_by s (setup_of s v)) (setup_of s v) before h
   pub oks : OksShown (terms_by s first) h

@@ -115,6 +115,7 @@ headline_by s lines given h ran status text c k = record {
   clock = clocked ran status given h c k.clock;
   ends = ends s lines h ran status text c k.ends;
   caused = caused _ _ h ran status c k.caused;
+  ports = k.ports;
   thrifty = k.thrifty;
   evidence = k.evidence;
   server = k.server;

@@ -4,7 +4,6 @@ ghost use Rattle.std.specs.Prelude.{◌≡◌, ◌≢◌, ◌≤◌, ◌⊎◌, 
 ghost use Rattle.std.specs.String.{string_bytes};
 ghost use Rattle.world_model.specs.Told.{Relates};
 ghost use Rattle.outside.specs.Causes.{Rose};
-ghost use Rattle.link_dials.specs.Dials.{DialsInTurn};
 ghost use Rattle.made_script.specs.Made.{IsSize, made_text};
 ghost use Rattle.made_script.specs.Summaries.{summary_text};
 ghost use Rattle.session_words.specs.declared.settings.Settings.{Settings as SettingsOf};
@@ -55,11 +54,9 @@ pub fn run_made<L: Link, C: Clock, K: Sink>(
     // 5 comes only where the sink failed.
     ensures sink { result ≡ 5 → Rose (K.faults out.old) (K.faults out.new) }
 
-    // A link that is honest stays so: what it tells is lawful.
+    // What the link's own calls keep stays, and a link that is honest stays so: what it tells is lawful.
+    ensures stays { (first : L) → L.stays first link.old → L.stays first link.new }
     ensures honest { L.honest link.old → L.honest link.new }
-
-    // Before FSINFO is sent only the port of MOUNT is dialed, and from then on only that of NFS.
-    ensures dials { (s : SettingsOf) → IsCommand (map string_bytes words.now) s → DialsInTurn s.mount_port s.nfs_port (L.told link.old) (L.told link.new) }
 
     // What a session of that script promises, in the words of the model alone: `Headline` of nfs_client/specs/Headline. Of what it writes this tells.
     ensures headline { Says (K.written out.old) (K.written out.new) (λ said.

@@ -1,10 +1,8 @@
 -- What a run with settings promises is what a run promises of the words that give them.
-use Rattle.std.proofs.Common.{arith, ◌≡◌, ◌≢◌, ◌≤◌, ℕ, List, [], Option, inl, inr, subst}
+use Rattle.std.proofs.Common.{arith, ◌≡◌, ◌≢◌, ◌≤◌, ℕ, List, [], Option, inl, inr, refl, subst}
 use Rattle.std.specs.Prelude.{take, IfSome}
 use Rattle.world_model.specs.Told.{Relates}
 use Rattle.outside.specs.Causes.{Rose}
-use Rattle.link_dials.specs.Dials.{DialsInTurn}
-use Rattle.session_words.proofs.Single.{one_settings}
 use Rattle.session_words.specs.declared.settings.Settings.{Settings}
 use Rattle.session_words.specs.Words.{IsCommand}
 use Rattle.script_runs.proofs.Runs.{words_say}
@@ -30,7 +28,6 @@ pub record RunsSo (s : Settings) (left : Option (List ℕ)) (a b : Outside) (sta
   pub refused : status ≡ 3 → Says a.written b.written (RefusalIs left)
   pub source : status ≡ 4 → Rose a.source_faults b.source_faults
   pub sink : status ≡ 5 → Rose a.sink_faults b.sink_faults
-  pub dials : DialsInTurn s.mount_port s.nfs_port a.told b.told
   pub headline : Says a.written b.written (λ text. Reads a.readings b.readings (λ given. Relates a.told b.told (λ before h. before ≡ [] → RunWith Headline given s left h status text)))
   pub shown : Says a.written b.written (λ text. Reads a.readings b.readings (λ given. Relates a.told b.told (λ before h. before ≡ [] → RunsWith given s left h status text)))
 
@@ -45,7 +42,6 @@ by_settings words s left a b status is r = record {
   refused = r.refused;
   source = r.source;
   sink = r.sink;
-  dials = λ t too. subst (λ (z : Settings). DialsInTurn z.mount_port z.nfs_port a.told b.told) (one_settings _ s t is.gives too.gives) r.dials;
   headline = words_say Headline _ _ _ _ _ _ words left s status is r.headline;
   shown = words_say (SessionBy Shows) _ _ _ _ _ _ words left s status is r.shown;
 }
@@ -56,4 +52,4 @@ pub runs_at : (others : List (List ℕ)) (ports : Ports) (s t : Settings) (left 
 runs_at others ports s t left a b status range is same r =
     let so : RunsSo (at_ports s ports) left a b status = subst (λ (z : Settings). RunsSo z left a b status) same r in
     let command = commands_alike others 20048 2049 ports.mount ports.nfs s (omega arith, omega arith) (omega arith, omega arith) range.0 range.1 is in
-    record { settings = at_ports s ports; is = command; runs = by_settings (with_ports others ports.mount ports.nfs) (at_ports s ports) left a b status command so; taken = so.taken; dials = so.dials }
+    record { settings = at_ports s ports; is = command; mount = refl; nfs = refl; runs = by_settings (with_ports others ports.mount ports.nfs) (at_ports s ports) left a b status command so; taken = so.taken }

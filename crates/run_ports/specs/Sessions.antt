@@ -3,7 +3,6 @@ use Rattle.std.specs.Prelude.{◌≡◌, ◌≢◌, ◌≤◌, ◌⊎◌, ℕ, L
 use Rattle.world_model.specs.History.{History}
 use Rattle.world_model.specs.Told.{Relates}
 use Rattle.outside.specs.Causes.{Rose}
-use Rattle.link_dials.specs.Dials.{DialsInTurn}
 use Rattle.session_words.specs.declared.settings.Settings.{Settings}
 use Rattle.session_words.specs.Words.{IsCommand}
 use Rattle.script_runs.specs.Streams.{script_limit}
@@ -61,19 +60,19 @@ pub record RunsBy (words : List (List ℕ)) (left : Option (List ℕ)) (a b : Ou
   pub refused : status ≡ 3 → Says a.written b.written (RefusalIs left)
   pub source : status ≡ 4 → Rose a.source_faults b.source_faults
   pub sink : status ≡ 5 → Rose a.sink_faults b.sink_faults
-  pub dials : (s : Settings) → IsCommand words s → DialsInTurn s.mount_port s.nfs_port a.told b.told
   pub headline : Says a.written b.written (λ text. Reads a.readings b.readings (λ given. Relates a.told b.told (λ before h. before ≡ []
       → RunOf Headline given words left h status text)))
   pub shown : Says a.written b.written (λ text. Reads a.readings b.readings (λ given. Relates a.told b.told (λ before h. before ≡ []
       → RunIs given words left h status text)))
 
--- The other words with the ports that were told are a command line, a run with them keeps all its promises, and the ports are dialed in turn.
+-- The other words with the ports that were told are a command line, whose ports are these, and a run with them keeps all its promises.
 pub record RunsAt (others : List (List ℕ)) (ports : Ports) (left : Option (List ℕ)) (a b : Outside) (status : ℕ) : Type 0 where
   pub settings : Settings
   pub is : IsCommand (with_ports others ports.mount ports.nfs) settings
+  pub mount : settings.mount_port ≡ ports.mount
+  pub nfs : settings.nfs_port ≡ ports.nfs
   pub runs : RunsBy (with_ports others ports.mount ports.nfs) left a b status
   pub taken : status ≢ 2
-  pub dials : DialsInTurn ports.mount ports.nfs a.told b.told
 
 -- settings with the ports that were told
 abbrev pub at_ports : Settings → Ports → Settings

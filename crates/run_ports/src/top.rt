@@ -46,6 +46,7 @@ pub fn run_found<S: Source, F: Link, L: Link, C: Clock, K: Sink>(
     ensures untaken { (Names (map string_bytes words.now) None → ⊥) → (IsNamed (map string_bytes words.now) → ⊥)
         → (result ≡ 2) ⊎ (result ≡ 7) }
     ensures finder_honest { F.honest finder.old → F.honest finder.new }
+    ensures stays { (first : L) → L.stays first link.old → L.stays first link.new }
     ensures honest { L.honest link.old → L.honest link.new }
     ensures session { SessionIs (map string_bytes words.now) (S.left script.old)
         (finder_at (F.told finder.old) (F.faults finder.old)) (finder_at (F.told finder.new) (F.faults finder.new))
@@ -74,6 +75,7 @@ fn run_by<S: Source, F: Link, L: Link, C: Clock, K: Sink>(
     ensures statuses { IsStatus result }
     ensures untaken { (IsTaken (map string_bytes portmap.now.others.items) → ⊥) → (result ≡ 2) ⊎ (result ≡ 7) }
     ensures finder_honest { F.honest finder.old → F.honest finder.new }
+    ensures stays { (first : L) → L.stays first link.old → L.stays first link.new }
     ensures honest { L.honest link.old → L.honest link.new }
     ensures session { ByPortmap portmap.now.port (map string_bytes portmap.now.others.items) (S.left script.old)
         (finder_at (F.told finder.old) (F.faults finder.old)) (finder_at (F.told finder.new) (F.faults finder.new))

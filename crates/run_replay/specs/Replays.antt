@@ -15,8 +15,7 @@ use Rattle.nfs_script.specs.declared.script.ScriptLine.{ScriptLine}
 use Rattle.session_words.specs.declared.settings.Settings.{Settings}
 use Rattle.session_setup.specs.Origins.{origin_of}
 use Rattle.script_runs.specs.Run.{RunOf}
-use Rattle.nfs_client.specs.Given.{modes_of, terms_by}
-use Rattle.nfs_client.specs.Headline.{Headline}
+use Rattle.nfs_client.specs.Headline.{Headline, modes_of, terms_by}
 use Rattle.run_made.specs.MadeRuns.{MadeRunOf}
 use Rattle.world_link.specs.declared.schedule.ScheduleFault.{ScheduleFault}
 use Rattle.world_link.specs.declared.schedule.ScheduleFault.TheVariants as faults

@@ -5,9 +5,11 @@ use Rattle.world_model.specs.declared.entry.Entry.{Entry}
 use Rattle.world_model.specs.declared.entry.Entry.TheVariants.{Began, Answered, Dialed, Sent, Executed, Foreign, Flushed, Reboot, Delivered, Failed, Clock}
 use Rattle.world_model.specs.declared.tally.Tally.{Tally}
 use Rattle.world_model.specs.Counts.{tally_of}
+use Rattle.world_model.specs.Entries.{ours}
 use Rattle.world_model.specs.Follows.{marks_of}
 use Rattle.world_model.specs.History.{History}
 use Rattle.world_model.specs.Told.{Relates}
+use Rattle.link_dials.specs.Dials.{DialsOnly}
 use Rattle.nfs_script.specs.declared.script.ScriptLine.{ScriptLine}
 use Rattle.nfs_script.specs.Asked.{IsAskedLine}
 use Rattle.session_words.specs.declared.settings.Settings.{Settings}
@@ -172,16 +174,16 @@ pub not_empty : (lines : List ScriptLine) → (length lines ≡ 0 → ⊥) → l
 not_empty lines some none = some (ap length none)
 
 early_told : (old mid new : Option History) (s : Settings) (lines : List ScriptLine) (fault : SetUpFault) (first ms : ℕ) (given text : List ℕ) (status : ℕ) → lines ≢ [] → IsFirst (ms ∷ []) s.xid first
-    → Along old mid (λ h k. h ≡ [] → SetsUp s first (Err fault) k)
+    → Along old mid (λ h k. ours h ≡ [] → SetsUp s first (Err fault) k)
     → Relates mid new (λ before h. (first : ℕ) → SetsUp s first (Err fault) before → SetUpAndRun Leaves s lines first given h status text)
     → Relates old new (λ before h. before ≡ [] → SessionBy Leaves s lines (ms ∷ given) h status text)
 early_told None mid new s lines fault first ms given text status some is up r = tt
 early_told (Some x) None new s lines fault first ms given text status some is up r = absurd up
 early_told (Some x) (Some y) None s lines fault first ms given text status some is up r = absurd r
-early_told (Some x) (Some y) (Some z) s lines fault first ms given text status some is up r = λ e. some_lines some ms first given refl (first_in s.xid ms first given is) (r first (up.1 e))
+early_told (Some x) (Some y) (Some z) s lines fault first ms given text status some is up r = λ e. some_lines some ms first given refl (first_in s.xid ms first given is) (r first (up.1 (ap ours e)))
 
 pub early_says : (v w a b c : Option (List ℕ)) (old mid new : Option History) (s : Settings) (lines : List ScriptLine) (fault : SetUpFault) (first status : ℕ) → lines ≢ []
-    → ReadsOnce a b (λ ms. IsFirst (ms ∷ []) s.xid first) → Along old mid (λ h k. h ≡ [] → SetsUp s first (Err fault) k) → EarlySays v w b c mid new s lines fault status
+    → ReadsOnce a b (λ ms. IsFirst (ms ∷ []) s.xid first) → Along old mid (λ h k. ours h ≡ [] → SetsUp s first (Err fault) k) → EarlySays v w b c mid new s lines fault status
     → RunSays v w a c old new s lines status
 early_says v w a b c old mid new s lines fault first status some one up said = record {
   text = said.text;
@@ -190,27 +192,28 @@ early_says v w a b c old mid new s lines fault first status some one up said = r
 }
 
 ready_told : (old mid new : Option History) (s : Settings) (lines : List ScriptLine) (v : SetUp) (first ms : ℕ) (given text : List ℕ) (status : ℕ) → lines ≢ [] → All IsAskedLine lines → FitsSession s first v
-    → IsFirst (ms ∷ []) s.xid first → Along old mid (λ h k. h ≡ [] → SetsUp s first (Ok v) k)
+    → IsFirst (ms ∷ []) s.xid first → Along old mid (λ h k. ours h ≡ [] → SetsUp s first (Ok v) k)
     → Relates mid new (λ h k. IsFresh h → SessionCounts (IsOpened (Some (setup_of s v)) h) v.tally s.count lines given h k status text)
-    → CoreSays mid new s (Some (setup_of s v)) → Relates old new (λ before h. before ≡ [] → SessionBy Leaves s lines (ms ∷ given) h status text)
-ready_told None mid new s lines v first ms given text status some asked fits is up r core = tt
-ready_told (Some x) None new s lines v first ms given text status some asked fits is up r core = absurd up
-ready_told (Some x) (Some y) None s lines v first ms given text status some asked fits is up r core = absurd r
-ready_told (Some x) (Some y) (Some z) s lines v first ms given text status some asked fits is up r core = λ e.
-    let so = up.1 e in
+    → CoreSays mid new s (Some (setup_of s v)) → DialsOnly s.nfs_port mid new
+    → Relates old new (λ before h. before ≡ [] → SessionBy Leaves s lines (ms ∷ given) h status text)
+ready_told None mid new s lines v first ms given text status some asked fits is up r core dials = tt
+ready_told (Some x) None new s lines v first ms given text status some asked fits is up r core dials = absurd up
+ready_told (Some x) (Some y) None s lines v first ms given text status some asked fits is up r core dials = absurd r
+ready_told (Some x) (Some y) (Some z) s lines v first ms given text status some asked fits is up r core dials = λ e.
+    let so = up.1 (ap ours e) in
     let session = r (fresh y.entries so.unmarked) in
     let open_ = opened s first v y.entries so in
     some_lines some ms first given refl (first_in s.xid ms first given is)
-    (ready v y.entries so session.is (record { fits = fits; asked = asked; core = core open_ }) (session.counted open_ so.ends.tally))
+    (ready v y.entries so session.is (record { fits = fits; asked = asked; core = core open_; dials = dials }) (session.counted open_ so.ends.tally))
 
 -- the session was set up, and its lines were run
 pub ready_says : (v w a b c : Option (List ℕ)) (old mid new : Option History) (s : Settings) (lines : List ScriptLine) (up : SetUp) (first status : ℕ) → lines ≢ []
-    → All IsAskedLine lines → FitsSession s first up → ReadsOnce a b (λ ms. IsFirst (ms ∷ []) s.xid first) → Along old mid (λ h k. h ≡ [] → SetsUp s first (Ok up) k) → LaneSays v w b c mid new s lines (Some (setup_of s up)) up.tally status
-    → CoreSays mid new s (Some (setup_of s up)) → RunSays v w a c old new s lines status
-ready_says v w a b c old mid new s lines up first status some asked fits one along p core = record {
+    → All IsAskedLine lines → FitsSession s first up → ReadsOnce a b (λ ms. IsFirst (ms ∷ []) s.xid first) → Along old mid (λ h k. ours h ≡ [] → SetsUp s first (Ok up) k) → LaneSays v w b c mid new s lines (Some (setup_of s up)) up.tally status
+    → CoreSays mid new s (Some (setup_of s up)) → DialsOnly s.nfs_port mid new → RunSays v w a c old new s lines status
+ready_says v w a b c old mid new s lines up first status some asked fits one along p core dials = record {
   text = p.text;
   added = appended v w p.text p.added;
-  is = (one.0 ∷ p.given, reads_more a b c one.0 p.given one.1 (read_all b c p.given p.read), ready_told old mid new s lines up first one.0 p.given p.text status some asked fits one.2 along p.told core);
+  is = (one.0 ∷ p.given, reads_more a b c one.0 p.given one.1 (read_all b c p.given p.read), ready_told old mid new s lines up first one.0 p.given p.text status some asked fits one.2 along p.told core dials);
 }
 
 none_left : (lines : List ScriptLine) → length lines ≡ 0 → lines ≡ []

@@ -5,6 +5,7 @@ use Rattle.world_model.specs.declared.entry.Entry.{Entry}
 use Rattle.world_model.specs.declared.tally.Tally.{Tally}
 use Rattle.world_model.specs.Counts.{tally_of}
 use Rattle.world_model.specs.Lost.{IsLost}
+use Rattle.link_dials.specs.Dials.{Dials}
 use Rattle.nfs_script.specs.declared.script.ScriptLine.{ScriptLine}
 use Rattle.nfs_script.specs.Asked.{IsAskedLine}
 use Rattle.session_words.specs.declared.settings.Settings.{Settings}
@@ -25,11 +26,13 @@ use Rattle.script_runs.specs.Run.{IsFirst, RunOf, RunWith}
 abbrev pub setup_of : Settings → SetUp → Setup
 setup_of s v = record { root = v.root; rsize = v.rsize; wsize = v.wsize; first_xid = v.next_xid; limit = v.left; cred = s.cred; lives = s.lives }
 
--- Of a session that was set up with the history before: a core goes with the whole history, which was so set up, and each line of its script may be run.
+-- Of a session that was set up with the history before: a core goes with the whole history, which was so set up; each line of its script may be run; and after
+-- the set-up only the port of NFS is dialed.
 pub record Leaves (s : Settings) (lines : List ScriptLine) (first : ℕ) (v : SetUp) (before h : List Entry) : Type 0 where
   pub fits : FitsSession s first v
   pub asked : All IsAskedLine lines
   pub core : HasCore (mounted_by s (setup_of s v)) (setup_of s v) before h
+  pub dials : Dials s.nfs_port before h
 
 -- The session was set up with the history before, its lines were run, and this is so of the whole history. Or it was lost in its set-up: then each line is
 -- answered so, and nothing is sent. Or the mount was refused, or memory ran out, and no line began. The counts are those of the whole history.

@@ -3,7 +3,6 @@
 ghost use Rattle.std.specs.Prelude.{◌≡◌, ◌≤◌, ◌<◌, ◌^◌, ℕ, [], ◌∷◌, All, Err, length};
 ghost use Rattle.world_model.specs.Told.{Relates};
 ghost use Rattle.outside.specs.Causes.{Rose};
-ghost use Rattle.link_dials.specs.Dials.{DialsOnly, DialsInTurn};
 ghost use Rattle.nfs_script.specs.Asked.{IsAskedLine};
 ghost use Rattle.session_setup.specs.Outcomes.{IsOptions, SetsUp};
 ghost use Rattle.script_runs.specs.Readings.{Reads, ReadsOnce};
@@ -47,7 +46,7 @@ pub fn run_lanes<L: Link, C: Clock, K: Sink>(
     requires few { length script.now ≤ 16384 }
     ensures ending { IsEnding result }
     ensures sink { result ≡ 5 → Rose (K.faults out.old) (K.faults out.new) }
-    ensures dials { DialsInTurn settings.now.mount_port settings.now.nfs_port (L.told link.old) (L.told link.new) }
+    ensures stays { (first : L) → L.stays first link.old → L.stays first link.new }
     ensures honest { L.honest link.old → L.honest link.new }
     ensures shown { Says (K.written out.old) (K.written out.new) (λ text.
         Reads (C.readings clock.old) (C.readings clock.new) (λ given.
@@ -97,7 +96,7 @@ fn end_early<L: Link, C: Clock, K: Sink>(
     requires few { length script.now ≤ 16384 }
     ensures ending { IsEnding result }
     ensures sink { result ≡ 5 → Rose (K.faults out.old) (K.faults out.new) }
-    ensures dials { DialsOnly settings.now.nfs_port (L.told link.old) (L.told link.new) }
+    ensures stays { (first : L) → L.stays first link.old → L.stays first link.new }
     ensures honest { L.honest link.old → L.honest link.new }
     ensures shown { Says (K.written out.old) (K.written out.new) (λ text.
         Reads (C.readings clock.old) (C.readings clock.new) (λ given.

@@ -4,7 +4,6 @@ ghost use Rattle.std.specs.Prelude.{◌≡◌, ◌≢◌, ◌≤◌, ◌<◌, �
 ghost use Rattle.std.specs.String.{string_bytes};
 ghost use Rattle.world_model.specs.Told.{Relates};
 ghost use Rattle.outside.specs.Causes.{Rose};
-ghost use Rattle.link_dials.specs.Dials.{DialsInTurn};
 ghost use Rattle.nfs_script.specs.RefusalText.{refusal_text};
 ghost use Rattle.session_words.specs.declared.settings.Settings.{Settings as SettingsOf};
 ghost use Rattle.session_words.specs.Words.{IsCommand};
@@ -54,11 +53,9 @@ pub fn run<S: Source, L: Link, C: Clock, K: Sink>(
     ensures source { result ≡ 4 → Rose (S.faults script.old) (S.faults script.new) }
     ensures sink { result ≡ 5 → Rose (K.faults out.old) (K.faults out.new) }
 
-    // A link that is honest stays so: what it tells is lawful.
+    // What the link's own calls keep stays, and a link that is honest stays so: what it tells is lawful.
+    ensures stays { (first : L) → L.stays first link.old → L.stays first link.new }
     ensures honest { L.honest link.old → L.honest link.new }
-
-    // Before FSINFO is sent only the port of MOUNT is dialed, and from then on only that of NFS.
-    ensures dials { (s : SettingsOf) → IsCommand (map string_bytes words.now) s → DialsInTurn s.mount_port s.nfs_port (L.told link.old) (L.told link.new) }
 
     // What was written is what the history says, and so are the readings that the clock gave.
     ensures shown { Says (K.written out.old) (K.written out.new) (λ text.
@@ -93,8 +90,8 @@ pub fn run_with<S: Source, L: Link, C: Clock, K: Sink>(
     ensures refused { result ≡ 3 → Says (K.written out.old) (K.written out.new) (RefusalIs (S.left script.old)) }
     ensures source { result ≡ 4 → Rose (S.faults script.old) (S.faults script.new) }
     ensures sink { result ≡ 5 → Rose (K.faults out.old) (K.faults out.new) }
+    ensures stays { (first : L) → L.stays first link.old → L.stays first link.new }
     ensures honest { L.honest link.old → L.honest link.new }
-    ensures dials { DialsInTurn settings.now.mount_port settings.now.nfs_port (L.told link.old) (L.told link.new) }
     ensures shown { Says (K.written out.old) (K.written out.new) (λ text.
         Reads (C.readings clock.old) (C.readings clock.new) (λ given.
         Relates (L.told link.old) (L.told link.new) (λ before h. before ≡ [] →

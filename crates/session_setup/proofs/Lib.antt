@@ -7,6 +7,7 @@ pub mod Turns
 pub mod Hearing
 pub mod Counting
 pub mod Phases
+pub mod Calls
 pub mod Finishing
 pub mod Requests
 pub mod Sizing

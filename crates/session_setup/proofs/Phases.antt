@@ -202,7 +202,7 @@ mount_answered path bytes old mid new result h k l m keeps says con ex empty non
 -- ---- the sizes
 
 -- the root stays known
-rooted_on : (o : Origin) (h k : List Entry) (root : List ℕ) → Extends h k → Rooted o h (length h) root → Rooted o k (length h) root
+pub rooted_on : (o : Origin) (h k : List Entry) (root : List ℕ) → Extends h k → Rooted o h (length h) root → Rooted o k (length h) root
 rooted_on o h k root e r = subst (λ (t : List Entry). Rooted o t (length h) root) (sym e.is) (Rooted-grow o h e.more (length h) root r)
 
 extends_longer : (h k : List Entry) → Extends h k → length h ≤ length k

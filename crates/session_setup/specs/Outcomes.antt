@@ -10,6 +10,7 @@ use Rattle.world_model.specs.Mounts.{Origin, Rooted, Sized, mount_call}
 use Rattle.world_model.specs.ReadSize.{ReadSized, page_bytes}
 use Rattle.world_model.specs.Rows.{WasSent}
 use Rattle.world_model.specs.Waiting.{Waits}
+use Rattle.link_dials.specs.Sendings.{DialedLast, GoesToPorts}
 use Rattle.session_words.specs.declared.settings.Export.{Export}
 use Rattle.session_words.specs.declared.settings.Export.TheVariants as exports
 use Rattle.session_words.specs.declared.settings.Settings.{Settings}
@@ -84,11 +85,18 @@ EndsSo s first next (Err (Refused fault)) h = IsRefusedSo s fault h
 EndsSo s first next (Err (Lost tally)) h = IsLostSo s tally h
 EndsSo s first next (Err Memory) h = Unit {0}
 
--- The history of a session before its first operation: what was sent, that nothing was noted, and what it came to.
+-- once a session is set up, what it sends goes to this port
+abbrev pub ServedAt : ℕ → Result SetUp SetUpFault → List Entry → Type 0
+ServedAt port (Ok v) h = DialedLast h (length h) port
+ServedAt port (Err e) h = Unit {0}
+
+-- The history of a session before its first operation: what was sent and to which ports, that nothing was noted, and what it came to.
 pub record SetsUp (s : Settings) (first : ℕ) (result : Result SetUp SetUpFault) (h : List Entry) : Type 0 where
   pub next : ℕ
   pub within : next ≤ first + s.calls
   pub sent : SentSo (origin_of s.export) s.cred first next h
   pub single : Single h
   pub unmarked : IsUnmarked h
+  pub ports : GoesToPorts s.mount_port s.nfs_port h
+  pub served : ServedAt s.nfs_port result h
   pub ends : EndsSo s first next result h

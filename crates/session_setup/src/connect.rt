@@ -1,6 +1,7 @@
 //! Connecting to the server.
 
-ghost use Rattle.link_dials.specs.Dials.{DialsOnly};
+ghost use Rattle.world_model.specs.Told.{Relates};
+ghost use Rattle.link_dials.specs.Dials.{DialsOnly, Reaches};
 ghost use Rattle.session_setup.specs.Along.{Along};
 ghost use Rattle.session_setup.specs.Exchanges.{Connects};
 
@@ -14,6 +15,7 @@ const MAX_CONNECTS: u32 = 4;
 pub(crate) fn connect<L: Link>(port: u16, link: &mut L) -> Result<(), Stop>
     ensures goes { Along (L.told link.old) (L.told link.new) (Connects result) }
     ensures dials { DialsOnly port (L.told link.old) (L.told link.new) }
+    ensures reaches { Relates (L.told link.old) (L.told link.new) (Reaches port result) }
     ensures stays { (first : L) → L.stays first link.old → L.stays first link.new }
     ensures honest { L.honest link.old → L.honest link.new }
 {

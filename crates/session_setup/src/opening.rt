@@ -2,7 +2,8 @@
 
 ghost use Rattle.std.specs.Prelude.{◌≡◌, ◌≤◌, ◌+◌, ◌-◌, ◌^◌, [], length, IfOk};
 ghost use Rattle.world_model.specs.Entries.{ours};
-ghost use Rattle.link_dials.specs.Dials.{DialsOnly, DialsInTurn};
+ghost use Rattle.world_model.specs.Told.{Relates};
+ghost use Rattle.link_dials.specs.Dials.{Reaches};
 ghost use Rattle.session_setup.specs.Along.{Along};
 ghost use Rattle.session_setup.specs.Outcomes.{IsOptions, FitsSession, SetsUp};
 ghost use Rattle.session_setup.specs.Phases.{KeepsTerms, AreSizes, Mounts, Informs, Finishes, fault_after, tally_after};
@@ -63,7 +64,6 @@ pub fn set_up<L: Link>(
     requires first { 1 ≤ first_xid }
     requires last { first_xid + settings.now.calls ≤ 2 ^ 32 - 1 }
     ensures goes { Along (L.told link.old) (L.told link.new) (λ h k. ours h ≡ [] → SetsUp settings.now first_xid result k) }
-    ensures dials { DialsInTurn settings.now.mount_port settings.now.nfs_port (L.told link.old) (L.told link.new) }
     ensures fits { IfOk result (FitsSession settings.now first_xid) }
     ensures stays { (first : L) → L.stays first link.old → L.stays first link.new }
     ensures honest { L.honest link.old → L.honest link.new }
@@ -88,7 +88,7 @@ fn mount<L: Link>(
 ) -> Result<Handle, SetUpFault>
     requires mountable { length path.now ≤ 1024 }
     ensures goes { Along (L.told link.old) (L.told link.new) (Mounts path.now calls.old calls.new result) }
-    ensures dials { DialsOnly port (L.told link.old) (L.told link.new) }
+    ensures reaches { Relates (L.told link.old) (L.told link.new) (Reaches port result) }
     ensures keeps { KeepsTerms calls.old calls.new }
     ensures stays { (first : L) → L.stays first link.old → L.stays first link.new }
     ensures honest { L.honest link.old → L.honest link.new }
@@ -119,7 +119,7 @@ fn finish<L: Link>(
     requires limit { calls.old.limit ≡ settings.now.calls }
     requires last { calls.old.first_xid + settings.now.calls ≤ 2 ^ 32 - 1 }
     ensures goes { Along (L.told link.old) (L.told link.new) (Finishes root settings.now calls.old calls.new result) }
-    ensures dials { DialsOnly settings.now.nfs_port (L.told link.old) (L.told link.new) }
+    ensures reaches { Relates (L.told link.old) (L.told link.new) (Reaches settings.now.nfs_port result) }
     ensures keeps { KeepsTerms calls.old calls.new }
     ensures fits { IfOk result (FitsSession settings.now calls.old.first_xid) }
     ensures stays { (first : L) → L.stays first link.old → L.stays first link.new }
@@ -148,7 +148,7 @@ fn inform<L: Link>(
 ) -> Result<Sizes, SetUpFault>
     requires options { IsOptions settings.now }
     ensures goes { Along (L.told link.old) (L.told link.new) (Informs root settings.now.rsize settings.now.wsize calls.old calls.new result) }
-    ensures dials { DialsOnly settings.now.nfs_port (L.told link.old) (L.told link.new) }
+    ensures reaches { Relates (L.told link.old) (L.told link.new) (Reaches settings.now.nfs_port result) }
     ensures keeps { KeepsTerms calls.old calls.new }
     ensures fits { IfOk result (λ sizes. AreSizes sizes.rsize sizes.wsize) }
     ensures stays { (first : L) → L.stays first link.old → L.stays first link.new }

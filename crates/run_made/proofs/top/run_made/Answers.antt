@@ -1,7 +1,5 @@
 use Rattle.std.proofs.Common.{inl, inr, Some, ap, ◌∙◌}
 use Rattle.outside.specs.Views.{SinkView, SourceView}
-use Rattle.link_dials.proofs.Dialing.{dials_same}
-use Rattle.link_dials.proofs.Ports.{turn_nfs}
 use Rattle.script_runs.specs.LaneRuns.{SessionBy}
 use Rattle.nfs_client.specs.Headline.{Headline}
 use Rattle.nfs_client.specs.Run.{Shows}
@@ -49,12 +47,3 @@ returns-clause-headline g c = made_says Headline headline_by _ _ _ _ _ _ _ _ _ _
     (ap (λ (t : SinkView). t.written) c.in-Ok-new-2.ensures)
     c.run-ran.ensures.headline
     (rw c.bytes-2.ensures at c.tell.ensures.said)
-
-pub returns-in_default-clause-dials : goal.returns-in_default-clause-dials
-returns-in_default-clause-dials g c = λ s is. turn_nfs _ _ _ _ (dials_same _ _)
-
-pub returns-in_default-new-clause-dials : goal.returns-in_default-new-clause-dials
-returns-in_default-new-clause-dials g c = λ s is. turn_nfs _ _ _ _ (dials_same _ _)
-
-pub returns-in_default-new-2-clause-dials : goal.returns-in_default-new-2-clause-dials
-returns-in_default-new-2-clause-dials g c = λ s is. turn_nfs _ _ _ _ (dials_same _ _)

@@ -17,7 +17,6 @@ returns-in-Ok-find_ports-clause-session g c =
       refused = c.run_with.ensures.refused;
       source = c.run_with.ensures.source;
       sink = c.run_with.ensures.sink;
-      dials = c.run_with.ensures.dials;
       headline = c.run_with.ensures.headline;
       shown = c.run_with.ensures.shown;
     }))

@@ -13,7 +13,6 @@ returns-in-Ok-None-clause-session g c = unnamed (rw c.in-Ok-None.field-0-is at c
   refused = c.run.ensures.refused;
   source = c.run.ensures.source;
   sink = c.run.ensures.sink;
-  dials = c.run.ensures.dials;
   headline = c.run.ensures.headline;
   shown = c.run.ensures.shown;
 })

@@ -1,6 +1,5 @@
 use Rattle.std.proofs.Common.{refl}
 use Rattle.script_runs.proofs.LaneRuns.{lost_says, refused_says, unready_says, lane_ending}
-use Rattle.link_dials.proofs.Dialing.{dials_same}
 use Rattle.script_runs.proofs.lanes.end_early.Goals as goal
 
 pub returns-in-Lost-clause-shown : goal.returns-in-Lost-clause-shown
@@ -14,9 +13,3 @@ returns-in-Refused-clause-shown g c = rw c.in-Refused.is (refused_says _ _ _ _ _
 
 pub returns-in-Memory-clause-shown : goal.returns-in-Memory-clause-shown
 returns-in-Memory-clause-shown g c = rw c.in-Memory.is (unready_says _ _ _ _ _ _ refl)
-
-pub returns-in-Refused-clause-dials : goal.returns-in-Refused-clause-dials
-returns-in-Refused-clause-dials g c = dials_same _ _
-
-pub returns-in-Memory-clause-dials : goal.returns-in-Memory-clause-dials
-returns-in-Memory-clause-dials g c = dials_same _ _

@@ -1,6 +1,5 @@
 use Rattle.std.proofs.Common.{arith, refl}
 use Rattle.script_runs.proofs.LaneRuns.{early_says, ready_says, empty_says, not_empty}
-use Rattle.link_dials.proofs.Ports.{turn_nfs, turn_then}
 use Rattle.script_runs.proofs.lanes.run_lanes.Goals as goal
 
 pub returns-then-count-eq0-clause-shown : goal.returns-then-count-eq0-clause-shown
@@ -8,15 +7,7 @@ returns-then-count-eq0-clause-shown g c = empty_says _ _ _ _ _ _ _ _ _ _ (omega 
 
 pub returns-in-Ok-clause-shown : goal.returns-in-Ok-clause-shown
 returns-in-Ok-clause-shown g c = ready_says _ _ _ _ _ _ _ _ _ _ _ _ _ (not_empty _ (λ z. c.if-count-eq0.false (omega (arith, c.count.ensures, z)))) c.requires.asked c.in-Ok.ensures.fits c.first_xid-first.ensures.read c.in-Ok.ensures.goes c.session-in-Ok.ensures.shown c.session-in-Ok.ensures.core
+    c.session-in-Ok.ensures.dials
 
 pub returns-in-Err-clause-shown : goal.returns-in-Err-clause-shown
 returns-in-Err-clause-shown g c = early_says _ _ _ _ _ _ _ _ _ _ _ _ _ (not_empty _ (λ z. c.if-count-eq0.false (omega (arith, c.count.ensures, z)))) c.first_xid-first.ensures.read c.in-Err.ensures.goes c.end_early.ensures.shown
-
-pub returns-then-count-eq0-clause-dials : goal.returns-then-count-eq0-clause-dials
-returns-then-count-eq0-clause-dials g c = turn_nfs _ _ _ _ c.session.ensures.dials
-
-pub returns-in-Ok-clause-dials : goal.returns-in-Ok-clause-dials
-returns-in-Ok-clause-dials g c = turn_then _ _ _ _ _ c.in-Ok.ensures.dials c.session-in-Ok.ensures.dials
-
-pub returns-in-Err-clause-dials : goal.returns-in-Err-clause-dials
-returns-in-Err-clause-dials g c = turn_then _ _ _ _ _ c.in-Err.ensures.dials c.end_early.ensures.dials

@@ -1,8 +1,4 @@
-use Rattle.std.proofs.Common.{inl, inr, refl, subst}
-use Rattle.session_words.specs.declared.settings.Settings.{Settings}
-use Rattle.link_dials.specs.Dials.{DialsInTurn}
-use Rattle.link_dials.proofs.Dialing.{dials_same}
-use Rattle.link_dials.proofs.Ports.{turn_nfs}
+use Rattle.std.proofs.Common.{inl, inr, refl}
 use Rattle.script_runs.specs.LaneRuns.{Leaves, SessionBy}
 use Rattle.script_runs.specs.Run.{no_words, cut_before}
 use Rattle.script_runs.proofs.Runs.{words_say, unread_says}
@@ -16,16 +12,6 @@ returns-in-Ok-clause-no_words g c = λ none. absurd (none c.in-Ok.settings c.in-
 
 pub returns-in-Ok-clause-unread : goal.returns-in-Ok-clause-unread
 returns-in-Ok-clause-unread g c = λ read. elim read [ inl two ↦ absurd (c.run_with.ensures.taken two) | inr four ↦ c.run_with.ensures.unread four ]
-
-pub returns-in-Ok-clause-dials : goal.returns-in-Ok-clause-dials
-returns-in-Ok-clause-dials g c = λ s is.
-    subst (λ (t : Settings). DialsInTurn t.mount_port t.nfs_port (g.L.Link.told c.args.link.now) (g.L.Link.told c.run_with.new.link)) (c.in-Ok.ensures.only s is) c.run_with.ensures.dials
-
-pub returns-in-Err-Refused-clause-dials : goal.returns-in-Err-Refused-clause-dials
-returns-in-Err-Refused-clause-dials g c = λ s is. turn_nfs _ _ _ _ (dials_same _ _)
-
-pub returns-in-Err-Memory-clause-dials : goal.returns-in-Err-Memory-clause-dials
-returns-in-Err-Memory-clause-dials g c = λ s is. turn_nfs _ _ _ _ (dials_same _ _)
 
 pub returns-in-Ok-clause-shown : goal.returns-in-Ok-clause-shown
 returns-in-Ok-clause-shown g c = words_say (SessionBy Leaves) _ _ _ _ _ _ _ _ _ _ c.in-Ok.ensures.found c.run_with.ensures.shown

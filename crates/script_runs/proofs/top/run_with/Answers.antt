@@ -2,8 +2,6 @@ use Rattle.std.proofs.Common.{inr, refl}
 use Rattle.script_runs.specs.Run.{no_source, cut_before}
 use Rattle.script_runs.proofs.Runs.{unscripted, scripted, faulty, spells, read_for, run_says, refuse_says, none_says, refused_text}
 use Rattle.script_runs.proofs.ScriptLines.{few_lines}
-use Rattle.link_dials.proofs.Dialing.{dials_same}
-use Rattle.link_dials.proofs.Ports.{turn_nfs}
 use Rattle.script_runs.proofs.top.run_with.Goals as goal
 
 pub returns-in-Ok-parse-clause-unspelled : goal.returns-in-Ok-parse-clause-unspelled
@@ -36,12 +34,3 @@ returns-in-Err-Failed-clause-shown g c = none_says _ _ _ _ _ _ (no_source refl r
 
 pub returns-in-Err-Memory-clause-shown : goal.returns-in-Err-Memory-clause-shown
 returns-in-Err-Memory-clause-shown g c = none_says _ _ _ _ _ _ (cut_before (inr refl) refl)
-
-pub returns-in-Err-Failed-clause-dials : goal.returns-in-Err-Failed-clause-dials
-returns-in-Err-Failed-clause-dials g c = turn_nfs _ _ _ _ (dials_same _ _)
-
-pub returns-in-Err-Memory-clause-dials : goal.returns-in-Err-Memory-clause-dials
-returns-in-Err-Memory-clause-dials g c = turn_nfs _ _ _ _ (dials_same _ _)
-
-pub returns-in-Err-Script-clause-dials : goal.returns-in-Err-Script-clause-dials
-returns-in-Err-Script-clause-dials g c = turn_nfs _ _ _ _ (dials_same _ _)

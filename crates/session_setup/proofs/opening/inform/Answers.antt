@@ -1,6 +1,6 @@
 use Rattle.session_setup.proofs.Alongs.{along_less, along_then}
 use Rattle.session_setup.proofs.Phases.{inform_undialed, inform_unmade, inform_lost, inform_answered}
-use Rattle.link_dials.proofs.Dialing.{dials_then}
+use Rattle.session_setup.proofs.Dials.{reaches_less, reaches_over_ok, reaches_over_err}
 use Rattle.session_setup.proofs.opening.inform.Goals as goal
 
 pub returns-in-Err-clause-goes : goal.returns-in-Err-clause-goes
@@ -22,8 +22,11 @@ returns-in-Err-exchange-clause-goes g c =
     rw c.fault_after-in-Err-exchange.ensures (along_then _ _ _ _ _ _ (λ h k l p q con ex. inform_lost c.args.root c.args.settings.now.rsize c.args.settings.now.wsize c.args.calls.now c.ask_sizes.new.calls c.exchange.new.calls
     c.in-Err-exchange.stop h k l c.in-Ok-ask_sizes.ensures.makes c.exchange.ensures.keeps p con ex) c.in-Ok.ensures.goes c.in-Err-exchange.ensures.goes)
 
-pub returns-in-Ok-exchange-clause-dials : goal.returns-in-Ok-exchange-clause-dials
-returns-in-Ok-exchange-clause-dials g c = dials_then _ _ _ _ c.in-Ok.ensures.dials c.in-Ok-exchange.ensures.dials
+pub returns-in_default-clause-reaches : goal.returns-in_default-clause-reaches
+returns-in_default-clause-reaches g c = reaches_less c.args.settings.now.nfs_port _ _ c.in-Ok.ensures.reaches
 
-pub returns-in-Err-exchange-clause-dials : goal.returns-in-Err-exchange-clause-dials
-returns-in-Err-exchange-clause-dials g c = dials_then _ _ _ _ c.in-Ok.ensures.dials c.in-Err-exchange.ensures.dials
+pub returns-in-Ok-exchange-clause-reaches : goal.returns-in-Ok-exchange-clause-reaches
+returns-in-Ok-exchange-clause-reaches g c = reaches_over_ok c.args.settings.now.nfs_port _ _ _ c.in-Ok.ensures.reaches c.in-Ok-exchange.ensures.dials
+
+pub returns-in-Err-exchange-clause-reaches : goal.returns-in-Err-exchange-clause-reaches
+returns-in-Err-exchange-clause-reaches g c = reaches_over_err c.args.settings.now.nfs_port _ _ _ c.in-Ok.ensures.reaches c.in-Err-exchange.ensures.dials

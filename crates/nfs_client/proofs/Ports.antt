@@ -1,0 +1,101 @@
+-- Each record of a session goes to the port of its program: MNT in the set-up, and calls of NFS from FSINFO on.
+use Rattle.std.proofs.Common.{◌≡◌, ◌≤◌, ◌<◌, ◌⊎◌, inl, inr, ℕ, zero, suc, List, [], ◌∷◌, ◌++◌, length, Ok, Err, refl, sym, ap, subst, ◌∙◌, arith}
+use Rattle.nfs_types.specs.declared.program.TheConstants.{NFS_PROGRAM}
+use Rattle.rpc_retry.specs.Held.{next_xid}
+use Rattle.rpc_retry.proofs.Lookups.{at_sent}
+use Rattle.world_model.specs.declared.entry.Entry.{Entry}
+use Rattle.world_model.specs.declared.entry.Entry.TheVariants.{Began, Answered, Dialed, Sent, Executed, Foreign, Flushed, Reboot, Delivered, Failed, Clock}
+use Rattle.world_model.specs.declared.message.Call.{Call}
+use Rattle.world_model.specs.declared.message.Call.TheVariants as calls
+use Rattle.world_model.specs.declared.tally.Tally.{Tally}
+use Rattle.world_model.specs.Entries.{At, ours}
+use Rattle.world_model.specs.Messages.{SpellsCall, program_of}
+use Rattle.link_dials.specs.Dials.{IsDialOf, AreDialsOf, Dials}
+use Rattle.link_dials.specs.Sendings.{port_for, GoesToPorts}
+use Rattle.link_dials.proofs.Ports.{behind, ports-none, ports-then, sends-none, sends-over}
+use Rattle.nfs_script.specs.declared.script.ScriptLine.{ScriptLine}
+use Rattle.session_words.specs.declared.settings.Settings.{Settings}
+use Rattle.op_machines.specs.Begun.{machine_of}
+use Rattle.client_core.specs.Steps.{SendsBy}
+use Rattle.client_core.specs.View.{View}
+use Rattle.core_facts.specs.Notes.{IsAfterAnswers}
+use Rattle.core_facts.proofs.Cases.{sent_now}
+use Rattle.core_facts.proofs.Noting.{notes-reach, answers-first}
+use Rattle.core_facts.proofs.Rows.{Rows, reached-rows}
+use Rattle.session_setup.specs.declared.opening.SetUp.{SetUp}
+use Rattle.session_setup.specs.declared.opening.SetUpFault.TheVariants.{Lost}
+use Rattle.session_setup.specs.Outcomes.{SetsUp}
+use Rattle.session_setup.proofs.Calls.{heads_same, same_program}
+use Rattle.lane_session.specs.Bonds.{HasCore}
+use Rattle.lane_session.specs.Losing.{IsLosing, LosesOnly}
+use Rattle.lane_session.specs.Running.{mounted_by}
+use Rattle.script_runs.specs.LaneRuns.{setup_of}
+
+-- a call of NFS goes to its port
+nfs-port : (mount nfs : ℕ) (call : Call) → program_of call ≡ NFS_PROGRAM → port_for mount nfs call ≡ nfs
+nfs-port mount nfs (calls.File call) is = refl
+nfs-port mount nfs (calls.Dir call) is = refl
+nfs-port mount nfs (calls.Mount call) is = absurd (omega (arith, is))
+
+-- ---- a session that was set up
+
+module _ (s : Settings) (first : ℕ) (v : SetUp) (before h : List Entry) (so : SetsUp s first (Ok v) before)
+    (has : HasCore (mounted_by s (setup_of s v)) (setup_of s v) before h) where
+  -- a record that the core sends is a call of NFS
+  sent-nfs : (i xid : ℕ) (call : Call) (bytes : List ℕ) → SpellsCall xid call bytes → IsAfterAnswers (machine_of (mounted_by s (setup_of s v))) (setup_of s v) h i (Sent bytes)
+      → program_of call ≡ NFS_PROGRAM
+  sent-nfs i xid call bytes spells after =
+      let n = sent_now after.old bytes after.new after.step in
+      let rows : Rows (setup_of s v) after.before after.old = reached-rows (machine_of (mounted_by s (setup_of s v))) (setup_of s v) after.before after.old
+          (notes-reach (machine_of (mounted_by s (setup_of s v))) (setup_of s v) after.before after.old after.notes) in
+      let waits = at_sent after.old.calls.cred after.old.calls.first_xid (next_xid after.old.calls) n.xid after.old.calls.calls n.call rows.sound.calls.each n.due in
+      let made = (rows.rows n.xid n.call waits.before).made in
+      let spelled : SpellsCall n.xid made.asked bytes = subst (λ (b : List ℕ). SpellsCall n.xid made.asked b) (sym n.bytes_is) made.spells.spells in
+      same_program _ _ (heads_same xid n.xid call made.asked bytes spells spelled) ∙ made.nfs
+
+  goes-to-nfs : (i xid : ℕ) (call : Call) (bytes : List ℕ) → At h i (Sent bytes) → length before ≤ i → SpellsCall xid call bytes → port_for s.mount_port s.nfs_port call ≡ s.nfs_port
+  goes-to-nfs i xid call bytes at late spells = elim (has.since i bytes at) [
+    | inl early ↦ absurd (omega (arith, early, late))
+    | inr begun ↦ (elim (answers-first (machine_of (mounted_by s (setup_of s v))) (setup_of s v) h has.core has.notes i (Sent bytes) at tt) [
+      | inl none ↦ absurd (none begun.at begun.lane begun.line begun.op begun.began begun.before)
+      | inr after ↦ nfs-port s.mount_port s.nfs_port call (sent-nfs i xid call bytes spells after)
+    ])
+  ]
+
+  pub ready-ports : Dials s.nfs_port before h → GoesToPorts s.mount_port s.nfs_port h
+  ready-ports dials = ports-then s.mount_port s.nfs_port before h so.ports (sends-over s.nfs_port before h so.served dials).0 goes-to-nfs
+
+-- ---- a session that made no call of an operation
+
+losing-dials : (port : ℕ) (e : Entry) → IsLosing e → IsDialOf port e
+losing-dials port (Clock ms) l = tt
+losing-dials port (Began lane line op) l = tt
+losing-dials port (Answered lane line answer) l = tt
+losing-dials port (Dialed other) l = absurd l
+losing-dials port (Sent bytes) l = tt
+losing-dials port (Executed xid call reply) l = tt
+losing-dials port (Foreign call reply) l = tt
+losing-dials port (Flushed file from len) l = tt
+losing-dials port (Reboot verf) l = tt
+losing-dials port (Delivered bytes) l = tt
+losing-dials port Failed l = tt
+
+all-dials : (port : ℕ) (more : List Entry) → ((i : ℕ) (e : Entry) → At more i e → IsLosing e) → AreDialsOf port more
+all-dials port [] each = tt
+all-dials port (e ∷ more) each = (losing-dials port e (each 0 e refl), all-dials port more (λ i d at. each (suc i) d at))
+
+-- its lines were answered that it is lost
+pub lost-ports : (s : Settings) (first : ℕ) (tally : Tally) (before h : List Entry) (lines : List ScriptLine) → SetsUp s first (Err (Lost tally)) before → LosesOnly lines before h
+    → GoesToPorts s.mount_port s.nfs_port h
+lost-ports s first tally before h lines so only =
+    ports-then s.mount_port s.nfs_port before h so.ports (sends-none s.nfs_port before h (record { more = only.more; is = only.is; only = all-dials s.nfs_port only.more only.each }) unsent)
+    (λ i xid call bytes at late spells. absurd (unsent i bytes at late))
+  where
+    unsent : (i : ℕ) (bytes : List ℕ) → At h i (Sent bytes) → length before ≤ i → ⊥
+    unsent i bytes at late =
+        let b = behind before only.more i (Sent bytes) (subst (λ (l : List Entry). At l i (Sent bytes)) only.is at) late in
+        only.each b.0 (Sent bytes) b.1
+
+-- there were no lines
+pub empty-ports : (s : Settings) (h : List Entry) → h ≡ [] → GoesToPorts s.mount_port s.nfs_port h
+empty-ports s h none = ports-none s.mount_port s.nfs_port h (ap ours none)
