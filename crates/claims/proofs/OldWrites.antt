@@ -15,7 +15,7 @@ use Rattle.world_model.specs.Mounts.{Origin}
 use Rattle.world_model.specs.Operations.{Ended}
 use Rattle.claims.specs.CallsAsked.{KeepsTo}
 use Rattle.claims.specs.Modes.{Modes}
-use Rattle.claims.specs.Pending.{Outstanding}
+use Rattle.claims.specs.Pending.{Pending}
 use Rattle.claims.specs.Terms.{Terms}
 use Rattle.claims.specs.Touched.{WritesByte, write, fill, put}
 
@@ -43,9 +43,9 @@ begins_there sent (suc (suc zero)) lane line op is = inr (cc is)
 begins_there sent (suc (suc (suc zero))) lane line op is = absurd (cc is)
 begins_there sent (suc (suc (suc (suc x)))) lane line op is = absurd (cc is)
 
--- once the put has succeeded, its byte isn't outstanding
-not_outstanding : (m : Modes) (origin : Origin) (sent : List ℕ) (i n v : ℕ) → 2 ≤ n → Outstanding m origin (sent_later sent) [] i n v → ⊥
-not_outstanding m origin sent i n v late o = by o.writes
+-- once the put has succeeded, its byte isn't pending
+not_pending : (m : Modes) (origin : Origin) (sent : List ℕ) (i n v : ℕ) → 2 ≤ n → Pending m origin (sent_later sent) [] i n v → ⊥
+not_pending m origin sent i n v late o = by o.writes
   where
     ended_at : (w : ℕ) → w ≡ 0 → Ended (sent_later sent) 1 w the_put 1 ok
     ended_at zero is = record { line = 1; began = refl; answered = refl; later = omega arith; first = λ j a at lt. omega (arith, lt) }
@@ -73,4 +73,4 @@ not_outstanding m origin sent i n v late o = by o.writes
 may_not_send_settled_bytes : (terms : Terms) (sent : List ℕ) (how : ℕ) → KeepsTo terms (sent_later sent) 2 3 (old_write how) → ⊥
 may_not_send_settled_bytes terms sent how keeps =
     let o = keeps.own [] (97 ∷ []) 0 how refl 0 97 refl in
-    not_outstanding terms.modes terms.origin sent 0 o.n 97 (let late = o.late in omega (arith, late)) o.outstanding
+    not_pending terms.modes terms.origin sent 0 o.n 97 (let late = o.moment.late in omega (arith, late)) o.pending

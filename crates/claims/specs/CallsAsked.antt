@@ -11,7 +11,7 @@ use Rattle.world_model.specs.Entries.{At}
 use Rattle.world_model.specs.Messages.{HasXid, SpellsCall, SpellsCallBy}
 use Rattle.world_model.specs.Mounts.{Mounting, Rooted, Sized, mount_call, info_call}
 use Rattle.world_model.specs.ReadSize.{ReadSized}
-use Rattle.claims.specs.Pending.{OutstandingWithin}
+use Rattle.claims.specs.ReadTrue.{PendingWithin}
 use Rattle.claims.specs.Terms.{Terms}
 use Rattle.world_model.specs.Operations.{UnderWay}
 use Rattle.world_model.specs.Waiting.{Answers}
@@ -36,13 +36,13 @@ pub record IsWrite (terms : Terms) (h : List Entry) (i size : ℕ) : Type 0 wher
   pub sized : Sized h i root terms.wsize wsize
   pub fits : size ≤ wsize
 
--- READs and WRITEs keep to the session's sizes; and each byte of a WRITE was outstanding at a moment since the operation began, at the
--- place x, for which it is sent.
+-- READs and WRITEs keep to the session's sizes; and each byte of a WRITE may have been pending at a moment since the operation began, at
+-- the place x, for which it is sent.
 pub record KeepsTo (terms : Terms) (h : List Entry) (x i : ℕ) (call : Call) : Type 0 where
   pub read : (f : List ℕ) (offset count : ℕ) → call ≡ calls.File (files.Read f offset count) → IsRead terms h i count
   pub write : (f bytes : List ℕ) (offset how : ℕ) → call ≡ calls.File (files.Write f offset how bytes) → IsWrite terms h i (length bytes)
   pub own : (f bytes : List ℕ) (offset how : ℕ) → call ≡ calls.File (files.Write f offset how bytes) → (k v : ℕ) → slice_get bytes k ≡ Some v
-      → OutstandingWithin terms.modes terms.origin h x i f (offset + k) v
+      → PendingWithin terms.modes terms.origin h x i f (offset + k) v
 
 -- Why the call at the place i was made: as MNT of the path or FSINFO of the root, before any operation began; or for an
 -- operation that is under way and asks for it.

@@ -49,25 +49,6 @@ pub record LeftAlone (m : Modes) (h : List Entry) (k : ℕ) (f : List ℕ) : Typ
   pub no_put : NoPutAt h k
   pub unopened : NoneOpens m h k f
 
--- The byte is outstanding at the moment n: an operation that began before writes it there, which is no write that was refused, nor a put
--- that succeeded by then; and since it was answered no later one that succeeded covers, cuts or settles the byte.
-pub record Outstanding (m : Modes) (origin : Origin) (h : List Entry) (f : List ℕ) (i n v : ℕ) : Type 0 where
-  pub w : ℕ
-  pub before : w < n
-  pub writes : WritesByte m origin h w f i v
-  pub unrefused : RefusedWrite h w → ⊥
-  pub unput : PutSucceeded h w n → ⊥
-  pub uncovered : (x y u : ℕ) → AnsweredBefore h w x → Wrote m h x y f i u → y < n → ⊥
-  pub uncut : (x y size : ℕ) → AnsweredBefore h w x → Truncated m h x y f size → size ≤ i → y < n → ⊥
-  pub unsettled : (x y : ℕ) → AnsweredBefore h w x → MadeStable m h x y f → y < n → ⊥
-
--- so it is at a moment from one place to another
-pub record OutstandingWithin (m : Modes) (origin : Origin) (h : List Entry) (from to : ℕ) (f : List ℕ) (i v : ℕ) : Type 0 where
-  pub n : ℕ
-  pub late : from ≤ n
-  pub soon : n ≤ to
-  pub outstanding : Outstanding m origin h f i n v
-
 -- The byte may be pending at the moment n: an operation that began before writes it there, and it is no put that succeeded by then;
 -- since it was answered no later one that succeeded covers, cuts or settles the byte, and no last close left the file alone. What a
 -- put that was refused leaves behind may outlast a last close.

@@ -1,5 +1,6 @@
 pub mod Above
 pub mod Alone
+pub mod Bases
 pub mod Begins
 pub mod Contents
 pub mod Cuttings

@@ -137,7 +137,7 @@ pub fn calls_are_made_for_operations()
 {}
 
 /// The calls of a session that was set up were asked for, but those that make room and the REMOVEs of closes: each of one operation, under one xid among
-/// those that there are, of no more bytes than its sizes allow; and each byte of a WRITE was outstanding since the operation began for which it is sent.
+/// those that there are, of no more bytes than its sizes allow; and each byte of a WRITE may have been pending since the operation began for which it is sent.
 pub fn calls_are_asked_but_for_room_and_removals()
     ensures { SessionsCallsAsked }
 {}
@@ -160,8 +160,8 @@ pub fn room_is_needed()
     ensures { RoomIsNeeded }
 {}
 
-/// The same of all calls of a session that was set up. Each keeps to the session's sizes, and each byte of a WRITE was outstanding since the operation began
-/// for which it is sent.
+/// The same of all calls of a session that was set up. Each keeps to the session's sizes, and each byte of a WRITE may have been pending since the operation
+/// began for which it is sent.
 pub fn calls_are_asked_or_needed()
     ensures { SessionsCallsNeeded }
 {}

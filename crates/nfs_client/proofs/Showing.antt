@@ -322,7 +322,7 @@ complete-shown : (m : Mounted) (terms : Terms) (setup : Setup) (before : List En
     → Notes (machine_of m) setup t.entries core → CompleteShown terms t
 complete-shown m terms setup before t core from notes =
     let carries : CarriesBytes t.entries = writes-some m terms setup before t.entries core from in
-    record { served = served-complete m terms setup before t core from carries; completes = sessions-complete m terms setup before t core from notes }
+    record { served = served-complete m terms setup before t core from notes carries; completes = sessions-complete m terms setup before t core from notes }
 
 -- ---- a session
 

@@ -94,8 +94,8 @@ use Rattle.lane_session.specs.Endings.{EndsAs, entries_of}
 -- ---- calls
 
 -- Each record was sent by the set-up, as MNT or FSINFO, or is a call of an operation that is under way and asks for it, with the session's credential. Each
--- keeps to the session's sizes; each byte of a WRITE was outstanding since the operation began that asks for it: one that an operation writes there, which
--- no later one that succeeded had covered, cut or settled; MNT and FSINFO have one xid each. The xids are among those that there are, so no more calls are
+-- keeps to the session's sizes; each byte of a WRITE may have been pending since the operation began that asks for it: one that an operation writes there, which
+-- no later one that succeeded had covered, cut or settled, and no last close given up; MNT and FSINFO have one xid each. The xids are among those that there are, so no more calls are
 -- made; all records under one xid are equal, and none is sent after its reply. A put that is the only operation until then makes no room.
 pub record CallsShown (terms : Terms) (setup : Setup) (before h : List Entry) : Type 0 where
   pub asked : CallsAsked terms h

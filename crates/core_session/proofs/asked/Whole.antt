@@ -53,7 +53,7 @@ module _ (m : Mounted) (terms : Terms) (setup : Setup) (before h : List Entry) (
     keeps = record {
       read = reads-keep m terms setup h v s i bytes p.out its-asked;
       write = λ f text offset how is. writes-keep m terms setup h v s i bytes p.out f text offset how is;
-      own = λ f text offset how is k b has. own-bytes m terms setup h v s i bytes p.out p.on f text offset how is k b has;
+      own = λ f text offset how is k b has. own-bytes m terms setup h v s i bytes p.out p.on p.noted f text offset how is k b has;
     }
 
     made : SpellsCallBy terms.cred p.out.xid Its bytes
@@ -70,7 +70,7 @@ module _ (m : Mounted) (terms : Terms) (setup : Setup) (before h : List Entry) (
   -- ---- all of them
 
   all-but : CallsAskedBut terms h
-  all-but = calls-asked-but m terms setup before h v g
+  all-but = calls-asked-but m terms setup before h v g n
 
   -- one that was sent before any operation began
   early-cause : (i : ℕ) (bytes : List ℕ) → At h i (Sent bytes) → NoneBegan h i → IsCaused terms h i bytes
@@ -89,7 +89,7 @@ module _ (m : Mounted) (terms : Terms) (setup : Setup) (before h : List Entry) (
 
 pub all-asked : CallsAreAsked
 all-asked m terms setup before h v g n =
-    let all = calls-asked-but m terms setup before h v g in
+    let all = calls-asked-but m terms setup before h v g n in
     record {
       caused = caused m terms setup before h v g n;
       among = all.among;

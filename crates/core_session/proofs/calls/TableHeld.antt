@@ -45,7 +45,7 @@ abbrev pub AllNoted : View → Type 0
 AllNoted v = (at number : ℕ) (answer : Answer) → slice_get v.lanes at ≡ Some (record { number = number; state = Over answer }) → ⊥
 
 module _ (m : Modes) (h : List Entry) (n slot : ℕ) (o : Opened) where
-  shown : (at : Option Opened) → at ≡ Some o → Agrees m h n slot at → IsHeld m h (length h) n slot o.file o.mode
+  pub shown : (at : Option Opened) → at ≡ Some o → Agrees m h n slot at → IsHeld m h (length h) n slot o.file o.mode
   shown at is a = (subst (Agrees m h n slot) is a).held
 
   closing-shown : (state : Closing) (at : Option Opened) → at ≡ Some o → ClosingHas (Agrees m h n slot) state at → IsHeld m h (length h) n slot o.file o.mode
@@ -55,7 +55,7 @@ module _ (m : Modes) (h : List Entry) (n slot : ℕ) (o : Opened) where
   closing-shown (closing_states.ToRemove removal) at is has = absurd (let no_way : None ≡ Some o = sym has ∙ is in cc)
   closing-shown (closing_states.Removing removal) at is has = absurd (let no_way : None ≡ Some o = sym has ∙ is in cc)
 
-  kind-shown : (k : Kind) (x : ℕ) (machine : Machine) (opens : Opens) → finite.get opens (n, slot) ≡ Some o → StoryOf m h x n k (Busy machine) opens
+  pub kind-shown : (k : Kind) (x : ℕ) (machine : Machine) (opens : Opens) → finite.get opens (n, slot) ≡ Some o → StoryOf m h x n k (Busy machine) opens
       → IsHeld m h (length h) n slot o.file o.mode
   kind-shown (opening its mode) x machine opens is s = shown (finite.get opens (n, slot)) is (s.agree slot)
   kind-shown plainly x machine opens is s = shown (finite.get opens (n, slot)) is (s.1 slot)

@@ -30,6 +30,9 @@ use Rattle.core_session.proofs.calls.Causes.{Now, Spelt, IsPlain, under-now, cau
 use Rattle.core_session.proofs.calls.Outgoing.{Outgoing, sent-nfs}
 use Rattle.core_session.proofs.room.Onward.{Onward, SentOn, reached-on}
 use Rattle.core_session.proofs.calls.OwnBytes.{own-bytes}
+use Rattle.core_session.proofs.calls.TableHeld.{AllNoted}
+use Rattle.core_session.proofs.asked.Passed.{Passed, sends-passed}
+use Rattle.core_facts.specs.Notes.{Notes}
 use Rattle.core_session.proofs.calls.WriteKeeps.{writes-keep}
 
 module _ (m : Mounted) (terms : Terms) (setup : Setup) (before h : List Entry) (v : View) (g : GoesFrom m terms setup before h v) where
@@ -100,23 +103,23 @@ module _ (m : Mounted) (terms : Terms) (setup : Setup) (before h : List Entry) (
     its-asked : IsAsked w.op
     its-asked = let under = under-now m terms setup h v session i bytes w in g.asked w.x w.waiting.purpose.lane under.line w.op under.began
 
-    keeps : Onward (machine_of m) setup w.before w.old h v → KeepsTo terms h w.x i Its
-    keeps on = record {
+    keeps : Onward (machine_of m) setup w.before w.old h v → AllNoted w.old → KeepsTo terms h w.x i Its
+    keeps on noted = record {
       read = reads-keep m terms setup h v session i bytes w its-asked;
       write = λ f text offset how is. writes-keep m terms setup h v session i bytes w f text offset how is;
-      own = λ f text offset how is k b has. own-bytes m terms setup h v session i bytes w on f text offset how is k b has;
+      own = λ f text offset how is k b has. own-bytes m terms setup h v session i bytes w on noted f text offset how is k b has;
     }
 
     made : SpellsCallBy terms.cred w.xid Its bytes
     made = subst (λ c. SpellsCallBy c w.xid Its bytes) g.cred (Now m terms setup h v session i bytes w).made
 
-    out-cause : Onward (machine_of m) setup w.before w.old h v → IsCaused terms h i bytes ⊎ IsCausedBeside terms h i bytes
-    out-cause on = elim (cause m terms setup h v session i bytes w w.op refl its-asked) [
+    out-cause : Onward (machine_of m) setup w.before w.old h v → AllNoted w.old → IsCaused terms h i bytes ⊎ IsCausedBeside terms h i bytes
+    out-cause on noted = elim (cause m terms setup h v session i bytes w w.op refl its-asked) [
       | inl asks ↦ inl (record {
         xid = w.xid;
         call = Its;
         made = made;
-        cause = asked w.waiting.purpose.lane w.x w.op (under-now m terms setup h v session i bytes w) asks (keeps on);
+        cause = asked w.waiting.purpose.lane w.x w.op (under-now m terms setup h v session i bytes w) asks (keeps on noted);
       })
       | inr beside ↦ inr (record {
         xid = w.xid;
@@ -127,7 +130,7 @@ module _ (m : Mounted) (terms : Terms) (setup : Setup) (before h : List Entry) (
         op = w.op;
         under_way = under-now m terms setup h v session i bytes w;
         beside = beside;
-        keeps = keeps on;
+        keeps = keeps on noted;
       })
     ]
 
@@ -180,11 +183,20 @@ module _ (m : Mounted) (terms : Terms) (setup : Setup) (before h : List Entry) (
       (set-up-early i x a call at s (λ w p. not-info i a w root (subst (IsPlain m terms setup h v session i a w) c p)))
       (set-up-early j y b other bt t (λ w p. not-info j b w its_root (subst (IsPlain m terms setup h v session j b w) d p))) s t (inform root its_root c d)
 
-  all-but : CallsAskedBut terms h
-  all-but =
+  -- each record is one of the set-up, or was sent when no answer was ready
+  caused : Notes (machine_of m) setup h v → (i : ℕ) (bytes : List ℕ) → At h i (Sent bytes) → IsCaused terms h i bytes ⊎ IsCausedBeside terms h i bytes
+  caused n i bytes at = by (g.since i bytes at) (sends-passed (machine_of m) (begins-unbegun m) setup h v n i bytes at)
+    where
+      by : (i < length before) ⊎ HasBegun h i → NoneBegan h i ⊎ Passed (machine_of m) (begins-unbegun m) setup h v i bytes → IsCaused terms h i bytes ⊎ IsCausedBeside terms h i bytes
+      by (inl early) out = inl (early-cause i bytes (At-back before g.more i (Sent bytes) (subst (λ (k : List Entry). At k i (Sent bytes)) g.grows at) early))
+      by (inr begun) (inl none) = absurd (none begun.at begun.lane begun.line begun.op begun.began begun.before)
+      by (inr begun) (inr p) = out-cause i bytes p.out p.on p.noted
+
+  all-but : Notes (machine_of m) setup h v → CallsAskedBut terms h
+  all-but n =
       let rows = reached-rows (machine_of m) setup h v g.goes.reaches in
       record {
-        caused = λ i bytes at. elim (early-on i bytes at) [ inl early ↦ inl (early-cause i bytes early) | inr sent ↦ out-cause i bytes sent.out sent.on ];
+        caused = caused n;
         among = among;
         equal = rows.numbered.equal;
         single = single;
@@ -192,11 +204,11 @@ module _ (m : Mounted) (terms : Terms) (setup : Setup) (before h : List Entry) (
       }
 
 pub calls-asked-but : SessionsCallsAsked
-calls-asked-but m terms setup before h v g = all-but m terms setup before h v g
+calls-asked-but m terms setup before h v g n = all-but m terms setup before h v g n
 
 pub all-calls-asked : AllCallsAsked
-all-calls-asked m terms setup before h v g beside =
-    let all = all-but m terms setup before h v g in
+all-calls-asked m terms setup before h v g n beside =
+    let all = all-but m terms setup before h v g n in
     record {
       caused = λ i bytes at. elim (all.caused i bytes at) [
         | inl caused ↦ caused

@@ -129,5 +129,5 @@ refusals-all-rowed m terms setup before h v g n lane x y op fault ended = row m 
 
 pub sessions-complete : SessionsComplete
 sessions-complete m terms setup before t v g n u lane x y op answer ended =
-    own-unless m terms setup before t v g (writes-some m terms setup before t.entries v g) u lane x y op answer ended
+    own-unless m terms setup before t v g n (writes-some m terms setup before t.entries v g) u lane x y op answer ended
     (λ k is refused. status-row m terms setup before t.entries v g n lane x y op k refused)

@@ -54,7 +54,7 @@ module _ (m : Mounted) (terms : Terms) (setup : Setup) (before h : List Entry) (
     keeps = record {
       read = reads-keep m terms setup h v (session m terms setup before h v g) i bytes w its-asked;
       write = λ f text offset how is. writes-keep m terms setup h v (session m terms setup before h v g) i bytes w f text offset how is;
-      own = λ f text offset how is k b has. own-bytes m terms setup h v (session m terms setup before h v g) i bytes w on f text offset how is k b has;
+      own = λ f text offset how is k b has. own-bytes m terms setup h v (session m terms setup before h v g) i bytes w on noted f text offset how is k b has;
     }
 
     made : SpellsCallBy terms.cred w.xid Its bytes
@@ -92,12 +92,12 @@ module _ (m : Mounted) (terms : Terms) (setup : Setup) (before h : List Entry) (
 
   -- ---- all of them
 
-  all-but : CallsAskedBut terms h
-  all-but = calls-asked-but m terms setup before h v g
+  all-but : Notes (machine_of m) setup h v → CallsAskedBut terms h
+  all-but n = calls-asked-but m terms setup before h v g n
 
   -- one that was sent before any operation began
-  early-cause : (i : ℕ) (bytes : List ℕ) → At h i (Sent bytes) → NoneBegan h i → IsCaused terms h i bytes
-  early-cause i bytes at none = by (all-but.caused i bytes at)
+  early-cause : Notes (machine_of m) setup h v → (i : ℕ) (bytes : List ℕ) → At h i (Sent bytes) → NoneBegan h i → IsCaused terms h i bytes
+  early-cause n i bytes at none = by ((all-but n).caused i bytes at)
     where
       by : IsCaused terms h i bytes ⊎ IsCausedBeside terms h i bytes → IsCaused terms h i bytes
       by (inl c) = c
@@ -107,12 +107,12 @@ module _ (m : Mounted) (terms : Terms) (setup : Setup) (before h : List Entry) (
   caused n i bytes at = by (sends-passed (machine_of m) (begins-unbegun m) setup h v n i bytes at)
     where
       by : NoneBegan h i ⊎ Passed (machine_of m) (begins-unbegun m) setup h v i bytes → Caused i bytes
-      by (inl none) = inl (early-cause i bytes at none)
+      by (inl none) = inl (early-cause n i bytes at none)
       by (inr s) = out-cause i bytes s.out s.on s.noted
 
 pub removes-asked : ClosesRemoveWhatWasHidden
 removes-asked m terms setup before h v g n =
-    let all = calls-asked-but m terms setup before h v g in
+    let all = calls-asked-but m terms setup before h v g n in
     record {
       caused = caused m terms setup before h v g n;
       among = all.among;

@@ -29,8 +29,10 @@ use Rattle.claims.specs.PageRules.{RefusedSo, RefusesSo}
 use Rattle.claims.specs.RefusalRows.{RefusedBy}
 use Rattle.claims.specs.Terms.{Terms}
 use Rattle.op_machines.specs.declared.begun.Mounted.{Mounted}
+use Rattle.op_machines.specs.Begun.{machine_of}
 use Rattle.client_core.specs.declared.setup.Setup.{Setup}
 use Rattle.client_core.specs.View.{View}
+use Rattle.core_facts.specs.Notes.{Notes}
 use Rattle.core_facts.specs.Naming.{KnowsRoot}
 use Rattle.core_facts.proofs.LostAnswers.{lost-answers}
 use Rattle.core_answers.specs.asks.PutCalls as rooms
@@ -49,10 +51,10 @@ for-room : (file : List ℕ) (offset count : ℕ) → IsForRoom (calls.File (fil
 for-room file offset count (rooms.writes f bytes at how is) = cc
 for-room file offset count (rooms.commits f is) = cc
 
-module _ (m : Mounted) (terms : Terms) (setup : Setup) (before : List Entry) (t : History) (v : View) (g : GoesFrom m terms setup before t.entries v) (carries : CarriesBytes t.entries)
+module _ (m : Mounted) (terms : Terms) (setup : Setup) (before : List Entry) (t : History) (v : View) (g : GoesFrom m terms setup before t.entries v) (notes : Notes (machine_of m) setup t.entries v) (carries : CarriesBytes t.entries)
     (lawful : Lawful t) (kept : (n : ℕ) → IsLost t.entries n → ⊥) (unrefused : (n xid code : ℕ) (bytes : List ℕ) → At t.entries n (Delivered bytes) → SpellsRefusal xid code bytes → ⊥) where
   pub asked_all : CallsAskedBut terms t.entries
-  asked_all = calls-asked-but m terms setup before t.entries v g
+  asked_all = calls-asked-but m terms setup before t.entries v g notes
 
   abbrev pub Told : Call → ℕ → List ℕ → Type 0
   Told call xid bytes = IsTold t lawful unrefused asked_all.equal carries call xid bytes
@@ -159,14 +161,14 @@ module _ (m : Mounted) (terms : Terms) (setup : Setup) (before : List Entry) (t 
 -- ---- each call is executed with status 0
 
 pub served-complete : ServedComplete
-served-complete m terms setup before t v g carries s lane x y op answer ended =
-    own-answer m terms setup before t v g carries s.lawful s.kept s.unrefused lane x y op answer ended (λ n is. never n (subst (λ (a : Answer). Ended t.entries lane x op y a) is ended))
+served-complete m terms setup before t v g notes carries s lane x y op answer ended =
+    own-answer m terms setup before t v g notes carries s.lawful s.kept s.unrefused lane x y op answer ended (λ n is. never n (subst (λ (a : Answer). Ended t.entries lane x op y a) is ended))
   where
     never : (n : ℕ) → Ended t.entries lane x op y (answers.Refused (faults.Nfs n)) → ⊥
     never n refused =
         let k = own-refused m setup terms.modes g.goes.nocto t.entries v g.goes.reaches lane x op y (faults.Nfs n) refused in
-        let w = whole m terms setup before t v g carries s.lawful s.kept s.unrefused lane x y op (faults.Nfs n) k.0 k.1.0 k.1.1 k.1.2 k.1.3 in
-        let e = executes m terms setup before t v g carries s.lawful s.kept s.unrefused x y w.call w.sent.nfs n w.refused in
+        let w = whole m terms setup before t v g notes carries s.lawful s.kept s.unrefused lane x y op (faults.Nfs n) k.0 k.1.0 k.1.1 k.1.2 k.1.3 in
+        let e = executes m terms setup before t v g notes carries s.lawful s.kept s.unrefused x y w.call w.sent.nfs n w.refused in
         e.other (sym e.status ∙ s.done e.told_of.place w.refused.xid w.call e.told_of.reply e.told_of.at)
 
 -- ---- operations go on from other statuses
@@ -175,7 +177,7 @@ served-complete m terms setup before t v g carries s lane x y op answer ended =
 knows-root : (m : Mounted) (terms : Terms) (setup : Setup) (before h : List Entry) (v : View) → GoesFrom m terms setup before h v → KnowsRoot terms.origin h m.root
 knows-root m terms setup before h v g = (session m terms setup before h v g).root
 
-module _ (m : Mounted) (terms : Terms) (setup : Setup) (before : List Entry) (t : History) (v : View) (g : GoesFrom m terms setup before t.entries v) (carries : CarriesBytes t.entries)
+module _ (m : Mounted) (terms : Terms) (setup : Setup) (before : List Entry) (t : History) (v : View) (g : GoesFrom m terms setup before t.entries v) (notes : Notes (machine_of m) setup t.entries v) (carries : CarriesBytes t.entries)
     (u : Undisturbed terms t) (lane x y : ℕ) (op : Op) where
   -- no status ends an operation from which it goes on
   never-so : (n : ℕ) → RefusedBy terms t.entries x y op (faults.Nfs n) → Ended t.entries lane x op y (answers.Refused (faults.Nfs n)) → ⊥
@@ -184,8 +186,8 @@ module _ (m : Mounted) (terms : Terms) (setup : Setup) (before : List Entry) (t 
       nfs : IsNfs k.call
       nfs = asks-nfs terms t.entries x k.refused.heard.sent_at op k.call k.asks
 
-      e : Executes m terms setup before t v g carries u.lawful u.kept u.unrefused x y k.call nfs n k.refused.xid k.refused.bytes
-      e = executes m terms setup before t v g carries u.lawful u.kept u.unrefused x y k.call nfs n k.refused
+      e : Executes m terms setup before t v g notes carries u.lawful u.kept u.unrefused x y k.call nfs n k.refused.xid k.refused.bytes
+      e = executes m terms setup before t v g notes carries u.lawful u.kept u.unrefused x y k.call nfs n k.refused
 
       by : (status_of e.told_of.reply ≡ 0) ⊎ AllGoOn terms t.entries k.refused.xid k.call (status_of e.told_of.reply) → ⊥
       by (inl none) = e.other (sym e.status ∙ none)
@@ -198,12 +200,12 @@ module _ (m : Mounted) (terms : Terms) (setup : Setup) (before : List Entry) (t 
   pub own-unless : (answer : Answer) → Ended t.entries lane x op y answer → ((n : ℕ) → answer ≡ answers.Refused (faults.Nfs n) → Ended t.entries lane x op y (answers.Refused (faults.Nfs n)) → RefusedBy terms t.entries x y op (faults.Nfs n))
       → IsOwn answer
   own-unless answer ended row =
-      own-answer m terms setup before t v g carries u.lawful u.kept u.unrefused lane x y op answer ended
+      own-answer m terms setup before t v g notes carries u.lawful u.kept u.unrefused lane x y op answer ended
       (λ n is. let refused = subst (λ (a : Answer). Ended t.entries lane x op y a) is ended in never-so n (row n is refused) refused)
 
 pub undisturbed-complete : UndisturbedComplete
-undisturbed-complete m terms setup before t v g carries u lane x y op answer rowed ended =
-    own-unless m terms setup before t v g carries u lane x y op answer ended
+undisturbed-complete m terms setup before t v g notes carries u lane x y op answer rowed ended =
+    own-unless m terms setup before t v g notes carries u lane x y op answer ended
     (λ n is refused.
     refusal-rows m terms setup t.entries v (record { goes = g.goes; noac = g.noac; some = g.some; known = knows-root m terms setup before t.entries v g }) lane x y op (faults.Nfs n)
     (g.asked x lane ended.line op ended.began) (rowed n is) refused)

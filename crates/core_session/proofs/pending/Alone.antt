@@ -2,6 +2,7 @@
 use Rattle.std.proofs.Common.{◌≡◌, ◌≤◌, ◌<◌, ◌+◌, ◌⊎◌, inl, inr, ℕ, false, List, [], ◌∷◌, ◌++◌, length, Some, None, refl, sym, ap, subst, ◌∙◌, arith, append_assoc}
 use Rattle.std.proofs.lemmas.Bool.{cases_lt}
 use Rattle.std.specs.FinMap as finite
+use Rattle.nfs_types.specs.declared.mode.Mode.{Mode}
 use Rattle.open_files.specs.declared.opened.Opened.{Opened}
 use Rattle.world_model.specs.declared.answer.Answer.{Answer}
 use Rattle.world_model.specs.declared.entry.Entry.{Entry}
@@ -32,7 +33,7 @@ use Rattle.core_facts.proofs.HeldSlots.{always-later}
 use Rattle.core_facts.proofs.SlotGrowth.{IsHeld, held-grow}
 use Rattle.core_facts.proofs.Slots.{Kind, opening, closing, plainly, kind_of}
 use Rattle.core_session.proofs.calls.TableHeld.{AllNoted, table-held}
-use Rattle.core_session.specs.drops.Guarded.{IsGuarded, slot, past, removal_in}
+use Rattle.core_session.specs.drops.Guarded.{IsClose, IsGuarded, slot, past, removal_in}
 use Rattle.core_session.proofs.drops.Drops.{LaneTold, closer-kind}
 use Rattle.core_session.specs.drops.Dropped.{IsPast}
 use Rattle.core_session.proofs.drops.Dropping.{past-file}
@@ -87,12 +88,11 @@ module _ (mt : Mounted) (terms : Terms) (setup : Setup) (H : List Entry) (V : Vi
   abbrev pub HeldSoon : View → Type 0
   HeldSoon v = (lane its_slot : ℕ) (o : Opened) → finite.get v.shelf.opens (lane, its_slot) ≡ Some o → o.file ≡ f → HeldBy lane its_slot
 
-  pub at-once : (v : View) → Reaches (machine_of mt) setup h v → v.lost ≡ false → AllNoted v → HeldSoon v
-  at-once v r found noted lane its_slot o there same =
-      let k = table-held mt terms.modes g.nocto setup h v r found noted lane its_slot o there in
-      let here : IsHeld terms.modes h (length h) lane its_slot f o.mode = subst (λ (z : List ℕ). IsHeld terms.modes h (length h) lane its_slot z o.mode) same k in
-      let grown : IsHeld terms.modes (h ++ rest) (length h) lane its_slot f o.mode = held-later h rest (omega arith) here in
-      let whole : IsHeld terms.modes H (length h) lane its_slot f o.mode = subst (λ (z : List Entry). IsHeld terms.modes z (length h) lane its_slot f o.mode) is grown in
+  -- by the history
+  pub held-by : (lane its_slot : ℕ) (mode : Mode) → IsHeld terms.modes h (length h) lane its_slot f mode → HeldBy lane its_slot
+  held-by lane its_slot mode here =
+      let grown : IsHeld terms.modes (h ++ rest) (length h) lane its_slot f mode = held-later h rest (omega arith) here in
+      let whole : IsHeld terms.modes H (length h) lane its_slot f mode = subst (λ (z : List Entry). IsHeld terms.modes z (length h) lane its_slot f mode) is grown in
       record {
         n = length h;
         open_at = whole.x;
@@ -101,9 +101,14 @@ module _ (mt : Mounted) (terms : Terms) (setup : Setup) (H : List Entry) (V : Vi
         held = whole.holds;
       }
     where
-      held-later : (k more : List Entry) → length h ≤ length k → IsHeld terms.modes k (length h) lane its_slot f o.mode → IsHeld terms.modes (k ++ more) (length h) lane its_slot f o.mode
-      held-later k more low i = (always-later (λ (z : List Entry). (length h ≤ length z) × IsHeld terms.modes z (length h) lane its_slot f o.mode)
-          (λ z e p. ((let long = length_last z e in let l = p.0 in omega (arith, long, l)), held-grow terms.modes z e lane its_slot f o.mode (length h) p.0 p.1)) k more (low, i)).1
+      held-later : (k more : List Entry) → length h ≤ length k → IsHeld terms.modes k (length h) lane its_slot f mode → IsHeld terms.modes (k ++ more) (length h) lane its_slot f mode
+      held-later k more low i = (always-later (λ (z : List Entry). (length h ≤ length z) × IsHeld terms.modes z (length h) lane its_slot f mode)
+          (λ z e p. ((let long = length_last z e in let l = p.0 in omega (arith, long, l)), held-grow terms.modes z e lane its_slot f mode (length h) p.0 p.1)) k more (low, i)).1
+
+  pub at-once : (v : View) → Reaches (machine_of mt) setup h v → v.lost ≡ false → AllNoted v → HeldSoon v
+  at-once v r found noted lane its_slot o there same =
+      held-by lane its_slot o.mode
+      (subst (λ (z : List ℕ). IsHeld terms.modes h (length h) lane its_slot z o.mode) same (table-held mt terms.modes g.nocto setup h v r found noted lane its_slot o there))
 
   -- the slot that a close under way is to free
   under-held : (n x its_slot : ℕ) → UnderWay h n x (length h) (ops.Close its_slot) → IsOf terms.modes h x (ops.Close its_slot) f → HeldBy n its_slot
@@ -172,7 +177,7 @@ module _ (mt : Mounted) (terms : Terms) (setup : Setup) (H : List Entry) (V : Vi
   -- ---- after a last close
 
   module _ (k : ℕ) (low : k < length h) (left : LeftAlone terms.modes H k f) (none : NoneCame H k (length h)) where
-    not-held : (lane its_slot : ℕ) → HeldBy lane its_slot → ⊥
+    pub not-held : (lane its_slot : ℕ) → HeldBy lane its_slot → ⊥
     not-held lane its_slot b = by (cases_lt k b.held.y)
       where
         came : (j : ℕ) (bytes : List ℕ) → At H j (Delivered bytes) → k < j → j < b.held.y → ⊥
@@ -190,9 +195,9 @@ module _ (mt : Mounted) (terms : Terms) (setup : Setup) (H : List Entry) (V : Vi
           kept = λ c j answer d after before. b.held.kept c j answer d after (let from = b.from in omega (arith, before, low, from));
         })
 
-    pub alone-not : (v : View) → DropsKnown terms.modes h v → HeldSoon v → (number : ℕ) → IsGuarded number v f → ⊥
-    alone-not v d soon number (slot place of there same all) = not-held place.0 place.1 (soon place.0 place.1 of there same)
-    alone-not v d soon number (past n c removal fault close gone same refused all) = by told.op told.under_way (kind_of told.op) refl told.told
+    -- no close past its sync removes the file
+    pub past-not : (v : View) → DropsKnown terms.modes h v → (n : ℕ) (c : CloseFile) (removal : Removal) → IsClose v n c → removal_in c.state ≡ Some removal → removal.file ≡ f → ⊥
+    past-not v d n c removal close gone same = by told.op told.under_way (kind_of told.op) refl told.told
       where
         told : LaneTold terms.modes h n (Busy (machines.File (files.Close c))) v.shelf.opens
         told = d.lanes close.at (record { number = n; state = Busy (machines.File (files.Close c)) }) close.there
@@ -206,6 +211,10 @@ module _ (mt : Mounted) (terms : Terms) (setup : Setup) (H : List Entry) (V : Vi
             past-file n its t.file f t.upto v.shelf.opens t.closer.c.state t.closer.at (is-past t.closer.c.state removal f (ap (λ (z : CloseFile). removal_in z.state) (sym one) ∙ gone) same) in
             not-held n its
             (under-held n told.x its (subst (λ (o : Op). UnderWay h n told.x (length h) o) (closer-kind op its kind_is) u) (subst (λ (z : List ℕ). IsOf terms.modes h told.x (ops.Close its) z) file t.of))
+
+    pub alone-not : (v : View) → DropsKnown terms.modes h v → HeldSoon v → (number : ℕ) → IsGuarded number v f → ⊥
+    alone-not v d soon number (slot place of there same all) = not-held place.0 place.1 (soon place.0 place.1 of there same)
+    alone-not v d soon number (past n c removal fault close gone same refused all) = past-not v d n c removal close gone same
 
   -- one entry more
   pub unleft-step : (e : Entry) (after : List Entry) → rest ≡ e ∷ after → (v : View) → DropsKnown terms.modes h v → ((b : List ℕ) → e ≡ Delivered b → HeldSoon v) → (w number : ℕ) → IsGuarded number v f

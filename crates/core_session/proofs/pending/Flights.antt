@@ -1,7 +1,7 @@
--- What a WRITE carries was outstanding since the operation began that asks for it: as it was made, or as it was made first.
+-- What a WRITE carries may have been pending since the operation began that asks for it: as it was made, or as it was made first.
 use Rattle.std.proofs.Common.{◌≡◌, ◌≢◌, ◌≤◌, ◌<◌, ◌+◌, ◌-◌, ◌⊎◌, inl, inr, ℕ, zero, suc, Bool, true, false, nat_eq, List, [], ◌∷◌, ◌++◌, length, Option, Some, None, option_map, slice_get, refl, sym, ap, subst, ◌∙◌, arith}
 use Rattle.std.specs.Prelude.{if◌then◌else◌, slice_index}
-use Rattle.std.proofs.lemmas.Bool.{eqb-true, eqb-false}
+use Rattle.std.proofs.lemmas.Bool.{cases_lt, eqb-true, eqb-false}
 use Rattle.rpc_retry.specs.declared.waiting.Waiting.{Waiting}
 use Rattle.rpc_retry.specs.Held.{next_xid}
 use Rattle.rpc_retry.specs.Waiting.{made_call, waiting_at, without}
@@ -26,8 +26,8 @@ use Rattle.world_model.specs.declared.entry.Entry.TheVariants.{Began, Answered, 
 use Rattle.world_model.specs.declared.message.Call.{Call}
 use Rattle.world_model.specs.declared.op.Op.{Op}
 use Rattle.world_model.specs.Messages.{proc_of}
-use Rattle.world_model.specs.Operations.{UnderWay}
-use Rattle.claims.specs.Pending.{Outstanding}
+use Rattle.world_model.specs.Operations.{AnsweredBefore, UnderWay}
+use Rattle.claims.specs.Pending.{LeftAlone, Pending, PutRefused}
 use Rattle.claims.specs.Terms.{Terms}
 use Rattle.claims.specs.Touched.{RefusedWrite}
 use Rattle.world_model.proofs.Places.{length_last}
@@ -46,6 +46,7 @@ use Rattle.client_core.specs.Numbers.{IsIdle, numbers_of}
 use Rattle.client_core.specs.Steps.{with_state, record_of, Makes, Leads, Stirs, counted, StartsLane, TakesAt, AnswersAt}
 use Rattle.client_core.specs.View.{View, turn_at}
 use Rattle.core_facts.specs.Reaches.{IsOpenLine}
+use Rattle.core_facts.specs.SlotAnswers.{GoesWith}
 use Rattle.core_facts.proofs.Cases.{taken_one}
 use Rattle.core_facts.proofs.Counting.{calls-some, known-some}
 use Rattle.core_facts.proofs.Keeping.{Known}
@@ -56,13 +57,17 @@ use Rattle.core_answers.proofs.writes.Along.{SameCalls}
 use Rattle.core_answers.proofs.writes.Backs.{After}
 use Rattle.core_answers.proofs.writes.PiecesCarried.{Flying, waits-late, unused-next, starts-under, resumes-under, takes-under, unmade-under}
 use Rattle.core_answers.proofs.writes.Under.{SameUnder}
+use Rattle.core_session.proofs.calls.TableHeld.{AllNoted}
 use Rattle.core_session.proofs.drops.KnowingAlong.{IsPlain}
+use Rattle.core_session.proofs.drops.Laws.{DropsKnown}
 use Rattle.core_session.proofs.syncs.Fate.{one-under}
 use Rattle.core_session.proofs.syncs.Causes.{IsWriter, OfOp}
 use Rattle.core_session.proofs.syncs.LaneButs.{SteppedTo, stirs-but, starts-but, takes-but}
 use Rattle.core_session.proofs.syncs.Turning.{IsFixed, Turned, turns-stirs, turns-takes, turns-starts, fixed-turns, fixed-answers, fixed-same, under-was, under-answers-back, under-plain-back}
 use Rattle.core_session.proofs.pending.Making.{Free, IsMade, newest, again, AllMade, WasAsked, Never, starts-made, resumes-made, takes-made}
-use Rattle.core_session.proofs.pending.Moments.{given, outstanding}
+use Rattle.core_session.proofs.pending.Bases.{AllSoon, CameAfter, Based, guarded-not, none-after, one-after}
+use Rattle.core_session.proofs.pending.Givers.{answered-writer}
+use Rattle.core_session.proofs.pending.Moments.{given, unput-by, whole}
 use Rattle.core_session.proofs.pending.Standing.{Phase}
 
 some-waiting : (a b : Waiting Purpose) → Some a ≡ Some b → a ≡ b
@@ -151,15 +156,19 @@ module _ (setup : Setup) (h : List Entry) (v : View) (r : Rows setup h v) (xid :
 
 -- ---- what is known of each WRITE that waits
 
-module _ (mt : Mounted) (terms : Terms) (setup : Setup) (H : List Entry) (f : List ℕ) (i : ℕ) where
-  -- The byte was outstanding from a place on, but that it may be of a write that is refused yet; what has a good answer isn't.
+module _ (mt : Mounted) (terms : Terms) (setup : Setup) (H : List Entry) (V : View) (g : GoesWith mt terms setup H V) (f : List ℕ) (i : ℕ) where
+  -- As a call was made, at the moment of the history `past` and of the view `seen`, the byte could be pending: where it is of no write that is refused yet (what has
+  -- a good answer isn't), and where each answer that was ready is noted before the next record.
   pub record Was (x : ℕ) (h : List Entry) (v : View) (byte : ℕ) : Type 0 where
-    pub n : ℕ
-    pub late : x ≤ n
-    pub soon : n ≤ length h
+    pub past : List Entry
+    pub seen : View
+    pub late : x ≤ length past
+    pub soon : length past ≤ length h
     pub w : ℕ
     pub well : OfOp H w IsWriter → (value : Value) × IsFixed h v w (answers.Done value)
-    pub outstanding : (RefusedWrite H w → ⊥) → Outstanding terms.modes terms.origin H f i n byte
+    pub fixes : (y : ℕ) (a : Answer) → IsFixed past seen y a → IsFixed h v y a
+    pub after : CameAfter H past seen h
+    pub pending : (RefusedWrite H w → ⊥) → AllSoon H past seen → Pending terms.modes terms.origin H f i (length past) byte
 
   -- each of these bytes that has the place
   abbrev pub Shown : ℕ → List Entry → View → ℕ → List ℕ → Type 0
@@ -168,18 +177,24 @@ module _ (mt : Mounted) (terms : Terms) (setup : Setup) (H : List Entry) (f : Li
   abbrev pub StaysFixed : List Entry → View → List Entry → View → Type 0
   StaysFixed h v h2 new = (y : ℕ) (a : Answer) → IsFixed h v y a → IsFixed h2 new y a
 
-  shown-more : (x : ℕ) (h : List Entry) (v : View) (h2 : List Entry) (new : View) (offset : ℕ) (bytes : List ℕ) → length h ≤ length h2 → StaysFixed h v h2 new → Shown x h v offset bytes
-      → Shown x h2 new offset bytes
-  shown-more x h v h2 new offset bytes low fixed s k byte at has =
+  shown-more : (x : ℕ) (h : List Entry) (v : View) (h2 : List Entry) (new : View) (offset : ℕ) (bytes : List ℕ) → length h ≤ length h2 → StaysFixed h v h2 new → CameAfter H h v h2
+      → Shown x h v offset bytes → Shown x h2 new offset bytes
+  shown-more x h v h2 new offset bytes low fixed after s k byte at has =
       let o = s k byte at has in
       let within = o.soon in
       record {
-        n = o.n;
+        past = o.past;
+        seen = o.seen;
         late = o.late;
         soon = omega (arith, within, low);
         w = o.w;
         well = λ writer. (let k_ = o.well writer in (k_.0, fixed o.w (answers.Done k_.0) k_.1));
-        outstanding = o.outstanding;
+        fixes = λ y a was. fixed y a (o.fixes y a was);
+        after = λ d b there from to y a was. elim (cases_lt d (length h)) [
+          | inl early ↦ o.after d b there from early y a was
+          | inr late ↦ after d b there late to y a (o.fixes y a was)
+        ];
+        pending = o.pending;
       }
 
   -- of each call that waits for an operation under way
@@ -189,8 +204,8 @@ module _ (mt : Mounted) (terms : Terms) (setup : Setup) (H : List Entry) (f : Li
 
   -- ---- one that was made now
 
-  module _ (h rest : List Entry) (is : h ++ rest ≡ H) (v : View) (p : Phase mt terms setup H f i h v) (xid : ℕ) (piece : Sent) (there : piece_under xid (of_file f v.shelf.back).pieces ≡ Some piece)
-      (x : ℕ) (low : x ≤ length h) where
+  module _ (h rest : List Entry) (is : h ++ rest ≡ H) (v : View) (p : Phase mt terms setup H f i h v) (based : Based mt terms setup H V g f h v) (drops : DropsKnown terms.modes h v) (xid : ℕ)
+      (piece : Sent) (there : piece_under xid (of_file f v.shelf.back).pieces ≡ Some piece) (x : ℕ) (low : x ≤ length h) where
     sound : IsSound (of_file f v.shelf.back)
     sound = p.common.sound f
 
@@ -198,10 +213,28 @@ module _ (mt : Mounted) (terms : Terms) (setup : Setup) (H : List Entry) (f : Li
     flies-newest : (flown : Flown) → fly_at (of_file f v.shelf.back) i ≡ Some flown → rest_at (of_file f v.shelf.back) i ≡ None → Was x h v flown.byte
     flies-newest flown fly bare = by (cell_at (of_file f v.shelf.back).segments i) refl (subst (λ (o : Option Flown). IsOver o (cell_at (of_file f v.shelf.back).segments i)) fly (sound.over i)) bare
       where
+        unleft : (cell : Cell) (at : cell_at (of_file f v.shelf.back).segments i ≡ Some cell) → AllSoon H h v → (PutRefused H (given mt terms setup H f i h rest is v p cell at).w → ⊥) → (k : ℕ)
+            → AnsweredBefore H (given mt terms setup H f i h rest is v p cell at).w k → LeftAlone terms.modes H k f → k < length h → ⊥
+        unleft cell at soon none k before left early =
+            let giver = given mt terms setup H f i h rest is v p cell at in
+            let writer =
+            answered-writer H giver.w (length h) (λ d. unput-by mt terms setup H f i h rest is v p cell at d) none k before early terms.modes terms.origin f i cell.byte giver.writes in
+            guarded-not mt terms setup H V g f h rest is v based drops soon k early left (λ j bytes came from to. giver.unleft writer k before left j bytes came from to) cell.number (giver.guard writer)
+
         known : (cell : Cell) → cell_at (of_file f v.shelf.back).segments i ≡ Some cell → Was x h v cell.byte
         known cell at =
             let giver = given mt terms setup H f i h rest is v p cell at in
-            record { n = length h; late = low; soon = omega arith; w = giver.w; well = giver.well; outstanding = outstanding mt terms setup H f i h rest is v p cell at }
+            record {
+              past = h;
+              seen = v;
+              late = low;
+              soon = omega arith;
+              w = giver.w;
+              well = giver.well;
+              fixes = λ y a k. k;
+              after = none-after H h v;
+              pending = λ unrefused soon. whole mt terms setup H f i h rest is v p cell at unrefused (λ none k before left low_. unleft cell at soon none k before left low_);
+            }
 
         unsent : (cell : Cell) → cell.state ≡ Waits Unsent → rest_of (Some cell) ≡ None → ⊥
         unsent cell state none = by (is_in_flight cell.state) refl none
@@ -231,8 +264,8 @@ module _ (mt : Mounted) (terms : Terms) (setup : Setup) (H : List Entry) (f : Li
   -- ---- each step
 
   pub stirs-flights : (h rest : List Entry) (is : h ++ rest ≡ H) (old new : View) (at : ℕ) → Known setup h old → (t : Stirs old at new) → Flying setup h old → Phase mt terms setup H f i h new
-      → Flights h old → Flights h new
-  stirs-flights h rest is old new at k t flying p fl xid w waits x op u piece there =
+      → Based mt terms setup H V g f h new → DropsKnown terms.modes h new → Flights h old → Flights h new
+  stirs-flights h rest is old new at k t flying p based drops fl xid w waits x op u piece there =
       by (leads-waited Never setup h v (same-rows setup h old v refl k.rows) new at t.number t.after t.next
       (resumes-made old.wsize (turn_at old) t.machine old.shelf t.next t.after t.shelf t.resumes (unused-next setup h old k.rows flying.flown)) t.leads xid w waits)
     where
@@ -251,16 +284,16 @@ module _ (mt : Mounted) (terms : Terms) (setup : Setup) (H : List Entry) (f : Li
           let some = not-zero setup h old k.rows xid w was in
           let same = resumes-under old.wsize (turn_at old) xid apart t.machine old.shelf t.next t.after t.shelf t.resumes f in
           let after = leads-under Never setup h v (same-rows setup h old v refl k.rows) mt new at t.number t.after t.next t.leads xid apart some f in
-          shown-more x h old h new piece.offset piece.bytes (omega arith) (fixed-turns f h h old new at t.number turned.x turned.op came.state turned.turns)
+          shown-more x h old h new piece.offset piece.bytes (omega arith) (fixed-turns f h h old new at t.number turned.x turned.op came.state turned.turns) (none-after H h old)
           (fl xid w was x op u piece (sym same ∙ sym after ∙ there))
       by (inr made) =
           let own = subst (λ (n : ℕ). piece_under n (of_file f new.shelf.back).pieces ≡ Some piece) made.0 there in
-          made-shown h rest is new p (next_xid old.calls) piece own x (let low = u.before in omega (arith, low)) Never (λ none. absurd none) (made.2 f piece own)
+          made-shown h rest is new p based drops (next_xid old.calls) piece own x (let low = u.before in omega (arith, low)) Never (λ none. absurd none) (made.2 f piece own)
 
   pub starts-flights : (h rest : List Entry) (lane line : ℕ) (op : Op) → (h ++ Began lane line op ∷ []) ++ rest ≡ H → (old new : View) (now : ℕ) → Known setup h old → IsIdle lane old.lanes
-      → (t : StartsLane (counted old now) lane (machine_of mt lane op) new) → Flying setup h old → Phase mt terms setup H f i (h ++ Began lane line op ∷ []) new → Flights h old
-      → Flights (h ++ Began lane line op ∷ []) new
-  starts-flights h rest lane line op is old new now k idle t flying p fl xid w waits x o u piece there =
+      → (t : StartsLane (counted old now) lane (machine_of mt lane op) new) → Flying setup h old → Phase mt terms setup H f i (h ++ Began lane line op ∷ []) new
+      → Based mt terms setup H V g f (h ++ Began lane line op ∷ []) new → DropsKnown terms.modes (h ++ Began lane line op ∷ []) new → Flights h old → Flights (h ++ Began lane line op ∷ []) new
+  starts-flights h rest lane line op is old new now k idle t flying p based drops fl xid w waits x o u piece there =
       by (leads-waited Never setup h v (same-rows setup h old v refl k.rows) new (length old.lanes) lane t.after t.next
       (starts-made old.wsize (turn_at (counted old now)) (machine_of mt lane op) old.shelf t.next t.after t.shelf t.starts (unused-next setup h old k.rows flying.flown)) t.leads xid w waits)
     where
@@ -279,16 +312,18 @@ module _ (mt : Mounted) (terms : Terms) (setup : Setup) (H : List Entry) (f : Li
           let before = under-was h (Began lane line op) w.purpose.lane x o (λ l p_ e. idle-calls setup h old k lane idle xid w was (sym (began-lane lane line w.purpose.lane l op p_ e))) u in
           shown-more x h old (h ++ Began lane line op ∷ []) new piece.offset piece.bytes (let more = length_last h (Began lane line op) in omega (arith, more))
           (fixed-turns f h (h ++ Began lane line op ∷ []) old new (length old.lanes) lane (length h) op came.state (turns-starts f h old new lane line op came.state idle came.but))
+          (one-after H h rest (Began lane line op) is old (λ b e. absurd cc))
           (fl xid w was x o before piece (sym same ∙ sym after ∙ there))
       by (inr made) =
           let own = subst (λ (n : ℕ). piece_under n (of_file f new.shelf.back).pieces ≡ Some piece) made.0 there in
-          made-shown (h ++ Began lane line op ∷ []) rest is new p (next_xid old.calls) piece own x (let low = u.before in omega (arith, low)) Never (λ none. absurd none) (made.2 f piece own)
+          made-shown (h ++ Began lane line op ∷ []) rest is new p based drops (next_xid old.calls) piece own x (let low = u.before in omega (arith, low)) Never (λ none. absurd none) (made.2 f piece own)
 
   -- the lane whose call is answered may ask for it again
   module _ (h rest : List Entry) (rec : List ℕ) (is : (h ++ Delivered rec ∷ []) ++ rest ≡ H) (old new : View) (asked : ℕ) (call : Waiting Purpose) (at : ℕ) (k : Known setup h old)
       (waits : waiting_at asked old.calls.calls ≡ Some call) (t : TakesAt (taken_one old asked) at call.purpose.sent (said_of call.purpose.proc rec) new) (flying : Flying setup h old)
       (number-of : call.purpose.lane ≡ t.number) (run_x : ℕ) (run_op : Op) (under : UnderWay h call.purpose.lane run_x (length h) run_op) (runs : Runs (h ++ Delivered rec ∷ []) t.number)
-      (under2 : UnderWay (h ++ Delivered rec ∷ []) t.number run_x (length (h ++ Delivered rec ∷ [])) run_op) (p : Phase mt terms setup H f i (h ++ Delivered rec ∷ []) new) (fl : Flights h old) where
+      (under2 : UnderWay (h ++ Delivered rec ∷ []) t.number run_x (length (h ++ Delivered rec ∷ [])) run_op) (p : Phase mt terms setup H f i (h ++ Delivered rec ∷ []) new)
+      (based : Based mt terms setup H V g f (h ++ Delivered rec ∷ []) new) (drops : DropsKnown terms.modes (h ++ Delivered rec ∷ []) new) (noted : AllNoted old) (fl : Flights h old) where
     abbrev pub h2 : List Entry
     h2 = h ++ Delivered rec ∷ []
 
@@ -319,6 +354,9 @@ module _ (mt : Mounted) (terms : Terms) (setup : Setup) (H : List Entry) (f : Li
     turned : Turned f h h2 old new at t.number came.state
     turned = turns-takes f setup h old new at t.number t.machine came.state k t.there came.but rec
 
+    after_ : CameAfter H h old h2
+    after_ = one-after H h rest (Delivered rec) is old (λ b e. noted)
+
     fixed_ : StaysFixed h old h2 new
     fixed_ = fixed-turns f h h2 old new at t.number turned.x turned.op came.state turned.turns
 
@@ -345,7 +383,7 @@ module _ (mt : Mounted) (terms : Terms) (setup : Setup) (H : List Entry) (f : Li
                 t.shelf t.takes f in
                 let after = leads-under Asked setup h v rows mt new at t.number t.after t.next t.leads xid apart some f in
                 let before = under-was h (Delivered rec) w.purpose.lane x op (λ l p_ e. absurd (cc e)) u in
-                shown-more x h old h2 new piece.offset piece.bytes more fixed_ (fl xid w was x op before piece (sym same ∙ sym after ∙ there))
+                shown-more x h old h2 new piece.offset piece.bytes more fixed_ after_ (fl xid w was x op before piece (sym same ∙ sym after ∙ there))
 
         by : Waited Asked setup h v rows t.number xid w new → Shown x h2 new piece.offset piece.bytes
         by (inl was) = left was
@@ -353,25 +391,27 @@ module _ (mt : Mounted) (terms : Terms) (setup : Setup) (H : List Entry) (f : Li
             let own = subst (λ (n : ℕ). piece_under n (of_file f new.shelf.back).pieces ≡ Some piece) made.0 there in
             let its : UnderWay h2 t.number x (length h2) op = subst (λ (n : ℕ). UnderWay h2 n x (length h2) op) made.1 u in
             let same : x ≡ run_x = (one-under h2 t.number run_x x run_op op runs under2 its).0 in
-            made-shown h2 rest is new p (next_xid old.calls) piece own x (let low = u.before in omega (arith, low)) Asked
-            (λ asked_. shown-more x h old h2 new piece.offset piece.bytes more fixed_ (subst (λ (n : ℕ). Shown n h old piece.offset piece.bytes) (sym same) (asked_ refl)))
+            made-shown h2 rest is new p based drops (next_xid old.calls) piece own x (let low = u.before in omega (arith, low)) Asked
+            (λ asked_. shown-more x h old h2 new piece.offset piece.bytes more fixed_ after_ (subst (λ (n : ℕ). Shown n h old piece.offset piece.bytes) (sym same) (asked_ refl)))
             (made.2 f piece own)
 
   -- ---- other entries
 
-  pub answers-flights : (h : List Entry) (old new : View) (at lane line : ℕ) (answer : Answer) → Known setup h old → IsOpenLine h lane line → AnswersAt old at lane (Some answer) new → Flights h old → Flights (h ++ Answered lane line answer ∷ []) new
-  answers-flights h old new at lane line answer k open_line a fl xid w waits x op u piece there =
+  pub answers-flights : (h rest : List Entry) (old new : View) (at lane line : ℕ) (answer : Answer) → (h ++ Answered lane line answer ∷ []) ++ rest ≡ H → Known setup h old
+      → IsOpenLine h lane line → AnswersAt old at lane (Some answer) new → Flights h old → Flights (h ++ Answered lane line answer ∷ []) new
+  answers-flights h rest old new at lane line answer is k open_line a fl xid w waits x op u piece there =
       shown-more x h old (h ++ Answered lane line answer ∷ []) new piece.offset piece.bytes (let more = length_last h (Answered lane line answer) in omega (arith, more))
-      (fixed-answers setup h old new at lane line answer k open_line a)
+      (fixed-answers setup h old new at lane line answer k open_line a) (one-after H h rest (Answered lane line answer) is old (λ b e. absurd cc))
       (fl xid w (sym (ap (λ (z : View). waiting_at xid z.calls.calls) a.is) ∙ waits) x op (under-answers-back h lane line answer w.purpose.lane x op u) piece
       (sym (ap (λ (z : View). piece_under xid (of_file f z.shelf.back).pieces) a.is) ∙ there))
 
-  pub same-flights : (h : List Entry) (e : Entry) (old new : View) → IsPlain e → new.lanes ≡ old.lanes → new.shelf ≡ old.shelf → SameCalls old.calls.calls new.calls.calls → Flights h old → Flights (h ++ e ∷ []) new
-  same-flights h e old new plain lanes shelf calls fl xid w waits x op u piece there =
+  pub same-flights : (h rest : List Entry) (e : Entry) (old new : View) → (h ++ e ∷ []) ++ rest ≡ H → ((b : List ℕ) → e ≡ Delivered b → AllNoted old) → IsPlain e → new.lanes ≡ old.lanes → new.shelf ≡ old.shelf → SameCalls old.calls.calls new.calls.calls → Flights h old → Flights (h ++ e ∷ []) new
+  same-flights h rest e old new is noted plain lanes shelf calls fl xid w waits x op u piece there =
       let was = calls.waited xid w waits in
       let lane : was.was.purpose.lane ≡ w.purpose.lane = ap (λ (q : Purpose). q.lane) (sym was.purpose) in
       let before = under-plain-back h e w.purpose.lane x op plain u in
       shown-more x h old (h ++ e ∷ []) new piece.offset piece.bytes (let more = length_last h e in omega (arith, more)) (fixed-same h e old new plain lanes)
+      (one-after H h rest e is old noted)
       (fl xid was.was was.waited x op (subst (λ (n : ℕ). UnderWay h n x (length h) op) (sym lane) before) piece
       (sym (ap (λ (s : Shelf). piece_under xid (of_file f s.back).pieces) shelf) ∙ there))
 

@@ -1,4 +1,4 @@
--- At any moment of a history the newest byte that is pending at a place is outstanding.
+-- At any moment of a history the newest byte that is pending at a place may be so by `Pending` of claims.
 use Rattle.std.proofs.Common.{◌≡◌, ◌≤◌, ◌<◌, ℕ, List, ◌++◌, length, Some, refl, sym, subst, arith}
 use Rattle.world_model.specs.declared.answer.Answer.{Answer}
 use Rattle.world_model.specs.declared.answer.Answer.TheVariants as answers
@@ -8,7 +8,7 @@ use Rattle.world_model.specs.declared.op.Op.{Op}
 use Rattle.world_model.specs.declared.op.Op.TheVariants as ops
 use Rattle.world_model.specs.Entries.{At}
 use Rattle.world_model.specs.Operations.{AnsweredBefore, Ended}
-use Rattle.claims.specs.Pending.{Outstanding, PutSucceeded}
+use Rattle.claims.specs.Pending.{LeftAlone, Pending, PutRefused, PutSucceeded}
 use Rattle.claims.specs.Slots.{PutsTo}
 use Rattle.claims.specs.Terms.{Terms}
 use Rattle.claims.specs.Touched.{RefusedWrite, MadeStable, Truncated, Wrote}
@@ -114,9 +114,11 @@ module _ (mt : Mounted) (terms : Terms) (setup : Setup) (H : List Entry) (f : Li
         given.unput (of-write IsPut given.w d.lane d.ended.line (ops.Put d.path d.offset d.bytes) d.ended.began tt) d.value
         (fixed d.lane given.w d.y (ops.Put d.path d.offset d.bytes) (answers.Done d.value) d.ended d.before)
 
-    -- where it is no write that is refused later
-    pub outstanding : (RefusedWrite H given.w → ⊥) → Outstanding terms.modes terms.origin H f i (length h) cell.byte
-    outstanding unrefused = record {
+    -- where it is no write that is refused later, and no last close left the file alone since
+    pub whole : (RefusedWrite H given.w → ⊥)
+        → ((PutRefused H given.w → ⊥) → (k : ℕ) → AnsweredBefore H given.w k → LeftAlone terms.modes H k f → k < length h → ⊥)
+        → Pending terms.modes terms.origin H f i (length h) cell.byte
+    whole unrefused unleft = record {
       w = given.w;
       before = given.began;
       writes = given.writes;
@@ -125,4 +127,5 @@ module _ (mt : Mounted) (terms : Terms) (setup : Setup) (H : List Entry) (f : Li
       uncovered = λ x y u before wrote_ low. uncovered-by x y u before wrote_ low;
       uncut = λ x y size before t least low. uncut-by x y size before t least low;
       unsettled = λ x y before made low. unsettled-by x y before made low;
+      unleft = unleft;
     }

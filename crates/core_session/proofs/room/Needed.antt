@@ -39,6 +39,8 @@ use Rattle.core_session.specs.calls.Whole.{GoesFrom}
 use Rattle.core_session.proofs.calls.Causes.{Now, Spelt, under-now, cause, reads-keep}
 use Rattle.core_session.proofs.calls.Outgoing.{Outgoing}
 use Rattle.core_session.proofs.calls.OwnBytes.{own-bytes}
+use Rattle.core_session.proofs.calls.TableHeld.{AllNoted}
+use Rattle.core_session.proofs.asked.Passed.{sends-passed}
 use Rattle.core_session.proofs.calls.Whole.{session, calls-asked-but}
 use Rattle.core_session.proofs.calls.WriteKeeps.{writes-keep}
 use Rattle.core_session.specs.room.Needed.{IsLeft, makes_room, removes, IsMadeInNeed, RoomIsNeeded, IsCausedInNeed, SessionsCallsNeeded}
@@ -238,16 +240,16 @@ module _ (m : Mounted) (terms : Terms) (setup : Setup) (h : List Entry) (v : Vie
   }
 
   -- what it keeps to
-  its-keeps : KeepsTo terms h w.x i Its
-  its-keeps = record {
+  its-keeps : AllNoted w.old → KeepsTo terms h w.x i Its
+  its-keeps noted = record {
     read = reads-keep m terms setup h v s i bytes w its-asked;
     write = λ f text offset how is. writes-keep m terms setup h v s i bytes w f text offset how is;
-    own = λ f text offset how is k b has. own-bytes m terms setup h v s i bytes w on f text offset how is k b has;
+    own = λ f text offset how is k b has. own-bytes m terms setup h v s i bytes w on noted f text offset how is k b has;
   }
 
-  pub caused-in-need : IsCaused terms h i bytes ⊎ IsCausedInNeed terms h i bytes
-  caused-in-need = elim its-cause [
-    | inl asks ↦ inl (record { xid = w.xid; call = Its; made = its-made; cause = asked w.waiting.purpose.lane w.x w.op under asks its-keeps })
+  pub caused-in-need : AllNoted w.old → IsCaused terms h i bytes ⊎ IsCausedInNeed terms h i bytes
+  caused-in-need noted = elim its-cause [
+    | inl asks ↦ inl (record { xid = w.xid; call = Its; made = its-made; cause = asked w.waiting.purpose.lane w.x w.op under asks (its-keeps noted) })
     | inr left ↦ inr (record {
       xid = w.xid;
       call = Its;
@@ -257,7 +259,7 @@ module _ (m : Mounted) (terms : Terms) (setup : Setup) (h : List Entry) (v : Vie
       op = w.op;
       under_way = under;
       left = left;
-      keeps = its-keeps;
+      keeps = its-keeps noted;
     })
   ]
 
@@ -270,15 +272,15 @@ room-needed m terms setup h v s i bytes at = elim (reached-on (machine_of m) (be
 ]
 
 pub calls-needed : SessionsCallsNeeded
-calls-needed m terms setup before h v g =
-    let but = calls-asked-but m terms setup before h v g in
+calls-needed m terms setup before h v g n =
+    let but = calls-asked-but m terms setup before h v g n in
     let s = session m terms setup before h v g in
     record {
       caused = λ i bytes at. elim (but.caused i bytes at) [
         | inl caused ↦ inl caused
-        | inr beside ↦ elim (reached-on (machine_of m) (begins-unbegun m) setup h v g.goes.reaches i bytes at) [
+        | inr beside ↦ elim (sends-passed (machine_of m) (begins-unbegun m) setup h v n i bytes at) [
           | inl none ↦ let u = beside.under_way in absurd (none beside.x beside.lane u.line beside.op u.began u.before)
-          | inr sent ↦ caused-in-need m terms setup h v s i bytes sent.out sent.on
+          | inr sent ↦ caused-in-need m terms setup h v s i bytes sent.out sent.on sent.noted
         ]
       ];
       among = but.among;

@@ -17,9 +17,11 @@ use Rattle.world_model.specs.ReadSize.{ReadSized}
 use Rattle.claims.specs.Terms.{Terms}
 use Rattle.world_model.specs.Waiting.{Answers}
 use Rattle.op_machines.specs.declared.begun.Mounted.{Mounted}
+use Rattle.op_machines.specs.Begun.{machine_of}
 use Rattle.client_core.specs.declared.setup.Setup.{Setup}
 use Rattle.client_core.specs.View.{View}
 use Rattle.core_facts.specs.SlotAnswers.{GoesWith}
+use Rattle.core_facts.specs.Notes.{Notes}
 use Rattle.core_session.specs.calls.Made.{IsBeside}
 use Rattle.core_session.specs.calls.Sessions.{AreAsked}
 
@@ -71,8 +73,10 @@ pub record CallsAskedBut (terms : Terms) (h : List Entry) : Type 0 where
       → AreSetUp call other → x ≡ y
   pub unrepeated : (g i xid : ℕ) (reply bytes : List ℕ) → Answers h g xid reply → At h i (Sent bytes) → HasXid bytes xid → i < g
 
+-- Of a session in which each answer that is ready is noted before a record is sent or received.
 abbrev pub SessionsCallsAsked : Type 0
-SessionsCallsAsked = (m : Mounted) (terms : Terms) (setup : Setup) (before h : List Entry) (v : View) → GoesFrom m terms setup before h v → CallsAskedBut terms h
+SessionsCallsAsked = (m : Mounted) (terms : Terms) (setup : Setup) (before h : List Entry) (v : View) → GoesFrom m terms setup before h v → Notes (machine_of m) setup h v
+    → CallsAskedBut terms h
 
 -- Each WRITE carries a byte.
 abbrev pub WritesCarryBytes : Type 0
@@ -84,5 +88,5 @@ abbrev pub BesideAsked : Terms → List Entry → Type 0
 BesideAsked terms h = (lane x i : ℕ) (op : Op) (call : Call) → UnderWay h lane x i op → IsBeside terms h x i op call → Asks terms h x i op call
 
 abbrev pub AllCallsAsked : Type 0
-AllCallsAsked = (m : Mounted) (terms : Terms) (setup : Setup) (before h : List Entry) (v : View) → GoesFrom m terms setup before h v → BesideAsked terms h
-    → CallsAsked terms h
+AllCallsAsked = (m : Mounted) (terms : Terms) (setup : Setup) (before h : List Entry) (v : View) → GoesFrom m terms setup before h v → Notes (machine_of m) setup h v
+    → BesideAsked terms h → CallsAsked terms h

@@ -21,8 +21,10 @@ use Rattle.world_model.specs.Messages.{SpellsCall}
 use Rattle.world_model.specs.Operations.{Ended}
 use Rattle.claims.specs.Terms.{Terms}
 use Rattle.op_machines.specs.declared.begun.Mounted.{Mounted}
+use Rattle.op_machines.specs.Begun.{machine_of}
 use Rattle.client_core.specs.declared.setup.Setup.{Setup}
 use Rattle.client_core.specs.View.{View}
+use Rattle.core_facts.specs.Notes.{Notes}
 use Rattle.core_session.specs.calls.Whole.{GoesFrom}
 use Rattle.core_session.specs.outcomes.Refusals.{IsRowed}
 
@@ -40,12 +42,12 @@ pub record IsServed (t : History) : Type 0 where
 -- So served, each operation goes well, or finds its slot taken or free, no right, no file, too many names, no calls left, or no memory.
 abbrev pub ServedComplete : Type 0
 ServedComplete = (m : Mounted) (terms : Terms) (setup : Setup) (before : List Entry) (t : History) (v : View) → GoesFrom m terms setup before t.entries v
-    → CarriesBytes t.entries → IsServed t
+    → Notes (machine_of m) setup t.entries v → CarriesBytes t.entries → IsServed t
     → (lane x y : ℕ) (op : Op) (answer : Answer) → Ended t.entries lane x op y answer → IsOwn answer
 
 -- The same in a session that nothing disturbs (`world_model`), where operations may go on from a status; but for refusals by a status that have no row yet.
 abbrev pub UndisturbedComplete : Type 0
 UndisturbedComplete = (m : Mounted) (terms : Terms) (setup : Setup) (before : List Entry) (t : History) (v : View) → GoesFrom m terms setup before t.entries v
-    → CarriesBytes t.entries → Undisturbed terms t
+    → Notes (machine_of m) setup t.entries v → CarriesBytes t.entries → Undisturbed terms t
     → (lane x y : ℕ) (op : Op) (answer : Answer) → ((n : ℕ) → answer ≡ Refused (faults.Nfs n) → IsRowed op (faults.Nfs n)) → Ended t.entries lane x op y answer
     → IsOwn answer

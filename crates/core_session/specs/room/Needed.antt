@@ -13,8 +13,10 @@ use Rattle.world_model.specs.Operations.{UnderWay}
 use Rattle.claims.specs.Terms.{Terms}
 use Rattle.world_model.specs.Waiting.{Answers}
 use Rattle.op_machines.specs.declared.begun.Mounted.{Mounted}
+use Rattle.op_machines.specs.Begun.{machine_of}
 use Rattle.client_core.specs.declared.setup.Setup.{Setup}
 use Rattle.client_core.specs.View.{View}
+use Rattle.core_facts.specs.Notes.{Notes}
 use Rattle.core_answers.specs.asks.PutCalls.{IsForRoom}
 use Rattle.core_answers.specs.asks.SlotCalls.{IsRemoval}
 use Rattle.core_session.specs.calls.Sessions.{IsSession}
@@ -66,4 +68,5 @@ pub record CallsAskedInNeed (terms : Terms) (h : List Entry) : Type 0 where
   pub unrepeated : (g i xid : ℕ) (reply bytes : List ℕ) → Answers h g xid reply → At h i (Sent bytes) → HasXid bytes xid → i < g
 
 abbrev pub SessionsCallsNeeded : Type 0
-SessionsCallsNeeded = (m : Mounted) (terms : Terms) (setup : Setup) (before h : List Entry) (v : View) → GoesFrom m terms setup before h v → CallsAskedInNeed terms h
+SessionsCallsNeeded = (m : Mounted) (terms : Terms) (setup : Setup) (before h : List Entry) (v : View) → GoesFrom m terms setup before h v → Notes (machine_of m) setup h v
+    → CallsAskedInNeed terms h

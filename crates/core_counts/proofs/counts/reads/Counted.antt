@@ -91,7 +91,7 @@ module _ (m : Mounted) (terms : Terms) (setup : Setup) (before h : List Entry) (
 
   size-is : (root : List ℕ) (rsize : ℕ) → Rooted terms.origin h (length h) root → ReadSized h (length h) root terms.rsize rsize → m.rsize ≡ rsize
   size-is root rsize rooted sized =
-      let asked = calls-asked-but m terms setup before h v g in
+      let asked = calls-asked-but m terms setup before h v g notes in
       let same = one-root terms h asked (length before) (length h) m.root root
       (subst (λ (k : List Entry). Rooted terms.origin k (length before) m.root) (sym g.grows) (Rooted-grow terms.origin before g.more (length before) m.root g.set_up.root)) rooted in
       one-size terms h asked (length before) (length h) root terms.rsize m.rsize rsize

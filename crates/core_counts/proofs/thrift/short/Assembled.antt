@@ -117,7 +117,7 @@ module _ (pends : PendsSo) (plain : PlainSo) (older : OlderSo) (m : Mounted) (te
   Covered = CoveredEarlier h i f (end + 1)
 
   size : s.wsize ≡ setup.wsize
-  size = session-write-size terms h (calls-asked-but m terms setup start h v from) m setup start v from i s.root s.wsize s.rooted s.sized
+  size = session-write-size terms h (calls-asked-but m terms setup start h v from notes) m setup start v from i s.root s.wsize s.rooted s.sized
 
   short : length s.data_ < setup.wsize
   short = subst (λ (n : ℕ). length s.data_ < n) size s.short
