@@ -3,8 +3,8 @@
 use crate::case::Case;
 use crate::show::show_text;
 use crate::text::{size_of, words_of};
-use run_made::run_made;
 use outside::{MemSink, TickClock};
+use run_made::run_made;
 use std::alloc::Global;
 use std::io;
 use world_link::{ScheduleFault, World, parse_schedule};

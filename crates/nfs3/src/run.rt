@@ -2,9 +2,9 @@
 
 use crate::ending::Ending;
 use net_edge::{StandardInput, StandardOutput, SystemClock, TcpWire, UdpDatagrams};
-use run_ports::run_found;
 use port_words::udp_words;
 use rpc_record::StreamLink;
+use run_ports::run_found;
 use udp_link::UdpLink;
 
 /// Runs the words with the server at the host of that name or address, over TCP. Its port mapper is asked over a connection of its

@@ -47,7 +47,7 @@ module _ (s : Settings) (first : ℕ) (v : SetUp) (before h : List Entry) (so : 
   sent-nfs i xid call bytes spells after =
       let n = sent_now after.old bytes after.new after.step in
       let rows : Rows (setup_of s v) after.before after.old = reached-rows (machine_of (mounted_by s (setup_of s v))) (setup_of s v) after.before after.old
-          (notes-reach (machine_of (mounted_by s (setup_of s v))) (setup_of s v) after.before after.old after.notes) in
+      (notes-reach (machine_of (mounted_by s (setup_of s v))) (setup_of s v) after.before after.old after.notes) in
       let waits = at_sent after.old.calls.cred after.old.calls.first_xid (next_xid after.old.calls) n.xid after.old.calls.calls n.call rows.sound.calls.each n.due in
       let made = (rows.rows n.xid n.call waits.before).made in
       let spelled : SpellsCall n.xid made.asked bytes = subst (λ (b : List ℕ). SpellsCall n.xid made.asked b) (sym n.bytes_is) made.spells.spells in

@@ -9,8 +9,8 @@ ghost use Rattle.world_link.specs.Replay.{told};
 ghost use Rattle.world_link.specs.View.{seen};
 ghost use Rattle.run_replay.specs.Replays.{IsRead, MadeReplayOf};
 
-use run_made::run_made;
 use outside::{Sink, TickClock};
+use run_made::run_made;
 use std::alloc::Global;
 use world_link::{ScheduleFault, World, parse_schedule};
 

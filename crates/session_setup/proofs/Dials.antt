@@ -46,8 +46,8 @@ still-sends (e ∷ more) (suc i) bytes s at = still-sends more i bytes s.1 at
 connect-sends : (port : ℕ) (result : Result (Unit {0}) Stop) (h k : List Entry) → Connects result h k → Dials port h k → SendsTo port h k
 connect-sends port result h k con d =
     sends-none port h k d (λ i bytes at low.
-        let b = behind h con.more i (Sent bytes) (subst (λ (l : List Entry). At l i (Sent bytes)) con.is at) low in
-        still-sends con.more b.0 bytes con.still b.1)
+    let b = behind h con.more i (Sent bytes) (subst (λ (l : List Entry). At l i (Sent bytes)) con.is at) low in
+    still-sends con.more b.0 bytes con.still b.1)
 
 pub reaches_ok : (port : ℕ) (a b : Option History) → Along a b (Connects (Ok tt)) → DialsOnly port a b → Relates a b (λ h k. DialedLast k (length k) port)
     → Relates a b (λ h k. SendsTo port h k × DialedLast k (length k) port)

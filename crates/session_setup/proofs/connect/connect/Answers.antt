@@ -43,7 +43,7 @@ pub returns-in-Ok-clause-reaches : goal.returns-in-Ok-clause-reaches
 returns-in-Ok-clause-reaches g c =
     let told = c.in-Ok.ensures.told in
     let goes = along_then _ _ _ _ Goes _ (λ h k l p q t w. connects_ok c.loop.counter h k l t w) c.loop.invariant.goes
-        (along_call _ _ _ _ told (λ a b p. goes_by a b (Dialed c.args.port ∷ []) (tt, tt) p)) in
+    (along_call _ _ _ _ told (λ a b p. goes_by a b (Dialed c.args.port ∷ []) (tt, tt) p)) in
     let dials = dials_then _ _ _ _ c.loop.invariant.dials (dials_dialed c.args.port _ _ c.dial.result c.dial.ensures.told) in
     reaches_ok c.args.port _ _ goes dials (dialed_last c.args.port _ _ _ c.loop.invariant.dials told)
 
