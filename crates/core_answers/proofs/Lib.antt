@@ -1,3 +1,4 @@
+pub mod Prelude
 pub mod bonds
 pub mod paths
 pub mod pages

@@ -1,3 +1,4 @@
+pub mod Prelude
 pub mod coarse
 pub mod thrift
 pub mod counts

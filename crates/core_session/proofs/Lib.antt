@@ -1,3 +1,4 @@
+pub mod Prelude
 pub mod saves
 pub mod order
 pub mod drops

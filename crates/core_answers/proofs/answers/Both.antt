@@ -1,13 +1,7 @@
 -- Two relations that say for which calls the operations wait hold together.
-use Rattle.std.proofs.Common.{ℕ}
-use Rattle.world_model.specs.declared.message.Call.{Call}
-use Rattle.client_shelf.specs.declared.next.Next.{Next}
+use Rattle.core_answers.proofs.Prelude.{ℕ, Call, Next, Machine, in_flight, ExpectLaws, AskedOf, KeptOf}
 use Rattle.client_shelf.specs.declared.next.Next.TheVariants as nexts
-use Rattle.op_machines.specs.declared.machine.Machine.{Machine}
-use Rattle.core_facts.specs.InFlight.{in_flight}
 use Rattle.core_facts.proofs.Expecting.{Expects, expects-starts, expects-resumes, expects-takes}
-use Rattle.core_facts.proofs.Expects.{ExpectLaws}
-use Rattle.core_facts.proofs.Steps.{AskedOf, KeptOf}
 
 module _ (E F : Machine → Call → Type 0) where
   abbrev pub Both : Machine → Call → Type 0

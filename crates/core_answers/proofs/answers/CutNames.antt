@@ -1,29 +1,13 @@
 -- The call for which a truncate waits is the SETATTR of the size of its file.
-use Rattle.std.proofs.Common.{◌≡◌, ◌≤◌, ◌+◌, ℕ, Bool, true, false, List, Result, Ok, Err, inl, inr, refl, sym, ap, subst, ◌∙◌, arith}
-use Rattle.std.specs.Prelude.{if◌then◌else◌}
-use Rattle.world_model.specs.declared.answer.Fault.{Fault}
-use Rattle.world_model.specs.declared.message.Call.{Call}
-use Rattle.world_model.specs.declared.message.Reply.{Reply}
-use Rattle.nfs_types.specs.declared.wcc.Wcc.{Wcc}
-use Rattle.client_shelf.specs.declared.next.Next.{Next}
+use Rattle.core_answers.proofs.Prelude.{◌≡◌, ◌≤◌, ◌+◌, ℕ, Bool, true, false, List, Result, Ok, Err, inl, inr, refl, sym, ap, subst, ◌∙◌, arith, if◌then◌else◌, Fault, Call, Reply, Wcc, Next, Shelf, Turn, TruncateFile, Truncating, joined, FileMachine, Machine, Starts, Resumes, Takes, of_truncating, in_flight, ExpectLaws, AskedOf, KeptOf}
 use Rattle.client_shelf.specs.declared.next.Next.TheVariants as nexts
-use Rattle.client_shelf.specs.declared.shelf.Shelf.{Shelf}
-use Rattle.client_shelf.specs.declared.turn.Turn.{Turn}
-use Rattle.file_ops.specs.declared.truncate_file.TruncateFile.{TruncateFile}
-use Rattle.file_ops.specs.declared.truncate_file.Truncating.{Truncating}
 use Rattle.file_ops.specs.declared.truncate_file.Truncating.TheVariants as truncating
-use Rattle.file_ops.specs.SlotFiles.{joined}
 use Rattle.file_ops.specs.TruncateFile as truncates
-use Rattle.op_machines.specs.declared.file_machine.FileMachine.{FileMachine}
 use Rattle.op_machines.specs.declared.file_machine.FileMachine.TheVariants as files
-use Rattle.op_machines.specs.declared.machine.Machine.{Machine}
 use Rattle.op_machines.specs.declared.machine.Machine.TheVariants as machines
 use Rattle.op_machines.specs.FileSteps as steps
-use Rattle.op_machines.specs.Steps.{Starts, Resumes, Takes}
-use Rattle.core_facts.specs.InFlight.{of_truncating, of_file, in_flight}
-use Rattle.core_facts.proofs.Expects.{ExpectLaws}
+use Rattle.core_facts.specs.InFlight.{of_file}
 use Rattle.core_facts.proofs.NamesAwaited.{none-left, rests-kept}
-use Rattle.core_facts.proofs.Steps.{AskedOf, KeptOf}
 
 abbrev pub CutAwaits : Truncating → ℕ → Call → Type 0
 CutAwaits truncating.Idle size call = Unit {0}

@@ -1,56 +1,22 @@
 -- A truncate goes well only with the reply to SETATTR of the size of the file that its slot holds.
-use Rattle.std.proofs.Common.{◌≡◌, ℕ, Bool, true, false, List, [], ◌∷◌, ◌++◌, length, Option, Some, None, Result, Ok, Err, refl, sym, ap, subst, ◌∙◌}
-use Rattle.std.specs.Prelude.{if◌then◌else◌}
+use Rattle.core_answers.proofs.Prelude.{◌≡◌, ℕ, Bool, true, false, List, [], ◌∷◌, ◌++◌, length, Option, Some, None, Result, Ok, Err, refl, sym, ap, subst, ◌∙◌, if◌then◌else◌, Mode, Wcc, FileKept, Opened, Answer, Fault, Value, Entry, Began, Call, Reply, Op, Modes, EndsWith, Next, Shelf, Turn, TruncateFile, Truncating, in_mode, of_open, joined, Mounted, Machine, machine_of, Starts, Resumes, Takes, State, Busy, Over, Setup, begins-unbegun, Held, held-later, always-later, held-begins, Given, is-given, ends-later, ends-until, ThenOf, IsQuiet, AsksFor}
 use Rattle.std.specs.FinMap as finite
-use Rattle.nfs_types.specs.declared.mode.Mode.{Mode}
 use Rattle.nfs_types.specs.declared.mode.Mode.TheVariants as modes
-use Rattle.nfs_types.specs.declared.wcc.Wcc.{Wcc}
-use Rattle.nfs_file_calls.specs.declared.owned.FileKept.{FileKept}
 use Rattle.nfs_file_calls.specs.declared.owned.FileKept.TheVariants as kept
-use Rattle.open_files.specs.declared.opened.Opened.{Opened}
-use Rattle.world_model.specs.declared.answer.Answer.{Answer}
 use Rattle.world_model.specs.declared.answer.Answer.TheVariants as answers
-use Rattle.world_model.specs.declared.answer.Fault.{Fault}
 use Rattle.world_model.specs.declared.answer.Fault.TheVariants as faults
-use Rattle.world_model.specs.declared.answer.Value.{Value}
 use Rattle.world_model.specs.declared.answer.Value.TheVariants as values
-use Rattle.world_model.specs.declared.entry.Entry.{Entry}
-use Rattle.world_model.specs.declared.entry.Entry.TheVariants.{Began}
-use Rattle.world_model.specs.declared.message.Call.{Call}
-use Rattle.world_model.specs.declared.message.Reply.{Reply}
 use Rattle.world_model.specs.declared.message.Reply.TheVariants as replies
-use Rattle.world_model.specs.declared.op.Op.{Op}
 use Rattle.world_model.specs.declared.op.Op.TheVariants as ops
 use Rattle.claims.specs.Asks as asks
-use Rattle.claims.specs.Modes.{Modes}
 use Rattle.claims.specs.OkRows.{OkRow}
-use Rattle.world_model.specs.Operations.{EndsWith}
 use Rattle.claims.specs.Rights.{can_write}
 use Rattle.claims.specs.Slots.{InSlot}
-use Rattle.client_shelf.specs.declared.next.Next.{Next}
 use Rattle.client_shelf.specs.declared.next.Next.TheVariants as nexts
-use Rattle.client_shelf.specs.declared.shelf.Shelf.{Shelf}
-use Rattle.client_shelf.specs.declared.turn.Turn.{Turn}
-use Rattle.file_ops.specs.declared.truncate_file.TruncateFile.{TruncateFile}
-use Rattle.file_ops.specs.declared.truncate_file.Truncating.{Truncating}
 use Rattle.file_ops.specs.declared.truncate_file.Truncating.TheVariants as truncating
-use Rattle.file_ops.specs.Opens.{in_mode, of_open}
-use Rattle.file_ops.specs.SlotFiles.{joined}
 use Rattle.file_ops.specs.TruncateFile as truncates
-use Rattle.op_machines.specs.declared.begun.Mounted.{Mounted}
 use Rattle.op_machines.specs.declared.file_machine.FileMachine.TheVariants as files
-use Rattle.op_machines.specs.declared.machine.Machine.{Machine}
 use Rattle.op_machines.specs.declared.machine.Machine.TheVariants as machines
-use Rattle.op_machines.specs.Begun.{machine_of}
-use Rattle.op_machines.specs.Steps.{Starts, Resumes, Takes}
-use Rattle.client_core.specs.declared.lane.State.{State}
-use Rattle.client_core.specs.declared.lane.State.TheVariants.{Busy, Over}
-use Rattle.client_core.specs.declared.setup.Setup.{Setup}
-use Rattle.core_facts.proofs.AllCounts.{begins-unbegun}
-use Rattle.core_facts.proofs.HeldSlots.{Held, held-later, always-later, held-begins, Given, is-given}
-use Rattle.core_facts.proofs.OneCallStory.{ends-later, ends-until}
-use Rattle.core_facts.proofs.Steps.{ThenOf}
-use Rattle.core_facts.proofs.Tales.{IsQuiet, AsksFor}
 use Rattle.core_answers.specs.answers.CutRows.{TruncatesOk}
 use Rattle.core_answers.proofs.answers.CutNames.{Cuts, CutAwaits, cuts-laws}
 use Rattle.core_answers.proofs.answers.SlotTales.{SlotLaws, reached-answered}

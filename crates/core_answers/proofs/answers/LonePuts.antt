@@ -1,34 +1,20 @@
 -- A put that is alone and that a record refused asked for the call that this record refuses.
-use Rattle.std.proofs.Common.{◌≡◌, ◌≢◌, ◌<◌, ◌≤◌, ◌⊎◌, inl, inr, ℕ, List, sym, ap, subst, ◌∙◌, arith}
-use Rattle.std.proofs.lemmas.Bool.{cases_lt}
-use Rattle.world_model.specs.declared.answer.Fault.{Fault}
+use Rattle.core_answers.proofs.Prelude.{◌≡◌, ◌≢◌, ◌<◌, ◌≤◌, ◌⊎◌, inl, inr, ℕ, List, sym, ap, subst, ◌∙◌, arith, cases_lt, Fault, Entry, Began, Call, Op, Asks, At, Ended, RefusalRow, Terms, At-one, Mounted, IsNamed, machine_of, Setup, View, KnowsRoot, Reaches}
 use Rattle.world_model.specs.declared.answer.Answer.TheVariants as answers
 use Rattle.world_model.specs.declared.answer.Fault.TheVariants as faults
-use Rattle.world_model.specs.declared.entry.Entry.{Entry}
-use Rattle.world_model.specs.declared.entry.Entry.TheVariants.{Began, Sent}
-use Rattle.world_model.specs.declared.message.Call.{Call}
-use Rattle.world_model.specs.declared.op.Op.{Op}
+use Rattle.world_model.specs.declared.entry.Entry.TheVariants.{Sent}
 use Rattle.world_model.specs.declared.op.Op.TheVariants as ops
-use Rattle.claims.specs.Asks.{Asks, Acts}
+use Rattle.claims.specs.Asks.{Acts}
 use Rattle.claims.specs.Asks as acts
 use Rattle.claims.specs.CallsAsked.{NoneBegan}
-use Rattle.world_model.specs.Entries.{At}
 use Rattle.claims.specs.GoesOn.{GoesOn}
 use Rattle.claims.specs.GoesOn as on
-use Rattle.world_model.specs.Operations.{Ended}
 use Rattle.claims.specs.PageRules.{refuses}
-use Rattle.claims.specs.RefusalRows.{RefusedBy, RefusalRow}
-use Rattle.claims.specs.Terms.{Terms, jukebox}
-use Rattle.world_model.proofs.Places.{At-one}
-use Rattle.op_machines.specs.declared.begun.Mounted.{Mounted}
-use Rattle.op_machines.specs.Begun.{IsNamed, machine_of}
-use Rattle.client_core.specs.declared.setup.Setup.{Setup}
-use Rattle.client_core.specs.View.{View}
+use Rattle.claims.specs.RefusalRows.{RefusedBy}
+use Rattle.claims.specs.Terms.{jukebox}
 use Rattle.core_answers.specs.asks.PutCalls.{IsAlone, IsMadeAlone}
 use Rattle.core_answers.proofs.asks.PutAsks.{lone-puts-ask}
 use Rattle.core_answers.proofs.bonds.OneCall.{IsNfs, one-call}
-use Rattle.core_facts.specs.Naming.{KnowsRoot}
-use Rattle.core_facts.specs.Reaches.{Reaches}
 use Rattle.core_answers.specs.answers.LonePuts.{LoneRefusals}
 use Rattle.core_facts.specs.Refusing.{IsRefusedSo}
 use Rattle.core_facts.proofs.LostAnswers.{lost-answers}

@@ -1,31 +1,12 @@
 -- The file that an opening comes to is one that its path leads to, or that its CREATE gave.
-use Rattle.std.proofs.Common.{◌≡◌, ◌==◌, ◌++◌, ℕ, Bool, true, false, List, [], ◌∷◌, length, Option, Some, None, Result, Ok, Err, refl, sym, subst, arith}
-use Rattle.std.specs.Prelude.{if◌then◌else◌}
-use Rattle.nfs_types.specs.declared.attr.Attr.{Attr}
-use Rattle.nfs_types.specs.declared.mode.Mode.{Mode}
-use Rattle.attr_cache.specs.Attrs.{looked}
-use Rattle.page_cache.specs.Pages.{known_of}
-use Rattle.world_model.specs.declared.answer.Fault.{Fault}
+use Rattle.core_answers.proofs.Prelude.{◌≡◌, ◌==◌, ◌++◌, ℕ, Bool, true, false, List, [], ◌∷◌, length, Option, Some, None, Result, Ok, Err, refl, sym, subst, arith, if◌then◌else◌, Attr, Mode, looked, known_of, Fault, Entry, Call, Reply, Asked, Asked-grow, Asked-wide, length_last, Turn, Led, Opening, OpeningNext, OpeningStep, got_by, IsNamed, front_of, leads-later, OpeningStory, StepStory, has_to, IsFileOf}
 use Rattle.world_model.specs.declared.answer.Fault.TheVariants as faults
-use Rattle.world_model.specs.declared.entry.Entry.{Entry}
-use Rattle.world_model.specs.declared.message.Call.{Call}
-use Rattle.world_model.specs.declared.message.Reply.{Reply}
-use Rattle.world_model.specs.Heard.{Asked}
-use Rattle.world_model.proofs.Growth.{Asked-grow, Asked-wide}
-use Rattle.world_model.proofs.Places.{length_last}
-use Rattle.client_shelf.specs.declared.turn.Turn.{Turn}
-use Rattle.file_ops.specs.declared.opening.Led.{Led}
 use Rattle.file_ops.specs.declared.opening.Led.TheVariants as leads
-use Rattle.file_ops.specs.declared.opening.Opening.{Opening}
-use Rattle.file_ops.specs.declared.opening.OpeningNext.{OpeningNext}
 use Rattle.file_ops.specs.declared.opening.OpeningNext.TheVariants as openings
-use Rattle.file_ops.specs.declared.opening.OpeningStep.{OpeningStep}
 use Rattle.file_ops.specs.declared.opening.OpeningStep.TheVariants as opening_steps
 use Rattle.file_ops.specs.Opening as opening
-use Rattle.file_ops.specs.Told.{found_by, made_by, got_by}
-use Rattle.op_machines.specs.Begun.{IsNamed, front_of}
-use Rattle.core_facts.proofs.Leading.{leads-later}
-use Rattle.core_facts.proofs.OpenStory.{OpeningTold, OpeningStory, StepStory, MayMake, has_to, missing, IsFileOf, found, made, LedStory, led-on}
+use Rattle.file_ops.specs.Told.{found_by, made_by}
+use Rattle.core_facts.proofs.OpenStory.{OpeningTold, MayMake, missing, found, made, LedStory, led-on}
 
 module _ (top : List ℕ) (h : List Entry) (x : ℕ) (path : List (List ℕ)) (mode : Mode) where
   -- ---- which file it comes to

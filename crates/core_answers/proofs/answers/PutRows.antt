@@ -1,73 +1,29 @@
 -- A put goes well, or is refused for the kind of its file, only where its history shows it.
-use Rattle.std.proofs.Common.{◌≡◌, ◌+◌, ◌-◌, ℕ, Bool, true, false, List, [], ◌∷◌, ◌++◌, length, take, Result, refl, sym, ap, subst, ◌∙◌, arith}
-use Rattle.std.proofs.lemmas.List.Elements.{All-nil}
-use Rattle.nfs_types.specs.declared.mode.Mode.{Mode}
+use Rattle.core_answers.proofs.Prelude.{◌≡◌, ◌+◌, ◌-◌, ℕ, Bool, true, false, List, [], ◌∷◌, ◌++◌, length, take, Result, refl, sym, ap, subst, ◌∙◌, arith, All-nil, Mode, Answer, Fault, Entry, Began, Call, Reply, Op, At, Rooted, Ended, RefusalRow, Terms, IsDelivered, Asked-wide, Rooted-wide, Next, Shelf, Turn, Opening, PutFile, Putting, OpenFile, Writing, Walk, WalkNext, walk_of, Mounted, Machine, Opener, PathMachine, IsNamed, front_of, last_of, machine_of, file_of, Starts, Resumes, Takes, State, Busy, Over, Setup, in_flight, Awaits, awaits-laws, PathOr, begins-unbegun, of_path, WalkStep, go-step, took-step, all-starts, all-resumes, all-takes, IsNameTold, NamesTold, names-later, LeadsTo, leads-from, leads-later, WalkLeads, go-leads, took-leads, end-leads, walk-later, IsHeard, heard-tells, then-as, ends-later, ends-until, OpeningStory, StepStory, has_to, ThenOf, IsTold, IsQuiet, AsksFor, TaleLaws}
 use Rattle.nfs_types.specs.declared.mode.Mode.TheVariants as modes
-use Rattle.world_model.specs.declared.answer.Answer.{Answer}
 use Rattle.world_model.specs.declared.answer.Answer.TheVariants as answers
-use Rattle.world_model.specs.declared.answer.Fault.{Fault}
 use Rattle.world_model.specs.declared.answer.Fault.TheVariants as faults
-use Rattle.world_model.specs.declared.entry.Entry.{Entry}
-use Rattle.world_model.specs.declared.entry.Entry.TheVariants.{Began}
-use Rattle.world_model.specs.declared.message.Call.{Call}
-use Rattle.world_model.specs.declared.message.Reply.{Reply}
-use Rattle.world_model.specs.declared.op.Op.{Op}
 use Rattle.world_model.specs.declared.op.Op.TheVariants as ops
 use Rattle.claims.specs.Asks as asks
-use Rattle.world_model.specs.Entries.{At}
 use Rattle.world_model.specs.Leads as leads
-use Rattle.world_model.specs.Mounts.{Rooted}
 use Rattle.claims.specs.OkRows.{OkRow}
-use Rattle.world_model.specs.Operations.{Ended}
 use Rattle.world_model.specs.Commits.{Committed}
-use Rattle.claims.specs.RefusalRows.{RefusalRow}
-use Rattle.claims.specs.Terms.{Terms}
-use Rattle.world_model.specs.Waiting.{IsDelivered}
-use Rattle.world_model.proofs.Growth.{Asked-wide, Committed-grow, Rooted-wide}
-use Rattle.client_shelf.specs.declared.next.Next.{Next}
+use Rattle.world_model.proofs.Growth.{Committed-grow}
 use Rattle.client_shelf.specs.declared.next.Next.TheVariants as nexts
-use Rattle.client_shelf.specs.declared.shelf.Shelf.{Shelf}
-use Rattle.client_shelf.specs.declared.turn.Turn.{Turn}
-use Rattle.file_ops.specs.declared.opening.Opening.{Opening}
-use Rattle.file_ops.specs.declared.put_file.PutFile.{PutFile}
-use Rattle.file_ops.specs.declared.put_file.Putting.{Putting}
 use Rattle.file_ops.specs.declared.put_file.Putting.TheVariants as putting
-use Rattle.file_ops.specs.declared.open_file.OpenFile.{OpenFile}
-use Rattle.file_ops.specs.declared.write_file.Writing.{Writing}
 use Rattle.file_ops.specs.Opening as opening
 use Rattle.file_ops.specs.PutFile as puts
-use Rattle.name_ops.specs.declared.walk.Walk.{Walk}
-use Rattle.name_ops.specs.declared.walk.WalkNext.{WalkNext}
 use Rattle.name_ops.specs.declared.walk.WalkNext.TheVariants as walks
-use Rattle.name_ops.specs.Pairs.{walk_of}
 use Rattle.name_ops.specs.Walking as walking
-use Rattle.op_machines.specs.declared.begun.Mounted.{Mounted}
 use Rattle.op_machines.specs.declared.file_machine.FileMachine.TheVariants as files
-use Rattle.op_machines.specs.declared.machine.Machine.{Machine}
 use Rattle.op_machines.specs.declared.machine.Machine.TheVariants as machines
-use Rattle.op_machines.specs.declared.opener.Opener.{Opener}
 use Rattle.op_machines.specs.declared.opener.Opener.TheVariants as openers
-use Rattle.op_machines.specs.declared.path_machine.PathMachine.{PathMachine}
-use Rattle.op_machines.specs.Begun.{IsNamed, front_of, last_of, machine_of}
-use Rattle.op_machines.specs.Openers.{file_of, opening_in}
+use Rattle.op_machines.specs.Openers.{opening_in}
 use Rattle.op_machines.specs.PathSteps as paths
-use Rattle.op_machines.specs.Steps.{Starts, Resumes, Takes}
-use Rattle.client_core.specs.declared.lane.State.{State}
-use Rattle.client_core.specs.declared.lane.State.TheVariants.{Busy, Over}
-use Rattle.client_core.specs.declared.setup.Setup.{Setup}
-use Rattle.core_facts.specs.InFlight.{in_flight}
-use Rattle.core_facts.proofs.AllAwaited.{Awaits, awaits-laws, PathOr}
-use Rattle.core_facts.proofs.AllCounts.{begins-unbegun, of_path}
-use Rattle.core_facts.proofs.Awaited.{WalkStep, go-step, took-step}
 use Rattle.core_facts.proofs.Expecting.{Expects, OpenerExpects}
-use Rattle.core_facts.proofs.FilesKept.{all-starts, all-resumes, all-takes}
-use Rattle.core_facts.proofs.Leading.{IsNameTold, NamesTold, names-later, LeadsTo, leads-from, leads-later, WalkLeads, go-leads, took-leads, end-leads, walk-later, IsHeard, heard-tells}
-use Rattle.core_facts.proofs.OneCalls.{then-as}
-use Rattle.core_facts.proofs.OneCallStory.{ends-later, ends-until}
-use Rattle.core_facts.proofs.OpenStory.{not-kind, OpeningStory, OpeningTold, StepStory, has_to}
-use Rattle.core_facts.proofs.Steps.{ThenOf}
+use Rattle.core_facts.proofs.OpenStory.{not-kind, OpeningTold}
 use Rattle.core_facts.proofs.Syncing.{committed-later}
-use Rattle.core_facts.proofs.Tales.{IsTold, IsQuiet, AsksFor, TaleLaws, reached-answered}
+use Rattle.core_facts.proofs.Tales.{reached-answered}
 use Rattle.core_answers.specs.answers.PutRows.{PutsShown, PutKindsShown}
 use Rattle.core_answers.proofs.answers.Both.{Both, both-laws, expects-laws}
 use Rattle.core_answers.proofs.answers.PutNames.{Names, OpenerNames, names-laws}

@@ -1,69 +1,28 @@
 -- A put that is refused for a rule: its last fault, and the one that its save keeps, is that of a record that came for one of its calls.
-use Rattle.std.proofs.Common.{◌≡◌, ◌+◌, ℕ, Bool, true, false, List, length, Result, Ok, Err, refl, sym, ap, subst, arith, ◌-◌, [], ◌∷◌, ◌++◌, ◌∙◌, Option, Some, None, option_map}
-use Rattle.std.specs.Prelude.{if◌then◌else◌}
-use Rattle.world_model.specs.declared.answer.Answer.{Answer}
+use Rattle.core_answers.proofs.Prelude.{◌≡◌, ◌+◌, ℕ, Bool, true, false, List, length, Result, Ok, Err, refl, sym, ap, subst, arith, ◌-◌, [], ◌∷◌, ◌++◌, ◌∙◌, Option, Some, None, option_map, if◌then◌else◌, Answer, Fault, Entry, Call, Reply, Ended, is_first, Next, Shelf, Turn, OpeningNext, PutFile, Putting, Saving, Writing, joined, made_bytes, by-step, ends_as, IsNamed, last_of, front_of, machine_of, of_putting, in_flight, FineOption, FineResult, then-as, ThenOf, Began, Op, OpenFile, Walk, WalkNext, walk_of, Mounted, Machine, Opener, PathMachine, file_of, Starts, Resumes, Takes, State, Busy, Over, Setup, begins-unbegun, of_path, AsksFor, PutAwaits, PathOr, Awaits, awaits-laws, program_of, Waiting, Purpose, View, Reaches, look_up, length_last}
 use Rattle.world_model.specs.declared.answer.Answer.TheVariants as answers
-use Rattle.world_model.specs.declared.answer.Fault.{Fault}
 use Rattle.world_model.specs.declared.answer.Fault.TheVariants as faults
 use Rattle.world_model.specs.declared.answer.Value.TheVariants as values
-use Rattle.world_model.specs.declared.entry.Entry.{Entry}
-use Rattle.world_model.specs.declared.message.Call.{Call}
 use Rattle.world_model.specs.declared.message.Call.TheVariants as calls
-use Rattle.world_model.specs.declared.message.Reply.{Reply}
 use Rattle.world_model.specs.Heard.{Refused}
-use Rattle.world_model.specs.Operations.{Ended}
-use Rattle.client_shelf.specs.LaneFiles.{is_first}
-use Rattle.client_shelf.specs.declared.next.Next.{Next}
 use Rattle.client_shelf.specs.declared.next.Next.TheVariants as nexts
-use Rattle.client_shelf.specs.declared.shelf.Shelf.{Shelf}
-use Rattle.client_shelf.specs.declared.turn.Turn.{Turn}
-use Rattle.file_ops.specs.declared.opening.OpeningNext.{OpeningNext}
 use Rattle.file_ops.specs.declared.opening.OpeningNext.TheVariants as openings
-use Rattle.file_ops.specs.declared.put_file.PutFile.{PutFile}
-use Rattle.file_ops.specs.declared.put_file.Putting.{Putting}
 use Rattle.file_ops.specs.declared.put_file.Putting.TheVariants as putting
-use Rattle.file_ops.specs.declared.saving.Saving.{Saving}
-use Rattle.file_ops.specs.declared.write_file.Writing.{Writing}
 use Rattle.file_ops.specs.declared.write_file.Writing.TheVariants as writings
 use Rattle.file_ops.specs.OpenFile as opens
 use Rattle.file_ops.specs.Opening as opening
 use Rattle.file_ops.specs.PutFile as puts
 use Rattle.file_ops.specs.Saves as saves
-use Rattle.file_ops.specs.SlotFiles.{joined}
 use Rattle.file_ops.specs.Syncs as syncs
-use Rattle.file_ops.specs.WriteFile.{made_bytes}
-use Rattle.file_ops.proofs.SaveCounts.{by-step, ends_as}
-use Rattle.op_machines.specs.Begun.{IsNamed, last_of, front_of, machine_of}
-use Rattle.core_facts.specs.InFlight.{of_putting, in_flight}
-use Rattle.core_facts.proofs.Faults.{FineOption, FineResult}
-use Rattle.core_facts.proofs.OneCalls.{then-as}
-use Rattle.core_facts.proofs.Steps.{ThenOf}
-use Rattle.world_model.specs.declared.entry.Entry.TheVariants.{Began}
-use Rattle.world_model.specs.declared.op.Op.{Op}
 use Rattle.world_model.specs.declared.op.Op.TheVariants as ops
 use Rattle.world_model.proofs.Growth.{Refused-grow, Refused-wide}
-use Rattle.file_ops.specs.declared.open_file.OpenFile.{OpenFile}
-use Rattle.name_ops.specs.declared.walk.Walk.{Walk}
-use Rattle.name_ops.specs.declared.walk.WalkNext.{WalkNext}
 use Rattle.name_ops.specs.declared.walk.WalkNext.TheVariants as walks
-use Rattle.name_ops.specs.Pairs.{walk_of}
 use Rattle.name_ops.specs.Walking as walking
-use Rattle.op_machines.specs.declared.begun.Mounted.{Mounted}
 use Rattle.op_machines.specs.declared.file_machine.FileMachine.TheVariants as files
-use Rattle.op_machines.specs.declared.machine.Machine.{Machine}
 use Rattle.op_machines.specs.declared.machine.Machine.TheVariants as machines
-use Rattle.op_machines.specs.declared.opener.Opener.{Opener}
 use Rattle.op_machines.specs.declared.opener.Opener.TheVariants as openers
-use Rattle.op_machines.specs.declared.path_machine.PathMachine.{PathMachine}
-use Rattle.op_machines.specs.Openers.{file_of, opening_in}
+use Rattle.op_machines.specs.Openers.{opening_in}
 use Rattle.op_machines.specs.PathSteps as paths
-use Rattle.op_machines.specs.Steps.{Starts, Resumes, Takes}
-use Rattle.client_core.specs.declared.lane.State.{State}
-use Rattle.client_core.specs.declared.lane.State.TheVariants.{Busy, Over}
-use Rattle.client_core.specs.declared.setup.Setup.{Setup}
-use Rattle.core_facts.proofs.AllCounts.{begins-unbegun, of_path}
-use Rattle.core_facts.proofs.Tales.{AsksFor}
-use Rattle.core_facts.proofs.AllAwaited.{PutAwaits, PathOr, Awaits, awaits-laws}
 use Rattle.core_answers.specs.answers.PutRules.{PutRulesShown, MayRefusePut, PutFaultsFew}
 use Rattle.core_answers.proofs.answers.Both.{Both, both-laws}
 use Rattle.core_answers.proofs.answers.PieceSteps.{IsPiece}
@@ -73,14 +32,7 @@ use Rattle.core_answers.proofs.answers.SaveFaults.{SaveFine, goes-fine, takes-fi
 use Rattle.core_answers.proofs.answers.SlotTales.{IsSeen, SlotLaws, reached-answered}
 use Rattle.core_answers.proofs.bonds.OneCall.{IsNfs, one-call}
 use Rattle.nfs_types.specs.declared.program.TheConstants.{NFS_PROGRAM}
-use Rattle.world_model.specs.Messages.{program_of}
-use Rattle.rpc_retry.specs.declared.waiting.Waiting.{Waiting}
-use Rattle.client_core.specs.declared.lane.Purpose.{Purpose}
-use Rattle.client_core.specs.View.{View}
-use Rattle.core_facts.specs.Reaches.{Reaches}
 use Rattle.core_facts.specs.Refusing.{IsRefusedSo}
-use Rattle.claims.specs.Asks.{look_up}
-use Rattle.world_model.proofs.Places.{length_last}
 use Rattle.core_answers.proofs.answers.WalkFaults.{FineWalk, FineLook, go-walk-fine, took-walk-by}
 use Rattle.core_answers.proofs.answers.WriteCalls.{WriteCalls}
 use Rattle.core_answers.proofs.answers.WriteFaults.{FineWriting, WriteFine, FitsWrite, writes-fine, write-resumes, write-takes}

@@ -1,65 +1,32 @@
 -- A put, step by step: its path leads to the file that it opens, and it goes well only with the reply to a WRITE or COMMIT of that file, of which a
 -- whole COMMIT was answered 0 since it began. For the kind of its file it is refused only with the reply that shows it.
-use Rattle.std.proofs.Common.{◌≡◌, ◌≢◌, ◌+◌, ℕ, Bool, true, false, List, length, Result, Ok, Err, refl, sym, ap, subst, arith}
-use Rattle.std.specs.Prelude.{if◌then◌else◌}
-use Rattle.nfs_types.specs.declared.attr.Attr.{Attr}
+use Rattle.core_answers.proofs.Prelude.{◌≡◌, ◌≢◌, ◌+◌, ℕ, Bool, true, false, List, length, Result, Ok, Err, refl, sym, ap, subst, arith, if◌then◌else◌, Attr, Verf, DirKept, FileKept, Answer, Fault, Entry, Call, Reply, Asked, EndsWith, NamesFile, is_first, Next, Shelf, Turn, Opening, OpeningNext, PutFile, Putting, Saving, Writing, commit_told, joined, made_bytes, by-step, ends_as, IsNamed, last_of, of_saving, of_putting, PutAwaits, FineOption, LeadsTo, then-as, OpeningStory, IsFileOf, goes-steps, takes-steps, ThenOf}
 use Rattle.nfs_types.specs.declared.mode.Mode.TheVariants as modes
-use Rattle.nfs_types.specs.declared.verf.Verf.{Verf}
-use Rattle.nfs_dir_calls.specs.declared.keeping.DirKept.{DirKept}
 use Rattle.nfs_dir_calls.specs.declared.keeping.DirKept.TheVariants as found
 use Rattle.nfs_file_calls.specs.declared.call.FileCall.TheVariants as file_calls
-use Rattle.nfs_file_calls.specs.declared.owned.FileKept.{FileKept}
 use Rattle.nfs_file_calls.specs.declared.owned.FileKept.TheVariants as kept
-use Rattle.world_model.specs.declared.answer.Answer.{Answer}
 use Rattle.world_model.specs.declared.answer.Answer.TheVariants as answers
-use Rattle.world_model.specs.declared.answer.Fault.{Fault}
 use Rattle.world_model.specs.declared.answer.Fault.TheVariants as faults
 use Rattle.world_model.specs.declared.answer.Value.TheVariants as values
-use Rattle.world_model.specs.declared.entry.Entry.{Entry}
-use Rattle.world_model.specs.declared.message.Call.{Call}
 use Rattle.world_model.specs.declared.message.Call.TheVariants as calls
-use Rattle.world_model.specs.declared.message.Reply.{Reply}
 use Rattle.world_model.specs.declared.message.Reply.TheVariants as replies
 use Rattle.claims.specs.Asks as asks
-use Rattle.world_model.specs.Heard.{Asked}
-use Rattle.world_model.specs.Operations.{EndsWith}
 use Rattle.world_model.specs.Commits.{Committed}
-use Rattle.claims.specs.Slots.{NamesFile}
-use Rattle.client_shelf.specs.LaneFiles.{is_first}
-use Rattle.client_shelf.specs.declared.next.Next.{Next}
 use Rattle.client_shelf.specs.declared.next.Next.TheVariants as nexts
-use Rattle.client_shelf.specs.declared.shelf.Shelf.{Shelf}
-use Rattle.client_shelf.specs.declared.turn.Turn.{Turn}
-use Rattle.file_ops.specs.declared.opening.Opening.{Opening}
-use Rattle.file_ops.specs.declared.opening.OpeningNext.{OpeningNext}
 use Rattle.file_ops.specs.declared.opening.OpeningNext.TheVariants as openings
-use Rattle.file_ops.specs.declared.put_file.PutFile.{PutFile}
-use Rattle.file_ops.specs.declared.put_file.Putting.{Putting}
 use Rattle.file_ops.specs.declared.put_file.Putting.TheVariants as putting
-use Rattle.file_ops.specs.declared.saving.Saving.{Saving}
-use Rattle.file_ops.specs.declared.write_file.Writing.{Writing}
 use Rattle.file_ops.specs.declared.write_file.Writing.TheVariants as writings
-use Rattle.file_ops.specs.Judging.{commit_told}
 use Rattle.file_ops.specs.OpenFile as opens
 use Rattle.file_ops.specs.Opening as opening
 use Rattle.file_ops.specs.PutFile as puts
 use Rattle.file_ops.specs.Saves as saves
-use Rattle.file_ops.specs.SlotFiles.{joined}
 use Rattle.file_ops.specs.Syncs as syncs
-use Rattle.file_ops.specs.WriteFile.{made_bytes}
 use Rattle.file_ops.proofs.Refusals.{takes-ill}
-use Rattle.file_ops.proofs.SaveCounts.{by-step, ends_as}
 use Rattle.file_ops.proofs.Stills.{goes-not-well}
-use Rattle.op_machines.specs.Begun.{IsNamed, last_of}
-use Rattle.core_facts.specs.InFlight.{of_saving, of_putting}
-use Rattle.core_facts.proofs.AllAwaited.{PutAwaits}
-use Rattle.core_facts.proofs.Faults.{OfReply, Came, FineOption}
-use Rattle.core_facts.proofs.Leading.{LeadsTo}
-use Rattle.core_facts.proofs.OneCalls.{then-as}
-use Rattle.core_facts.proofs.OpenStory.{not-kind, OpeningStory, OpeningTold, IsFileOf, found as is_found, made as is_made, KindShown, NextStory, go-story, led-on, led-next}
+use Rattle.core_facts.proofs.Faults.{OfReply, Came}
+use Rattle.core_facts.proofs.OpenStory.{not-kind, OpeningTold, found as is_found, made as is_made, KindShown, NextStory, go-story, led-on, led-next}
 use Rattle.core_facts.proofs.Putting.{PutExpects}
-use Rattle.core_facts.proofs.SaveCommits.{SaveSteps, goes-steps, takes-steps}
-use Rattle.core_facts.proofs.Steps.{ThenOf}
+use Rattle.core_facts.proofs.SaveCommits.{SaveSteps}
 use Rattle.core_facts.proofs.Syncing.{told-commit}
 use Rattle.core_answers.proofs.answers.PutNames.{PutNames}
 use Rattle.core_answers.proofs.answers.PutOpens.{NextFile, led-file, next-file}

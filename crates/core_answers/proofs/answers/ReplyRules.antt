@@ -1,47 +1,23 @@
 -- Which rules a reply breaks for a put: where it asks by LOOKUP, CREATE and GETATTR, or sends by WRITE and COMMIT, what came breaks the rule that it
 -- is refused for.
-use Rattle.std.proofs.Common.{◌≡◌, ◌<◌, ◌||◌, ◌==◌, ◌⊎◌, inl, inr, ℕ, Bool, true, false, List, length, Option, Some, None, Result, Ok, Err, refl, sym, subst, arith}
-use Rattle.std.specs.Prelude.{if◌then◌else◌, nat_lt}
-use Rattle.std.proofs.lemmas.Bool.{eqb-true, ltb-true}
-use Rattle.nfs_types.specs.declared.attr.Attr.{Attr}
-use Rattle.nfs_types.specs.declared.verf.Verf.{Verf}
-use Rattle.nfs_types.specs.declared.wcc.Wcc.{Wcc}
-use Rattle.nfs_dir_calls.specs.declared.keeping.DirKept.{DirKept}
+use Rattle.core_answers.proofs.Prelude.{◌≡◌, ◌<◌, ◌||◌, ◌==◌, ◌⊎◌, inl, inr, ℕ, Bool, true, false, List, length, Option, Some, None, Result, Ok, Err, refl, sym, subst, arith, if◌then◌else◌, nat_lt, eqb-true, Attr, Verf, Wcc, DirKept, FileKept, looked, known_of, Fault, Entry, Call, Reply, look_up, Asked, Turn, Pending, Sent, Led, Opening, OpeningNext, OpeningStep, Saving, write_told_by, written_by, commit_told, got_by, FineOption, FineResult, fine-fault, IsWhy, write_of}
+use Rattle.std.proofs.lemmas.Bool.{ltb-true}
 use Rattle.nfs_dir_calls.specs.declared.keeping.DirKept.TheVariants as dir_kept
 use Rattle.nfs_file_calls.specs.declared.call.FileCall.TheVariants as file_calls
-use Rattle.nfs_file_calls.specs.declared.owned.FileKept.{FileKept}
 use Rattle.nfs_file_calls.specs.declared.owned.FileKept.TheVariants as kept
-use Rattle.attr_cache.specs.Attrs.{looked}
-use Rattle.page_cache.specs.Pages.{known_of}
-use Rattle.world_model.specs.declared.answer.Fault.{Fault}
 use Rattle.world_model.specs.declared.answer.Fault.TheVariants as faults
-use Rattle.world_model.specs.declared.entry.Entry.{Entry}
-use Rattle.world_model.specs.declared.message.Call.{Call}
 use Rattle.world_model.specs.declared.message.Call.TheVariants as calls
-use Rattle.world_model.specs.declared.message.Reply.{Reply}
 use Rattle.world_model.specs.declared.message.Reply.TheVariants as replies
-use Rattle.claims.specs.Asks.{look_up}
-use Rattle.world_model.specs.Heard.{Asked}
 use Rattle.world_model.specs.Rules.{Breaks, wrong_committed, wrong_count}
-use Rattle.client_shelf.specs.declared.turn.Turn.{Turn}
-use Rattle.write_back.specs.Files.{Pending}
-use Rattle.write_back.specs.Pieces.{Sent}
-use Rattle.file_ops.specs.declared.opening.Led.{Led}
 use Rattle.file_ops.specs.declared.opening.Led.TheVariants as leads
-use Rattle.file_ops.specs.declared.opening.Opening.{Opening}
-use Rattle.file_ops.specs.declared.opening.OpeningNext.{OpeningNext}
 use Rattle.file_ops.specs.declared.opening.OpeningNext.TheVariants as openings
-use Rattle.file_ops.specs.declared.opening.OpeningStep.{OpeningStep}
 use Rattle.file_ops.specs.declared.opening.OpeningStep.TheVariants as opening_steps
-use Rattle.file_ops.specs.declared.saving.Saving.{Saving}
-use Rattle.file_ops.specs.Judging.{write_told_by, written_by, commit_told, commit_told_by}
+use Rattle.file_ops.specs.Judging.{commit_told_by}
 use Rattle.file_ops.specs.Opening as opening
 use Rattle.file_ops.specs.Saves as saves
-use Rattle.file_ops.specs.Told.{found_by, made_by, got_by}
-use Rattle.core_facts.proofs.Faults.{FineOption, FineResult, fine-some, fine-fault}
-use Rattle.core_facts.proofs.Tales.{IsWhy}
+use Rattle.file_ops.specs.Told.{found_by, made_by}
+use Rattle.core_facts.proofs.Faults.{fine-some}
 use Rattle.core_facts.specs.Refusing.{IsRefusedSo}
-use Rattle.core_answers.specs.writes.Carried.{write_of}
 use Rattle.core_answers.proofs.answers.PieceSteps.{IsPiece}
 use Rattle.core_answers.proofs.answers.SaveCalls.{IsWriteOf, CallBy, SaveCall}
 use Rattle.core_answers.proofs.answers.SaveFaults.{CallFaults, FitsSave}

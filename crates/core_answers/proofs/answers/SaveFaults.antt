@@ -1,31 +1,14 @@
 -- Which faults a step of a save gives: out of memory, a broken rule, those of what came of its calls, and those that it keeps. (A save
 -- gives no fault of another operation, so nothing is asked of those here.)
-use Rattle.std.proofs.Common.{◌≡◌, ◌+◌, ◌==◌, ◌&&◌, ◌||◌, ℕ, Bool, true, false, List, [], ◌∷◌, Option, Some, None, Result, Ok, Err, inl, inr, refl, sym, ap, subst}
-use Rattle.std.specs.Prelude.{nat_lt}
-use Rattle.commit_verf.specs.declared.commit.Verdict.{Verdict}
-use Rattle.commit_verf.specs.declared.commit.Verdict.TheVariants.{AllStable, SendAgain}
-use Rattle.nfs_types.specs.declared.verf.Verf.{Verf}
-use Rattle.nfs_types.specs.declared.wcc.Wcc.{Wcc}
-use Rattle.nfs_file_calls.specs.declared.owned.FileKept.{FileKept}
+use Rattle.core_answers.proofs.Prelude.{◌≡◌, ◌+◌, ◌==◌, ◌&&◌, ◌||◌, ℕ, Bool, true, false, List, [], ◌∷◌, Option, Some, None, Result, Ok, Err, inl, inr, refl, sym, ap, subst, nat_lt, Verdict, AllStable, SendAgain, Verf, Wcc, FileKept, Fault, Memory, Reply, Next, Repeat, Turn, goes_again, chosen, Pending, of_file, Segments, Sending, Committing, Resending, CommittingAgain, Saving, write_told, write_told_by, written_by, commit_told, FineResult, FineOption, FineNext, fine-fault}
 use Rattle.nfs_file_calls.specs.declared.owned.FileKept.TheVariants as kept
-use Rattle.world_model.specs.declared.answer.Fault.{Fault}
-use Rattle.world_model.specs.declared.answer.Fault.TheVariants.{Memory, Nfs, Bad}
-use Rattle.world_model.specs.declared.message.Reply.{Reply}
+use Rattle.world_model.specs.declared.answer.Fault.TheVariants.{Nfs, Bad}
 use Rattle.world_model.specs.declared.message.Reply.TheVariants as replies
-use Rattle.client_shelf.specs.declared.next.Next.{Next}
-use Rattle.client_shelf.specs.declared.repeats.Repeat.{Repeat}
-use Rattle.client_shelf.specs.declared.turn.Turn.{Turn}
-use Rattle.client_shelf.specs.Busy.{goes_again}
-use Rattle.write_back.specs.Choice.{chosen}
-use Rattle.write_back.specs.Files.{Pending, of_file}
-use Rattle.write_back.specs.Segments.{Segments}
 use Rattle.file_ops.specs.declared.saving.Phase.{Phase}
-use Rattle.file_ops.specs.declared.saving.Phase.TheVariants.{Sending, Committing, Resending, CommittingAgain}
-use Rattle.file_ops.specs.declared.saving.Saving.{Saving}
-use Rattle.file_ops.specs.Judging.{write_told, write_told_by, written_by, commit_told, commit_told_by}
+use Rattle.file_ops.specs.Judging.{commit_told_by}
 use Rattle.file_ops.specs.Saves as saves
 use Rattle.file_ops.specs.Syncs as syncs
-use Rattle.core_facts.proofs.Faults.{OfReply, Came, FineResult, FineOption, FineNext, fine-fault, fine-some}
+use Rattle.core_facts.proofs.Faults.{OfReply, Came, fine-some}
 
 -- P holds of the fault that a save gives by itself.
 pub record CallFaults (P : Fault → Type 0) : Type 0 where

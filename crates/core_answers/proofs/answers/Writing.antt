@@ -1,45 +1,7 @@
 -- Along a history each WRITE that waits is that of the piece in flight under its xid.
-use Rattle.std.proofs.Common.{◌≡◌, ◌≢◌, ◌≤◌, ◌<◌, ◌+◌, inl, inr, ℕ, List, [], ◌∷◌, ◌++◌, length, Bool, true, false, cond, nat_eq, Option, Some, None, option_map, position, Result, Err, refl, sym, ap, subst, ◌∙◌, arith}
-use Rattle.std.proofs.lemmas.Bool.{eqb-true, eqb-false}
+use Rattle.core_answers.proofs.Prelude.{◌≡◌, ◌≢◌, ◌≤◌, ◌<◌, ◌+◌, inl, inr, ℕ, List, [], ◌∷◌, ◌++◌, length, Bool, true, false, cond, nat_eq, Option, Some, None, option_map, position, Result, Err, refl, sym, ap, subst, ◌∙◌, arith, eqb-true, eqb-false, Waiting, next_xid, made_call, waiting_at, without, waits_early, at_made, others_made, others_taken, gone, Pending, Fault, Entry, Began, Delivered, Call, Reply, Op, SpellsCallBy, proc_of, said_of, Next, Send, Wait, Done, Shelf, Turn, IsUnused, Mounted, Machine, machine_of, Starts, Resumes, Takes, Purpose, Busy, Setup, is_busy, IsIdle, with_state, record_of, Makes, Leads, Stirs, counted, StartsLane, TakesAt, View, turn_at, unmade_turn, Reaches, begins-unbegun, taken_one, Flies, Flown, sender, look_at, keeps-flown, Known, purpose_at, Rows, same-rows, taken-rows, made-known, made-asked}
 use Rattle.rpc_message.specs.declared.cred.Cred.{Cred}
-use Rattle.rpc_retry.specs.declared.waiting.Waiting.{Waiting}
-use Rattle.rpc_retry.specs.Held.{next_xid}
 use Rattle.rpc_retry.specs.Sound.{AreSound}
-use Rattle.rpc_retry.specs.Waiting.{made_call, waiting_at, without}
-use Rattle.rpc_retry.proofs.Lookups.{waits_early, at_made, others_made, others_taken}
-use Rattle.rpc_retry.proofs.Records.{gone}
-use Rattle.write_back.specs.Files.{Pending}
-use Rattle.world_model.specs.declared.answer.Fault.{Fault}
-use Rattle.world_model.specs.declared.entry.Entry.{Entry}
-use Rattle.world_model.specs.declared.entry.Entry.TheVariants.{Began, Delivered}
-use Rattle.world_model.specs.declared.message.Call.{Call}
-use Rattle.world_model.specs.declared.message.Reply.{Reply}
-use Rattle.world_model.specs.declared.op.Op.{Op}
-use Rattle.world_model.specs.Messages.{SpellsCallBy, proc_of}
-use Rattle.call_replies.specs.Says.{said_of}
-use Rattle.client_shelf.specs.declared.next.Next.{Next}
-use Rattle.client_shelf.specs.declared.next.Next.TheVariants.{Send, Wait, Done}
-use Rattle.client_shelf.specs.declared.shelf.Shelf.{Shelf}
-use Rattle.client_shelf.specs.declared.turn.Turn.{Turn}
-use Rattle.file_ops.specs.SlotFiles.{IsUnused}
-use Rattle.op_machines.specs.declared.begun.Mounted.{Mounted}
-use Rattle.op_machines.specs.declared.machine.Machine.{Machine}
-use Rattle.op_machines.specs.Begun.{machine_of}
-use Rattle.op_machines.specs.Steps.{Starts, Resumes, Takes}
-use Rattle.client_core.specs.declared.lane.Purpose.{Purpose}
-use Rattle.client_core.specs.declared.lane.State.TheVariants.{Busy}
-use Rattle.client_core.specs.declared.setup.Setup.{Setup}
-use Rattle.client_core.specs.Lanes.{is_busy}
-use Rattle.client_core.specs.Numbers.{IsIdle}
-use Rattle.client_core.specs.Steps.{with_state, record_of, Makes, Leads, Stirs, counted, StartsLane, TakesAt}
-use Rattle.client_core.specs.View.{View, turn_at, unmade_turn}
-use Rattle.core_facts.specs.Reaches.{Reaches}
-use Rattle.core_facts.proofs.AllCounts.{begins-unbegun}
-use Rattle.core_facts.proofs.Cases.{taken_one}
-use Rattle.core_facts.proofs.Flights.{Flies}
-use Rattle.core_facts.proofs.Flown.{Flown, sender, look_at, keeps-flown}
-use Rattle.core_facts.proofs.Keeping.{Known, purpose_at}
-use Rattle.core_facts.proofs.Rows.{Rows, same-rows, taken-rows, made-known, made-asked}
 use Rattle.core_answers.proofs.writes.AllBacks.{all-starts, all-resumes, all-takes}
 use Rattle.core_answers.proofs.writes.Along.{KeepsAlong, reached-along}
 use Rattle.core_answers.proofs.writes.Backs.{After}

@@ -1,37 +1,7 @@
 -- As long as a put is the only operation that began, it makes no room.
-use Rattle.std.proofs.Common.{◌≡◌, ◌⊎◌, inl, inr, ℕ, Bool, true, false, nat_eq, List, [], ◌∷◌, ◌++◌, length, Some, slice_get, slice_set, Err, refl, sym, ap, subst, ◌∙◌, arith}
-use Rattle.std.proofs.lemmas.Bool.{eqb-true, eqb-false}
+use Rattle.core_answers.proofs.Prelude.{◌≡◌, ◌⊎◌, inl, inr, ℕ, Bool, true, false, nat_eq, List, [], ◌∷◌, ◌++◌, length, Some, slice_get, slice_set, Err, refl, sym, ap, subst, ◌∙◌, arith, eqb-true, eqb-false, Entry, Began, Answered, Delivered, Answer, Op, At, At-grow, At-below, At-last, At-one, At-cases, length_last, Next, Send, Wait, Done, Shelf, Turn, walk_of, said_of, Mounted, Machine, front_of, machine_of, Starts, Lane, State, Busy, Over, Setup, with_state, IsRefused, Leads, counted, View, turn_at, unmade_turn, Reaches, begins-unbegun, taken_one, LanesKnown, quiet-facts, lanes-stay, lanes-begin, lanes-under-way, at-set, at-push, get-remove, skip, set-other, numbers_of}
 use Rattle.write_back.specs.Files.{IsNothing}
-use Rattle.world_model.specs.declared.entry.Entry.{Entry}
-use Rattle.world_model.specs.declared.entry.Entry.TheVariants.{Began, Answered, Delivered}
-use Rattle.world_model.specs.declared.answer.Answer.{Answer}
-use Rattle.world_model.specs.declared.op.Op.{Op}
 use Rattle.world_model.specs.declared.op.Op.TheVariants as ops
-use Rattle.world_model.specs.Entries.{At}
-use Rattle.world_model.proofs.Places.{At-grow, At-below, At-last, At-one, At-cases, length_last}
-use Rattle.client_shelf.specs.declared.next.Next.{Next}
-use Rattle.client_shelf.specs.declared.next.Next.TheVariants.{Send, Wait, Done}
-use Rattle.client_shelf.specs.declared.shelf.Shelf.{Shelf}
-use Rattle.client_shelf.specs.declared.turn.Turn.{Turn}
-use Rattle.name_ops.specs.Pairs.{walk_of}
-use Rattle.call_replies.specs.Says.{said_of}
-use Rattle.op_machines.specs.declared.begun.Mounted.{Mounted}
-use Rattle.op_machines.specs.declared.machine.Machine.{Machine}
-use Rattle.op_machines.specs.Begun.{front_of, machine_of}
-use Rattle.op_machines.specs.Steps.{Starts}
-use Rattle.client_core.specs.declared.lane.Lane.{Lane}
-use Rattle.client_core.specs.declared.lane.State.{State}
-use Rattle.client_core.specs.declared.lane.State.TheVariants.{Busy, Over}
-use Rattle.client_core.specs.declared.setup.Setup.{Setup}
-use Rattle.client_core.specs.Steps.{with_state, IsRefused, Leads, counted}
-use Rattle.client_core.specs.View.{View, turn_at, unmade_turn}
-use Rattle.core_facts.specs.Reaches.{Reaches}
-use Rattle.core_facts.proofs.AllCounts.{begins-unbegun}
-use Rattle.core_facts.proofs.Cases.{taken_one}
-use Rattle.core_facts.proofs.LaneMarks.{LanesKnown, quiet-facts, lanes-stay, lanes-begin, lanes-under-way}
-use Rattle.core_facts.proofs.Lists.{at-set, at-push, get-remove, skip}
-use Rattle.core_facts.proofs.Stories.{set-other}
-use Rattle.client_core.specs.Numbers.{numbers_of}
 use Rattle.core_answers.specs.asks.PutCalls.{IsAlone}
 use Rattle.core_answers.proofs.asks.Along.{KeepsAlong, reached-along}
 use Rattle.core_answers.proofs.asks.CalmPuts.{Calm, calm-resumes, calm-takes, calm-starts}

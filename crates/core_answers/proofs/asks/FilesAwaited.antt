@@ -1,58 +1,28 @@
 -- For which calls an operation on a file waits: those of its save, and the one that it makes itself.
-use Rattle.std.proofs.Common.{◌≡◌, ◌≤◌, ◌+◌, inl, inr, ℕ, Bool, true, false, List, Option, Some, None, Result, Ok, Err, refl, sym, ap, subst, ◌∙◌, arith}
-use Rattle.std.specs.Prelude.{if◌then◌else◌}
+use Rattle.core_answers.proofs.Prelude.{◌≡◌, ◌≤◌, ◌+◌, inl, inr, ℕ, Bool, true, false, List, Option, Some, None, Result, Ok, Err, refl, sym, ap, subst, ◌∙◌, arith, if◌then◌else◌, of_file, last_end, Fault, Call, Reply, goes_again, left, is_first, Next, Shelf, Turn, CloseFile, Closing, Removal, OpeningNext, PutFile, Putting, ReadFile, Saving, SyncFile, Syncing, TruncateFile, Truncating, WriteFile, Writing, remove_of, closed_answer, refusal_of, remove_busy, file_to_write, file_at, joined, by-step, ends_as, FileMachine, of_opening, of_reading, of_saving, of_writing, of_syncing, of_closing, of_truncating, of_putting, Plain}
 use Rattle.std.specs.FinMap as finite
-use Rattle.write_back.specs.Files.{of_file}
-use Rattle.write_back.specs.Segments.{last_end}
 use Rattle.world_model.specs.declared.answer.Answer.TheVariants as answers
-use Rattle.world_model.specs.declared.answer.Fault.{Fault}
 use Rattle.world_model.specs.declared.answer.Fault.TheVariants as faults
 use Rattle.world_model.specs.declared.answer.Value.TheVariants as values
-use Rattle.world_model.specs.declared.message.Call.{Call}
-use Rattle.world_model.specs.declared.message.Reply.{Reply}
-use Rattle.client_shelf.specs.Busy.{goes_again}
-use Rattle.client_shelf.specs.LaneFiles.{left, is_first}
-use Rattle.client_shelf.specs.declared.next.Next.{Next}
 use Rattle.client_shelf.specs.declared.next.Next.TheVariants as nexts
-use Rattle.client_shelf.specs.declared.shelf.Shelf.{Shelf}
-use Rattle.client_shelf.specs.declared.turn.Turn.{Turn}
-use Rattle.file_ops.specs.declared.close_file.CloseFile.{CloseFile}
-use Rattle.file_ops.specs.declared.close_file.Closing.{Closing}
 use Rattle.file_ops.specs.declared.close_file.Closing.TheVariants as closing
-use Rattle.file_ops.specs.declared.closing.Removal.{Removal}
-use Rattle.file_ops.specs.declared.opening.OpeningNext.{OpeningNext}
 use Rattle.file_ops.specs.declared.opening.OpeningNext.TheVariants as openings
-use Rattle.file_ops.specs.declared.put_file.PutFile.{PutFile}
-use Rattle.file_ops.specs.declared.put_file.Putting.{Putting}
 use Rattle.file_ops.specs.declared.put_file.Putting.TheVariants as putting
-use Rattle.file_ops.specs.declared.read_file.ReadFile.{ReadFile}
-use Rattle.file_ops.specs.declared.saving.Saving.{Saving}
-use Rattle.file_ops.specs.declared.sync_file.SyncFile.{SyncFile}
-use Rattle.file_ops.specs.declared.sync_file.Syncing.{Syncing}
 use Rattle.file_ops.specs.declared.sync_file.Syncing.TheVariants as syncing
-use Rattle.file_ops.specs.declared.truncate_file.TruncateFile.{TruncateFile}
-use Rattle.file_ops.specs.declared.truncate_file.Truncating.{Truncating}
 use Rattle.file_ops.specs.declared.truncate_file.Truncating.TheVariants as truncating
-use Rattle.file_ops.specs.declared.write_file.WriteFile.{WriteFile}
-use Rattle.file_ops.specs.declared.write_file.Writing.{Writing}
 use Rattle.file_ops.specs.declared.write_file.Writing.TheVariants as writing
 use Rattle.file_ops.specs.Closes as closes
-use Rattle.file_ops.specs.Closings.{remove_of, closed_answer, refusal_of, remove_busy}
 use Rattle.file_ops.specs.Opening as opening
-use Rattle.file_ops.specs.Opens.{file_to_write}
 use Rattle.file_ops.specs.PutFile as puts
 use Rattle.file_ops.specs.Saves as saves
-use Rattle.file_ops.specs.SlotFiles.{file_at, joined}
 use Rattle.file_ops.specs.Syncs as syncs
 use Rattle.file_ops.specs.TruncateFile as truncates
 use Rattle.file_ops.specs.WriteFile as writes
-use Rattle.file_ops.proofs.SaveCounts.{SaveCounts, by-step, ends_as, save-goes, save-takes}
-use Rattle.op_machines.specs.declared.file_machine.FileMachine.{FileMachine}
+use Rattle.file_ops.proofs.SaveCounts.{SaveCounts, save-goes, save-takes}
 use Rattle.op_machines.specs.declared.file_machine.FileMachine.TheVariants as files
 use Rattle.op_machines.specs.FileSteps as steps
-use Rattle.core_facts.specs.InFlight.{of_opening, of_reading, of_saving, of_writing, of_syncing, of_closing, of_truncating, of_putting, of_file as calls_of}
+use Rattle.core_facts.specs.InFlight.{of_file as calls_of}
 use Rattle.core_facts.proofs.FileCounts.{OpeningCounts, opening-took, writes-leave, write-resumes, write-takes}
-use Rattle.core_facts.proofs.NameCounts.{Plain}
 use Rattle.core_answers.proofs.asks.OnSteps.{On, on-to, on-done, on-waits, on-none, on-any, on-lift}
 use Rattle.core_answers.proofs.asks.ReadsAwaited.{FileReads, read-starts, read-resumes, read-takes}
 use Rattle.core_answers.proofs.asks.SavedCalls.{Saves, SavesOn, goes-on, takes-on}

@@ -1,10 +1,6 @@
 -- What a step leaves of the calls for which an operation waits.
-use Rattle.std.proofs.Common.{◌≡◌, ◌≤◌, ℕ, sym, subst, arith}
-use Rattle.world_model.specs.declared.answer.Answer.{Answer}
-use Rattle.world_model.specs.declared.message.Call.{Call}
-use Rattle.client_shelf.specs.declared.next.Next.{Next}
+use Rattle.core_answers.proofs.Prelude.{◌≡◌, ◌≤◌, ℕ, sym, subst, arith, Answer, Call, Next, AskedOf, KeptOf}
 use Rattle.client_shelf.specs.declared.next.Next.TheVariants as nexts
-use Rattle.core_facts.proofs.Steps.{AskedOf, KeptOf}
 
 -- E holds of the call that it asks for, and still of those that it held of before, if so many others wait.
 pub record On (S : Type 0) (E : S → Call → Type 0) (others : ℕ) (old : S) (next : Next) (new : S) : Type 0 where

@@ -1,56 +1,16 @@
 -- A put asks for each call that is sent for it.
-use Rattle.std.proofs.Common.{◌≡◌, ◌≤◌, ◌⊎◌, inl, inr, ℕ, Bool, true, false, List, [], ◌∷◌, ◌++◌, length, Result, refl, sym, ap, subst, ◌∙◌, arith}
-use Rattle.std.proofs.lemmas.List.Elements.{All-nil}
-use Rattle.world_model.specs.declared.answer.Fault.{Fault}
-use Rattle.world_model.specs.declared.entry.Entry.{Entry}
-use Rattle.world_model.specs.declared.entry.Entry.TheVariants.{Began}
-use Rattle.world_model.specs.declared.message.Call.{Call}
-use Rattle.world_model.specs.declared.message.Reply.{Reply}
-use Rattle.world_model.specs.declared.op.Op.{Op}
+use Rattle.core_answers.proofs.Prelude.{◌≡◌, ◌≤◌, ◌⊎◌, inl, inr, ℕ, Bool, true, false, List, [], ◌∷◌, ◌++◌, length, Result, refl, sym, ap, subst, ◌∙◌, arith, All-nil, Fault, Entry, Began, Call, Reply, Op, Asks, Stabilizes, look_up, At, Rooted, UnderWay, PlaceOf, Terms, Asked-wide, Rooted-wide, At-grow, Pending, Walk, walk_of, Next, Shelf, Opening, OpeningStep, PutFile, Putting, Writing, Mounted, Machine, PathMachine, IsNamed, front_of, last_of, machine_of, Starts, Resumes, Takes, State, Busy, Over, Setup, KnowsRoot, of_walk, of_writing, of_putting, in_flight, PathOr, PutAwaits, begins-unbegun, all-starts, all-resumes, all-takes, IsNameTold, NamesTold, names-later, LeadsTo, IsHeard, heard-tells, front-last, Did, IsTold, TaleLaws, reached-good}
 use Rattle.world_model.specs.declared.op.Op.TheVariants as ops
-use Rattle.claims.specs.Asks.{Asks, Stabilizes, look_up}
 use Rattle.claims.specs.Asks as asks
-use Rattle.world_model.specs.Entries.{At}
 use Rattle.world_model.specs.Leads.{Leads}
-use Rattle.world_model.specs.Mounts.{Rooted}
-use Rattle.world_model.specs.Operations.{UnderWay}
-use Rattle.claims.specs.Paths.{PlaceOf}
-use Rattle.claims.specs.Terms.{Terms}
-use Rattle.world_model.proofs.Growth.{Asked-wide, Rooted-wide}
-use Rattle.world_model.proofs.Places.{At-grow}
-use Rattle.write_back.specs.Files.{Pending}
-use Rattle.name_ops.specs.declared.walk.Walk.{Walk}
-use Rattle.name_ops.specs.Pairs.{walk_of}
-use Rattle.client_shelf.specs.declared.next.Next.{Next}
 use Rattle.client_shelf.specs.declared.next.Next.TheVariants as nexts
-use Rattle.client_shelf.specs.declared.shelf.Shelf.{Shelf}
-use Rattle.file_ops.specs.declared.opening.Opening.{Opening}
-use Rattle.file_ops.specs.declared.opening.OpeningStep.{OpeningStep}
 use Rattle.file_ops.specs.declared.opening.OpeningStep.TheVariants as opening_steps
-use Rattle.file_ops.specs.declared.put_file.PutFile.{PutFile}
-use Rattle.file_ops.specs.declared.put_file.Putting.{Putting}
 use Rattle.file_ops.specs.declared.put_file.Putting.TheVariants as putting
-use Rattle.file_ops.specs.declared.write_file.Writing.{Writing}
 use Rattle.file_ops.specs.declared.write_file.Writing.TheVariants as writing
 use Rattle.file_ops.specs.Opening as opening
-use Rattle.op_machines.specs.declared.begun.Mounted.{Mounted}
-use Rattle.op_machines.specs.declared.machine.Machine.{Machine}
 use Rattle.op_machines.specs.declared.machine.Machine.TheVariants as machines
 use Rattle.op_machines.specs.declared.opener.Opener.TheVariants as openers
-use Rattle.op_machines.specs.declared.path_machine.PathMachine.{PathMachine}
-use Rattle.op_machines.specs.Begun.{IsNamed, front_of, last_of, machine_of}
-use Rattle.op_machines.specs.Steps.{Starts, Resumes, Takes}
-use Rattle.client_core.specs.declared.lane.State.{State}
-use Rattle.client_core.specs.declared.lane.State.TheVariants.{Busy, Over}
-use Rattle.client_core.specs.declared.setup.Setup.{Setup}
-use Rattle.core_facts.specs.Naming.{KnowsRoot}
-use Rattle.core_facts.specs.InFlight.{of_walk, of_writing, of_putting, path_by, in_flight}
-use Rattle.core_facts.proofs.AllAwaited.{PathOr, PutAwaits}
-use Rattle.core_facts.proofs.AllCounts.{begins-unbegun}
-use Rattle.core_facts.proofs.FilesKept.{all-starts, all-resumes, all-takes}
-use Rattle.core_facts.proofs.Leading.{IsNameTold, NamesTold, names-later, LeadsTo, IsHeard, heard-tells}
-use Rattle.core_facts.proofs.OneCallStory.{front-last}
-use Rattle.core_facts.proofs.Tales.{Did, IsTold, TaleLaws, reached-good}
+use Rattle.core_facts.specs.InFlight.{path_by}
 use Rattle.core_answers.specs.asks.PutCalls.{IsForRoom, writes, commits, IsMadeForPut, PutsAsk, IsAlone, IsMadeAlone, LonePutsAsk}
 use Rattle.core_answers.proofs.asks.Alone.{PutAlone, reached-calm}
 use Rattle.core_answers.proofs.asks.CalmPuts.{CalmAt}

@@ -1,34 +1,15 @@
 -- How a put finds its file: by LOOKUP of its last name; so its path leads to the file that it opens.
-use Rattle.std.proofs.Common.{◌≡◌, ◌==◌, ℕ, Bool, true, false, List, [], ◌∷◌, ◌++◌, length, Option, Some, None, Result, Ok, Err, refl, sym, ap, subst, ◌∙◌}
-use Rattle.std.specs.Prelude.{if◌then◌else◌}
-use Rattle.nfs_types.specs.declared.attr.Attr.{Attr}
-use Rattle.nfs_types.specs.declared.mode.Mode.{Mode}
+use Rattle.core_answers.proofs.Prelude.{◌≡◌, ◌==◌, ℕ, Bool, true, false, List, [], ◌∷◌, ◌++◌, length, Option, Some, None, Result, Ok, Err, refl, sym, ap, subst, ◌∙◌, if◌then◌else◌, Attr, Mode, DirKept, looked, known_of, Fault, Entry, Reply, look_up, Asked, Turn, Led, Opening, OpeningNext, OpeningStep, got_by, IsNamed, front_of, last_of, LeadsTo, leads-later, IsHeard, front-last}
 use Rattle.nfs_types.specs.declared.mode.Mode.TheVariants as modes
-use Rattle.nfs_dir_calls.specs.declared.keeping.DirKept.{DirKept}
 use Rattle.nfs_dir_calls.specs.declared.keeping.DirKept.TheVariants as dir_kept
-use Rattle.attr_cache.specs.Attrs.{looked}
-use Rattle.page_cache.specs.Pages.{known_of}
-use Rattle.world_model.specs.declared.answer.Fault.{Fault}
 use Rattle.world_model.specs.declared.answer.Fault.TheVariants as faults
-use Rattle.world_model.specs.declared.entry.Entry.{Entry}
-use Rattle.world_model.specs.declared.message.Reply.{Reply}
 use Rattle.world_model.specs.declared.message.Reply.TheVariants as replies
-use Rattle.claims.specs.Asks.{look_up}
-use Rattle.world_model.specs.Heard.{Asked}
 use Rattle.world_model.specs.Leads as leading
-use Rattle.client_shelf.specs.declared.turn.Turn.{Turn}
-use Rattle.file_ops.specs.declared.opening.Led.{Led}
 use Rattle.file_ops.specs.declared.opening.Led.TheVariants as leads
-use Rattle.file_ops.specs.declared.opening.Opening.{Opening}
-use Rattle.file_ops.specs.declared.opening.OpeningNext.{OpeningNext}
 use Rattle.file_ops.specs.declared.opening.OpeningNext.TheVariants as openings
-use Rattle.file_ops.specs.declared.opening.OpeningStep.{OpeningStep}
 use Rattle.file_ops.specs.declared.opening.OpeningStep.TheVariants as opening_steps
 use Rattle.file_ops.specs.Opening as opening
-use Rattle.file_ops.specs.Told.{found_by, got_by}
-use Rattle.op_machines.specs.Begun.{IsNamed, front_of, last_of}
-use Rattle.core_facts.proofs.Leading.{LeadsTo, leads-later, IsHeard}
-use Rattle.core_facts.proofs.OneCallStory.{front-last}
+use Rattle.file_ops.specs.Told.{found_by}
 
 module _ (top : List ℕ) (h : List Entry) (path : List (List ℕ)) where
   -- it makes no file, and asks for the attributes of the one to which its path leads

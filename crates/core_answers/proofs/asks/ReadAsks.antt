@@ -1,57 +1,21 @@
 -- A read asks for each call that is sent for it.
-use Rattle.std.proofs.Common.{◌≡◌, ◌≤◌, ◌-◌, ◌⊎◌, inl, inr, ℕ, Bool, true, false, List, [], ◌∷◌, ◌++◌, length, Option, Some, None, Result, Ok, Err, refl, sym, ap, subst, ◌∙◌, arith}
-use Rattle.std.specs.Prelude.{if◌then◌else◌}
+use Rattle.core_answers.proofs.Prelude.{◌≡◌, ◌≤◌, ◌-◌, ◌⊎◌, inl, inr, ℕ, Bool, true, false, List, [], ◌∷◌, ◌++◌, length, Option, Some, None, Result, Ok, Err, refl, sym, ap, subst, ◌∙◌, arith, if◌then◌else◌, Mode, Opened, Pages, Pending, Answer, Fault, Entry, Began, Call, Reply, Op, Asks, Modes, UnderWay, IsOf, Terms, Next, Repeat, Shelf, Turn, ReadFile, Phase, Reading, place_after, nothing_of, Mounted, Machine, machine_of, Starts, Resumes, Takes, State, Busy, Over, Setup, of_phase, of_reading, in_flight, begins-unbegun, Held, held-later, held-begins, always-later, Given, is-given, ThenOf, good-over}
 use Rattle.std.specs.FinMap as finite
-use Rattle.nfs_types.specs.declared.mode.Mode.{Mode}
 use Rattle.nfs_types.specs.declared.mode.Mode.TheVariants as modes
 use Rattle.nfs_file_calls.specs.declared.call.FileCall.TheVariants as calls_of
-use Rattle.open_files.specs.declared.opened.Opened.{Opened}
-use Rattle.page_cache.specs.Pages.{Pages}
-use Rattle.write_back.specs.Files.{Pending}
-use Rattle.world_model.specs.declared.answer.Answer.{Answer}
 use Rattle.world_model.specs.declared.answer.Answer.TheVariants as answers
-use Rattle.world_model.specs.declared.answer.Fault.{Fault}
 use Rattle.world_model.specs.declared.answer.Fault.TheVariants as faults
-use Rattle.world_model.specs.declared.entry.Entry.{Entry}
-use Rattle.world_model.specs.declared.entry.Entry.TheVariants.{Began}
-use Rattle.world_model.specs.declared.message.Call.{Call}
 use Rattle.world_model.specs.declared.message.Call.TheVariants as calls
-use Rattle.world_model.specs.declared.message.Reply.{Reply}
-use Rattle.world_model.specs.declared.op.Op.{Op}
 use Rattle.world_model.specs.declared.op.Op.TheVariants as ops
-use Rattle.claims.specs.Asks.{Asks}
 use Rattle.claims.specs.Asks as asks
-use Rattle.claims.specs.Modes.{Modes}
-use Rattle.world_model.specs.Operations.{UnderWay}
 use Rattle.claims.specs.Rights.{can_read}
-use Rattle.claims.specs.Slots.{IsOf}
-use Rattle.claims.specs.Terms.{Terms}
-use Rattle.client_shelf.specs.declared.next.Next.{Next}
 use Rattle.client_shelf.specs.declared.next.Next.TheVariants as nexts
-use Rattle.client_shelf.specs.declared.repeats.Repeat.{Repeat}
-use Rattle.client_shelf.specs.declared.shelf.Shelf.{Shelf}
-use Rattle.client_shelf.specs.declared.turn.Turn.{Turn}
-use Rattle.file_ops.specs.declared.read_file.ReadFile.{ReadFile}
-use Rattle.file_ops.specs.declared.reading.Phase.{Phase}
 use Rattle.file_ops.specs.declared.reading.Phase.TheVariants as phases
-use Rattle.file_ops.specs.declared.reading.Reading.{Reading}
-use Rattle.file_ops.specs.Base.{place_after, nothing_of}
 use Rattle.file_ops.specs.ReadFile as reads
 use Rattle.file_ops.specs.Reading as reading
-use Rattle.op_machines.specs.declared.begun.Mounted.{Mounted}
 use Rattle.op_machines.specs.declared.file_machine.FileMachine.TheVariants as files
-use Rattle.op_machines.specs.declared.machine.Machine.{Machine}
 use Rattle.op_machines.specs.declared.machine.Machine.TheVariants as machines
-use Rattle.op_machines.specs.Begun.{machine_of}
-use Rattle.op_machines.specs.Steps.{Starts, Resumes, Takes}
-use Rattle.client_core.specs.declared.lane.State.{State}
-use Rattle.client_core.specs.declared.lane.State.TheVariants.{Busy, Over}
-use Rattle.client_core.specs.declared.setup.Setup.{Setup}
-use Rattle.core_facts.specs.InFlight.{of_phase, of_reading, in_flight}
-use Rattle.core_facts.proofs.AllCounts.{begins-unbegun}
-use Rattle.core_facts.proofs.HeldSlots.{Held, held-later, held-begins, always-later, Given, is-given}
-use Rattle.core_facts.proofs.Steps.{ThenOf}
-use Rattle.core_facts.proofs.Stories.{LawsOver, good-over}
+use Rattle.core_facts.proofs.Stories.{LawsOver}
 use Rattle.core_answers.specs.asks.ReadCalls.{IsMadeForRead, ReadsAsk}
 use Rattle.core_answers.proofs.asks.CallsAwaited.{Expects, expects-laws}
 use Rattle.core_answers.proofs.asks.ReadRanges.{begun-in, inside}

@@ -1,15 +1,13 @@
 -- A READ asks for bytes inside of the pages that meet the range of its read.
-use Rattle.std.proofs.Common.{◌≡◌, ◌<◌, ◌≤◌, ◌+◌, ◌-◌, ◌*◌, ◌/◌, ◌%◌, ◌==◌, ◌||◌, not, min, ℕ, zero, suc, Bool, true, false, List, length, take, is_some, refl, arith}
-use Rattle.std.specs.Prelude.{if◌then◌else◌, nat_lt, nat_le}
+use Rattle.core_answers.proofs.Prelude.{◌≡◌, ◌<◌, ◌≤◌, ◌+◌, ◌-◌, ◌/◌, ◌%◌, ◌==◌, ◌||◌, not, ℕ, zero, suc, Bool, true, false, List, length, take, refl, arith, if◌then◌else◌, nat_lt, eqb-true, nat_tests, length-append, start_of, Pages, after_page, Bytes, nothing_of, place_after}
+use Rattle.std.proofs.Common.{◌*◌, min, is_some}
+use Rattle.std.specs.Prelude.{nat_le}
 use Rattle.std.specs.Int.{div_ceil}
 use Rattle.std.proofs.lemmas.Grind.{div_ceil_times}
-use Rattle.std.proofs.lemmas.Bool.{eqb-true}
-use Rattle.std.proofs.lemmas.Bool.Decides.{nat_tests}
-use Rattle.std.proofs.lemmas.List.{length-append, length-take}
-use Rattle.page_cache.specs.Bytes.{start_of}
-use Rattle.page_cache.specs.Pages.{Pages, page_of as page_in, after_page}
+use Rattle.std.proofs.lemmas.List.{length-take}
+use Rattle.page_cache.specs.Pages.{page_of as page_in}
 use Rattle.claims.specs.Pages.{page_of, page_from, InsidePages}
-use Rattle.file_ops.specs.Base.{Bytes, pages_size, nothing_of, place_after, with_more}
+use Rattle.file_ops.specs.Base.{pages_size, with_more}
 use Rattle.file_ops.specs.Gather.{Planned, stopped, planned, most_asked, next_page, next_count}
 
 -- ---- pages

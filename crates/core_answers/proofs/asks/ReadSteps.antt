@@ -1,27 +1,12 @@
 -- A read, step by step: its bytes lie in the pages that meet its range, and so does what it asks for next.
-use Rattle.std.proofs.Common.{◌≡◌, ◌<◌, ◌≤◌, ◌+◌, ◌-◌, ◌/◌, ◌%◌, ◌==◌, ◌&&◌, ◌||◌, not, ℕ, zero, suc, Bool, true, false, List, length, Option, Some, None, Result, Ok, Err, refl, sym, ap, subst, ◌∙◌, arith}
-use Rattle.std.specs.Prelude.{if◌then◌else◌, nat_lt}
-use Rattle.std.proofs.lemmas.Bool.Decides.{nat_tests}
-use Rattle.nfs_types.specs.declared.attr.Attr.{Attr}
+use Rattle.core_answers.proofs.Prelude.{◌≡◌, ◌<◌, ◌≤◌, ◌+◌, ◌-◌, ◌/◌, ◌%◌, ◌==◌, ◌&&◌, ◌||◌, not, ℕ, zero, suc, Bool, true, false, List, length, Option, Some, None, Result, Ok, Err, refl, sym, ap, subst, ◌∙◌, arith, if◌then◌else◌, nat_lt, nat_tests, Attr, Pages, page_of, known_of, after_page, Pending, Fault, Reply, goes_again, fails_busy, Next, Repeat, Turn, Phase, Reading, Bytes, place_after, Said, part, refusal, got_by}
 use Rattle.xdr_codec.specs.declared.blob.Memory as memory
-use Rattle.page_cache.specs.Pages.{Pages, page_of, known_of, after_page}
-use Rattle.write_back.specs.Files.{Pending}
-use Rattle.world_model.specs.declared.answer.Fault.{Fault}
-use Rattle.world_model.specs.declared.message.Reply.{Reply}
-use Rattle.client_shelf.specs.Busy.{goes_again, fails_busy}
-use Rattle.client_shelf.specs.declared.next.Next.{Next}
-use Rattle.client_shelf.specs.declared.repeats.Repeat.{Repeat}
-use Rattle.client_shelf.specs.declared.turn.Turn.{Turn}
 use Rattle.file_ops.specs.declared.gather.Found.{Found}
 use Rattle.file_ops.specs.declared.gather.Found.TheVariants as found
-use Rattle.file_ops.specs.declared.reading.Phase.{Phase}
 use Rattle.file_ops.specs.declared.reading.Phase.TheVariants as phases
-use Rattle.file_ops.specs.declared.reading.Reading.{Reading}
-use Rattle.file_ops.specs.Base.{Bytes, place_after, is_whole, with_more}
+use Rattle.file_ops.specs.Base.{is_whole, with_more}
 use Rattle.file_ops.specs.Gather.{Gathered, is_past, found_of, base_with, taken, then_taken, gathered, next_page}
 use Rattle.file_ops.specs.Reading as reading
-use Rattle.file_ops.specs.ReadReply.{Said, part, refusal}
-use Rattle.file_ops.specs.Told.{got_by}
 use Rattle.core_answers.proofs.asks.ReadRanges.{InRange, count-some, count-most, more-in, more-left}
 
 module _ (f : List ℕ) (offset count rsize : ℕ) (noac : Bool) (one : 1 ≤ rsize) where

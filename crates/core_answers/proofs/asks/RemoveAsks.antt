@@ -1,46 +1,14 @@
 -- A remove asks for each call that is sent for it, or hides its file by it.
-use Rattle.std.proofs.Common.{◌≡◌, ◌≤◌, ◌⊎◌, inl, inr, ℕ, false, List, [], ◌∷◌, ◌++◌, length, Option, Some, None, Result, refl, sym, ap, subst, ◌∙◌, arith}
-use Rattle.std.proofs.lemmas.List.Elements.{All-nil}
+use Rattle.core_answers.proofs.Prelude.{◌≡◌, ◌≤◌, ◌⊎◌, inl, inr, ℕ, false, List, [], ◌∷◌, ◌++◌, length, Option, Some, None, Result, refl, sym, ap, subst, ◌∙◌, arith, All-nil, Fault, Entry, Began, Call, Reply, Op, Asks, Asked, Rooted, PlaceOf, Terms, Asked-grow, Asked-wide, Next, Shelf, Deed, Look, Seek, Move, Remove, walk_of, Mounted, Machine, IsNamed, front_of, last_of, machine_of, Starts, Resumes, Takes, State, Busy, Over, Setup, removal_by, of_walk, in_flight, begins-unbegun, all-starts, all-resumes, all-takes, IsNameTold, NamesTold, names-later, IsHeard, heard-tells, end-leads, RemoveAwaits, front-last, Did, IsTold, TaleLaws, reached-good}
 use Rattle.nfs_dir_calls.specs.declared.keeping.DirKept.TheVariants as kept
-use Rattle.world_model.specs.declared.answer.Fault.{Fault}
-use Rattle.world_model.specs.declared.entry.Entry.{Entry}
-use Rattle.world_model.specs.declared.entry.Entry.TheVariants.{Began}
-use Rattle.world_model.specs.declared.message.Call.{Call}
-use Rattle.world_model.specs.declared.message.Reply.{Reply}
 use Rattle.world_model.specs.declared.message.Reply.TheVariants as replies
-use Rattle.world_model.specs.declared.op.Op.{Op}
 use Rattle.world_model.specs.declared.op.Op.TheVariants as ops
-use Rattle.claims.specs.Asks.{Asks}
 use Rattle.claims.specs.Asks as asks
-use Rattle.world_model.specs.Heard.{Asked}
-use Rattle.world_model.specs.Mounts.{Rooted}
-use Rattle.claims.specs.Paths.{PlaceOf}
-use Rattle.claims.specs.Terms.{Terms}
-use Rattle.world_model.proofs.Growth.{Asked-grow, Asked-wide}
-use Rattle.client_shelf.specs.declared.next.Next.{Next}
 use Rattle.client_shelf.specs.declared.next.Next.TheVariants as nexts
-use Rattle.client_shelf.specs.declared.shelf.Shelf.{Shelf}
-use Rattle.name_ops.specs.declared.remove_file.Deed.{Deed}
-use Rattle.name_ops.specs.declared.remove_file.Deed.TheVariants.{Look, Seek, Move, Remove}
 use Rattle.name_ops.specs.Looking.{look_up}
-use Rattle.name_ops.specs.Pairs.{walk_of}
 use Rattle.name_ops.specs.RemoveFile as removals
 use Rattle.name_ops.specs.Walking as walking
-use Rattle.op_machines.specs.declared.begun.Mounted.{Mounted}
-use Rattle.op_machines.specs.declared.machine.Machine.{Machine}
 use Rattle.op_machines.specs.declared.machine.Machine.TheVariants as machines
-use Rattle.op_machines.specs.Begun.{IsNamed, front_of, last_of, machine_of}
-use Rattle.op_machines.specs.Steps.{Starts, Resumes, Takes}
-use Rattle.client_core.specs.declared.lane.State.{State}
-use Rattle.client_core.specs.declared.lane.State.TheVariants.{Busy, Over}
-use Rattle.client_core.specs.declared.setup.Setup.{Setup}
-use Rattle.core_facts.specs.InFlight.{removal_by, of_walk, in_flight}
-use Rattle.core_facts.proofs.AllCounts.{begins-unbegun}
-use Rattle.core_facts.proofs.FilesKept.{all-starts, all-resumes, all-takes}
-use Rattle.core_facts.proofs.Leading.{IsNameTold, NamesTold, names-later, IsHeard, heard-tells, end-leads}
-use Rattle.core_facts.proofs.NamesAwaited.{RemoveAwaits}
-use Rattle.core_facts.proofs.OneCallStory.{front-last}
-use Rattle.core_facts.proofs.Tales.{Did, IsTold, TaleLaws, reached-good}
 use Rattle.core_answers.specs.asks.RemoveCalls.{IsHiding, RemovesAsk}
 use Rattle.core_answers.proofs.asks.CallsAwaited.{Expects, expects-laws}
 use Rattle.core_answers.proofs.asks.PutSteps.{walk-begins}

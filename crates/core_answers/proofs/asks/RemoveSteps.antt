@@ -1,42 +1,18 @@
 -- A remove, step by step: its walk leads along its path, and then it does one thing after another there.
-use Rattle.std.proofs.Common.{◌≡◌, ℕ, Bool, true, false, List, [], ◌∷◌, ◌++◌, length, Option, Some, None, Result, Ok, Err, refl, sym, ap, subst, ◌∙◌, arith}
-use Rattle.nfs_types.specs.declared.attr.Attr.{Attr}
-use Rattle.nfs_dir_calls.specs.declared.keeping.DirKept.{DirKept}
+use Rattle.core_answers.proofs.Prelude.{◌≡◌, ℕ, Bool, true, false, List, [], ◌∷◌, ◌++◌, length, Option, Some, None, Result, Ok, Err, refl, sym, ap, subst, ◌∙◌, arith, Attr, DirKept, eqb-true, Opens, Fault, Entry, Call, Reply, Asked, Asked-grow, Asked-wide, length_last, Next, Shelf, Turn, Deed, Look, Seek, Move, Remove, RemoveFile, Walk, WalkNext, found_by, look_again, Machine, NameMachine, WalkStep, go-step, took-step, NamesTold, WalkLeads, walk-later, go-leads, took-leads, IsHeard, RemoveAwaits, IsWhy}
 use Rattle.nfs_dir_calls.specs.declared.keeping.DirKept.TheVariants as kept
-use Rattle.std.proofs.lemmas.Bool.{eqb-true}
-use Rattle.open_files.specs.Slots.{Opens}
 use Rattle.silly_rename.specs.Plans.{plan_of}
-use Rattle.world_model.specs.declared.answer.Fault.{Fault}
 use Rattle.world_model.specs.declared.answer.Fault.TheVariants as faults
-use Rattle.world_model.specs.declared.entry.Entry.{Entry}
-use Rattle.world_model.specs.declared.message.Call.{Call}
-use Rattle.world_model.specs.declared.message.Reply.{Reply}
 use Rattle.world_model.specs.declared.message.Reply.TheVariants as replies
-use Rattle.world_model.specs.Heard.{Asked, status_of}
+use Rattle.world_model.specs.Heard.{status_of}
 use Rattle.claims.specs.Hidden.{IsHidden}
-use Rattle.world_model.proofs.Growth.{Asked-grow, Asked-wide}
-use Rattle.world_model.proofs.Places.{length_last}
-use Rattle.client_shelf.specs.declared.next.Next.{Next}
-use Rattle.client_shelf.specs.declared.shelf.Shelf.{Shelf}
-use Rattle.client_shelf.specs.declared.turn.Turn.{Turn}
-use Rattle.name_ops.specs.declared.remove_file.Deed.{Deed}
-use Rattle.name_ops.specs.declared.remove_file.Deed.TheVariants.{Look, Seek, Move, Remove}
-use Rattle.name_ops.specs.declared.remove_file.RemoveFile.{RemoveFile}
-use Rattle.name_ops.specs.declared.walk.Walk.{Walk}
-use Rattle.name_ops.specs.declared.walk.WalkNext.{WalkNext}
 use Rattle.name_ops.specs.declared.walk.WalkNext.TheVariants as walks
-use Rattle.name_ops.specs.Looking.{look_up, found_by, look_again}
+use Rattle.name_ops.specs.Looking.{look_up}
 use Rattle.name_ops.specs.RemoveFile as removals
 use Rattle.name_ops.specs.Walking as walking
-use Rattle.op_machines.specs.declared.machine.Machine.{Machine}
 use Rattle.op_machines.specs.declared.machine.Machine.TheVariants as machines
-use Rattle.op_machines.specs.declared.name_machine.NameMachine.{NameMachine}
 use Rattle.op_machines.specs.declared.name_machine.NameMachine.TheVariants as names
 use Rattle.op_machines.specs.NameSteps as steps
-use Rattle.core_facts.proofs.Awaited.{WalkStep, go-step, took-step}
-use Rattle.core_facts.proofs.Leading.{NamesTold, WalkLeads, walk-later, go-leads, took-leads, IsHeard}
-use Rattle.core_facts.proofs.NamesAwaited.{RemoveAwaits}
-use Rattle.core_facts.proofs.Tales.{IsWhy}
 use Rattle.core_answers.proofs.asks.HiddenNames.{silly-hidden}
 
 -- a LOOKUP of the name since the place x gave the file

@@ -1,37 +1,14 @@
 -- A record that is sent: for which operation, which machine waits for its reply, and for which call.
-use Rattle.std.proofs.Common.{◌+◌, ◌≡◌, ◌<◌, ◌≤◌, ◌⊎◌, inl, inr, ℕ, List, [], ◌∷◌, ◌++◌, length, Bool, true, false, Some, None, slice_get, refl, sym, ap, subst, ◌∙◌, arith, append_assoc}
-use Rattle.rpc_retry.specs.Held.{next_xid}
-use Rattle.rpc_retry.specs.Waiting.{waiting_at}
-use Rattle.rpc_retry.proofs.Lookups.{at_sent, waits_early}
+use Rattle.core_answers.proofs.Prelude.{◌+◌, ◌≡◌, ◌<◌, ◌≤◌, ◌⊎◌, inl, inr, ℕ, List, [], ◌∷◌, ◌++◌, length, Bool, true, false, Some, None, slice_get, refl, sym, ap, subst, ◌∙◌, arith, append_assoc, next_xid, waiting_at, waits_early, Entry, Began, Answered, Dialed, Executed, Foreign, Flushed, Reboot, Delivered, Failed, Clock, Call, Op, At, SpellsCallBy, UnderWay, At-grow, At-below, At-back, At-cases, Next, Shelf, Machine, State, Busy, Lane, Setup, View, calls_for, in_flight, IsUnbegun, StepsTo, Reaches, begins, goes, loses, sent_now, IsKnown, calls-some, known-only, reached-count, ExpectLaws, lanes-under-way, reached-lanes, Rows, reached-rows, Did, TaleLaws, reached-good}
+use Rattle.rpc_retry.proofs.Lookups.{at_sent}
 use Rattle.rpc_retry.proofs.Records.{waits_late}
-use Rattle.world_model.specs.declared.entry.Entry.{Entry}
-use Rattle.world_model.specs.declared.entry.Entry.TheVariants.{Began, Answered, Dialed, Sent, Executed, Foreign, Flushed, Reboot, Delivered, Failed, Clock}
-use Rattle.world_model.specs.declared.message.Call.{Call}
-use Rattle.world_model.specs.declared.op.Op.{Op}
-use Rattle.world_model.specs.Entries.{At}
-use Rattle.world_model.specs.Messages.{SpellsCallBy}
-use Rattle.world_model.specs.Operations.{UnderWay}
-use Rattle.world_model.proofs.Places.{At-grow, At-below, At-back, At-cases}
-use Rattle.client_shelf.specs.declared.next.Next.{Next}
+use Rattle.world_model.specs.declared.entry.Entry.TheVariants.{Sent}
 use Rattle.client_shelf.specs.declared.next.Next.TheVariants as nexts
-use Rattle.client_shelf.specs.declared.shelf.Shelf.{Shelf}
-use Rattle.op_machines.specs.declared.machine.Machine.{Machine}
-use Rattle.client_core.specs.declared.lane.State.{State}
-use Rattle.client_core.specs.declared.lane.State.TheVariants.{Busy}
-use Rattle.client_core.specs.declared.lane.Lane.{Lane}
-use Rattle.client_core.specs.declared.setup.Setup.{Setup}
 use Rattle.client_core.specs.Steps.{SendsIf}
-use Rattle.client_core.specs.View.{View}
-use Rattle.core_facts.specs.Counted.{calls_for, IsOfOperation}
-use Rattle.core_facts.specs.InFlight.{in_flight, IsUnbegun}
-use Rattle.core_facts.specs.Reaches.{StepsTo, Reaches, begins, goes, loses}
-use Rattle.core_facts.proofs.Cases.{SentNow, sent_now}
-use Rattle.core_facts.proofs.Counting.{IsKnown, calls-some, known-only, reached-count}
-use Rattle.core_facts.proofs.Expects.{ExpectLaws}
-use Rattle.core_facts.proofs.LaneMarks.{lanes-under-way, reached-lanes}
+use Rattle.core_facts.specs.Counted.{IsOfOperation}
+use Rattle.core_facts.proofs.Cases.{SentNow}
 use Rattle.core_facts.proofs.Owning.{reached-owned}
-use Rattle.core_facts.proofs.Rows.{Rows, reached-rows}
-use Rattle.core_facts.proofs.Tales.{Did, TaleLaws, IsExpected, reached-good}
+use Rattle.core_facts.proofs.Tales.{IsExpected}
 use Rattle.core_answers.proofs.asks.Limits.{reached-limit}
 
 -- ---- an operation under way at a place

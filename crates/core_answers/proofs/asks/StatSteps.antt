@@ -1,27 +1,12 @@
 -- A stat, step by step: its walk leads along its path, and it asks for attributes at the end.
-use Rattle.std.proofs.Common.{◌≡◌, ℕ, Bool, true, false, List, [], ◌∷◌, ◌++◌, Option, Some, None, Result, refl, sym, ap, subst, ◌∙◌}
-use Rattle.std.specs.Prelude.{if◌then◌else◌}
+use Rattle.core_answers.proofs.Prelude.{◌≡◌, ℕ, Bool, true, false, List, [], ◌∷◌, ◌++◌, Option, Some, None, Result, refl, sym, ap, subst, ◌∙◌, if◌then◌else◌, Attr, Fault, Entry, Call, Reply, Next, Shelf, Turn, Stat, WalkNext, Machine, NameMachine, WalkStep, go-step, took-step, OwnOr, NamesTold, WalkLeads, walk-later, go-leads, took-leads, IsHeard}
 use Rattle.attr_cache.specs.Attrs as attrs
-use Rattle.nfs_types.specs.declared.attr.Attr.{Attr}
-use Rattle.world_model.specs.declared.answer.Fault.{Fault}
-use Rattle.world_model.specs.declared.entry.Entry.{Entry}
-use Rattle.world_model.specs.declared.message.Call.{Call}
-use Rattle.world_model.specs.declared.message.Reply.{Reply}
-use Rattle.client_shelf.specs.declared.next.Next.{Next}
-use Rattle.client_shelf.specs.declared.shelf.Shelf.{Shelf}
-use Rattle.client_shelf.specs.declared.turn.Turn.{Turn}
-use Rattle.name_ops.specs.declared.stat.Stat.{Stat}
-use Rattle.name_ops.specs.declared.walk.WalkNext.{WalkNext}
 use Rattle.name_ops.specs.declared.walk.WalkNext.TheVariants as walks
 use Rattle.name_ops.specs.Stat as stats
 use Rattle.name_ops.specs.Walking as walking
-use Rattle.op_machines.specs.declared.machine.Machine.{Machine}
 use Rattle.op_machines.specs.declared.machine.Machine.TheVariants as machines
-use Rattle.op_machines.specs.declared.name_machine.NameMachine.{NameMachine}
 use Rattle.op_machines.specs.declared.name_machine.NameMachine.TheVariants as names
 use Rattle.op_machines.specs.NameSteps as steps
-use Rattle.core_facts.proofs.Awaited.{WalkStep, go-step, took-step, OwnOr}
-use Rattle.core_facts.proofs.Leading.{NamesTold, WalkLeads, walk-later, go-leads, took-leads, IsHeard}
 
 module _ (top : List ℕ) (h : List Entry) (path : List (List ℕ)) where
   pub record IsStat (s : Stat) : Type 0 where

@@ -1,22 +1,10 @@
 -- The LOOKUP for which a walk waits is one that its operation asks for.
-use Rattle.std.proofs.Common.{◌≡◌, ◌≤◌, ◌-◌, ℕ, zero, suc, Bool, true, false, List, [], ◌∷◌, ◌++◌, length, take, drop, slice_get, Contains, Option, Some, None, refl, sym, ap, ◌∙◌, arith, append_assoc}
-use Rattle.std.specs.Prelude.{if◌then◌else◌}
-use Rattle.world_model.specs.declared.entry.Entry.{Entry}
-use Rattle.world_model.specs.declared.message.Call.{Call}
-use Rattle.world_model.specs.declared.op.Op.{Op}
-use Rattle.claims.specs.Asks.{Asks, look_up, found_by}
+use Rattle.core_answers.proofs.Prelude.{◌≡◌, ◌≤◌, ◌-◌, ℕ, zero, suc, Bool, true, false, List, [], ◌∷◌, ◌++◌, length, take, drop, slice_get, Contains, Option, Some, None, refl, sym, ap, ◌∙◌, arith, append_assoc, if◌then◌else◌, Entry, Call, Op, Asks, look_up, Rooted, Terms, Walk, IsNamed, front_of, last_of, of_name, of_walk, WalkAwaits, LeadsTo, leads-from, WalkLeads, front-last}
+use Rattle.claims.specs.Asks.{found_by}
 use Rattle.claims.specs.Asks as asks
 use Rattle.world_model.specs.Leads.{Leads}
-use Rattle.world_model.specs.Mounts.{Rooted}
 use Rattle.claims.specs.Paths.{paths_of}
-use Rattle.claims.specs.Terms.{Terms}
-use Rattle.name_ops.specs.declared.walk.Walk.{Walk}
 use Rattle.name_ops.specs.Walking as walking
-use Rattle.op_machines.specs.Begun.{IsNamed, front_of, last_of}
-use Rattle.core_facts.specs.InFlight.{of_name, of_walk}
-use Rattle.core_facts.proofs.Awaited.{WalkAwaits}
-use Rattle.core_facts.proofs.Leading.{LeadsTo, leads-from, WalkLeads}
-use Rattle.core_facts.proofs.OneCallStory.{front-last}
 
 pub split-at : (xs : List (List ℕ)) (i : ℕ) (x : List ℕ) → slice_get xs i ≡ Some x → xs ≡ take i xs ++ x ∷ drop (suc i) xs
 split-at [] i x at = absurd (cc)

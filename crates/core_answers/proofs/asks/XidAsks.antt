@@ -1,9 +1,7 @@
 -- Each call of an operation has an xid among those that the core may use.
-use Rattle.std.proofs.Common.{inl, inr, subst}
+use Rattle.core_answers.proofs.Prelude.{inl, inr, subst, machine_of, begins-unbegun}
 use Rattle.rpc_message.proofs.CallLaws.{call_xid}
 use Rattle.world_model.specs.Messages.{head_of}
-use Rattle.op_machines.specs.Begun.{machine_of}
-use Rattle.core_facts.proofs.AllCounts.{begins-unbegun}
 use Rattle.core_facts.proofs.Grown.{one-xid}
 use Rattle.core_answers.specs.asks.Xids.{IsAmong, XidsKept}
 use Rattle.core_answers.proofs.asks.CallsAwaited.{Expects, expects-laws}

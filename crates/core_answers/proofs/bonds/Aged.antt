@@ -1,12 +1,10 @@
 -- The attributes that a stat shows are as old at most as the clock's readings allow.
-use Rattle.std.proofs.Common.{◌≤◌, ℕ, List, sym, subst}
+use Rattle.core_answers.proofs.Prelude.{◌≤◌, ℕ, List, sym, subst, Rooted, IsRecent}
 use Rattle.world_model.specs.declared.answer.Answer.TheVariants as answers
 use Rattle.world_model.specs.declared.answer.Value.TheVariants as values
 use Rattle.world_model.specs.declared.op.Op.TheVariants as ops
-use Rattle.world_model.specs.Mounts.{Rooted}
 use Rattle.claims.specs.Recent.{Recent, Walked, root, step}
 use Rattle.core_answers.specs.bonds.Aged.{AttrsAged}
-use Rattle.core_answers.specs.bonds.Ages.{IsRecent}
 use Rattle.core_answers.specs.bonds.Led.{LedRecently}
 use Rattle.core_answers.specs.bonds.Led as recently
 use Rattle.core_answers.proofs.bonds.Recents.{recent-of}

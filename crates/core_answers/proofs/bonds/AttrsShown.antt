@@ -1,24 +1,9 @@
 -- Each attribute that is kept was shown by a reply.
-use Rattle.std.proofs.Common.{◌≡◌, ◌≤◌, ℕ, List, [], ◌∷◌, ◌++◌, length, inl, inr, Result, arith}
-use Rattle.attr_cache.specs.Attrs.{Attrs, nothing_learnt}
-use Rattle.attr_cache.specs.declared.kept.KeptAttr.{KeptAttr}
+use Rattle.core_answers.proofs.Prelude.{◌≡◌, ◌≤◌, ℕ, List, [], ◌∷◌, ◌++◌, length, inl, inr, Result, arith, Attrs, KeptAttr, Fault, Entry, Began, Clock, Call, Reply, Heard-wide, At-grow, length_last, Next, Send, Wait, Done, Shelf, machine_of, Mounted, Machine, Setup, ThenOf, HadShown, IsAnswered}
+use Rattle.attr_cache.specs.Attrs.{nothing_learnt}
 use Rattle.attr_cache.proofs.Entries.{Believed, All-lookup}
-use Rattle.world_model.specs.declared.answer.Fault.{Fault}
-use Rattle.world_model.specs.declared.entry.Entry.{Entry}
-use Rattle.world_model.specs.declared.entry.Entry.TheVariants.{Began, Clock}
-use Rattle.world_model.specs.declared.message.Call.{Call}
-use Rattle.world_model.specs.declared.message.Reply.{Reply}
-use Rattle.world_model.proofs.Growth.{Heard-grow, Heard-wide}
-use Rattle.world_model.proofs.Places.{At-grow, length_last}
-use Rattle.client_shelf.specs.declared.next.Next.{Next}
-use Rattle.client_shelf.specs.declared.next.Next.TheVariants.{Send, Wait, Done}
-use Rattle.client_shelf.specs.declared.shelf.Shelf.{Shelf}
-use Rattle.op_machines.specs.Begun.{machine_of}
-use Rattle.op_machines.specs.declared.begun.Mounted.{Mounted}
-use Rattle.op_machines.specs.declared.machine.Machine.{Machine}
-use Rattle.client_core.specs.declared.setup.Setup.{Setup}
-use Rattle.core_facts.proofs.Steps.{ThenOf}
-use Rattle.core_answers.specs.bonds.Kept.{HadShown, IsAnswered, WasShown, LastAtMost, AttrsShown}
+use Rattle.world_model.proofs.Growth.{Heard-grow}
+use Rattle.core_answers.specs.bonds.Kept.{WasShown, LastAtMost, AttrsShown}
 use Rattle.core_answers.proofs.bonds.Keeping.{IsTold, ShelfLaws, BondLaws, reached-known}
 use Rattle.core_answers.proofs.bonds.Learnt.{Good, Tells, good-as}
 use Rattle.core_answers.proofs.bonds.MachineAttrs.{attrs-starts, attrs-resumes, attrs-takes}

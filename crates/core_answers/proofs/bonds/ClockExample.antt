@@ -1,11 +1,6 @@
 -- A clock that goes back: an operation's time is the greatest reading before it, and so old is what was shown before.
-use Rattle.std.proofs.Common.{◌≡◌, ◌<◌, ◌+◌, ℕ, zero, suc, false, List, [], ◌∷◌, refl, arith}
-use Rattle.world_model.specs.declared.entry.Entry.{Entry}
-use Rattle.world_model.specs.declared.entry.Entry.TheVariants.{Began, Clock}
-use Rattle.world_model.specs.declared.op.Op.{Op}
+use Rattle.core_answers.proofs.Prelude.{◌≡◌, ◌<◌, ◌+◌, ℕ, zero, suc, false, List, [], ◌∷◌, refl, arith, Entry, Began, Clock, Op, At, Modes}
 use Rattle.world_model.specs.declared.op.Op.TheVariants as ops
-use Rattle.world_model.specs.Entries.{At}
-use Rattle.claims.specs.Modes.{Modes}
 use Rattle.claims.specs.ReadTrue.{IsYoung}
 use Rattle.core_answers.specs.bonds.Aged.{BeginsAt, IsRead, TakesReadings}
 use Rattle.core_answers.specs.bonds.Ages.{began_at}

@@ -1,29 +1,17 @@
 -- A reply that answers a call is that of an execution of the very call, since it was first sent; and what it shows was so then.
-use Rattle.std.proofs.Common.{◌≡◌, ◌<◌, ◌≤◌, ℕ, suc, List, inl, inr, Some, Result, Ok, sym, ap, subst, ◌∙◌, arith}
-use Rattle.nfs_types.specs.declared.attr.Attr.{Attr}
-use Rattle.rpc_message.specs.Reply.{RpcReply, Accepted, refusal_number, SpellsRefusal}
-use Rattle.rpc_message.specs.declared.reply.ReplyFault.{ReplyFault}
+use Rattle.core_answers.proofs.Prelude.{◌≡◌, ◌<◌, ◌≤◌, ℕ, suc, List, inl, inr, Some, Result, Ok, sym, ap, subst, ◌∙◌, arith, Attr, RpcReply, Accepted, ReplyFault, Entry, Call, Reply, At, History, Lawful, HasXid, SpellsCall, SpellsReply, of_object, Numbered, reached-rows, machine_of, IsRecent, own, HadShown, IsAnswered}
+use Rattle.rpc_message.specs.Reply.{refusal_number, SpellsRefusal}
 use Rattle.rpc_message.proofs.ReplyLaws.{reply_first, reply_again}
-use Rattle.world_model.specs.declared.entry.Entry.{Entry}
 use Rattle.world_model.specs.declared.entry.Entry.TheVariants as entries
-use Rattle.world_model.specs.declared.message.Call.{Call}
 use Rattle.world_model.specs.declared.message.Call.TheVariants as calls
-use Rattle.world_model.specs.declared.message.Reply.{Reply}
 use Rattle.world_model.specs.declared.message.Reply.TheVariants as replies
-use Rattle.world_model.specs.Entries.{At}
-use Rattle.world_model.specs.History.{History}
-use Rattle.world_model.specs.Lawful.{Lawful, IsReplied, replied, refused}
-use Rattle.world_model.specs.Messages.{HasXid, SpellsCall, SpellsReply}
-use Rattle.claims.specs.Shown.{ShowsAttr, of_object, of_target, of_given, of_listed}
-use Rattle.law_calls.specs.Calls.{Numbered}
+use Rattle.world_model.specs.Lawful.{IsReplied, replied, refused}
+use Rattle.claims.specs.Shown.{ShowsAttr, of_target, of_given, of_listed}
 use Rattle.law_calls.proofs.CallsWait.{xid_of_call}
 use Rattle.model_walks.proofs.RepliesShow.{shows_true}
 use Rattle.core_facts.proofs.Grown.{one-xid}
-use Rattle.core_facts.proofs.Rows.{reached-rows}
-use Rattle.op_machines.specs.Begun.{machine_of}
-use Rattle.core_answers.specs.bonds.Ages.{IsRecent, own, young}
+use Rattle.core_answers.specs.bonds.Ages.{young}
 use Rattle.core_answers.specs.bonds.Had.{HasAttr, AttrsTrue, StatsTrue}
-use Rattle.core_answers.specs.bonds.Kept.{HadShown, IsAnswered}
 use Rattle.core_answers.proofs.bonds.AttrsShown.{attrs-shown}
 use Rattle.core_answers.proofs.bonds.OneCall.{IsNfs, one-call}
 use Rattle.core_answers.proofs.bonds.StatsShown.{stats-recent}

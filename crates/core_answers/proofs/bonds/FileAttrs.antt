@@ -1,73 +1,33 @@
 -- What an operation on files learns of attributes was shown by what came of its call.
-use Rattle.std.proofs.Common.{◌≡◌, ℕ, Bool, true, false, List, Option, Some, None, Result, Ok, Err, inl, inr, refl, ap, ◌∙◌}
-use Rattle.std.specs.Prelude.{if◌then◌else◌}
-use Rattle.attr_cache.specs.Attrs.{Attrs}
-use Rattle.attr_cache.specs.declared.kept.KeptAttr.{KeptAttr}
-use Rattle.nfs_types.specs.declared.attr.Attr.{Attr}
-use Rattle.nfs_dir_calls.specs.declared.keeping.DirKept.{DirKept}
+use Rattle.core_answers.proofs.Prelude.{◌≡◌, ℕ, Bool, true, false, List, Option, Some, None, Result, Ok, Err, inl, inr, refl, ap, ◌∙◌, if◌then◌else◌, Attrs, KeptAttr, Attr, DirKept, FileKept, Fault, Call, Reply, of_object, of_file, last_end, is_first, goes_again, Next, Shelf, Turn, Closing, CloseFile, Removal, Opening, OpeningNext, OpeningStep, PutFile, Putting, Phase, Reading, Saving, SyncFile, Syncing, TruncateFile, Truncating, WriteFile, Writing, is_full, remove_busy, refusal_of, file_to_write, part, refusal, said_to, breaks_rule, file_at, joined, got_by, by-step, ends_as, FileMachine}
 use Rattle.nfs_dir_calls.specs.declared.keeping.DirKept.TheVariants as dir_kept
-use Rattle.nfs_file_calls.specs.declared.owned.FileKept.{FileKept}
 use Rattle.nfs_file_calls.specs.declared.owned.FileKept.TheVariants as kept
 use Rattle.world_model.specs.declared.answer.Answer.TheVariants as answers
-use Rattle.world_model.specs.declared.answer.Fault.{Fault}
 use Rattle.world_model.specs.declared.answer.Fault.TheVariants as faults
-use Rattle.world_model.specs.declared.message.Call.{Call}
-use Rattle.world_model.specs.declared.message.Reply.{Reply}
 use Rattle.world_model.specs.declared.message.Reply.TheVariants as replies
-use Rattle.claims.specs.Shown.{of_object, of_given}
-use Rattle.write_back.specs.Files.{of_file}
-use Rattle.write_back.specs.Segments.{last_end}
-use Rattle.client_shelf.specs.LaneFiles.{is_first}
+use Rattle.claims.specs.Shown.{of_given}
 use Rattle.client_shelf.specs.Learning.{Learns}
 use Rattle.client_shelf.specs.Unmade.{is_unmade, came_unmade}
-use Rattle.client_shelf.specs.Busy.{goes_again}
-use Rattle.client_shelf.specs.declared.next.Next.{Next}
 use Rattle.client_shelf.specs.declared.next.Next.TheVariants as nexts
-use Rattle.client_shelf.specs.declared.shelf.Shelf.{Shelf}
-use Rattle.client_shelf.specs.declared.turn.Turn.{Turn}
-use Rattle.file_ops.specs.declared.close_file.Closing.{Closing}
 use Rattle.file_ops.specs.declared.close_file.Closing.TheVariants as closing
-use Rattle.file_ops.specs.declared.close_file.CloseFile.{CloseFile}
-use Rattle.file_ops.specs.declared.closing.Removal.{Removal}
-use Rattle.file_ops.specs.declared.opening.Opening.{Opening}
-use Rattle.file_ops.specs.declared.opening.OpeningNext.{OpeningNext}
 use Rattle.file_ops.specs.declared.opening.OpeningNext.TheVariants as openings
-use Rattle.file_ops.specs.declared.opening.OpeningStep.{OpeningStep}
 use Rattle.file_ops.specs.declared.opening.OpeningStep.TheVariants as opening_steps
-use Rattle.file_ops.specs.declared.put_file.PutFile.{PutFile}
-use Rattle.file_ops.specs.declared.put_file.Putting.{Putting}
 use Rattle.file_ops.specs.declared.put_file.Putting.TheVariants as putting
-use Rattle.file_ops.specs.declared.reading.Phase.{Phase}
 use Rattle.file_ops.specs.declared.reading.Phase.TheVariants as phases
-use Rattle.file_ops.specs.declared.reading.Reading.{Reading}
-use Rattle.file_ops.specs.declared.saving.Saving.{Saving}
-use Rattle.file_ops.specs.declared.sync_file.SyncFile.{SyncFile}
-use Rattle.file_ops.specs.declared.sync_file.Syncing.{Syncing}
 use Rattle.file_ops.specs.declared.sync_file.Syncing.TheVariants as syncing
-use Rattle.file_ops.specs.declared.truncate_file.TruncateFile.{TruncateFile}
-use Rattle.file_ops.specs.declared.truncate_file.Truncating.{Truncating}
 use Rattle.file_ops.specs.declared.truncate_file.Truncating.TheVariants as truncating
-use Rattle.file_ops.specs.declared.write_file.WriteFile.{WriteFile}
-use Rattle.file_ops.specs.declared.write_file.Writing.{Writing}
 use Rattle.file_ops.specs.declared.write_file.Writing.TheVariants as writing
-use Rattle.file_ops.specs.Adding.{is_full}
 use Rattle.file_ops.specs.Closes as closes
-use Rattle.file_ops.specs.Closings.{removed_of, remove_busy, refusal_of}
+use Rattle.file_ops.specs.Closings.{removed_of}
 use Rattle.file_ops.specs.Judging.{after_of}
 use Rattle.file_ops.specs.Opening as opening
-use Rattle.file_ops.specs.Opens.{file_to_write}
 use Rattle.file_ops.specs.PutFile as puts
 use Rattle.file_ops.specs.ReadFile as reads
 use Rattle.file_ops.specs.Reading as reading
-use Rattle.file_ops.specs.ReadReply.{part, refusal, said_to, breaks_rule}
 use Rattle.file_ops.specs.Saves as saves
-use Rattle.file_ops.specs.SlotFiles.{file_at, joined}
 use Rattle.file_ops.specs.Syncs as syncs
-use Rattle.file_ops.specs.Told.{got_by}
 use Rattle.file_ops.specs.TruncateFile as truncates
 use Rattle.file_ops.specs.WriteFile as writes
-use Rattle.file_ops.proofs.SaveCounts.{by-step, ends_as}
-use Rattle.op_machines.specs.declared.file_machine.FileMachine.{FileMachine}
 use Rattle.op_machines.specs.declared.file_machine.FileMachine.TheVariants as files
 use Rattle.op_machines.specs.FileSteps as steps
 use Rattle.core_answers.proofs.bonds.Learnt.{IsOn, Good, May, Tells, MayOf, good-as, learns-good, renews-good, renews-unless}

@@ -1,89 +1,40 @@
 -- On which objects the calls of operations on files are made.
-use Rattle.std.proofs.Common.{◌≡◌, ◌≤◌, ◌+◌, ◌==◌, ◌&&◌, ◌||◌, ℕ, not, Bool, true, false, List, [], ◌∷◌, Option, Some, None, Result, Ok, Err, inl, inr, refl, sym, ap, subst, ◌∙◌, arith}
-use Rattle.std.specs.Prelude.{if◌then◌else◌, nat_lt}
+use Rattle.core_answers.proofs.Prelude.{◌≡◌, ◌≤◌, ◌+◌, ◌==◌, ◌&&◌, ◌||◌, ℕ, not, Bool, true, false, List, [], ◌∷◌, Option, Some, None, Result, Ok, Err, inl, inr, refl, sym, ap, subst, ◌∙◌, arith, if◌then◌else◌, nat_lt, Verdict, AllStable, SendAgain, Attr, Verf, Wcc, Opened, Opens, Pages, Answer, Fault, Call, Reply, chosen, Pending, Segments, goes_again, Next, Repeat, Shelf, Turn, Closing, Removal, OpenFile, Led, Opening, OpeningNext, OpeningStep, Putting, PutFile, ReadFile, Reading, Sending, Committing, Resending, CommittingAgain, Saving, Syncing, TruncateFile, Truncating, WriteFile, Writing, commit_told, FileMachine, is_first, left, CloseFile, SyncFile, is_full, remove_of, closed_answer, remove_busy, refusal_of, file_to_write, Said, part, refusal, file_at, joined, got_by, by-step, ends_as, of_opening, of_phase, of_reading, of_writing, of_syncing, of_closing, of_truncating, of_putting, Plain, AskedOf}
 use Rattle.std.specs.FinMap as finite
-use Rattle.commit_verf.specs.declared.commit.Verdict.{Verdict}
-use Rattle.commit_verf.specs.declared.commit.Verdict.TheVariants.{AllStable, SendAgain}
-use Rattle.nfs_types.specs.declared.attr.Attr.{Attr}
-use Rattle.nfs_types.specs.declared.verf.Verf.{Verf}
-use Rattle.nfs_types.specs.declared.wcc.Wcc.{Wcc}
 use Rattle.xdr_codec.specs.declared.blob.Memory as memory
-use Rattle.open_files.specs.declared.opened.Opened.{Opened}
-use Rattle.open_files.specs.Slots.{Place, Opens}
-use Rattle.page_cache.specs.Pages.{Pages}
-use Rattle.world_model.specs.declared.answer.Answer.{Answer}
+use Rattle.open_files.specs.Slots.{Place}
 use Rattle.world_model.specs.declared.answer.Answer.TheVariants as answers
-use Rattle.world_model.specs.declared.answer.Fault.{Fault}
 use Rattle.world_model.specs.declared.answer.Fault.TheVariants as faults
-use Rattle.world_model.specs.declared.message.Call.{Call}
-use Rattle.world_model.specs.declared.message.Reply.{Reply}
-use Rattle.write_back.specs.Choice.{chosen}
-use Rattle.write_back.specs.Files.{Pending, of_file as of_pending}
-use Rattle.write_back.specs.Segments.{Segments}
-use Rattle.client_shelf.specs.Busy.{goes_again}
-use Rattle.client_shelf.specs.declared.next.Next.{Next}
+use Rattle.write_back.specs.Files.{of_file as of_pending}
 use Rattle.client_shelf.specs.declared.next.Next.TheVariants as nexts
-use Rattle.client_shelf.specs.declared.repeats.Repeat.{Repeat}
-use Rattle.client_shelf.specs.declared.shelf.Shelf.{Shelf}
-use Rattle.client_shelf.specs.declared.turn.Turn.{Turn}
-use Rattle.file_ops.specs.declared.close_file.Closing.{Closing}
 use Rattle.file_ops.specs.declared.close_file.Closing.TheVariants as closing
-use Rattle.file_ops.specs.declared.closing.Removal.{Removal}
-use Rattle.file_ops.specs.declared.open_file.OpenFile.{OpenFile}
-use Rattle.file_ops.specs.declared.opening.Led.{Led}
 use Rattle.file_ops.specs.declared.opening.Led.TheVariants as leads
-use Rattle.file_ops.specs.declared.opening.Opening.{Opening}
-use Rattle.file_ops.specs.declared.opening.OpeningNext.{OpeningNext}
 use Rattle.file_ops.specs.declared.opening.OpeningNext.TheVariants as openings
-use Rattle.file_ops.specs.declared.opening.OpeningStep.{OpeningStep}
 use Rattle.file_ops.specs.declared.opening.OpeningStep.TheVariants as opening_steps
-use Rattle.file_ops.specs.declared.put_file.Putting.{Putting}
 use Rattle.file_ops.specs.declared.put_file.Putting.TheVariants as putting
-use Rattle.file_ops.specs.declared.put_file.PutFile.{PutFile}
-use Rattle.file_ops.specs.declared.read_file.ReadFile.{ReadFile}
 use Rattle.file_ops.specs.declared.reading.Phase.{Phase as ReadPhase}
 use Rattle.file_ops.specs.declared.reading.Phase.TheVariants as phases
-use Rattle.file_ops.specs.declared.reading.Reading.{Reading}
 use Rattle.file_ops.specs.declared.saving.Phase.{Phase}
-use Rattle.file_ops.specs.declared.saving.Phase.TheVariants.{Sending, Committing, Resending, CommittingAgain}
-use Rattle.file_ops.specs.declared.saving.Saving.{Saving}
-use Rattle.file_ops.specs.declared.sync_file.Syncing.{Syncing}
 use Rattle.file_ops.specs.declared.sync_file.Syncing.TheVariants as syncing
-use Rattle.file_ops.specs.declared.truncate_file.TruncateFile.{TruncateFile}
-use Rattle.file_ops.specs.declared.truncate_file.Truncating.{Truncating}
 use Rattle.file_ops.specs.declared.truncate_file.Truncating.TheVariants as truncating
-use Rattle.file_ops.specs.declared.write_file.WriteFile.{WriteFile}
-use Rattle.file_ops.specs.declared.write_file.Writing.{Writing}
 use Rattle.file_ops.specs.declared.write_file.Writing.TheVariants as writing
-use Rattle.file_ops.specs.Judging.{commit_told}
 use Rattle.file_ops.specs.OpenFile as opens
 use Rattle.file_ops.specs.Opening as opening
 use Rattle.file_ops.specs.Reading as reading
 use Rattle.file_ops.specs.Saves as saves
-use Rattle.op_machines.specs.declared.file_machine.FileMachine.{FileMachine}
 use Rattle.op_machines.specs.declared.file_machine.FileMachine.TheVariants as files
-use Rattle.client_shelf.specs.LaneFiles.{is_first, left}
-use Rattle.file_ops.specs.declared.close_file.CloseFile.{CloseFile}
-use Rattle.file_ops.specs.declared.sync_file.SyncFile.{SyncFile}
-use Rattle.file_ops.specs.Adding.{is_full}
 use Rattle.file_ops.specs.Closes as closes
-use Rattle.file_ops.specs.Closings.{remove_of, closed_answer, remove_busy, refusal_of}
-use Rattle.file_ops.specs.Opens.{file_to_write}
 use Rattle.file_ops.specs.PutFile as puts
 use Rattle.file_ops.specs.ReadFile as reads
-use Rattle.file_ops.specs.ReadReply.{Said, part, refusal}
-use Rattle.file_ops.specs.SlotFiles.{file_at, joined}
 use Rattle.file_ops.specs.Syncs as syncs
-use Rattle.file_ops.specs.Told.{got_by}
 use Rattle.file_ops.specs.TruncateFile as truncates
 use Rattle.file_ops.specs.WriteFile as writes
-use Rattle.file_ops.proofs.SaveCounts.{of_saving, SaveCounts, by-step, ends_as, save-goes, save-takes}
+use Rattle.file_ops.proofs.SaveCounts.{of_saving, SaveCounts, save-goes, save-takes}
 use Rattle.op_machines.specs.FileSteps as steps
-use Rattle.core_facts.specs.InFlight.{one_if, of_opening, of_phase, of_reading, of_writing, of_syncing, of_closing, of_truncating, of_putting, of_file, ClosingCounted, FileCounted}
+use Rattle.core_facts.specs.InFlight.{one_if, of_file, ClosingCounted, FileCounted}
 use Rattle.core_facts.proofs.FileCounts.{opening-goes as opening-counts, opening-leaves, read-resumes as read-resumes-count, truncate-resumes as truncate-resumes-count, write-resumes as write-resumes-count, write-takes as write-takes-count}
-use Rattle.core_facts.proofs.NameCounts.{Plain, one-left}
+use Rattle.core_facts.proofs.NameCounts.{one-left}
 use Rattle.core_facts.proofs.PutCounts.{of_put}
-use Rattle.core_facts.proofs.Steps.{AskedOf}
 use Rattle.core_answers.proofs.bonds.Learnt.{IsOn}
 use Rattle.core_answers.proofs.bonds.NameCalls.{asked-as, asked-done, asked-waits, asked-sends, asked-again, asked-for}
 

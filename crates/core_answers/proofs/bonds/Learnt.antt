@@ -1,13 +1,8 @@
 -- What is kept of attributes stays true where more is learnt of a reply.
-use Rattle.std.proofs.Common.{◌≡◌, ℕ, Bool, true, false, List, All, Option, Some, None, Result, Ok, inl, inr, refl, sym, subst}
-use Rattle.std.specs.Prelude.{nat_lt, if◌then◌else◌}
-use Rattle.attr_cache.specs.Attrs.{Attrs, kept_of, learnt, learnt_over, noted, next_lifetime, forgotten}
-use Rattle.attr_cache.specs.declared.kept.KeptAttr.{KeptAttr}
+use Rattle.core_answers.proofs.Prelude.{◌≡◌, ℕ, Bool, true, false, List, Option, Some, None, Result, Ok, inl, inr, refl, sym, subst, nat_lt, if◌then◌else◌, Attrs, KeptAttr, Attr, Fault, Call, Reply}
+use Rattle.std.proofs.Common.{All}
+use Rattle.attr_cache.specs.Attrs.{kept_of, learnt, learnt_over, noted, next_lifetime, forgotten}
 use Rattle.attr_cache.proofs.Entries.{LastsAtMost, Believed, All-learnt, All-forgotten}
-use Rattle.nfs_types.specs.declared.attr.Attr.{Attr}
-use Rattle.world_model.specs.declared.answer.Fault.{Fault}
-use Rattle.world_model.specs.declared.message.Call.{Call}
-use Rattle.world_model.specs.declared.message.Reply.{Reply}
 use Rattle.claims.specs.Shown.{object_of, target_of, ShowsAttr}
 use Rattle.client_shelf.specs.Learning.{Learns, Renews}
 use Rattle.client_shelf.specs.Unmade.{RenewsUnless}

@@ -1,21 +1,9 @@
 -- What any operation learns of attributes was shown by what came of its call.
-use Rattle.std.proofs.Common.{◌-◌, ℕ, Bool, true, false, List, Result, refl}
-use Rattle.attr_cache.specs.declared.kept.KeptAttr.{KeptAttr}
-use Rattle.world_model.specs.declared.answer.Fault.{Fault}
-use Rattle.world_model.specs.declared.message.Call.{Call}
-use Rattle.world_model.specs.declared.message.Reply.{Reply}
-use Rattle.client_shelf.specs.declared.next.Next.{Next}
-use Rattle.client_shelf.specs.declared.shelf.Shelf.{Shelf}
-use Rattle.client_shelf.specs.declared.turn.Turn.{Turn}
-use Rattle.name_ops.specs.declared.walk.WalkNext.{WalkNext}
+use Rattle.core_answers.proofs.Prelude.{◌-◌, ℕ, Bool, true, false, List, Result, refl, KeptAttr, Fault, Call, Reply, Next, Shelf, Turn, WalkNext, Machine, PathMachine, file_of, slot_taken, begun_at, placed, Starts, Resumes, Takes}
 use Rattle.name_ops.specs.declared.walk.WalkNext.TheVariants as walks
 use Rattle.name_ops.specs.Walking as walking
-use Rattle.op_machines.specs.declared.machine.Machine.{Machine}
 use Rattle.op_machines.specs.declared.machine.Machine.TheVariants as machines
-use Rattle.op_machines.specs.declared.path_machine.PathMachine.{PathMachine}
-use Rattle.op_machines.specs.Openers.{file_of, slot_taken, begun_at, placed}
 use Rattle.op_machines.specs.PathSteps as paths
-use Rattle.op_machines.specs.Steps.{Starts, Resumes, Takes}
 use Rattle.core_answers.proofs.bonds.FileAttrs.{file-starts, file-resumes, file-takes}
 use Rattle.core_answers.proofs.bonds.Learnt.{Good, Tells, good-as}
 use Rattle.core_answers.proofs.bonds.MachineCalls.{PathOn, Asks}

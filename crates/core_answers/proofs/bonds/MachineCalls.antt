@@ -1,34 +1,16 @@
 -- On which object the call is made for which an operation waits.
-use Rattle.std.proofs.Common.{◌≡◌, ◌≤◌, ◌+◌, ◌-◌, ℕ, Bool, true, false, List, Option, Some, None, Result, refl, sym, ap, subst, ◌∙◌, arith}
-use Rattle.std.specs.Prelude.{if◌then◌else◌}
+use Rattle.core_answers.proofs.Prelude.{◌≡◌, ◌≤◌, ◌+◌, ◌-◌, ℕ, Bool, true, false, List, Option, Some, None, Result, refl, sym, ap, subst, ◌∙◌, arith, if◌then◌else◌, Fault, Call, Reply, Next, Shelf, Turn, Deed, Walk, WalkNext, Machine, NameMachine, Opener, PathMachine, file_of, slot_taken, begun_at, placed, Starts, Resumes, Takes, of_name, of_walk, visit_by, own_or, removal_by, in_flight, IsCounted, Counts, counts-calls, of_path, path-file, path-walk, walk-takes, AskedOf}
 use Rattle.world_model.specs.declared.answer.Answer.TheVariants as answers
-use Rattle.world_model.specs.declared.answer.Fault.{Fault}
 use Rattle.world_model.specs.declared.answer.Fault.TheVariants as faults
-use Rattle.world_model.specs.declared.message.Call.{Call}
-use Rattle.world_model.specs.declared.message.Reply.{Reply}
-use Rattle.client_shelf.specs.declared.next.Next.{Next}
 use Rattle.client_shelf.specs.declared.next.Next.TheVariants as nexts
-use Rattle.client_shelf.specs.declared.shelf.Shelf.{Shelf}
-use Rattle.client_shelf.specs.declared.turn.Turn.{Turn}
-use Rattle.name_ops.specs.declared.remove_file.Deed.{Deed}
-use Rattle.name_ops.specs.declared.walk.Walk.{Walk}
-use Rattle.name_ops.specs.declared.walk.WalkNext.{WalkNext}
 use Rattle.name_ops.specs.declared.walk.WalkNext.TheVariants as walks
 use Rattle.name_ops.specs.Walking as walking
-use Rattle.op_machines.specs.declared.machine.Machine.{Machine}
 use Rattle.op_machines.specs.declared.machine.Machine.TheVariants as machines
-use Rattle.op_machines.specs.declared.name_machine.NameMachine.{NameMachine}
 use Rattle.op_machines.specs.declared.name_machine.NameMachine.TheVariants as names
-use Rattle.op_machines.specs.declared.opener.Opener.{Opener}
 use Rattle.op_machines.specs.declared.opener.Opener.TheVariants as openers
-use Rattle.op_machines.specs.declared.path_machine.PathMachine.{PathMachine}
-use Rattle.op_machines.specs.Openers.{file_of, slot_taken, begun_at, placed}
 use Rattle.op_machines.specs.PathSteps as paths
-use Rattle.op_machines.specs.Steps.{Starts, Resumes, Takes}
-use Rattle.core_facts.specs.InFlight.{of_name, of_walk, visit_by, pair_by, own_or, removal_by, one_if, of_names, of_file, in_flight, IsCounted, FileCounted, Counts}
-use Rattle.core_facts.proofs.AllCounts.{counts-calls, of_path, path-file, path-walk}
-use Rattle.core_facts.proofs.NameCounts.{unasked, walk-takes}
-use Rattle.core_facts.proofs.Steps.{AskedOf}
+use Rattle.core_facts.specs.InFlight.{pair_by, one_if, of_names, of_file, FileCounted}
+use Rattle.core_facts.proofs.NameCounts.{unasked}
 use Rattle.core_answers.proofs.bonds.FileCalls.{FileAsks, Asking, alone, asking-for, file-starts-asked, file-resumes-asking, file-takes-asking}
 use Rattle.core_answers.proofs.bonds.Keeping.{AskLaws}
 use Rattle.core_answers.proofs.bonds.NameCalls.{NameAsks, WalkOn, WalkAsked, asked-done, asked-waits, asked-sends, asked-for, go-walk, took-walk, name-goes-asked, name-takes-asked}

@@ -1,62 +1,27 @@
 -- What an operation on names learns of attributes was shown by what came of its call.
-use Rattle.std.proofs.Common.{◌≡◌, ℕ, nat_eq, Bool, true, false, List, Option, Some, None, Result, Ok, Err, inl, inr, refl, ap, subst, ◌∙◌}
-use Rattle.std.specs.Prelude.{if◌then◌else◌}
+use Rattle.core_answers.proofs.Prelude.{◌≡◌, ℕ, nat_eq, Bool, true, false, List, Option, Some, None, Result, Ok, Err, inl, inr, refl, ap, subst, ◌∙◌, if◌then◌else◌, Attrs, KeptAttr, Attr, DirKept, FileKept, Fault, Value, Call, Reply, of_object, Next, Shelf, Turn, DirDeed, Link, ListDir, Pair, PairNext, Deed, Look, Seek, Move, Remove, RemoveFile, Rename, Stat, SymLink, Visit, VisitNext, Walk, WalkNext, access_attr, deed_told, linked_told, TakesLink, moved_told, TakesText, TakesRename, TakesShow, sym_link_call, sym_linked_told, ChangesByCopy, TakesSymLink, lacking, NameMachine}
 use Rattle.std.specs.Cmp.Lexicographic.{pointwise}
 use Rattle.page_cache.proofs.Inserts.{same-is}
-use Rattle.attr_cache.specs.Attrs.{Attrs}
-use Rattle.attr_cache.specs.declared.kept.KeptAttr.{KeptAttr}
-use Rattle.nfs_types.specs.declared.attr.Attr.{Attr}
-use Rattle.nfs_dir_calls.specs.declared.keeping.DirKept.{DirKept}
 use Rattle.nfs_dir_calls.specs.declared.keeping.DirKept.TheVariants as dir_kept
-use Rattle.nfs_file_calls.specs.declared.owned.FileKept.{FileKept}
 use Rattle.nfs_file_calls.specs.declared.owned.FileKept.TheVariants as kept
-use Rattle.world_model.specs.declared.answer.Fault.{Fault}
-use Rattle.world_model.specs.declared.answer.Value.{Value}
-use Rattle.world_model.specs.declared.message.Call.{Call}
-use Rattle.world_model.specs.declared.message.Reply.{Reply}
 use Rattle.world_model.specs.declared.message.Reply.TheVariants as replies
-use Rattle.claims.specs.Shown.{of_object, of_target, of_given}
-use Rattle.client_shelf.specs.declared.next.Next.{Next}
-use Rattle.client_shelf.specs.declared.shelf.Shelf.{Shelf}
-use Rattle.client_shelf.specs.declared.turn.Turn.{Turn}
-use Rattle.name_ops.specs.declared.dir_change.DirDeed.{DirDeed}
+use Rattle.claims.specs.Shown.{of_target, of_given}
 use Rattle.name_ops.specs.declared.dir_change.DirDeed.TheVariants as deeds
-use Rattle.name_ops.specs.declared.link.Link.{Link}
-use Rattle.name_ops.specs.declared.list_dir.ListDir.{ListDir}
 use Rattle.name_ops.specs.declared.moving.Moved.{Moved}
-use Rattle.name_ops.specs.declared.pair.Pair.{Pair}
-use Rattle.name_ops.specs.declared.pair.PairNext.{PairNext}
-use Rattle.name_ops.specs.declared.remove_file.Deed.{Deed}
-use Rattle.name_ops.specs.declared.remove_file.Deed.TheVariants.{Look, Seek, Move, Remove}
-use Rattle.name_ops.specs.declared.remove_file.RemoveFile.{RemoveFile}
-use Rattle.name_ops.specs.declared.rename.Rename.{Rename}
-use Rattle.name_ops.specs.declared.stat.Stat.{Stat}
-use Rattle.name_ops.specs.declared.sym_link.SymLink.{SymLink}
 use Rattle.name_ops.specs.declared.told.Told.{Told}
-use Rattle.name_ops.specs.declared.visit.Visit.{Visit}
-use Rattle.name_ops.specs.declared.visit.VisitNext.{VisitNext}
-use Rattle.name_ops.specs.declared.walk.Walk.{Walk}
-use Rattle.name_ops.specs.declared.walk.WalkNext.{WalkNext}
 use Rattle.name_ops.specs.declared.walk.WalkNext.TheVariants as walks
-use Rattle.name_ops.specs.Access.{access_attr}
 use Rattle.name_ops.specs.Changing as changing
-use Rattle.name_ops.specs.DirChange.{deed_told}
-use Rattle.name_ops.specs.Link.{linked_told, TakesLink}
 use Rattle.name_ops.specs.ListDir.{page_attr, TakesList}
 use Rattle.name_ops.specs.Looking as looking
 use Rattle.name_ops.specs.MakeDir as making
-use Rattle.name_ops.specs.Moving.{moved_told, given_to, to_of, RenewsMoved}
+use Rattle.name_ops.specs.Moving.{given_to, to_of, RenewsMoved}
 use Rattle.name_ops.specs.Pairs as pairs
-use Rattle.name_ops.specs.ReadLink.{text_attr, TakesText}
+use Rattle.name_ops.specs.ReadLink.{text_attr}
 use Rattle.name_ops.specs.RemoveDir as removing
 use Rattle.name_ops.specs.RemoveFile as removals
-use Rattle.name_ops.specs.Rename.{TakesRename}
-use Rattle.name_ops.specs.Showing.{TakesShow}
 use Rattle.name_ops.specs.Stat as stats
-use Rattle.name_ops.specs.SymLink.{sym_link_call, sym_linked_told, ChangesByCopy, TakesSymLink, lacking}
 use Rattle.name_ops.specs.Visiting.{visit_shelf, VisitTakes}
 use Rattle.name_ops.specs.Walking.{go_next, go_shelf, followed_shelf, waiting_name, Takes}
-use Rattle.op_machines.specs.declared.name_machine.NameMachine.{NameMachine}
 use Rattle.op_machines.specs.declared.name_machine.NameMachine.TheVariants as machines
 use Rattle.op_machines.specs.NameSteps.{NameGoes, NameTakes}
 use Rattle.core_answers.proofs.bonds.Learnt.{IsOn, AreOn, Good, May, Tells, MayOf, good-as, learns-good, renews-good}

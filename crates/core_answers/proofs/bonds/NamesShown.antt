@@ -1,36 +1,14 @@
 -- Each name that is kept was answered by a LOOKUP, and stands while its directory keeps the stamp.
-use Rattle.std.proofs.Common.{◌≡◌, ℕ, List, [], ◌∷◌, ◌++◌, length, Some, Result, refl, sym, ap, subst, arith}
-use Rattle.std.proofs.lemmas.List.Elements.{All-nil}
+use Rattle.core_answers.proofs.Prelude.{◌≡◌, ℕ, List, [], ◌∷◌, ◌++◌, length, Some, Result, refl, sym, ap, subst, arith, All-nil, stamp_of, Lookup, Fault, Entry, Call, Reply, History, Lawful, Heard-wide, Next, Send, Wait, Done, machine_of, Machine, View, in_flight, Reaches, Awaits, awaits-laws, all-starts, all-resumes, all-takes, Told, reached-rows, AskedOf, KeptOf, IsAnswered}
 use Rattle.name_cache.specs.declared.entry.KeptName.{KeptName}
 use Rattle.name_cache.specs.declared.entry.Place.{Place}
 use Rattle.name_cache.specs.Names as names
 use Rattle.name_cache.proofs.Entries.{All-lookup, looked-kept}
-use Rattle.nfs_types.specs.Stamps.{stamp_of}
-use Rattle.nfs_dir_calls.specs.declared.keeping.DirKept.TheVariants.{Lookup}
-use Rattle.world_model.specs.declared.answer.Fault.{Fault}
-use Rattle.world_model.specs.declared.entry.Entry.{Entry}
-use Rattle.world_model.specs.declared.message.Call.{Call}
-use Rattle.world_model.specs.declared.message.Reply.{Reply}
 use Rattle.world_model.specs.declared.message.Reply.TheVariants.{Dir}
-use Rattle.world_model.specs.History.{History}
-use Rattle.world_model.specs.Lawful.{Lawful}
-use Rattle.world_model.proofs.Growth.{Heard-wide}
-use Rattle.client_shelf.specs.declared.next.Next.{Next}
-use Rattle.client_shelf.specs.declared.next.Next.TheVariants.{Send, Wait, Done}
 use Rattle.name_ops.specs.Looking.{look_up}
-use Rattle.op_machines.specs.Begun.{machine_of}
-use Rattle.op_machines.specs.declared.machine.Machine.{Machine}
-use Rattle.client_core.specs.View.{View}
-use Rattle.core_facts.specs.InFlight.{in_flight}
-use Rattle.core_facts.specs.Reaches.{Reaches}
-use Rattle.core_facts.proofs.AllAwaited.{Awaits, awaits-laws}
-use Rattle.core_facts.proofs.FilesKept.{all-starts, all-resumes, all-takes}
-use Rattle.core_facts.proofs.NamesKept.{Told, CallTells}
-use Rattle.core_facts.proofs.Rows.{reached-rows}
-use Rattle.core_facts.proofs.Steps.{AskedOf, KeptOf}
+use Rattle.core_facts.proofs.NamesKept.{CallTells}
 use Rattle.law_names.specs.Kept.{IsLookedUp}
 use Rattle.model_walks.proofs.NamesStand.{stands_at}
-use Rattle.core_answers.specs.bonds.Kept.{IsAnswered}
 use Rattle.core_answers.specs.bonds.Named.{WasNamed, NamesShown, NamesTrue, NamesStood}
 use Rattle.core_answers.proofs.bonds.AttrsShown.{answered-last, no-story}
 use Rattle.core_answers.proofs.bonds.Executions.{answered-ran, attrs-true}

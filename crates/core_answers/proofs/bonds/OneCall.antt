@@ -1,6 +1,5 @@
 -- A record is one call at most.
-use Rattle.std.proofs.Common.{◌≡◌, ℕ, true, false, List, Result, Ok, Err, refl, sym, ap, subst, ◌∙◌, arith}
-use Rattle.xdr_codec.specs.declared.reader.XdrFault.{XdrFault}
+use Rattle.core_answers.proofs.Prelude.{◌≡◌, ℕ, true, false, List, Result, Ok, Err, refl, sym, ap, subst, ◌∙◌, arith, XdrFault, FileCall, Call, program_of, proc_of, SpellsCall}
 use Rattle.rpc_message.specs.declared.call.CallFault.{CallFault}
 use Rattle.rpc_message.specs.declared.call.CallHead.{CallHead}
 use Rattle.rpc_message.proofs.CallLaws.{call_again}
@@ -8,13 +7,11 @@ use Rattle.nfs_dir_calls.specs.declared.call.DirCall.{DirCall}
 use Rattle.nfs_dir_calls.specs.declared.call.DirCall.TheVariants as dirs
 use Rattle.nfs_dir_calls.specs.Calls.{dir_proc, dir_call_at, SpellsDirCall}
 use Rattle.nfs_dir_calls.proofs.Calls.{dir_call_codec}
-use Rattle.nfs_file_calls.specs.declared.call.FileCall.{FileCall}
 use Rattle.nfs_file_calls.specs.declared.call.FileCall.TheVariants as files
 use Rattle.nfs_file_calls.specs.Calls.{file_proc, is_file_proc, file_call_at, SpellsFileArgs}
 use Rattle.nfs_file_calls.proofs.CallLaws as file_laws
-use Rattle.world_model.specs.declared.message.Call.{Call}
 use Rattle.world_model.specs.declared.message.Call.TheVariants as calls
-use Rattle.world_model.specs.Messages.{head_of, program_of, proc_of, SpellsCall, SpellsArguments}
+use Rattle.world_model.specs.Messages.{head_of, SpellsArguments}
 
 -- ---- one head, and one list of arguments
 

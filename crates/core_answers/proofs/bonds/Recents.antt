@@ -1,18 +1,11 @@
 -- What is recent by the core's time is recent by all readings of the clock, also where that goes back: operations began at each of them.
-use Rattle.std.proofs.Common.{◌≡◌, ◌<◌, ◌≤◌, ◌⊎◌, inl, inr, ℕ, zero, suc, List, [], ◌∷◌, max, take, Some, refl, sym, ap, subst, arith}
-use Rattle.std.proofs.lemmas.Bool.{cases_lt}
-use Rattle.world_model.specs.declared.answer.Answer.{Answer}
-use Rattle.world_model.specs.declared.entry.Entry.{Entry}
-use Rattle.world_model.specs.declared.entry.Entry.TheVariants.{Began, Answered, Dialed, Sent, Executed, Foreign, Flushed, Reboot, Delivered, Failed, Clock}
-use Rattle.world_model.specs.declared.op.Op.{Op}
-use Rattle.world_model.specs.Entries.{At}
-use Rattle.claims.specs.Modes.{Modes}
-use Rattle.world_model.specs.Operations.{Ended, answered}
+use Rattle.core_answers.proofs.Prelude.{◌≡◌, ◌<◌, ◌≤◌, ◌⊎◌, inl, inr, ℕ, zero, suc, List, [], ◌∷◌, max, take, Some, refl, sym, ap, subst, arith, cases_lt, Answer, Entry, Began, Answered, Dialed, Executed, Foreign, Flushed, Reboot, Delivered, Failed, Clock, Op, At, Modes, Ended, last_reading, IsRecent, own}
+use Rattle.world_model.specs.declared.entry.Entry.TheVariants.{Sent}
+use Rattle.world_model.specs.Operations.{answered}
 use Rattle.claims.specs.ReadTrue.{IsYoung}
 use Rattle.claims.specs.Recent.{Recent, during, kept}
-use Rattle.core_facts.specs.Reaches.{last_reading}
 use Rattle.core_answers.specs.bonds.Aged.{BeginsAt, TakesReadings}
-use Rattle.core_answers.specs.bonds.Ages.{IsRecent, own, young, began_at, read_by, timed_by, time_from}
+use Rattle.core_answers.specs.bonds.Ages.{young, began_at, read_by, timed_by, time_from}
 use Rattle.core_answers.proofs.bonds.Clocks.{read-on, time-least}
 
 -- ---- readings

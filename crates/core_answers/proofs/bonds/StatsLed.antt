@@ -1,62 +1,24 @@
 -- A stat's path leads to the object whose attributes it shows.
-use Rattle.std.proofs.Common.{◌≡◌, ◌<◌, ◌≤◌, ℕ, suc, Bool, true, false, List, [], ◌∷◌, ◌++◌, length, Option, Some, None, Result, Ok, Err, refl, sym, ap, subst, ◌∙◌, arith}
-use Rattle.std.specs.Prelude.{if◌then◌else◌}
+use Rattle.core_answers.proofs.Prelude.{◌≡◌, ◌<◌, ◌≤◌, ℕ, suc, Bool, true, false, List, [], ◌∷◌, ◌++◌, length, Option, Some, None, Result, Ok, Err, refl, sym, ap, subst, ◌∙◌, arith, if◌then◌else◌, Attr, stamp_of, Lookup, FileKept, Answer, Fault, Entry, Began, Executed, Call, Reply, Op, Fresh, History, Lawful, of_object, At-below, length_last, fails_busy, goes_again, Next, Shelf, Turn, Stat, WalkNext, shown_answer, machine_of, Mounted, Machine, NameMachine, Starts, Resumes, Takes, State, Busy, Over, Awaits, WalkAwaits, WalkStep, OwnOr, go-step, took-step, Told, reached-rows, AskedOf, ThenOf, Numbered, IsRecent, own, ShownRecently, time_next, IsAnswered}
 use Rattle.attr_cache.specs.Attrs as attrs
-use Rattle.nfs_types.specs.declared.attr.Attr.{Attr}
-use Rattle.nfs_types.specs.Stamps.{stamp_of}
-use Rattle.nfs_dir_calls.specs.declared.keeping.DirKept.TheVariants.{Lookup}
-use Rattle.nfs_file_calls.specs.declared.owned.FileKept.{FileKept}
 use Rattle.nfs_file_calls.specs.declared.owned.FileKept.TheVariants as kept
-use Rattle.world_model.specs.declared.answer.Answer.{Answer}
 use Rattle.world_model.specs.declared.answer.Answer.TheVariants as answers
-use Rattle.world_model.specs.declared.answer.Fault.{Fault}
 use Rattle.world_model.specs.declared.answer.Value.TheVariants.{Attrs}
-use Rattle.world_model.specs.declared.entry.Entry.{Entry}
-use Rattle.world_model.specs.declared.entry.Entry.TheVariants.{Began, Answered as AnsweredNow, Executed}
-use Rattle.world_model.specs.declared.message.Call.{Call}
-use Rattle.world_model.specs.declared.message.Reply.{Reply}
+use Rattle.world_model.specs.declared.entry.Entry.TheVariants.{Answered as AnsweredNow}
 use Rattle.world_model.specs.declared.message.Reply.TheVariants as replies
-use Rattle.world_model.specs.declared.op.Op.{Op}
 use Rattle.world_model.specs.declared.op.Op.TheVariants as ops
-use Rattle.world_model.specs.Fresh.{Fresh}
-use Rattle.world_model.specs.History.{History}
-use Rattle.world_model.specs.Lawful.{Lawful}
-use Rattle.claims.specs.Shown.{of_object}
 use Rattle.world_model.proofs.Doing.{lookup_done}
-use Rattle.world_model.proofs.Places.{At-below, length_last}
-use Rattle.client_shelf.specs.Busy.{fails_busy, goes_again}
-use Rattle.client_shelf.specs.declared.next.Next.{Next}
 use Rattle.client_shelf.specs.declared.next.Next.TheVariants as nexts
-use Rattle.client_shelf.specs.declared.shelf.Shelf.{Shelf}
-use Rattle.client_shelf.specs.declared.turn.Turn.{Turn}
-use Rattle.name_ops.specs.declared.stat.Stat.{Stat}
-use Rattle.name_ops.specs.declared.walk.WalkNext.{WalkNext}
 use Rattle.name_ops.specs.declared.walk.WalkNext.TheVariants as walks
 use Rattle.name_ops.specs.Looking.{look_up}
-use Rattle.name_ops.specs.Showing.{shown_answer}
 use Rattle.name_ops.specs.Stat as stats
 use Rattle.name_ops.specs.Walking as walking
-use Rattle.op_machines.specs.Begun.{machine_of}
-use Rattle.op_machines.specs.declared.begun.Mounted.{Mounted}
-use Rattle.op_machines.specs.declared.machine.Machine.{Machine}
 use Rattle.op_machines.specs.declared.machine.Machine.TheVariants as machines
-use Rattle.op_machines.specs.declared.name_machine.NameMachine.{NameMachine}
 use Rattle.op_machines.specs.declared.name_machine.NameMachine.TheVariants as names
 use Rattle.op_machines.specs.NameSteps as steps
-use Rattle.op_machines.specs.Steps.{Starts, Resumes, Takes}
-use Rattle.client_core.specs.declared.lane.State.{State}
-use Rattle.client_core.specs.declared.lane.State.TheVariants.{Busy, Over}
-use Rattle.core_facts.proofs.AllAwaited.{Awaits}
-use Rattle.core_facts.proofs.Awaited.{WalkAwaits, WalkStep, OwnOr, go-step, took-step}
-use Rattle.core_facts.proofs.NamesKept.{Told}
-use Rattle.core_facts.proofs.Rows.{reached-rows}
-use Rattle.core_facts.proofs.Steps.{AskedOf, ThenOf}
-use Rattle.law_calls.specs.Calls.{Numbered}
 use Rattle.law_names.specs.Kept.{IsLookedUp}
 use Rattle.model_walks.proofs.NamesStand.{stands_at}
-use Rattle.core_answers.specs.bonds.Ages.{IsRecent, own, ShownRecently, time_next}
 use Rattle.core_answers.specs.bonds.Had.{HasAttr}
-use Rattle.core_answers.specs.bonds.Kept.{IsAnswered}
 use Rattle.core_answers.specs.bonds.Led.{StoodRecently, LedRecently, HadWhereLed, StatsLed}
 use Rattle.core_answers.specs.bonds.Led as recently
 use Rattle.core_answers.proofs.bonds.AttrsShown.{ShownIn, answered-grow, attr-laws, fresh-attrs}

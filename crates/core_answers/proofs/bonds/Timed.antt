@@ -1,29 +1,8 @@
 -- A call that waits was made at a time that the clock had shown before any record of it was sent.
-use Rattle.std.proofs.Common.{◌≡◌, ◌<◌, ◌≤◌, ◌⊎◌, inl, inr, ℕ, suc, List, [], ◌∷◌, ◌++◌, length, max, true, false, nat_eq, Option, Some, None, refl, sym, ap, subst, ◌∙◌, arith}
-use Rattle.std.proofs.lemmas.Bool.{eqb-true, cases_lt}
-use Rattle.rpc_retry.specs.declared.waiting.Waiting.{Waiting}
-use Rattle.rpc_retry.specs.Fail.{failed_after}
-use Rattle.rpc_retry.specs.Held.{Held, next_xid}
-use Rattle.rpc_retry.specs.Records.{WaitedAs}
-use Rattle.rpc_retry.specs.Waiting.{made_call, waiting_at, without}
-use Rattle.rpc_retry.proofs.Lookups.{at_made, others_made, others_taken}
-use Rattle.rpc_retry.proofs.Records.{gone, before_sent, before_failed}
-use Rattle.world_model.specs.declared.entry.Entry.{Entry}
-use Rattle.world_model.specs.declared.entry.Entry.TheVariants.{Began, Answered, Dialed, Sent, Executed, Foreign, Flushed, Reboot, Delivered, Failed, Clock}
-use Rattle.world_model.specs.declared.message.Call.{Call}
-use Rattle.world_model.specs.declared.op.Op.{Op}
-use Rattle.world_model.specs.Entries.{At}
-use Rattle.world_model.specs.Messages.{HasXid, proc_of}
-use Rattle.world_model.proofs.Places.{At-grow, At-below, At-cases, length_last}
-use Rattle.op_machines.specs.declared.machine.Machine.{Machine}
-use Rattle.client_core.specs.declared.lane.Purpose.{Purpose}
-use Rattle.client_core.specs.declared.setup.Setup.{Setup}
-use Rattle.client_core.specs.Steps.{record_of, counted}
-use Rattle.client_core.specs.View.{View, turn_at}
-use Rattle.core_facts.specs.Reaches.{StepsTo, Reaches, begins, goes, loses, last_reading}
-use Rattle.core_facts.proofs.Cases.{Heard, dropped, replied, heard, sent_now, FailedNow, goes_on, gives_up, failed_now, answered_now, taken_one}
-use Rattle.core_facts.proofs.Rows.{Rows, rows-stay, same-rows, taken-rows, rows-grow, silent-grow, taken-quiet, not-sent, reached-rows}
-use Rattle.core_facts.proofs.Walks.{Stays, begins-stay, hears-for-stay}
+use Rattle.core_answers.proofs.Prelude.{◌≡◌, ◌<◌, ◌≤◌, ◌⊎◌, inl, inr, ℕ, suc, List, [], ◌∷◌, ◌++◌, length, max, true, false, nat_eq, Option, Some, None, refl, sym, ap, subst, ◌∙◌, arith, eqb-true, cases_lt, Waiting, failed_after, next_xid, WaitedAs, made_call, waiting_at, without, at_made, others_made, others_taken, gone, before_sent, before_failed, Entry, Began, Answered, Dialed, Executed, Foreign, Flushed, Reboot, Delivered, Failed, Clock, Call, Op, At, HasXid, proc_of, At-grow, At-below, At-cases, length_last, Machine, Purpose, Setup, record_of, counted, View, turn_at, StepsTo, Reaches, begins, goes, loses, last_reading, Heard, dropped, replied, sent_now, FailedNow, goes_on, gives_up, failed_now, answered_now, taken_one, Rows, rows-stay, same-rows, taken-rows, rows-grow, silent-grow, taken-quiet, not-sent, reached-rows, Stays, begins-stay, hears-for-stay}
+use Rattle.rpc_retry.specs.Held.{Held}
+use Rattle.world_model.specs.declared.entry.Entry.TheVariants.{Sent}
+use Rattle.core_facts.proofs.Cases.{heard}
 
 -- the clock showed this time before the place n, or the time is 0
 abbrev pub MayHaveShown : List Entry → ℕ → ℕ → Type 0

@@ -1,13 +1,9 @@
 -- Where nothing disturbs a session whose refusals have their rows, no operation is refused by the server, the network or the link.
-use Rattle.std.proofs.Common.{◌≡◌, ◌≢◌, ◌<◌, ◌≤◌, ◌⊎◌, inl, inr, ℕ, suc, Bool, true, false, List, [], ◌∷◌, length, Some, Result, Ok, Err, refl, sym, ap, subst, ◌∙◌, arith}
-use Rattle.std.proofs.lemmas.Bool.{cases_lt}
-use Rattle.xdr_codec.specs.declared.reader.XdrFault.{XdrFault}
+use Rattle.core_answers.proofs.Prelude.{◌≡◌, ◌≢◌, ◌<◌, ◌≤◌, ◌⊎◌, inl, inr, ℕ, suc, Bool, true, false, List, [], ◌∷◌, length, Some, Result, Ok, Err, refl, sym, ap, subst, ◌∙◌, arith, cases_lt, XdrFault, DirKept, FileKept, ReplyFault, RpcReply, Accepted, Answer, Fault, Entry, Began, Answered, Executed, Delivered, Call, Reply, Op, Asks, At, History, HasXid, SpellsCall, SpellsReply, Ended, UnderWay, RefusalRow, Terms, At-one}
 use Rattle.nfs_dir_calls.specs.declared.call.DirCall.TheVariants as dirs
-use Rattle.nfs_dir_calls.specs.declared.keeping.DirKept.{DirKept}
 use Rattle.nfs_dir_calls.specs.declared.keeping.DirKept.TheVariants as found
 use Rattle.nfs_dir_calls.proofs.Replies.{dir_reply_codec}
 use Rattle.nfs_file_calls.specs.declared.call.FileCall.TheVariants as files
-use Rattle.nfs_file_calls.specs.declared.owned.FileKept.{FileKept}
 use Rattle.nfs_file_calls.specs.declared.owned.FileKept.TheVariants as kept
 use Rattle.nfs_file_calls.proofs.ReplyLaws.{file_reply_codec}
 use Rattle.mount_calls.specs.declared.reply.MountReply.{MountReply}
@@ -15,40 +11,28 @@ use Rattle.mount_calls.proofs.Laws.{mount_reply_codec}
 use Rattle.nfs_dir_calls.specs.Calls.{dir_proc}
 use Rattle.nfs_file_calls.specs.Calls.{file_proc}
 use Rattle.mount_calls.specs.Calls.{mount_proc}
-use Rattle.rpc_message.specs.declared.reply.ReplyFault.{ReplyFault}
 use Rattle.rpc_message.specs.declared.reply.ReplyFault.TheVariants.{NotReply}
-use Rattle.rpc_message.specs.Reply.{RpcReply, Accepted, Refused as RpcRefused, Denied}
+use Rattle.rpc_message.specs.Reply.{Refused as RpcRefused, Denied}
 use Rattle.rpc_message.proofs.ReplyLaws.{reply_first, reply_again}
-use Rattle.world_model.specs.declared.answer.Answer.{Answer}
 use Rattle.world_model.specs.declared.answer.Answer.TheVariants as answers
-use Rattle.world_model.specs.declared.answer.Fault.{Fault}
 use Rattle.world_model.specs.declared.answer.Fault.TheVariants as faults
-use Rattle.world_model.specs.declared.entry.Entry.{Entry}
-use Rattle.world_model.specs.declared.entry.Entry.TheVariants.{Began, Answered, Sent, Executed, Delivered}
-use Rattle.world_model.specs.declared.message.Call.{Call}
+use Rattle.world_model.specs.declared.entry.Entry.TheVariants.{Sent}
 use Rattle.world_model.specs.declared.message.Call.TheVariants as calls
-use Rattle.world_model.specs.declared.message.Reply.{Reply}
 use Rattle.world_model.specs.declared.message.Reply.TheVariants as replies
-use Rattle.world_model.specs.declared.op.Op.{Op}
 use Rattle.claims.specs.Asks as asks
-use Rattle.claims.specs.Asks.{Asks, Acts}
+use Rattle.claims.specs.Asks.{Acts}
 use Rattle.claims.specs.Complete as complete
 use Rattle.claims.specs.Complete.{Undisturbed, AllGoOn, IsOwn}
-use Rattle.world_model.specs.Entries.{At}
 use Rattle.claims.specs.GoesOn.{GoesOn}
 use Rattle.world_model.specs.Heard.{Heard, status_of}
-use Rattle.world_model.specs.History.{History}
 use Rattle.world_model.specs.Lawful.{IsReplied, replied, refused}
-use Rattle.world_model.specs.Messages.{HasXid, SpellsCall, SpellsReply, SpellsResults}
-use Rattle.world_model.specs.Operations.{Ended, UnderWay}
+use Rattle.world_model.specs.Messages.{SpellsResults}
 use Rattle.claims.specs.PageRules as pages
 use Rattle.claims.specs.PageRules.{WrongData, BreaksPage, RefusesSo}
-use Rattle.claims.specs.RefusalRows.{RefusedBy, RefusalRow}
+use Rattle.claims.specs.RefusalRows.{RefusedBy}
 use Rattle.world_model.specs.Rules as rules
 use Rattle.world_model.specs.Rules.{Breaks, IsNotReply}
-use Rattle.claims.specs.Terms.{Terms}
 use Rattle.world_model.proofs.Doing.{read_done, write_done, list_done}
-use Rattle.world_model.proofs.Places.{At-one}
 use Rattle.law_calls.proofs.CallsWait.{xid_of_call}
 use Rattle.call_replies.proofs.Readings.{not_reply_read}
 use Rattle.core_answers.proofs.bonds.OneCall.{IsNfs, one-call}

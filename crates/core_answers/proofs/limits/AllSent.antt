@@ -1,38 +1,14 @@
 -- Each xid of a call that was made was sent, or its call waits.
-use Rattle.std.proofs.Common.{◌≡◌, ◌<◌, ◌≤◌, ◌+◌, ◌⊎◌, inl, inr, nat_eq, ℕ, Bool, true, false, List, [], ◌∷◌, ◌++◌, length, cond, slice_get, Option, Some, None, refl, sym, ap, subst, ◌∙◌, arith}
-use Rattle.std.proofs.lemmas.Bool.{eqb-true, eqb-false, eq-eqb, cases_lt}
-use Rattle.rpc_retry.specs.declared.waiting.Waiting.{Waiting}
-use Rattle.rpc_retry.specs.Fail.{failed_after}
-use Rattle.rpc_retry.specs.Held.{Held, next_xid}
-use Rattle.rpc_retry.specs.Waiting.{made_call, waiting_at, without, sent, sent_call, failed, failed_call}
-use Rattle.rpc_retry.proofs.Lookups.{at_made, others_made, others_taken}
+use Rattle.core_answers.proofs.Prelude.{◌≡◌, ◌<◌, ◌≤◌, ◌+◌, ◌⊎◌, inl, inr, nat_eq, ℕ, Bool, true, false, List, [], ◌∷◌, ◌++◌, length, cond, slice_get, Option, Some, None, refl, sym, ap, subst, ◌∙◌, arith, eqb-true, eqb-false, eq-eqb, cases_lt, Waiting, failed_after, next_xid, made_call, waiting_at, without, at_made, others_made, others_taken, Entry, Began, Answered, Dialed, Executed, Foreign, Flushed, Reboot, Delivered, Failed, Clock, Call, Op, At, HasXid, proc_of, At-grow, At-below, At-cases, At-last, length_last, Mounted, Machine, machine_of, Lane, Purpose, Setup, record_of, counted, View, turn_at, StepsTo, HearsRecord, Reaches, begins, goes, loses, last_reading, IsOutstanding, Tried, unsent, runs, Heard, dropped, replied, sent_now, FailedNow, goes_on, gives_up, failed_now, answered_now, taken_one, calls_for, begins-unbegun, calls-some, known-none, reached-count, was-sent, Rows, rows-stay, same-rows, taken-rows, rows-grow, silent-grow, taken-quiet, not-sent, reached-rows, Stays, begins-stay, hears-for-stay}
+use Rattle.rpc_retry.specs.Held.{Held}
+use Rattle.rpc_retry.specs.Waiting.{sent, sent_call, failed, failed_call}
 use Rattle.world_model.specs.declared.answer.Answer.TheVariants as answers
 use Rattle.world_model.specs.declared.answer.Fault.TheVariants as faults
-use Rattle.world_model.specs.declared.entry.Entry.{Entry}
-use Rattle.world_model.specs.declared.entry.Entry.TheVariants.{Began, Answered, Dialed, Sent, Executed, Foreign, Flushed, Reboot, Delivered, Failed, Clock}
-use Rattle.world_model.specs.declared.message.Call.{Call}
-use Rattle.world_model.specs.declared.op.Op.{Op}
-use Rattle.world_model.specs.Entries.{At}
-use Rattle.world_model.specs.Messages.{HasXid, proc_of}
+use Rattle.world_model.specs.declared.entry.Entry.TheVariants.{Sent}
 use Rattle.world_model.specs.Rows.{WasSent}
-use Rattle.world_model.proofs.Places.{At-grow, At-below, At-cases, At-last, length_last}
-use Rattle.op_machines.specs.declared.begun.Mounted.{Mounted}
-use Rattle.op_machines.specs.declared.machine.Machine.{Machine}
-use Rattle.op_machines.specs.Begun.{machine_of}
-use Rattle.client_core.specs.declared.lane.Lane.{Lane}
-use Rattle.client_core.specs.declared.lane.Purpose.{Purpose}
-use Rattle.client_core.specs.declared.setup.Setup.{Setup}
-use Rattle.client_core.specs.Steps.{WereSent, record_of, counted}
-use Rattle.client_core.specs.View.{View, turn_at}
-use Rattle.core_facts.specs.Reaches.{StepsTo, HearsRecord, Reaches, begins, goes, loses, last_reading}
-use Rattle.core_facts.specs.Tries.{IsOutstanding, Tried, unsent, runs, ended}
-use Rattle.core_facts.proofs.Cases.{Heard, dropped, replied, heard, sent_now, FailedNow, goes_on, gives_up, failed_now, answered_now, taken_one}
-use Rattle.core_facts.specs.Counted.{calls_for}
-use Rattle.core_facts.proofs.AllCounts.{begins-unbegun}
-use Rattle.core_facts.proofs.Counting.{calls-some, known-none, reached-count}
-use Rattle.core_facts.proofs.Hearing.{was-sent}
-use Rattle.core_facts.proofs.Rows.{Rows, rows-stay, same-rows, taken-rows, rows-grow, silent-grow, taken-quiet, not-sent, reached-rows}
-use Rattle.core_facts.proofs.Walks.{Stays, begins-stay, hears-for-stay}
+use Rattle.client_core.specs.Steps.{WereSent}
+use Rattle.core_facts.specs.Tries.{ended}
+use Rattle.core_facts.proofs.Cases.{heard}
 use Rattle.core_answers.specs.limits.Limited.{AllSent, SentByThen}
 use Rattle.core_answers.proofs.limits.Unspent.{all-made, made-by}
 

@@ -1,60 +1,32 @@
 -- As long as a further call may be made, no operation gives that none may.
-use Rattle.std.proofs.Common.{◌≡◌, ◌≢◌, ◌<◌, ◌≤◌, ◌⊎◌, inl, inr, nat_lt, ℕ, Bool, true, false, List, [], ◌∷◌, ◌++◌, length, map, Option, Some, None, MatchOption, position, slice_get, slice_set, Result, Ok, Err, refl, sym, ap, subst, ◌∙◌, arith}
-use Rattle.std.specs.Prelude.{if◌then◌else◌, ◌==◌}
-use Rattle.std.proofs.lemmas.Bool.{eqb-true, cases_lt}
-use Rattle.xdr_codec.specs.declared.reader.XdrFault.{XdrFault}
-use Rattle.nfs_dir_calls.specs.declared.keeping.DirKept.{DirKept}
+use Rattle.core_answers.proofs.Prelude.{◌≡◌, ◌≢◌, ◌<◌, ◌≤◌, ◌⊎◌, inl, inr, ℕ, Bool, true, false, List, [], ◌∷◌, ◌++◌, length, map, Option, Some, None, MatchOption, position, slice_get, slice_set, Result, Ok, Err, refl, sym, ap, subst, ◌∙◌, arith, if◌then◌else◌, eqb-true, cases_lt, XdrFault, DirKept, FileKept, ReplyFault, RpcReply, Accepted, Answer, Fault, Entry, Began, Answered, Dialed, Executed, Foreign, Flushed, Reboot, Delivered, Failed, Clock, Reply, Op, At, At-cases, At-below, At-back, said_of, Next, Shelf, Mounted, Machine, machine_of, Lane, Purpose, State, Busy, Over, Setup, is_busy, lost_lane, with_state, IsRefused, Leads, Stirs, Moves, moves_none, moves_more, counted, StartsLane, BeginsIf, TakesAt, View, turn_at, unmade_turn, StepsTo, Reaches, begins, goes, loses, last_reading, Heard, dropped, replied, sent_now, FailedNow, goes_on, gives_up, failed_now, answered_now, taken_one, FineAnswer, FineResult, at-set, at-push, get-push, get-remove, skip, in-map, reached-rows, set-other, by-place, some-answer, Stays, begins-stay, hears-for-stay}
+use Rattle.std.proofs.Common.{nat_lt}
+use Rattle.std.specs.Prelude.{◌==◌}
 use Rattle.nfs_dir_calls.specs.declared.keeping.DirKept.TheVariants as found
 use Rattle.nfs_dir_calls.specs.Calls.{is_dir_proc}
 use Rattle.nfs_dir_calls.specs.Replies.{dir_reply_at}
-use Rattle.nfs_file_calls.specs.declared.owned.FileKept.{FileKept}
 use Rattle.nfs_file_calls.specs.declared.owned.FileKept.TheVariants as kept
 use Rattle.nfs_file_calls.specs.Calls.{is_file_proc}
 use Rattle.nfs_file_calls.specs.Replies.{file_reply_at}
-use Rattle.rpc_message.specs.declared.reply.ReplyFault.{ReplyFault}
 use Rattle.rpc_message.specs.declared.reply.ReplyFault.TheVariants.{NotReply, Xdr}
-use Rattle.rpc_message.specs.Reply.{RpcReply, Accepted, Refused as RpcRefused, Denied, reply_at}
+use Rattle.rpc_message.specs.Reply.{Refused as RpcRefused, Denied, reply_at}
 use Rattle.rpc_retry.specs.declared.answers.PutRefusal.{PutRefusal}
 use Rattle.rpc_retry.specs.declared.answers.PutRefusal.TheVariants as refusals
 use Rattle.rpc_retry.specs.Held.{Held}
-use Rattle.world_model.specs.declared.answer.Answer.{Answer}
 use Rattle.world_model.specs.declared.answer.Answer.TheVariants as answers
-use Rattle.world_model.specs.declared.answer.Fault.{Fault}
 use Rattle.world_model.specs.declared.answer.Fault.TheVariants as faults
-use Rattle.world_model.specs.declared.entry.Entry.{Entry}
-use Rattle.world_model.specs.declared.entry.Entry.TheVariants.{Began, Answered, Dialed, Sent, Executed, Foreign, Flushed, Reboot, Delivered, Failed, Clock}
-use Rattle.world_model.specs.declared.message.Reply.{Reply}
+use Rattle.world_model.specs.declared.entry.Entry.TheVariants.{Sent}
 use Rattle.world_model.specs.declared.message.Reply.TheVariants as replies
-use Rattle.world_model.specs.declared.op.Op.{Op}
-use Rattle.world_model.specs.Entries.{At}
 use Rattle.world_model.specs.Rules.{most_bytes}
-use Rattle.world_model.proofs.Places.{At-cases, At-below, At-back}
 use Rattle.call_replies.specs.Records.{results_by, results_read, results_in}
 use Rattle.call_replies.specs.Results.{dir_said, file_said, said_in}
-use Rattle.call_replies.specs.Says.{said_by, said_of}
-use Rattle.client_shelf.specs.declared.next.Next.{Next}
+use Rattle.call_replies.specs.Says.{said_by}
 use Rattle.client_shelf.specs.declared.next.Next.TheVariants as nexts
-use Rattle.client_shelf.specs.declared.shelf.Shelf.{Shelf}
-use Rattle.op_machines.specs.declared.begun.Mounted.{Mounted}
-use Rattle.op_machines.specs.declared.machine.Machine.{Machine}
-use Rattle.op_machines.specs.Begun.{machine_of}
-use Rattle.client_core.specs.declared.lane.Lane.{Lane}
-use Rattle.client_core.specs.declared.lane.Purpose.{Purpose}
-use Rattle.client_core.specs.declared.lane.State.{State}
-use Rattle.client_core.specs.declared.lane.State.TheVariants.{Busy, Over}
-use Rattle.client_core.specs.declared.setup.Setup.{Setup}
-use Rattle.client_core.specs.Lanes.{is_busy, lost_lane}
-use Rattle.client_core.specs.Steps.{with_state, IsUnmade, IsRefused, Leads, Stirs, Moves, moves_none, moves_more, counted, StartsLane, BeginsIf, TakesAt, HearsFor}
-use Rattle.client_core.specs.View.{View, turn_at, unmade_turn}
-use Rattle.core_facts.specs.Reaches.{StepsTo, Reaches, begins, goes, loses, last_reading}
+use Rattle.client_core.specs.Steps.{IsUnmade, HearsFor}
 use Rattle.core_facts.proofs.AllFaults as steps
-use Rattle.core_facts.proofs.Cases.{Heard, dropped, replied, heard, sent_now, FailedNow, goes_on, gives_up, failed_now, answered_now, taken_one}
-use Rattle.core_facts.proofs.Faults.{OwnFaults, OfReply, Came, FineAnswer, FineResult}
-use Rattle.core_facts.proofs.Lists.{at-set, at-push, get-push, get-remove, skip, in-map}
-use Rattle.core_facts.proofs.Rows.{reached-rows}
+use Rattle.core_facts.proofs.Cases.{heard}
+use Rattle.core_facts.proofs.Faults.{OwnFaults, OfReply, Came}
 use Rattle.core_facts.proofs.Sound.{reached-sound}
-use Rattle.core_facts.proofs.Stories.{set-other, by-place, some-answer}
-use Rattle.core_facts.proofs.Walks.{Stays, begins-stay, hears-for-stay}
 use Rattle.core_answers.specs.limits.Limited.{XidsWithin, AllMade}
 
 -- that all calls were made is none of them

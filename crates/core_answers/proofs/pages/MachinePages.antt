@@ -1,23 +1,10 @@
 -- What each step of any operation makes of the kept pages.
-use Rattle.std.proofs.Common.{◌≡◌, ◌-◌, ℕ, Bool, true, false, Result, Ok, refl}
-use Rattle.page_cache.specs.Pages.{Pages}
-use Rattle.world_model.specs.declared.answer.Fault.{Fault}
-use Rattle.world_model.specs.declared.message.Call.{Call}
-use Rattle.world_model.specs.declared.message.Reply.{Reply}
-use Rattle.client_shelf.specs.declared.next.Next.{Next}
-use Rattle.client_shelf.specs.declared.shelf.Shelf.{Shelf}
-use Rattle.client_shelf.specs.declared.turn.Turn.{Turn}
-use Rattle.name_ops.specs.declared.walk.WalkNext.{WalkNext}
+use Rattle.core_answers.proofs.Prelude.{◌≡◌, ◌-◌, ℕ, Bool, true, false, Result, Ok, refl, Pages, Fault, Call, Reply, Next, Shelf, Turn, WalkNext, Machine, Opener, PathMachine, file_of, slot_taken, begun_at, placed, Starts, Resumes, Takes}
 use Rattle.name_ops.specs.declared.walk.WalkNext.TheVariants as walks
 use Rattle.name_ops.specs.Walking as walking
-use Rattle.op_machines.specs.declared.machine.Machine.{Machine}
 use Rattle.op_machines.specs.declared.machine.Machine.TheVariants as machines
-use Rattle.op_machines.specs.declared.opener.Opener.{Opener}
 use Rattle.op_machines.specs.declared.opener.Opener.TheVariants as openers
-use Rattle.op_machines.specs.declared.path_machine.PathMachine.{PathMachine}
-use Rattle.op_machines.specs.Openers.{file_of, slot_taken, begun_at, placed}
 use Rattle.op_machines.specs.PathSteps as paths
-use Rattle.op_machines.specs.Steps.{Starts, Resumes, Takes}
 use Rattle.core_answers.proofs.pages.FilePages.{QuietLaws, ToldLaws, IsSentAs, as-shelf, file-starts, file-resumes, file-takes}
 use Rattle.core_answers.proofs.pages.NamePages.{kept-as, walk-takes-kept, name-goes-kept, name-takes-kept}
 use Rattle.core_answers.proofs.pages.PageCalls.{FileAwaits, PageAwaits}

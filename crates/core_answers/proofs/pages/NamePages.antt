@@ -1,50 +1,16 @@
 -- No step of an operation on names changes the kept pages.
-use Rattle.std.proofs.Common.{◌≡◌, ℕ, Bool, true, false, List, Option, Some, None, Result, Ok, Err, refl, ap, ◌∙◌, inl, inr}
-use Rattle.std.specs.Prelude.{if◌then◌else◌}
-use Rattle.nfs_types.specs.declared.attr.Attr.{Attr}
-use Rattle.world_model.specs.declared.answer.Fault.{Fault}
-use Rattle.world_model.specs.declared.answer.Value.{Value}
-use Rattle.world_model.specs.declared.message.Call.{Call}
-use Rattle.world_model.specs.declared.message.Reply.{Reply}
-use Rattle.client_shelf.specs.declared.shelf.Shelf.{Shelf}
-use Rattle.client_shelf.specs.declared.turn.Turn.{Turn}
-use Rattle.client_shelf.specs.declared.next.Next.{Next}
-use Rattle.name_ops.specs.declared.link.Link.{Link}
-use Rattle.name_ops.specs.declared.list_dir.ListDir.{ListDir}
-use Rattle.name_ops.specs.declared.pair.Pair.{Pair}
-use Rattle.name_ops.specs.declared.pair.PairNext.{PairNext}
-use Rattle.name_ops.specs.declared.remove_file.Deed.{Deed}
-use Rattle.name_ops.specs.declared.remove_file.Deed.TheVariants.{Look, Seek, Move, Remove}
-use Rattle.name_ops.specs.declared.remove_file.RemoveFile.{RemoveFile}
-use Rattle.name_ops.specs.declared.rename.Rename.{Rename}
-use Rattle.name_ops.specs.declared.stat.Stat.{Stat}
-use Rattle.name_ops.specs.declared.sym_link.SymLink.{SymLink}
+use Rattle.core_answers.proofs.Prelude.{◌≡◌, ℕ, Bool, true, false, List, Option, Some, None, Result, Ok, Err, refl, ap, ◌∙◌, inl, inr, if◌then◌else◌, Attr, Fault, Value, Call, Reply, Shelf, Turn, Next, Link, ListDir, Pair, PairNext, Deed, Look, Seek, Move, Remove, RemoveFile, Rename, Stat, SymLink, Visit, VisitNext, Walk, WalkNext, TakesLink, link_call, found_by, look_again, TakesText, text_call, TakesRename, rename_call, TakesShow, lacking, ChangesByCopy, TakesSymLink, access_call, access_attr, access_told, deed_call, deed_told, NameMachine}
 use Rattle.name_ops.specs.declared.told.Told.{Told}
-use Rattle.name_ops.specs.declared.visit.Visit.{Visit}
-use Rattle.name_ops.specs.declared.visit.VisitNext.{VisitNext}
-use Rattle.name_ops.specs.declared.walk.Walk.{Walk}
-use Rattle.name_ops.specs.declared.walk.WalkNext.{WalkNext}
 use Rattle.name_ops.specs.declared.walk.WalkNext.TheVariants as walks
 use Rattle.name_ops.specs.Changing as changing
-use Rattle.name_ops.specs.Link.{TakesLink}
-use Rattle.name_ops.specs.ListDir.{TakesList}
-use Rattle.name_ops.specs.Looking.{found_by, look_again, Hears}
+use Rattle.name_ops.specs.ListDir.{TakesList, page_call}
+use Rattle.name_ops.specs.Looking.{Hears}
 use Rattle.name_ops.specs.Pairs as pairs
-use Rattle.name_ops.specs.ReadLink.{TakesText}
 use Rattle.name_ops.specs.RemoveFile as removals
-use Rattle.name_ops.specs.Rename.{TakesRename}
-use Rattle.name_ops.specs.Showing.{Shows, TakesShow}
+use Rattle.name_ops.specs.Showing.{Shows}
 use Rattle.name_ops.specs.Stat as stats
-use Rattle.name_ops.specs.SymLink.{lacking, ChangesByCopy, TakesSymLink}
 use Rattle.name_ops.specs.Visiting.{visit_shelf, VisitTakes}
 use Rattle.name_ops.specs.Walking.{go_next, go_shelf, followed_shelf, waiting_name, Takes}
-use Rattle.name_ops.specs.Access.{access_call, access_attr, access_told}
-use Rattle.name_ops.specs.DirChange.{deed_call, deed_told}
-use Rattle.name_ops.specs.Link.{link_call}
-use Rattle.name_ops.specs.ListDir.{page_call}
-use Rattle.name_ops.specs.ReadLink.{text_call}
-use Rattle.name_ops.specs.Rename.{rename_call}
-use Rattle.op_machines.specs.declared.name_machine.NameMachine.{NameMachine}
 use Rattle.op_machines.specs.declared.name_machine.NameMachine.TheVariants as machines
 use Rattle.op_machines.specs.NameSteps as steps
 use Rattle.op_machines.specs.NameSteps.{NameGoes, NameTakes}

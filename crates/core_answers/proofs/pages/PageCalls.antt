@@ -1,47 +1,21 @@
 -- For which READ a read waits, and for which SETATTR a truncate.
-use Rattle.std.proofs.Common.{◌≡◌, ◌≤◌, ◌+◌, ◌&&◌, ℕ, Bool, true, false, List, Option, Some, None, Result, Ok, Err, refl, sym, subst, arith}
-use Rattle.std.specs.Prelude.{if◌then◌else◌}
-use Rattle.nfs_types.specs.declared.attr.Attr.{Attr}
-use Rattle.nfs_types.specs.declared.wcc.Wcc.{Wcc}
+use Rattle.core_answers.proofs.Prelude.{◌≡◌, ◌≤◌, ◌+◌, ◌&&◌, ℕ, Bool, true, false, List, Option, Some, None, Result, Ok, Err, refl, sym, subst, arith, if◌then◌else◌, Attr, Wcc, Pages, Fault, Call, Reply, Pending, Next, Repeat, Shelf, Turn, ReadFile, Phase, Reading, TruncateFile, Truncating, place_after, Said, part, refusal, joined, got_by, FileMachine, Machine, Starts, Resumes, Takes, of_phase, of_reading, of_truncating, in_flight, Plain, AskedOf}
 use Rattle.nfs_file_calls.specs.declared.call.FileCall.TheVariants as file_calls
 use Rattle.xdr_codec.specs.declared.blob.Memory as memory
-use Rattle.page_cache.specs.Pages.{Pages}
 use Rattle.world_model.specs.declared.answer.Answer.TheVariants as answers
-use Rattle.world_model.specs.declared.answer.Fault.{Fault}
 use Rattle.world_model.specs.declared.answer.Fault.TheVariants as faults
-use Rattle.world_model.specs.declared.message.Call.{Call}
 use Rattle.world_model.specs.declared.message.Call.TheVariants as calls
-use Rattle.world_model.specs.declared.message.Reply.{Reply}
-use Rattle.write_back.specs.Files.{Pending}
-use Rattle.client_shelf.specs.declared.next.Next.{Next}
 use Rattle.client_shelf.specs.declared.next.Next.TheVariants as nexts
-use Rattle.client_shelf.specs.declared.repeats.Repeat.{Repeat}
-use Rattle.client_shelf.specs.declared.shelf.Shelf.{Shelf}
-use Rattle.client_shelf.specs.declared.turn.Turn.{Turn}
-use Rattle.file_ops.specs.declared.read_file.ReadFile.{ReadFile}
-use Rattle.file_ops.specs.declared.reading.Phase.{Phase}
 use Rattle.file_ops.specs.declared.reading.Phase.TheVariants as phases
-use Rattle.file_ops.specs.declared.reading.Reading.{Reading}
-use Rattle.file_ops.specs.declared.truncate_file.TruncateFile.{TruncateFile}
-use Rattle.file_ops.specs.declared.truncate_file.Truncating.{Truncating}
 use Rattle.file_ops.specs.declared.truncate_file.Truncating.TheVariants as truncating
-use Rattle.file_ops.specs.Base.{place_after}
 use Rattle.file_ops.specs.ReadFile as reads
-use Rattle.file_ops.specs.ReadReply.{Said, part, refusal}
 use Rattle.file_ops.specs.Reading as reading
-use Rattle.file_ops.specs.SlotFiles.{joined}
-use Rattle.file_ops.specs.Told.{got_by}
 use Rattle.file_ops.specs.TruncateFile as truncates
-use Rattle.op_machines.specs.declared.file_machine.FileMachine.{FileMachine}
 use Rattle.op_machines.specs.declared.file_machine.FileMachine.TheVariants as files
-use Rattle.op_machines.specs.declared.machine.Machine.{Machine}
 use Rattle.op_machines.specs.declared.machine.Machine.TheVariants as machines
 use Rattle.op_machines.specs.FileSteps as steps
-use Rattle.op_machines.specs.Steps.{Starts, Resumes, Takes}
-use Rattle.core_facts.specs.InFlight.{of_phase, of_reading, of_truncating, of_file, in_flight}
+use Rattle.core_facts.specs.InFlight.{of_file}
 use Rattle.core_facts.proofs.FileCounts.{read-resumes as read-resumes-count, truncate-resumes as truncate-resumes-count}
-use Rattle.core_facts.proofs.NameCounts.{Plain}
-use Rattle.core_facts.proofs.Steps.{AskedOf}
 use Rattle.core_answers.proofs.bonds.FileCalls.{Asking, alone}
 use Rattle.core_answers.proofs.bonds.Keeping.{AskLaws}
 use Rattle.core_answers.proofs.bonds.MachineCalls.{Asks, asks-laws}

@@ -1,32 +1,19 @@
 -- What is known of the kept pages stays known after each call of the cache, by what came of a call.
-use Rattle.std.proofs.Common.{◌≡◌, ◌≤◌, ◌-◌, ◌&&◌, ◌||◌, ◌⊎◌, inl, inr, ℕ, Bool, true, false, nat_lt, nat_le, List, [], length, take, drop, Some, None, Result, Ok, refl, ap, subst, arith}
-use Rattle.std.specs.Prelude.{if◌then◌else◌}
-use Rattle.std.proofs.lemmas.Bool.Decides.{nat_tests}
+use Rattle.core_answers.proofs.Prelude.{◌≡◌, ◌≤◌, ◌-◌, ◌&&◌, ◌||◌, ◌⊎◌, inl, inr, ℕ, Bool, true, false, nat_le, List, [], length, take, drop, Some, None, Result, Ok, refl, ap, subst, arith, if◌then◌else◌, nat_tests, Attr, Verf, Stamp, Wcc, stamp_of, start_of, Pages, Fault, Entry, Call, Reply, IsAnswered, WasRead, WasWritten, WasCut, IsPage}
+use Rattle.std.proofs.Common.{nat_lt}
 use Rattle.std.proofs.lemmas.List.{length-take}
-use Rattle.nfs_types.specs.declared.attr.Attr.{Attr}
-use Rattle.nfs_types.specs.declared.verf.Verf.{Verf}
-use Rattle.nfs_types.specs.declared.wcc.Stamp.{Stamp}
-use Rattle.nfs_types.specs.declared.wcc.Wcc.{Wcc}
-use Rattle.nfs_types.specs.Stamps.{stamp_of}
 use Rattle.nfs_file_calls.specs.declared.call.FileCall.TheVariants as files
 use Rattle.nfs_file_calls.specs.declared.owned.FileKept.TheVariants as kept
 use Rattle.page_cache.specs.declared.state.Keep.{Keep as Answer}
 use Rattle.page_cache.specs.declared.state.Keep.TheVariants.{Kept, Stale, Differs}
-use Rattle.page_cache.specs.Bytes.{start_of}
-use Rattle.page_cache.specs.Pages.{Pages, keep_answer, after_keep, wrote, cut}
+use Rattle.page_cache.specs.Pages.{keep_answer, after_keep, wrote, cut}
 use Rattle.page_cache.specs.Sound.{AreKnown}
 use Rattle.page_cache.proofs.Believed.{AreTrue, true-shown, true-opened, true-saw, true-kept, true-wrote, true-cut}
-use Rattle.world_model.specs.declared.answer.Fault.{Fault}
-use Rattle.world_model.specs.declared.entry.Entry.{Entry}
-use Rattle.world_model.specs.declared.message.Call.{Call}
 use Rattle.world_model.specs.declared.message.Call.TheVariants as calls
-use Rattle.world_model.specs.declared.message.Reply.{Reply}
 use Rattle.world_model.specs.declared.message.Reply.TheVariants as replies
 use Rattle.file_ops.specs.Kept.{is_given, kept_page, offered_told, offered}
 use Rattle.file_ops.specs.Saves.{untold}
 use Rattle.file_ops.specs.TruncateFile.{size_call}
-use Rattle.core_answers.specs.bonds.Kept.{IsAnswered}
-use Rattle.core_answers.specs.pages.Kept.{WasRead, WasWritten, WasCut, IsPage}
 use Rattle.core_answers.specs.pages.Kept as pages
 use Rattle.core_answers.proofs.pages.FilePages.{QuietLaws, ToldLaws}
 use Rattle.core_answers.proofs.pages.KnownPages.{known-opened, known-saw, known-shown, known-offered, known-wrote, known-cut}

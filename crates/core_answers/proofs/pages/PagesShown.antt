@@ -1,31 +1,12 @@
 -- Each page that is kept was read, and follows what the client wrote and cut since.
-use Rattle.std.proofs.Common.{◌≡◌, ℕ, List, [], ◌∷◌, ◌++◌, length, Option, Some, None, IsSome, Result, Ok, refl, sym, subst, arith}
-use Rattle.std.proofs.lemmas.List.Elements.{All-nil, All-weaker}
-use Rattle.nfs_types.specs.declared.wcc.Stamp.{Stamp}
-use Rattle.page_cache.specs.Pages.{Pages, nothing_kept, known_of, page_of}
+use Rattle.core_answers.proofs.Prelude.{◌≡◌, ℕ, List, [], ◌∷◌, ◌++◌, length, Option, Some, None, Result, Ok, refl, sym, subst, arith, All-nil, Stamp, Pages, known_of, page_of, Fault, Entry, Began, Call, Reply, Heard-wide, Next, Send, Wait, Done, Shelf, Turn, machine_of, Mounted, Machine, Takes, Setup, View, Reaches, ThenOf, IsAnswered, WasRead, WasWritten, WasCut, IsPage}
+use Rattle.std.proofs.Common.{IsSome}
+use Rattle.std.proofs.lemmas.List.Elements.{All-weaker}
+use Rattle.page_cache.specs.Pages.{nothing_kept}
 use Rattle.page_cache.proofs.Believed.{IsTrueUnder, true-page}
 use Rattle.page_cache.proofs.Entries.{All-page}
-use Rattle.world_model.specs.declared.answer.Fault.{Fault}
-use Rattle.world_model.specs.declared.entry.Entry.{Entry}
-use Rattle.world_model.specs.declared.entry.Entry.TheVariants.{Began}
-use Rattle.world_model.specs.declared.message.Call.{Call}
-use Rattle.world_model.specs.declared.message.Reply.{Reply}
-use Rattle.world_model.proofs.Growth.{Heard-wide}
-use Rattle.client_shelf.specs.declared.next.Next.{Next}
-use Rattle.client_shelf.specs.declared.next.Next.TheVariants.{Send, Wait, Done}
-use Rattle.client_shelf.specs.declared.shelf.Shelf.{Shelf}
-use Rattle.client_shelf.specs.declared.turn.Turn.{Turn}
-use Rattle.op_machines.specs.Begun.{machine_of}
-use Rattle.op_machines.specs.declared.begun.Mounted.{Mounted}
-use Rattle.op_machines.specs.declared.machine.Machine.{Machine}
-use Rattle.op_machines.specs.Steps.{Takes}
-use Rattle.client_core.specs.declared.setup.Setup.{Setup}
-use Rattle.client_core.specs.View.{View}
-use Rattle.core_facts.specs.Reaches.{Reaches}
-use Rattle.core_facts.proofs.Steps.{ThenOf}
-use Rattle.core_answers.specs.bonds.Kept.{IsAnswered}
 use Rattle.core_answers.proofs.bonds.AttrsShown.{answered-last}
-use Rattle.core_answers.specs.pages.Kept.{WasRead, WasWritten, WasCut, IsPage, IsKept, PagesShown}
+use Rattle.core_answers.specs.pages.Kept.{IsKept, PagesShown}
 use Rattle.core_answers.specs.pages.Kept as pages
 use Rattle.core_answers.proofs.pages.FilePages.{IsSentAs}
 use Rattle.core_answers.proofs.pages.Keeping.{BondLaws, reached-known}

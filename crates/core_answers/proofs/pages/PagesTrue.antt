@@ -1,30 +1,19 @@
 -- On an honest server a page that is kept under a stamp is that page of the file, while it has the stamp.
-use Rattle.std.proofs.Common.{inl, inr, ◌⊎◌, ◌≡◌, ◌≤◌, ◌+◌, ◌-◌, ℕ, suc, true, List, [], ◌∷◌, length, take, drop, Some, refl, sym, ap, subst, ◌∙◌}
-use Rattle.nfs_types.specs.declared.wcc.Stamp.{Stamp}
-use Rattle.nfs_file_calls.specs.declared.call.FileCall.{FileCall}
+use Rattle.core_answers.proofs.Prelude.{inl, inr, ◌⊎◌, ◌≡◌, ◌≤◌, ◌+◌, ◌-◌, ℕ, suc, true, List, [], ◌∷◌, length, take, drop, Some, refl, sym, ap, subst, ◌∙◌, Stamp, FileCall, FileKept, start_of, Fresh, History, Lawful, Numbered, machine_of, reached-rows, IsAnswered, WasRead, WasWritten, WasCut, IsPage}
 use Rattle.nfs_file_calls.specs.declared.call.FileCall.TheVariants as files
-use Rattle.nfs_file_calls.specs.declared.owned.FileKept.{FileKept}
 use Rattle.nfs_file_calls.specs.declared.owned.FileKept.TheVariants as kept
 use Rattle.page_cache.specs.Bytes as paged
-use Rattle.page_cache.specs.Bytes.{start_of, page_at, put_page, cut_page}
+use Rattle.page_cache.specs.Bytes.{page_at, put_page, cut_page}
 use Rattle.page_cache.proofs.Bytes.{page-cut, page-put}
 use Rattle.page_cache.proofs.Believed.{true-page}
 use Rattle.world_model.specs.declared.message.Call.TheVariants as calls
 use Rattle.world_model.specs.declared.message.Reply.TheVariants as answers
 use Rattle.world_model.specs.Bytes.{put_at, resized}
 use Rattle.world_model.specs.FileService.{ReadsBytes}
-use Rattle.world_model.specs.Fresh.{Fresh}
-use Rattle.world_model.specs.History.{History}
-use Rattle.world_model.specs.Lawful.{Lawful}
-use Rattle.law_calls.specs.Calls.{Numbered}
 use Rattle.law_reads.specs.Kept.{Done, HasStamp, Sized}
 use Rattle.law_reads.proofs.KeptBytes.{same_bytes, reads, writes, serves, later, put_before, put_after, stamp_there, resized_so}
 use Rattle.law_pages.proofs.OfferedPage.{offered_bytes}
-use Rattle.op_machines.specs.Begun.{machine_of}
-use Rattle.core_facts.proofs.Rows.{reached-rows}
-use Rattle.core_answers.specs.bonds.Kept.{IsAnswered}
 use Rattle.core_answers.proofs.bonds.Executions.{answered-ran}
-use Rattle.core_answers.specs.pages.Kept.{WasRead, WasWritten, WasCut, IsPage}
 use Rattle.core_answers.specs.pages.Kept as pages
 use Rattle.core_answers.specs.pages.True.{PagesTrue}
 use Rattle.core_answers.proofs.pages.PagesShown.{good-pages}

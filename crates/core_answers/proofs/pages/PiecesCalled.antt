@@ -1,46 +1,16 @@
 -- A call that waits under an xid spells the WRITE of what is in flight under it, if anything is: so through each step of an operation.
-use Rattle.std.proofs.Common.{◌≡◌, ◌≢◌, ℕ, Bool, true, false, nat_eq, List, [], ◌∷◌, ◌++◌, Option, Some, None, option_map, Result, refl, sym, ap, subst, ◌∙◌, arith}
-use Rattle.std.proofs.lemmas.Bool.{eqb-true}
+use Rattle.core_answers.proofs.Prelude.{◌≡◌, ◌≢◌, ℕ, Bool, true, false, nat_eq, List, [], ◌∷◌, ◌++◌, Option, Some, None, option_map, Result, refl, sym, ap, subst, ◌∙◌, arith, eqb-true, Waiting, next_xid, WaitedAs, made_call, waiting_at, without, waits_early, at_made, others_made, others_taken, gone, Fault, Entry, Call, Reply, SpellsCallBy, program_of, proc_of, Pending, of_file, Sent, piece_under, Next, Shelf, Turn, IsUnused, Machine, Opener, file_of, Starts, Resumes, Takes, Purpose, Setup, Makes, record_of, View, turn_at, IsMade, Flown, sender, look_at, Flies, Rows, made-known, made-asked}
 use Rattle.nfs_types.specs.declared.program.TheConstants.{NFS_PROGRAM}
 use Rattle.rpc_message.specs.declared.cred.Cred.{Cred}
-use Rattle.rpc_retry.specs.declared.waiting.Waiting.{Waiting}
-use Rattle.rpc_retry.specs.Held.{next_xid}
-use Rattle.rpc_retry.specs.Records.{WaitedAs}
-use Rattle.rpc_retry.specs.Waiting.{made_call, waiting_at, without}
-use Rattle.rpc_retry.proofs.Lookups.{waits_early, at_made, others_made, others_taken}
-use Rattle.rpc_retry.proofs.Records.{gone}
-use Rattle.world_model.specs.declared.answer.Fault.{Fault}
-use Rattle.world_model.specs.declared.entry.Entry.{Entry}
-use Rattle.world_model.specs.declared.message.Call.{Call}
 use Rattle.world_model.specs.declared.message.Call.TheVariants as calls
-use Rattle.world_model.specs.declared.message.Reply.{Reply}
-use Rattle.world_model.specs.Messages.{SpellsCallBy, program_of, proc_of}
-use Rattle.write_back.specs.Files.{Pending, of_file}
-use Rattle.write_back.specs.Pieces.{Sent, piece_under}
-use Rattle.client_shelf.specs.declared.next.Next.{Next}
 use Rattle.client_shelf.specs.declared.next.Next.TheVariants as nexts
-use Rattle.client_shelf.specs.declared.shelf.Shelf.{Shelf}
-use Rattle.client_shelf.specs.declared.turn.Turn.{Turn}
 use Rattle.file_ops.specs.Saves as saves
-use Rattle.file_ops.specs.SlotFiles.{IsUnused}
 use Rattle.file_ops.proofs.Unmade.{AnyCall}
 use Rattle.file_ops.proofs.Walks.{LeftAs}
-use Rattle.op_machines.specs.declared.machine.Machine.{Machine}
 use Rattle.op_machines.specs.declared.machine.Machine.TheVariants as machines
-use Rattle.op_machines.specs.declared.opener.Opener.{Opener}
-use Rattle.op_machines.specs.Openers.{file_of}
-use Rattle.op_machines.specs.Steps.{Starts, Resumes, Takes}
 use Rattle.op_machines.proofs.Walk.{has-any, has-all}
-use Rattle.client_core.specs.declared.lane.Purpose.{Purpose}
-use Rattle.client_core.specs.declared.setup.Setup.{Setup}
-use Rattle.client_core.specs.Steps.{Makes, record_of}
-use Rattle.client_core.specs.View.{View, turn_at}
-use Rattle.core_facts.specs.Tries.{IsMade}
 use Rattle.core_facts.proofs.AllWalks.{PathHas, HasAll, all-starts, all-resumes, all-takes}
-use Rattle.core_facts.proofs.Flown.{Flown, sender, look_at}
-use Rattle.core_facts.proofs.Flights.{Flies}
 use Rattle.core_facts.proofs.PieceWalks.{AtFile, IsForeign, carries-file, replies-file}
-use Rattle.core_facts.proofs.Rows.{Rows, made-known, made-asked}
 use Rattle.core_answers.proofs.bonds.OneCall.{IsNfs, one-call}
 use Rattle.core_answers.proofs.pages.FilePages.{IsSentAs}
 use Rattle.core_answers.proofs.pages.PiecesSent.{AllSentAs}

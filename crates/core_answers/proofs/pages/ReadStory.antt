@@ -1,59 +1,33 @@
 -- What a read has found at each step, and what it answers.
-use Rattle.std.proofs.Common.{◌≡◌, ◌<◌, ◌≤◌, ◌+◌, ◌-◌, ◌*◌, ◌/◌, ◌%◌, ◌||◌, ◌==◌, ◌⊎◌, inl, inr, ℕ, zero, suc, not, Bool, true, false, nat_lt, nat_le, List, length, take, drop, slice_get, Option, Some, None, Result, Ok, Err, refl, sym, ap, subst, ◌∙◌, arith}
-use Rattle.std.specs.Prelude.{if◌then◌else◌}
+use Rattle.core_answers.proofs.Prelude.{◌≡◌, ◌<◌, ◌≤◌, ◌+◌, ◌-◌, ◌/◌, ◌%◌, ◌||◌, ◌==◌, ◌⊎◌, inl, inr, ℕ, zero, suc, not, Bool, true, false, nat_le, List, length, take, drop, slice_get, Option, Some, None, Result, Ok, Err, refl, sym, ap, subst, ◌∙◌, arith, if◌then◌else◌, cases_lt, nat_tests, length-append, Attr, Stamp, FileKept, start_of, Pages, page_of, known_of, after_page, Pending, of_file, Answer, Fault, Entry, Call, Reply, Op, Modes, IsOf, Next, Repeat, Turn, Phase, Reading, Bytes, place_after, nothing_of, part, refusal, said_to, breaks_rule, got_by, Machine, Setup, ThenOf, IsAnswered, IsPage, IsShown}
+use Rattle.std.proofs.Common.{◌*◌, nat_lt}
 use Rattle.std.specs.Int.{div_ceil}
-use Rattle.std.proofs.lemmas.Bool.{cases_lt}
-use Rattle.std.proofs.lemmas.Bool.Decides.{nat_tests}
-use Rattle.std.proofs.lemmas.List.{length-append, length-take}
+use Rattle.std.proofs.lemmas.List.{length-take}
 use Rattle.std.proofs.lemmas.Nat.{div-add-mod'}
 use Rattle.std.proofs.lemmas.Option.{slice_get-get_or}
 use Rattle.xdr_codec.specs.declared.blob.Memory as memory
-use Rattle.nfs_types.specs.declared.attr.Attr.{Attr}
-use Rattle.nfs_types.specs.declared.wcc.Stamp.{Stamp}
 use Rattle.nfs_file_calls.specs.declared.call.FileCall.TheVariants as file_calls
-use Rattle.nfs_file_calls.specs.declared.owned.FileKept.{FileKept}
 use Rattle.nfs_file_calls.specs.declared.owned.FileKept.TheVariants as kept
-use Rattle.page_cache.specs.Bytes.{start_of}
-use Rattle.page_cache.specs.Pages.{Pages, page_of, known_of, after_page}
 use Rattle.page_cache.proofs.Full.{put-fits, length-cut}
-use Rattle.write_back.specs.Files.{Pending, of_file}
 use Rattle.write_back.specs.Segments.{newest_at}
-use Rattle.world_model.specs.declared.answer.Answer.{Answer}
 use Rattle.world_model.specs.declared.answer.Answer.TheVariants as answers
-use Rattle.world_model.specs.declared.answer.Fault.{Fault}
 use Rattle.world_model.specs.declared.answer.Fault.TheVariants as faults
 use Rattle.world_model.specs.declared.answer.Value.TheVariants as values
-use Rattle.world_model.specs.declared.entry.Entry.{Entry}
-use Rattle.world_model.specs.declared.message.Call.{Call}
 use Rattle.world_model.specs.declared.message.Call.TheVariants as calls
-use Rattle.world_model.specs.declared.message.Reply.{Reply}
 use Rattle.world_model.specs.declared.message.Reply.TheVariants as replies
-use Rattle.world_model.specs.declared.op.Op.{Op}
-use Rattle.claims.specs.Modes.{Modes}
-use Rattle.claims.specs.Slots.{IsOf}
-use Rattle.client_shelf.specs.declared.next.Next.{Next}
 use Rattle.client_shelf.specs.declared.next.Next.TheVariants as nexts
-use Rattle.client_shelf.specs.declared.repeats.Repeat.{Repeat}
-use Rattle.client_shelf.specs.declared.turn.Turn.{Turn}
 use Rattle.file_ops.specs.declared.gather.Found.{Found}
 use Rattle.file_ops.specs.declared.gather.Found.TheVariants as founds
-use Rattle.file_ops.specs.declared.reading.Phase.{Phase}
 use Rattle.file_ops.specs.declared.reading.Phase.TheVariants as phases
-use Rattle.file_ops.specs.declared.reading.Reading.{Reading}
-use Rattle.file_ops.specs.Base.{Bytes, place_after, is_whole, with_more, nothing_of}
+use Rattle.file_ops.specs.Base.{is_whole, with_more}
 use Rattle.file_ops.specs.Gather as gather
 use Rattle.file_ops.specs.Gather.{Gathered}
 use Rattle.file_ops.specs.Overlaid.{PendingThen, was_pending, bytes_from, shown_over}
 use Rattle.file_ops.specs.Reading as reading
-use Rattle.file_ops.specs.ReadReply.{part, refusal, said_to, said_by, breaks_rule}
-use Rattle.file_ops.specs.Told.{got_by}
-use Rattle.op_machines.specs.declared.machine.Machine.{Machine}
-use Rattle.client_core.specs.declared.setup.Setup.{Setup}
-use Rattle.core_facts.proofs.Steps.{ThenOf}
-use Rattle.core_answers.specs.bonds.Kept.{IsAnswered}
-use Rattle.core_answers.specs.pages.Kept.{IsPage, IsKept}
+use Rattle.file_ops.specs.ReadReply.{said_by}
+use Rattle.core_answers.specs.pages.Kept.{IsKept}
 use Rattle.core_answers.specs.pages.Kept as pages
-use Rattle.core_answers.specs.pages.Read.{IsFound, in_page, in_reply, WasPending, IsShown, own, served, empty, ReadShown}
+use Rattle.core_answers.specs.pages.Read.{IsFound, in_page, in_reply, WasPending, own, served, empty, ReadShown}
 use Rattle.core_answers.proofs.pages.FilePages.{ToldLaws, gathered-pages, pages-opened, noted-pages}
 use Rattle.core_answers.proofs.pages.Keeping.{HasPassed, WasTaken}
 use Rattle.core_answers.proofs.pages.PageCalls.{PhaseAwaits}

@@ -1,41 +1,27 @@
 -- On an honest server the bytes that a read found are those of its file.
-use Rattle.std.proofs.Common.{◌≡◌, ◌<◌, ◌≤◌, ◌+◌, ℕ, suc, List, [], ◌∷◌, ◌++◌, length, slice_get, Option, Some, refl, sym, ap, subst, ◌∙◌, append_assoc, append-nil, arith}
-use Rattle.nfs_types.specs.declared.attr.Attr.{Attr}
+use Rattle.core_answers.proofs.Prelude.{◌≡◌, ◌<◌, ◌≤◌, ◌+◌, ℕ, suc, List, [], ◌∷◌, ◌++◌, length, slice_get, Option, Some, refl, sym, ap, subst, ◌∙◌, append_assoc, arith, Attr, Stamp, Wcc, FileCall, FileKept, start_of, Entry, Fresh, History, Lawful, IsOf, Numbered, machine_of, reached-rows, IsAnswered, WasRead, WasWritten, WasCut, IsPage, IsShown}
+use Rattle.std.proofs.Common.{append-nil}
 use Rattle.nfs_types.specs.declared.set_attr.SetAttr.{SetAttr}
 use Rattle.nfs_types.specs.declared.time.Time.{Time}
-use Rattle.nfs_types.specs.declared.wcc.Stamp.{Stamp}
-use Rattle.nfs_types.specs.declared.wcc.Wcc.{Wcc}
-use Rattle.nfs_file_calls.specs.declared.call.FileCall.{FileCall}
 use Rattle.nfs_file_calls.specs.declared.call.FileCall.TheVariants as files
-use Rattle.nfs_file_calls.specs.declared.owned.FileKept.{FileKept}
 use Rattle.nfs_file_calls.specs.declared.owned.FileKept.TheVariants as kept
-use Rattle.page_cache.specs.Bytes.{start_of, page_at}
-use Rattle.world_model.specs.declared.entry.Entry.{Entry}
+use Rattle.page_cache.specs.Bytes.{page_at}
 use Rattle.world_model.specs.declared.message.Call.TheVariants as calls
 use Rattle.world_model.specs.declared.message.Reply.TheVariants as answers
 use Rattle.world_model.specs.declared.op.Op.TheVariants as ops
 use Rattle.world_model.specs.Bytes.{resized}
 use Rattle.world_model.specs.FileService.{HoldsSized, SetsAttr}
-use Rattle.world_model.specs.Fresh.{Fresh}
-use Rattle.world_model.specs.History.{History}
-use Rattle.world_model.specs.Lawful.{Lawful}
 use Rattle.world_model.specs.Server.{Server, Bytes, Entries, Text, Holds}
 use Rattle.world_model.specs.Service.{Serves, refused, broken_off, done}
-use Rattle.claims.specs.Slots.{IsOf}
 use Rattle.world_model.specs.Steps.{TrueOf, TrueWcc}
-use Rattle.law_calls.specs.Calls.{Numbered}
 use Rattle.law_reads.specs.Kept.{Done, HasStamp}
 use Rattle.law_reads.proofs.Bytes.{part_stands}
 use Rattle.law_reads.proofs.KeptBytes.{reads, writes, serves, later, put_after, stamp_there}
-use Rattle.op_machines.specs.Begun.{machine_of}
-use Rattle.core_facts.proofs.Rows.{reached-rows}
-use Rattle.core_answers.specs.bonds.Kept.{IsAnswered}
 use Rattle.core_answers.proofs.bonds.AttrsShown.{answered-grow}
 use Rattle.core_answers.proofs.bonds.Executions.{answered-ran}
 use Rattle.core_answers.specs.pages.Held.{IsHeld, since_begun, with_stamp, ReadsHeld}
-use Rattle.core_answers.specs.pages.Kept.{WasRead, WasWritten, WasCut, IsPage}
 use Rattle.core_answers.specs.pages.Kept as pages
-use Rattle.core_answers.specs.pages.Read.{IsFound, in_page, in_reply, IsShown}
+use Rattle.core_answers.specs.pages.Read.{IsFound, in_page, in_reply}
 use Rattle.core_answers.proofs.pages.PagesShown.{page-grows}
 use Rattle.core_answers.proofs.pages.PagesTrue.{true-page-of}
 use Rattle.core_answers.proofs.pages.ReadsShown.{had-read, until}

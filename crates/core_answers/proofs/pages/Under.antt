@@ -1,8 +1,6 @@
 -- What holds of each piece in flight under an xid.
-use Rattle.std.proofs.Common.{◌≡◌, ◌≢◌, ℕ, Bool, true, false, nat_eq, List, [], ◌∷◌, ◌++◌, Some, None, refl, sym, ap, subst, ◌∙◌}
-use Rattle.std.specs.Prelude.{if◌then◌else◌}
-use Rattle.std.proofs.lemmas.Bool.{eqb-true, eqb-false}
-use Rattle.write_back.specs.Pieces.{Sent, piece_under, without, renumbered}
+use Rattle.core_answers.proofs.Prelude.{◌≡◌, ◌≢◌, ℕ, Bool, true, false, nat_eq, List, [], ◌∷◌, ◌++◌, Some, None, refl, sym, ap, subst, ◌∙◌, if◌then◌else◌, eqb-true, eqb-false, Sent, piece_under, renumbered}
+use Rattle.write_back.specs.Pieces.{without}
 use Rattle.core_facts.proofs.PieceWalks.{IsNone, IsAlone, OfPieces}
 
 abbrev pub EachUnder : ℕ → (Sent → Type 0) → List Sent → Type 0

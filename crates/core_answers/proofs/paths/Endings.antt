@@ -1,22 +1,11 @@
 -- A save ends well only by a reply.
-use Rattle.std.proofs.Common.{◌≡◌, inl, inr, ℕ, Bool, true, false, nat_lt, List, [], ◌∷◌, length, Option, Some, None, Err, refl, sym, subst}
+use Rattle.core_answers.proofs.Prelude.{◌≡◌, inl, inr, ℕ, Bool, true, false, List, [], ◌∷◌, length, Option, Some, None, Err, refl, sym, subst, Answer, Fault, Segments, Pending, of_file, chosen, Next, Repeat, Turn, goes_again, Sending, Committing, Resending, CommittingAgain, Saving, write_told}
+use Rattle.std.proofs.Common.{nat_lt}
 use Rattle.std.specs.Prelude.{◌==◌, ◌&&◌}
-use Rattle.world_model.specs.declared.answer.Answer.{Answer}
 use Rattle.world_model.specs.declared.answer.Answer.TheVariants as answers
-use Rattle.world_model.specs.declared.answer.Fault.{Fault}
 use Rattle.world_model.specs.declared.answer.Fault.TheVariants as faults
-use Rattle.write_back.specs.Segments.{Segments}
-use Rattle.write_back.specs.Files.{Pending, of_file}
-use Rattle.write_back.specs.Choice.{chosen}
-use Rattle.client_shelf.specs.declared.next.Next.{Next}
 use Rattle.client_shelf.specs.declared.next.Next.TheVariants as nexts
-use Rattle.client_shelf.specs.declared.repeats.Repeat.{Repeat}
-use Rattle.client_shelf.specs.declared.turn.Turn.{Turn}
-use Rattle.client_shelf.specs.Busy.{goes_again}
 use Rattle.file_ops.specs.declared.saving.Phase.{Phase}
-use Rattle.file_ops.specs.declared.saving.Phase.TheVariants.{Sending, Committing, Resending, CommittingAgain}
-use Rattle.file_ops.specs.declared.saving.Saving.{Saving}
-use Rattle.file_ops.specs.Judging.{write_told}
 use Rattle.file_ops.specs.Saves as saves
 use Rattle.file_ops.specs.Syncs as syncs
 use Rattle.core_facts.proofs.SaveCommits.{WellDone, EndsSo}

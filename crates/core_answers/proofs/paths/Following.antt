@@ -1,76 +1,17 @@
 -- What the steps of operations keep of the shelf, and of themselves, holds along a history: what they take is the last record that came, and answers
 -- the call that they wait for, which was first sent at a place that the operation knows, or after it.
-use Rattle.std.proofs.Common.{◌≡◌, ◌≢◌, ◌<◌, ◌≤◌, ◌+◌, ◌-◌, ◌⊎◌, inl, inr, ℕ, List, [], ◌∷◌, ◌++◌, length, take, map, max, Bool, true, false, nat_eq, Option, Some, None, MatchOption, position, slice_get, slice_set, Result, Ok, Err, refl, sym, ap, subst, ◌∙◌, append_assoc, arith}
-use Rattle.std.proofs.lemmas.Bool.{eqb-true, eq-eqb, cases_lt}
-use Rattle.rpc_message.specs.Call.{xid_at}
-use Rattle.rpc_retry.specs.declared.waiting.Waiting.{Waiting}
-use Rattle.rpc_retry.specs.Fail.{failed_after}
-use Rattle.rpc_retry.specs.Held.{next_xid}
-use Rattle.rpc_retry.specs.Records.{WaitedAs}
-use Rattle.rpc_retry.specs.Waiting.{made_call, waiting_at, without}
-use Rattle.rpc_retry.proofs.Lookups.{at_made, others_made, others_taken}
-use Rattle.rpc_retry.proofs.Records.{gone, before_sent, before_failed}
-use Rattle.world_model.specs.declared.answer.Answer.TheVariants.{Refused}
-use Rattle.world_model.specs.declared.answer.Fault.{Fault}
-use Rattle.world_model.specs.declared.answer.Answer.{Answer}
+use Rattle.core_answers.proofs.Prelude.{◌≡◌, ◌≢◌, ◌<◌, ◌≤◌, ◌+◌, ◌-◌, ◌⊎◌, inl, inr, ℕ, List, [], ◌∷◌, ◌++◌, length, take, map, max, Bool, true, false, nat_eq, Option, Some, None, MatchOption, position, slice_get, slice_set, Result, Ok, Err, refl, sym, ap, subst, ◌∙◌, append_assoc, arith, eqb-true, eq-eqb, cases_lt, xid_at, Waiting, failed_after, next_xid, WaitedAs, made_call, waiting_at, without, at_made, others_made, others_taken, gone, before_sent, before_failed, Refused, Fault, Answer, Entry, Began, Answered, Dialed, Executed, Foreign, Flushed, Reboot, Delivered, Failed, Clock, Call, Reply, Op, At, IsBusy, IsLost, Ended, UnderWay, EndsWith, SpellsCall, SpellsCallBy, SpellsReply, HasXid, proc_of, IsDelivered, FirstSent-grow, At-grow, At-below, At-back, At-last, At-one, At-cases, length_last, said_of, Says, Next, Send, Wait, Done, Shelf, Turn, machine_of, Mounted, Machine, Starts, Resumes, Takes, Lane, Purpose, State, Busy, Over, Setup, IsFresh, is_busy, lost_lane, IsOther, numbers_of, with_state, record_of, Makes, IsRefused, Leads, Stirs, Moves, moves_none, moves_more, counted, BeginsIf, TakesAt, View, turn_at, unmade_turn, in_flight, Counts, where_, calls_for, StepsTo, HearsRecord, Reaches, begins, goes, loses, last_reading, NoneBusy, IsMade, Tried, unsent, runs, IsOutstanding, counts-calls, begins-unbegun, Heard, dropped, replied, sent_now, FailedNow, goes_on, gives_up, failed_now, answered_now, taken_one, IsKnown, calls-some, calls-without, known-only, known-none, one_for, stirs-count, starts-count, hears-count, reached-count, none-busy, none-idle, was-sent, says-of, reached-shown, lost-grow, reached-since, LanesKnown, quiet-facts, lanes-stay, lanes-begin, lanes-under-way, reached-lanes, idle-numbers, number_of, at-set, at-push, at-position, get-push, get-remove, skip, in-map, to-map, comes-to-rest, none-moves, own-none, Rows, rows-stay, same-rows, rows-grow, silent-grow, taken-quiet, not-sent, taken-rows, made-known, made-asked, reached-rows, AskedOf, ThenOf, set-other, by-place, some-answer, stirs-stay, starts-stay, steps-stay, HadShown, time_next}
 use Rattle.world_model.specs.declared.answer.Fault.TheVariants as faults
-use Rattle.world_model.specs.declared.entry.Entry.{Entry}
-use Rattle.world_model.specs.declared.entry.Entry.TheVariants.{Began, Answered, Dialed, Sent, Executed, Foreign, Flushed, Reboot, Delivered, Failed, Clock}
-use Rattle.world_model.specs.declared.message.Call.{Call}
-use Rattle.world_model.specs.declared.message.Reply.{Reply}
-use Rattle.world_model.specs.declared.op.Op.{Op}
-use Rattle.world_model.specs.Entries.{At}
-use Rattle.world_model.specs.LanesTogether.{IsBusy}
-use Rattle.world_model.specs.Lost.{IsLost}
-use Rattle.world_model.specs.Operations.{Ended, UnderWay, EndsWith}
+use Rattle.world_model.specs.declared.entry.Entry.TheVariants.{Sent}
 use Rattle.world_model.specs.Heard.{Heard as IsHeard}
-use Rattle.world_model.specs.Messages.{SpellsCall, SpellsCallBy, SpellsReply, HasXid, proc_of}
-use Rattle.world_model.specs.Waiting.{IsDelivered}
-use Rattle.world_model.proofs.Growth.{FirstSent-grow}
-use Rattle.world_model.proofs.Places.{At-grow, At-below, At-back, At-last, At-one, At-cases, length_last}
-use Rattle.call_replies.specs.Says.{said_of, Says, SpellsOne}
-use Rattle.client_shelf.specs.declared.next.Next.{Next}
-use Rattle.client_shelf.specs.declared.next.Next.TheVariants.{Send, Wait, Done}
-use Rattle.client_shelf.specs.declared.shelf.Shelf.{Shelf}
-use Rattle.client_shelf.specs.declared.turn.Turn.{Turn}
-use Rattle.op_machines.specs.Begun.{machine_of}
-use Rattle.op_machines.specs.declared.begun.Mounted.{Mounted}
-use Rattle.op_machines.specs.declared.machine.Machine.{Machine}
-use Rattle.op_machines.specs.Steps.{Starts, Resumes, Takes}
-use Rattle.client_core.specs.declared.lane.Lane.{Lane}
-use Rattle.client_core.specs.declared.lane.Purpose.{Purpose}
-use Rattle.client_core.specs.declared.lane.State.{State}
-use Rattle.client_core.specs.declared.lane.State.TheVariants.{Busy, Over}
-use Rattle.client_core.specs.declared.setup.Setup.{Setup}
-use Rattle.client_core.specs.Fresh.{IsFresh}
-use Rattle.client_core.specs.Lanes.{is_busy, lost_lane}
-use Rattle.client_core.specs.Numbers.{IsOther, numbers_of}
-use Rattle.client_core.specs.Steps.{with_state, record_of, Makes, IsRefused, Leads, Stirs, Moves, moves_none, moves_more, counted, BeginsIf, TakesAt}
-use Rattle.client_core.specs.View.{View, turn_at, unmade_turn}
-use Rattle.core_facts.specs.InFlight.{in_flight, Counts}
-use Rattle.core_facts.specs.Counted.{where_, calls_for}
-use Rattle.core_facts.specs.Reaches.{StepsTo, HearsRecord, Reaches, begins, goes, loses, last_reading}
-use Rattle.core_facts.specs.Resting.{NoneBusy}
-use Rattle.core_facts.specs.Tries.{IsMade, Tried, unsent, runs, ended, IsOutstanding}
-use Rattle.core_facts.proofs.AllCounts.{counts-calls, begins-unbegun}
-use Rattle.core_facts.proofs.Cases.{Heard, dropped, replied, heard, sent_now, FailedNow, goes_on, gives_up, failed_now, answered_now, taken_one}
-use Rattle.core_facts.proofs.Counting.{IsKnown, calls-some, calls-without, known-only, known-none, one_for, stirs-count, starts-count, hears-count, reached-count, none-busy, none-idle}
-use Rattle.core_facts.proofs.Hearing.{was-sent, says-of}
-use Rattle.core_facts.proofs.Losing.{reached-shown, lost-grow}
-use Rattle.core_facts.proofs.Owning.{reached-since}
-use Rattle.core_facts.proofs.LaneMarks.{LanesKnown, quiet-facts, lanes-stay, lanes-begin, lanes-under-way, reached-lanes, idle-numbers, number_of}
-use Rattle.core_facts.proofs.Lists.{at-set, at-push, at-position, get-push, get-remove, skip, in-map, to-map}
-use Rattle.core_facts.proofs.Resting.{comes-to-rest, none-moves, own-none}
-use Rattle.core_facts.proofs.Rows.{Rows, rows-stay, same-rows, rows-grow, silent-grow, taken-quiet, not-sent, taken-rows, made-known, made-asked, reached-rows}
-use Rattle.core_facts.proofs.Steps.{AskedOf, ThenOf}
-use Rattle.core_facts.proofs.Stories.{ended-grow, under-back, set-other, by-place, some-call, some-answer, Going}
-use Rattle.core_facts.proofs.Walks.{stirs-stay, starts-stay, steps-stay}
+use Rattle.call_replies.specs.Says.{SpellsOne}
+use Rattle.core_facts.specs.Tries.{ended}
+use Rattle.core_facts.proofs.Cases.{heard}
+use Rattle.core_facts.proofs.Stories.{ended-grow, under-back, some-call, Going}
 use Rattle.core_answers.proofs.bonds.Clocks.{time-begins}
-use Rattle.core_answers.specs.bonds.Kept.{HadShown}
 use Rattle.core_answers.proofs.bonds.FileCalls.{Asking, Keeps}
 use Rattle.core_answers.proofs.bonds.Keeping.{IsTold, AskLaws, ShelfLaws, IsLate, ToldSince, take-early, take-whole}
 use Rattle.core_answers.proofs.bonds.Timed.{MadeAfter, reached-timed}
-use Rattle.core_answers.specs.bonds.Ages.{time_next}
 
 -- ---- what is kept
 

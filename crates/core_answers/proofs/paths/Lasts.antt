@@ -1,15 +1,8 @@
 -- The last record that came, and which call it answers.
-use Rattle.std.proofs.Common.{◌≡◌, ◌≤◌, ◌⊎◌, inl, inr, ℕ, List, [], ◌∷◌, ◌++◌, length, Some, sym, subst, ◌∙◌, arith}
-use Rattle.world_model.specs.declared.entry.Entry.{Entry}
-use Rattle.world_model.specs.declared.entry.Entry.TheVariants.{Sent, Delivered}
-use Rattle.world_model.specs.declared.message.Call.{Call}
-use Rattle.world_model.specs.declared.message.Reply.{Reply}
-use Rattle.world_model.specs.Entries.{At}
-use Rattle.world_model.specs.Messages.{HasXid, SpellsCall, SpellsReply}
-use Rattle.world_model.specs.Operations.{EndsWith, LastReply}
-use Rattle.world_model.specs.Waiting.{IsDelivered}
-use Rattle.world_model.proofs.Growth.{FirstSent-grow, Waits-grow}
-use Rattle.world_model.proofs.Places.{At-grow, At-below, At-back, At-one, At-cases, length_last}
+use Rattle.core_answers.proofs.Prelude.{◌≡◌, ◌≤◌, ◌⊎◌, inl, inr, ℕ, List, [], ◌∷◌, ◌++◌, length, Some, sym, subst, ◌∙◌, arith, Entry, Delivered, Call, Reply, At, HasXid, SpellsCall, SpellsReply, EndsWith, IsDelivered, FirstSent-grow, At-grow, At-below, At-back, At-one, At-cases, length_last}
+use Rattle.world_model.specs.declared.entry.Entry.TheVariants.{Sent}
+use Rattle.world_model.specs.Operations.{LastReply}
+use Rattle.world_model.proofs.Growth.{Waits-grow}
 use Rattle.core_answers.proofs.bonds.OneCall.{IsNfs, one-call}
 
 -- The last record before the place n answers the call with this reply, and with no other.

@@ -1,59 +1,25 @@
 -- A list, step by step: its walk leads to its directory, whose pages come one after the other, and its answer shows their names.
-use Rattle.std.proofs.Common.{◌≡◌, ◌<◌, ◌≤◌, ◌+◌, inl, inr, ℕ, zero, suc, Bool, true, false, List, [], ◌∷◌, ◌++◌, length, Contains, Option, None, Result, Ok, Err, refl, sym, ap, subst, ◌∙◌, arith}
-use Rattle.std.specs.Prelude.{if◌then◌else◌, ◌↔◌, nat_lt}
+use Rattle.core_answers.proofs.Prelude.{◌≡◌, ◌<◌, ◌≤◌, ◌+◌, inl, inr, ℕ, zero, suc, Bool, true, false, List, [], ◌∷◌, ◌++◌, length, Contains, Option, None, Result, Ok, Err, refl, sym, ap, subst, ◌∙◌, arith, if◌then◌else◌, nat_lt, Attr, Verf, DirKept, PlusRow, Step, More, End, ListFault, listing_limit, last_cookie, page_step, Answer, Fault, Value, Entry, Began, Call, Reply, Op, LastCookie, names_of, list_call, page_reply, IsDelivered, length_last, goes_again, fails_busy, Next, Shelf, Turn, ListDir, Visit, Walk, Mounted, Machine, machine_of, Starts, Resumes, Takes, in_flight, Awaits, OwnOr, then-as, ThenOf, IsAnswered, time_next}
+use Rattle.std.specs.Prelude.{◌↔◌}
 use Rattle.std.specs.Cmp.Lexicographic.{slice_cmp}
 use Rattle.std.specs.List.Sorted.{IsStrictlySortedBy}
 use Rattle.std.specs.Ordering.{nat_cmp}
-use Rattle.nfs_types.specs.declared.attr.Attr.{Attr}
-use Rattle.nfs_types.specs.declared.verf.Verf.{Verf}
-use Rattle.nfs_dir_calls.specs.declared.keeping.DirKept.{DirKept}
 use Rattle.nfs_dir_calls.specs.declared.keeping.DirKept.TheVariants as kept
-use Rattle.nfs_dir_calls.specs.declared.plus_page.PlusRow.{PlusRow}
-use Rattle.dir_list.specs.declared.progress.Step.{Step}
-use Rattle.dir_list.specs.declared.progress.Step.TheVariants.{More, End}
-use Rattle.dir_list.specs.declared.progress.ListFault.{ListFault}
 use Rattle.dir_list.specs.declared.progress.ListFault.TheVariants as list_faults
-use Rattle.dir_list.specs.Listings.{listing_limit, counts, counted, last_cookie, page_step}
-use Rattle.world_model.specs.declared.answer.Answer.{Answer}
+use Rattle.dir_list.specs.Listings.{counts, counted}
 use Rattle.world_model.specs.declared.answer.Answer.TheVariants as answers
-use Rattle.world_model.specs.declared.answer.Fault.{Fault}
 use Rattle.world_model.specs.declared.answer.Fault.TheVariants as faults
-use Rattle.world_model.specs.declared.answer.Value.{Value}
 use Rattle.world_model.specs.declared.answer.Value.TheVariants as values
-use Rattle.world_model.specs.declared.entry.Entry.{Entry}
-use Rattle.world_model.specs.declared.entry.Entry.TheVariants.{Began}
-use Rattle.world_model.specs.declared.message.Call.{Call}
-use Rattle.world_model.specs.declared.message.Reply.{Reply}
 use Rattle.world_model.specs.declared.message.Reply.TheVariants as replies
-use Rattle.world_model.specs.declared.op.Op.{Op}
 use Rattle.world_model.specs.declared.op.Op.TheVariants as ops
-use Rattle.world_model.specs.Chains.{LastCookie, names_of, list_call, page_reply}
-use Rattle.world_model.specs.Waiting.{IsDelivered}
-use Rattle.world_model.proofs.Places.{length_last}
-use Rattle.client_shelf.specs.Busy.{goes_again, fails_busy}
-use Rattle.client_shelf.specs.declared.next.Next.{Next}
 use Rattle.client_shelf.specs.declared.next.Next.TheVariants as nexts
-use Rattle.client_shelf.specs.declared.shelf.Shelf.{Shelf}
-use Rattle.client_shelf.specs.declared.turn.Turn.{Turn}
-use Rattle.name_ops.specs.declared.list_dir.ListDir.{ListDir}
-use Rattle.name_ops.specs.declared.visit.Visit.{Visit}
-use Rattle.name_ops.specs.declared.walk.Walk.{Walk}
 use Rattle.name_ops.specs.declared.walk.WalkNext.TheVariants as walks
 use Rattle.name_ops.specs.ListDir as listing
 use Rattle.name_ops.specs.Visiting as visiting
 use Rattle.name_ops.specs.Walking as walking
-use Rattle.op_machines.specs.declared.begun.Mounted.{Mounted}
-use Rattle.op_machines.specs.declared.machine.Machine.{Machine}
 use Rattle.op_machines.specs.declared.machine.Machine.TheVariants as machines
 use Rattle.op_machines.specs.declared.name_machine.NameMachine.TheVariants as names
-use Rattle.op_machines.specs.Begun.{machine_of}
-use Rattle.op_machines.specs.Steps.{Starts, Resumes, Takes}
-use Rattle.core_facts.specs.InFlight.{in_flight}
-use Rattle.core_facts.proofs.AllAwaited.{Awaits}
-use Rattle.core_facts.proofs.Awaited.{OwnOr, one-visit}
-use Rattle.core_facts.proofs.OneCalls.{then-as}
-use Rattle.core_facts.proofs.Steps.{ThenOf}
-use Rattle.core_answers.specs.bonds.Kept.{IsAnswered}
+use Rattle.core_facts.proofs.Awaited.{one-visit}
 use Rattle.core_answers.proofs.bonds.AttrsShown.{answered-grow, answered-last}
 use Rattle.core_answers.proofs.bonds.Keeping.{IsLate, take-early, take-whole}
 use Rattle.core_answers.proofs.bonds.StatsLed.{Both, Kept}
@@ -63,7 +29,6 @@ use Rattle.core_answers.proofs.paths.Lasts.{IsLast, last-later}
 use Rattle.core_answers.proofs.paths.PagesRead.{Pages, none, more, names-both}
 use Rattle.core_answers.proofs.paths.Stood.{both-laws}
 use Rattle.core_answers.proofs.paths.Visited.{VisitLed, visit-end, visit-then, walks-then, visit-grows}
-use Rattle.core_answers.specs.bonds.Ages.{time_next}
 
 -- ---- pages
 

@@ -1,25 +1,14 @@
 -- A list shows the names of its directory.
-use Rattle.std.proofs.Common.{◌≡◌, ℕ, true, List, ◌++◌, length, Contains, refl, sym, subst}
+use Rattle.core_answers.proofs.Prelude.{◌≡◌, ℕ, true, List, ◌++◌, length, Contains, refl, sym, subst, Entry, names_of, list_call, page_reply, History, Modes, Ended, machine_of, Mounted, Setup, View, Numbered, reached-rows}
 use Rattle.std.specs.Cmp.Lexicographic.{slice_cmp}
 use Rattle.std.specs.List.Sorted.{IsStrictlySortedBy}
 use Rattle.std.specs.Ordering.{nat_cmp}
 use Rattle.world_model.specs.declared.answer.Answer.TheVariants as answers
 use Rattle.world_model.specs.declared.answer.Value.TheVariants as values
-use Rattle.world_model.specs.declared.entry.Entry.{Entry}
 use Rattle.world_model.specs.declared.op.Op.TheVariants as ops
-use Rattle.world_model.specs.Chains.{names_of, list_call, page_reply}
-use Rattle.world_model.specs.History.{History}
-use Rattle.claims.specs.Modes.{Modes}
 use Rattle.world_model.specs.Mounts.{Origin}
-use Rattle.world_model.specs.Operations.{Ended}
 use Rattle.claims.specs.Recent.{ListsNames}
 use Rattle.world_model.specs.Rising.{Rising}
-use Rattle.op_machines.specs.Begun.{machine_of}
-use Rattle.op_machines.specs.declared.begun.Mounted.{Mounted}
-use Rattle.client_core.specs.declared.setup.Setup.{Setup}
-use Rattle.client_core.specs.View.{View}
-use Rattle.law_calls.specs.Calls.{Numbered}
-use Rattle.core_facts.proofs.Rows.{reached-rows}
 use Rattle.core_answers.proofs.bonds.AttrsShown.{fresh-attrs}
 use Rattle.core_answers.proofs.bonds.NamesShown.{none-kept}
 use Rattle.core_answers.proofs.bonds.StatsLed.{Both, Kept}

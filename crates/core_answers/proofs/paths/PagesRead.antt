@@ -1,16 +1,8 @@
 -- What the pages of a listing show, each read after the one before it came: every name was there, and each entry that isn't among them has a cookie
 -- above the one to go on from.
-use Rattle.std.proofs.Common.{inl, inr, ◌⊎◌, ◌≡◌, ◌≢◌, ◌<◌, ◌≤◌, ℕ, suc, Bool, true, false, List, [], ◌++◌, length, map, filter, not, Contains, All, Option, Some, slice_get, sym, ap, subst, ◌∙◌, arith}
-use Rattle.std.proofs.lemmas.List.Elements.{Contains-append_left, Contains-append_right, Contains-append_cases, filter-append}
-use Rattle.std.proofs.lemmas.List.{map-append}
-use Rattle.nfs_types.specs.declared.attr.Attr.{Attr}
-use Rattle.nfs_types.specs.declared.verf.Verf.{Verf}
-use Rattle.nfs_dir_calls.specs.declared.plus_page.PlusRow.{PlusRow}
-use Rattle.world_model.specs.declared.entry.Entry.{Entry}
-use Rattle.world_model.specs.declared.entry.Entry.TheVariants.{Executed}
-use Rattle.world_model.specs.Chains.{LastCookie, names_of, list_call, page_reply}
-use Rattle.world_model.specs.History.{History}
-use Rattle.world_model.specs.Lawful.{Lawful}
+use Rattle.core_answers.proofs.Prelude.{inl, inr, ◌⊎◌, ◌≡◌, ◌≢◌, ◌<◌, ◌≤◌, ℕ, suc, Bool, true, false, List, [], ◌++◌, length, map, filter, not, Contains, Option, Some, slice_get, sym, ap, subst, ◌∙◌, arith, filter-append, map-append, Attr, Verf, PlusRow, Entry, Executed, LastCookie, names_of, list_call, page_reply, History, Lawful, Numbered, IsAnswered}
+use Rattle.std.proofs.Common.{All}
+use Rattle.std.proofs.lemmas.List.Elements.{Contains-append_left, Contains-append_right, Contains-append_cases}
 use Rattle.world_model.specs.Names.{parent_name, is_dots}
 use Rattle.claims.specs.Recent.{NameAt}
 use Rattle.world_model.specs.Rising as rise
@@ -19,11 +11,9 @@ use Rattle.world_model.specs.Server as servers
 use Rattle.world_model.specs.Server.{Listed, Entries, Object, Lists, Names}
 use Rattle.world_model.specs.ListService.{IsPlusRowOf, ListsObjects}
 use Rattle.world_model.proofs.Doing.{list_done}
-use Rattle.law_calls.specs.Calls.{Numbered}
 use Rattle.model_walks.proofs.Cookies.{one_list, cookies_rise}
 use Rattle.model_walks.proofs.Members.{In, row_in, row_named, name_listed, last_row}
 use Rattle.model_walks.proofs.RepliesShow.{all_at}
-use Rattle.core_answers.specs.bonds.Kept.{IsAnswered}
 use Rattle.core_answers.proofs.bonds.Executions.{Ran, answered-ran}
 
 -- ---- pages, one after the other

@@ -1,14 +1,11 @@
 -- The file of a put stood under its name at a moment of the put.
-use Rattle.std.proofs.Common.{◌≡◌, ℕ, List, Some, refl, sym, ap, subst, ◌∙◌}
+use Rattle.core_answers.proofs.Prelude.{◌≡◌, ℕ, List, Some, refl, sym, ap, subst, ◌∙◌, Entry, Call, NamesFile}
 use Rattle.world_model.specs.declared.answer.Answer.TheVariants as answers
-use Rattle.world_model.specs.declared.entry.Entry.{Entry}
-use Rattle.world_model.specs.declared.message.Call.{Call}
 use Rattle.world_model.specs.declared.message.Call.TheVariants as calls
 use Rattle.world_model.specs.declared.op.Op.TheVariants as ops
 use Rattle.claims.specs.Recent.{FoundByName}
 use Rattle.claims.specs.Shown.{object_of}
 use Rattle.claims.specs.Slots as slots
-use Rattle.claims.specs.Slots.{NamesFile}
 use Rattle.core_answers.proofs.bonds.AttrsShown.{fresh-attrs}
 use Rattle.core_answers.proofs.bonds.Learnt.{IsOn}
 use Rattle.core_answers.proofs.bonds.NamesShown.{none-kept}

@@ -1,39 +1,17 @@
 -- Attributes and names together, and where a walk's path leads on an honest server.
-use Rattle.std.proofs.Common.{◌≡◌, ◌<◌, ◌≤◌, ℕ, suc, List, ◌++◌, length, Some, sym, ap, subst, arith}
-use Rattle.nfs_types.specs.declared.attr.Attr.{Attr}
-use Rattle.nfs_types.specs.Stamps.{stamp_of}
-use Rattle.nfs_dir_calls.specs.declared.keeping.DirKept.TheVariants.{Lookup}
-use Rattle.world_model.specs.declared.answer.Answer.{Answer}
-use Rattle.world_model.specs.declared.entry.Entry.{Entry}
-use Rattle.world_model.specs.declared.entry.Entry.TheVariants.{Answered as AnsweredNow, Executed}
-use Rattle.world_model.specs.declared.message.Call.{Call}
-use Rattle.world_model.specs.declared.message.Reply.{Reply}
+use Rattle.core_answers.proofs.Prelude.{◌≡◌, ◌<◌, ◌≤◌, ℕ, suc, List, ◌++◌, length, Some, sym, ap, subst, arith, Attr, stamp_of, Lookup, Answer, Entry, Executed, Call, Reply, Op, Fresh, History, Lawful, Modes, Rooted, Ended, At-below, Next, Machine, KnowsRoot, Awaits, AskedOf, Numbered, IsRecent, own, ShownRecently, IsAnswered}
+use Rattle.world_model.specs.declared.entry.Entry.TheVariants.{Answered as AnsweredNow}
 use Rattle.world_model.specs.declared.message.Reply.TheVariants as replies
-use Rattle.world_model.specs.declared.op.Op.{Op}
-use Rattle.world_model.specs.Fresh.{Fresh}
-use Rattle.world_model.specs.History.{History}
-use Rattle.world_model.specs.Lawful.{Lawful}
-use Rattle.claims.specs.Modes.{Modes}
-use Rattle.world_model.specs.Mounts.{Origin, Rooted}
-use Rattle.world_model.specs.Operations.{Ended}
+use Rattle.world_model.specs.Mounts.{Origin}
 use Rattle.claims.specs.Recent as walks
 use Rattle.claims.specs.Recent.{Recent, Walked}
 use Rattle.world_model.proofs.Doing.{lookup_done}
-use Rattle.world_model.proofs.Places.{At-below}
-use Rattle.client_shelf.specs.declared.next.Next.{Next}
 use Rattle.client_shelf.specs.declared.next.Next.TheVariants as nexts
-use Rattle.op_machines.specs.declared.machine.Machine.{Machine}
 use Rattle.name_ops.specs.Looking.{look_up}
-use Rattle.core_facts.specs.Naming.{KnowsRoot}
-use Rattle.core_facts.proofs.AllAwaited.{Awaits}
-use Rattle.core_facts.proofs.Steps.{AskedOf}
-use Rattle.law_calls.specs.Calls.{Numbered}
 use Rattle.law_names.specs.Kept.{IsLookedUp}
 use Rattle.model_walks.proofs.NamesStand.{stands_at}
 use Rattle.core_answers.specs.bonds.Aged.{TakesReadings}
-use Rattle.core_answers.specs.bonds.Ages.{IsRecent, own, ShownRecently}
 use Rattle.core_answers.specs.bonds.Had.{HasAttr}
-use Rattle.core_answers.specs.bonds.Kept.{IsAnswered}
 use Rattle.core_answers.specs.bonds.Led.{StoodRecently, LedRecently}
 use Rattle.core_answers.specs.bonds.Led as recently
 use Rattle.core_answers.proofs.bonds.AttrsShown.{answered-grow, attr-laws}

@@ -1,25 +1,10 @@
 -- A walk that leads by recent names, and a call at its end.
-use Rattle.std.proofs.Common.{◌≡◌, ◌<◌, ℕ, Bool, true, false, List, [], ◌∷◌, ◌++◌, length, None, Result, Ok, refl, sym, ap, subst, ◌∙◌}
-use Rattle.std.specs.Prelude.{if◌then◌else◌}
-use Rattle.world_model.specs.declared.answer.Answer.{Answer}
+use Rattle.core_answers.proofs.Prelude.{◌≡◌, ◌<◌, ℕ, Bool, true, false, List, [], ◌∷◌, ◌++◌, length, None, Result, Ok, refl, sym, ap, subst, ◌∙◌, if◌then◌else◌, Answer, Fault, Entry, Call, Reply, Next, Shelf, Turn, Visit, VisitNext, WalkNext, WalkAwaits, WalkStep, go-step, took-step, then-as, ThenOf}
 use Rattle.world_model.specs.declared.answer.Answer.TheVariants as answers
-use Rattle.world_model.specs.declared.answer.Fault.{Fault}
-use Rattle.world_model.specs.declared.entry.Entry.{Entry}
-use Rattle.world_model.specs.declared.message.Call.{Call}
-use Rattle.world_model.specs.declared.message.Reply.{Reply}
-use Rattle.client_shelf.specs.declared.next.Next.{Next}
-use Rattle.client_shelf.specs.declared.shelf.Shelf.{Shelf}
-use Rattle.client_shelf.specs.declared.turn.Turn.{Turn}
-use Rattle.name_ops.specs.declared.visit.Visit.{Visit}
-use Rattle.name_ops.specs.declared.visit.VisitNext.{VisitNext}
 use Rattle.name_ops.specs.declared.visit.VisitNext.TheVariants as visits
-use Rattle.name_ops.specs.declared.walk.WalkNext.{WalkNext}
 use Rattle.name_ops.specs.declared.walk.WalkNext.TheVariants as walks
 use Rattle.name_ops.specs.Visiting as visiting
 use Rattle.name_ops.specs.Walking as walking
-use Rattle.core_facts.proofs.Awaited.{WalkAwaits, WalkStep, go-step, took-step}
-use Rattle.core_facts.proofs.OneCalls.{then-as}
-use Rattle.core_facts.proofs.Steps.{ThenOf}
 use Rattle.core_answers.proofs.bonds.Keeping.{ToldSince, IsLate}
 use Rattle.core_answers.proofs.bonds.StatsLed.{Kept}
 use Rattle.core_answers.proofs.bonds.Walked.{LedBy, WalkAt, go-led, took-led, end-led, walk-grows}

@@ -1,14 +1,8 @@
 -- Each byte that was pending is one that an operation gave.
-use Rattle.std.proofs.Common.{◌≡◌, ◌+◌, ℕ, List, [], ◌∷◌, ◌++◌, take, Option, Some, None, refl, sym, subst, append_assoc, append-nil}
+use Rattle.core_answers.proofs.Prelude.{◌≡◌, ◌+◌, ℕ, List, [], ◌∷◌, ◌++◌, take, Option, Some, None, refl, sym, subst, append_assoc, of_file, Entry, Modes, machine_of, Mounted, Setup, begins-unbegun, IsShown}
+use Rattle.std.proofs.Common.{append-nil}
 use Rattle.write_back.specs.Segments.{Cell, cell_at, byte_of}
-use Rattle.write_back.specs.Files.{of_file}
-use Rattle.world_model.specs.declared.entry.Entry.{Entry}
-use Rattle.claims.specs.Modes.{Modes}
-use Rattle.op_machines.specs.Begun.{machine_of}
-use Rattle.op_machines.specs.declared.begun.Mounted.{Mounted}
-use Rattle.client_core.specs.declared.setup.Setup.{Setup}
-use Rattle.core_facts.proofs.AllCounts.{begins-unbegun}
-use Rattle.core_answers.specs.pages.Read.{WasPending, IsShown}
+use Rattle.core_answers.specs.pages.Read.{WasPending}
 use Rattle.core_answers.specs.pages.Read as shown
 use Rattle.core_answers.proofs.pages.ReadsHeld.{reads-held}
 use Rattle.core_answers.proofs.pages.ReadsShown.{reads-shown}

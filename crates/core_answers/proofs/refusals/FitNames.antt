@@ -1,65 +1,28 @@
 -- Which faults a step of an operation on names gives: want of memory, and what it makes of what came of its call.
-use Rattle.std.proofs.Common.{◌≡◌, ℕ, Bool, true, false, List, Option, Some, None, Result, Ok, Err, inl, inr, refl, sym, subst, ◌||◌}
-use Rattle.std.specs.Prelude.{if◌then◌else◌}
-use Rattle.nfs_types.specs.declared.attr.Attr.{Attr}
+use Rattle.core_answers.proofs.Prelude.{◌≡◌, ℕ, Bool, true, false, List, Option, Some, None, Result, Ok, Err, inl, inr, refl, sym, subst, ◌||◌, if◌then◌else◌, Attr, Step, More, End, ListFault, page_step, Fault, Value, Call, Reply, Next, Shelf, Turn, ListDir, Stat, SymLink, Visit, VisitNext, Walk, WalkNext, found_by, look_again, text_call, TakesText, shown_answer, TakesShow, sym_link_call, sym_linked_told, ChangesByCopy, TakesSymLink, lacking, Opens, Link, Pair, PairNext, Deed, Look, Seek, Move, Remove, RemoveFile, Rename, access_call, access_attr, access_told, deed_call, deed_told, link_call, TakesLink, linked_told, moved_told, rename_call, TakesRename, NameMachine, FineResult, FineOption, FineAnswer, FineNext, fine-as}
 use Rattle.attr_cache.specs.Attrs as attrs
-use Rattle.dir_list.specs.declared.progress.Step.{Step}
-use Rattle.dir_list.specs.declared.progress.Step.TheVariants.{More, End}
-use Rattle.dir_list.specs.declared.progress.ListFault.{ListFault}
-use Rattle.dir_list.specs.Listings.{page_step}
 use Rattle.world_model.specs.declared.answer.Answer.TheVariants as answers
-use Rattle.world_model.specs.declared.answer.Fault.{Fault}
 use Rattle.world_model.specs.declared.answer.Fault.TheVariants as faults
-use Rattle.world_model.specs.declared.answer.Value.{Value}
 use Rattle.world_model.specs.declared.answer.Value.TheVariants as values
-use Rattle.world_model.specs.declared.message.Call.{Call}
-use Rattle.world_model.specs.declared.message.Reply.{Reply}
-use Rattle.client_shelf.specs.declared.next.Next.{Next}
 use Rattle.client_shelf.specs.declared.next.Next.TheVariants as nexts
-use Rattle.client_shelf.specs.declared.shelf.Shelf.{Shelf}
-use Rattle.client_shelf.specs.declared.turn.Turn.{Turn}
-use Rattle.name_ops.specs.declared.list_dir.ListDir.{ListDir}
-use Rattle.name_ops.specs.declared.stat.Stat.{Stat}
-use Rattle.name_ops.specs.declared.sym_link.SymLink.{SymLink}
 use Rattle.name_ops.specs.declared.told.Told.{Told}
-use Rattle.name_ops.specs.declared.visit.Visit.{Visit}
-use Rattle.name_ops.specs.declared.visit.VisitNext.{VisitNext}
 use Rattle.name_ops.specs.declared.visit.VisitNext.TheVariants as visits
-use Rattle.name_ops.specs.declared.walk.Walk.{Walk}
-use Rattle.name_ops.specs.declared.walk.WalkNext.{WalkNext}
 use Rattle.name_ops.specs.declared.walk.WalkNext.TheVariants as walks
 use Rattle.name_ops.specs.Changing as changing
 use Rattle.name_ops.specs.ListDir as listing
-use Rattle.name_ops.specs.Looking.{found_by, look_again}
-use Rattle.name_ops.specs.ReadLink.{text_call, TakesText}
-use Rattle.name_ops.specs.Showing.{shown_answer, Shows, TakesShow}
+use Rattle.name_ops.specs.ReadLink.{TellsText}
+use Rattle.name_ops.specs.Showing.{Shows}
 use Rattle.name_ops.specs.Stat as stats
-use Rattle.name_ops.specs.SymLink.{sym_link_call, sym_linked_told, CopiesBy, ChangesByCopy, TakesSymLink, lacking}
+use Rattle.name_ops.specs.SymLink.{CopiesBy}
 use Rattle.name_ops.specs.Visiting as visiting
 use Rattle.name_ops.specs.Walking as walking
-use Rattle.open_files.specs.Slots.{Opens}
 use Rattle.silly_rename.specs.Plans.{plan_of}
-use Rattle.name_ops.specs.declared.link.Link.{Link}
-use Rattle.name_ops.specs.declared.pair.Pair.{Pair}
-use Rattle.name_ops.specs.declared.pair.PairNext.{PairNext}
 use Rattle.name_ops.specs.declared.pair.PairNext.TheVariants as two
-use Rattle.name_ops.specs.declared.remove_file.Deed.{Deed}
-use Rattle.name_ops.specs.declared.remove_file.Deed.TheVariants.{Look, Seek, Move, Remove}
-use Rattle.name_ops.specs.declared.remove_file.RemoveFile.{RemoveFile}
-use Rattle.name_ops.specs.declared.rename.Rename.{Rename}
-use Rattle.name_ops.specs.Access.{access_call, access_attr, access_told}
-use Rattle.name_ops.specs.DirChange.{deed_call, deed_told}
-use Rattle.name_ops.specs.Link.{link_call, TakesLink}
-use Rattle.name_ops.specs.Moving.{moved_told}
 use Rattle.name_ops.specs.Pairs as pairs
 use Rattle.name_ops.specs.RemoveFile as removals
-use Rattle.name_ops.specs.Rename.{rename_call, TakesRename}
-use Rattle.op_machines.specs.declared.name_machine.NameMachine.{NameMachine}
 use Rattle.op_machines.specs.declared.name_machine.NameMachine.TheVariants as machines
 use Rattle.op_machines.specs.NameSteps as steps
-use Rattle.name_ops.specs.Link.{linked_told}
-use Rattle.name_ops.specs.ReadLink.{TellsText}
-use Rattle.core_facts.proofs.Faults.{FineResult, FineOption, FineAnswer, FineNext, fine-as, again-fine, call-or-wait}
+use Rattle.core_facts.proofs.Faults.{again-fine, call-or-wait}
 use Rattle.core_answers.proofs.answers.SaveFaults.{CallFaults}
 
 module _ (P : Fault → Type 0) (own : CallFaults P) where

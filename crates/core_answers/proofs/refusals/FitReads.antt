@@ -1,45 +1,21 @@
 -- Which faults a step of an opening, an open or a read gives: want of memory, and what it makes of what came of its call.
-use Rattle.std.proofs.Common.{◌≡◌, ◌-◌, ◌||◌, ℕ, not, Bool, true, false, List, Option, Some, None, Result, Ok, Err, inl, inr, sym, subst, refl}
-use Rattle.std.specs.Prelude.{if◌then◌else◌}
+use Rattle.core_answers.proofs.Prelude.{◌≡◌, ◌-◌, ◌||◌, ℕ, not, Bool, true, false, List, Option, Some, None, Result, Ok, Err, inl, inr, sym, subst, refl, if◌then◌else◌, Attr, Mode, Opened, Opens, Pages, known_of, Fault, Reply, Pending, Next, Repeat, Turn, OpenFile, Led, Opening, OpeningNext, ReadFile, Phase, Reading, Said, part, refusal, said_to, got_by, looked, OpeningStep, FineResult, FineNext, fine-as, fine-fault}
 use Rattle.std.specs.FinMap as finite
-use Rattle.nfs_types.specs.declared.attr.Attr.{Attr}
-use Rattle.nfs_types.specs.declared.mode.Mode.{Mode}
 use Rattle.nfs_types.specs.declared.mode.Mode.TheVariants as modes
 use Rattle.xdr_codec.specs.declared.blob.Memory as memory
-use Rattle.open_files.specs.declared.opened.Opened.{Opened}
-use Rattle.open_files.specs.Slots.{Place, Opens}
-use Rattle.page_cache.specs.Pages.{Pages}
+use Rattle.open_files.specs.Slots.{Place}
 use Rattle.world_model.specs.declared.answer.Answer.TheVariants as answers
-use Rattle.world_model.specs.declared.answer.Fault.{Fault}
 use Rattle.world_model.specs.declared.answer.Fault.TheVariants as faults
-use Rattle.world_model.specs.declared.message.Reply.{Reply}
-use Rattle.write_back.specs.Files.{Pending}
-use Rattle.client_shelf.specs.declared.next.Next.{Next}
 use Rattle.client_shelf.specs.declared.next.Next.TheVariants as nexts
-use Rattle.client_shelf.specs.declared.repeats.Repeat.{Repeat}
-use Rattle.client_shelf.specs.declared.turn.Turn.{Turn}
-use Rattle.file_ops.specs.declared.open_file.OpenFile.{OpenFile}
-use Rattle.file_ops.specs.declared.opening.Led.{Led}
 use Rattle.file_ops.specs.declared.opening.Led.TheVariants as leads
-use Rattle.file_ops.specs.declared.opening.Opening.{Opening}
-use Rattle.file_ops.specs.declared.opening.OpeningNext.{OpeningNext}
 use Rattle.file_ops.specs.declared.opening.OpeningNext.TheVariants as openings
-use Rattle.file_ops.specs.declared.read_file.ReadFile.{ReadFile}
-use Rattle.file_ops.specs.declared.reading.Phase.{Phase}
 use Rattle.file_ops.specs.declared.reading.Phase.TheVariants as phases
-use Rattle.file_ops.specs.declared.reading.Reading.{Reading}
 use Rattle.file_ops.specs.OpenFile as opens
 use Rattle.file_ops.specs.Opening as opening
 use Rattle.file_ops.specs.ReadFile as reads
 use Rattle.file_ops.specs.Reading as reading
-use Rattle.file_ops.specs.ReadReply.{Said, part, refusal}
-use Rattle.file_ops.specs.Told.{got_by}
-use Rattle.attr_cache.specs.Attrs.{looked}
-use Rattle.page_cache.specs.Pages.{known_of}
-use Rattle.file_ops.specs.declared.opening.OpeningStep.{OpeningStep}
 use Rattle.file_ops.specs.declared.opening.OpeningStep.TheVariants as opening_steps
-use Rattle.file_ops.specs.ReadReply.{said_to}
-use Rattle.core_facts.proofs.Faults.{FineResult, FineNext, fine-as, fine-fault, again-fine}
+use Rattle.core_facts.proofs.Faults.{again-fine}
 use Rattle.core_answers.proofs.answers.SaveFaults.{CallFaults}
 
 module _ (P : Fault → Type 0) (own : CallFaults P) where

@@ -1,78 +1,30 @@
 -- What came of the call for which an operation waits is a reply to that call, so P holds of whatever the operation makes of it.
-use Rattle.std.proofs.Common.{◌≡◌, ◌==◌, inl, inr, ℕ, Bool, true, false, List, Option, Some, None, Result, Ok, Err, refl, sym, ap, subst, ◌∙◌}
-use Rattle.std.specs.Prelude.{if◌then◌else◌}
-use Rattle.nfs_types.specs.declared.attr.Attr.{Attr}
-use Rattle.nfs_types.specs.declared.verf.Verf.{Verf}
-use Rattle.nfs_dir_calls.specs.declared.keeping.DirKept.{DirKept}
+use Rattle.core_answers.proofs.Prelude.{◌≡◌, ◌==◌, inl, inr, ℕ, Bool, true, false, List, Option, Some, None, Result, Ok, Err, refl, sym, ap, subst, ◌∙◌, if◌then◌else◌, Attr, Verf, DirKept, PlusRow, Fault, Call, Reply, look_up, page_reply, Pending, Sent, Turn, Closing, Opening, OpeningStep, PutFile, Putting, Phase, Reading, Saving, Syncing, Truncating, Writing, place_after, Said, part, refusal, said_to, DirDeed, ListDir, Pair, Deed, Look, Seek, Move, Remove, RemoveFile, Stat, Visit, Walk, access_call, deed_call, deed_told, link_call, text_call, rename_call, sym_link_call, FileMachine, Machine, NameMachine, PathMachine, file_of, PutAwaits, PathOr, WalkAwaits, OwnOr, FineResult, FineOption, flies_if, flies_save, flies_write, flies_sync, flies_close, flies_put, flies_file, flies_path, RemoveAwaits}
 use Rattle.nfs_dir_calls.specs.declared.keeping.DirKept.TheVariants as found
-use Rattle.nfs_dir_calls.specs.declared.plus_page.PlusRow.{PlusRow}
-use Rattle.world_model.specs.declared.answer.Fault.{Fault}
 use Rattle.world_model.specs.declared.answer.Fault.TheVariants as faults
-use Rattle.world_model.specs.declared.message.Call.{Call}
-use Rattle.world_model.specs.declared.message.Reply.{Reply}
 use Rattle.world_model.specs.declared.message.Reply.TheVariants as replies
-use Rattle.claims.specs.Asks.{look_up}
-use Rattle.world_model.specs.Chains.{page_reply}
-use Rattle.write_back.specs.Files.{Pending}
-use Rattle.write_back.specs.Pieces.{Sent}
-use Rattle.client_shelf.specs.declared.turn.Turn.{Turn}
-use Rattle.file_ops.specs.declared.close_file.Closing.{Closing}
 use Rattle.file_ops.specs.declared.close_file.Closing.TheVariants as closing
 use Rattle.file_ops.specs.declared.opening.Led.TheVariants as leads
-use Rattle.file_ops.specs.declared.opening.Opening.{Opening}
-use Rattle.file_ops.specs.declared.opening.OpeningStep.{OpeningStep}
 use Rattle.file_ops.specs.declared.opening.OpeningStep.TheVariants as opening_steps
-use Rattle.file_ops.specs.declared.put_file.PutFile.{PutFile}
-use Rattle.file_ops.specs.declared.put_file.Putting.{Putting}
 use Rattle.file_ops.specs.declared.put_file.Putting.TheVariants as putting
-use Rattle.file_ops.specs.declared.reading.Phase.{Phase}
 use Rattle.file_ops.specs.declared.reading.Phase.TheVariants as phases
-use Rattle.file_ops.specs.declared.reading.Reading.{Reading}
-use Rattle.file_ops.specs.declared.saving.Saving.{Saving}
-use Rattle.file_ops.specs.declared.sync_file.Syncing.{Syncing}
 use Rattle.file_ops.specs.declared.sync_file.Syncing.TheVariants as syncing
-use Rattle.file_ops.specs.declared.truncate_file.Truncating.{Truncating}
 use Rattle.file_ops.specs.declared.truncate_file.Truncating.TheVariants as truncating
-use Rattle.file_ops.specs.declared.write_file.Writing.{Writing}
 use Rattle.file_ops.specs.declared.write_file.Writing.TheVariants as writing
-use Rattle.file_ops.specs.Base.{place_after}
 use Rattle.file_ops.specs.Opening as opening
-use Rattle.file_ops.specs.ReadReply.{Said, part, refusal, said_to}
 use Rattle.file_ops.specs.Saves as saves
 use Rattle.file_ops.specs.Told as told
-use Rattle.name_ops.specs.declared.dir_change.DirDeed.{DirDeed}
 use Rattle.name_ops.specs.declared.dir_change.DirDeed.TheVariants as deeds
-use Rattle.name_ops.specs.declared.list_dir.ListDir.{ListDir}
-use Rattle.name_ops.specs.declared.pair.Pair.{Pair}
-use Rattle.name_ops.specs.declared.remove_file.Deed.{Deed}
-use Rattle.name_ops.specs.declared.remove_file.Deed.TheVariants.{Look, Seek, Move, Remove}
-use Rattle.name_ops.specs.declared.remove_file.RemoveFile.{RemoveFile}
-use Rattle.name_ops.specs.declared.stat.Stat.{Stat}
-use Rattle.name_ops.specs.declared.visit.Visit.{Visit}
-use Rattle.name_ops.specs.declared.walk.Walk.{Walk}
-use Rattle.name_ops.specs.Access.{access_call}
-use Rattle.name_ops.specs.DirChange.{deed_call, deed_told}
-use Rattle.name_ops.specs.Link.{link_call}
 use Rattle.name_ops.specs.ListDir as listing
-use Rattle.name_ops.specs.ReadLink.{text_call}
 use Rattle.name_ops.specs.RemoveFile as removals
-use Rattle.name_ops.specs.Rename.{rename_call}
 use Rattle.name_ops.specs.Stat as stats
-use Rattle.name_ops.specs.SymLink.{sym_link_call}
 use Rattle.name_ops.specs.Walking as walking
-use Rattle.op_machines.specs.declared.file_machine.FileMachine.{FileMachine}
 use Rattle.op_machines.specs.declared.file_machine.FileMachine.TheVariants as files
-use Rattle.op_machines.specs.declared.machine.Machine.{Machine}
 use Rattle.op_machines.specs.declared.machine.Machine.TheVariants as machines
-use Rattle.op_machines.specs.declared.name_machine.NameMachine.{NameMachine}
 use Rattle.op_machines.specs.declared.name_machine.NameMachine.TheVariants as names
-use Rattle.op_machines.specs.declared.path_machine.PathMachine.{PathMachine}
-use Rattle.op_machines.specs.Openers.{file_of}
-use Rattle.core_facts.proofs.AllAwaited.{PutAwaits, FileAwaits, PathOr}
-use Rattle.core_facts.proofs.Awaited.{WalkAwaits, OwnOr, PairOr}
-use Rattle.core_facts.proofs.Faults.{FineResult, FineOption}
-use Rattle.core_facts.proofs.Flights.{flies_if, flies_save, flies_write, flies_sync, flies_close, flies_put, flies_file, flies_path}
-use Rattle.core_facts.proofs.NamesAwaited.{RemoveAwaits, NameAwaits}
+use Rattle.core_facts.proofs.AllAwaited.{FileAwaits}
+use Rattle.core_facts.proofs.Awaited.{PairOr}
+use Rattle.core_facts.proofs.NamesAwaited.{NameAwaits}
 use Rattle.core_answers.proofs.asks.CallsAwaited.{Expects, PathNames}
 use Rattle.core_answers.proofs.asks.FilesAwaited.{SyncNames, WriteNames, CloseNames, CutNames, StateNames, FileNames}
 use Rattle.core_answers.proofs.asks.ReadsAwaited.{PhaseNames, ReadNames}

@@ -1,22 +1,14 @@
 -- The rows of statuses and of refusals by RPC: the call that a record refused is one that the operation asks for.
-use Rattle.std.proofs.Common.{◌≡◌, ℕ, List, ◌++◌, length, sym, subst, arith}
+use Rattle.core_answers.proofs.Prelude.{◌≡◌, ℕ, List, ◌++◌, length, sym, subst, arith, Fault, Entry, Call, Op, Asks, Terms, Mounted, Setup, View}
 use Rattle.nfs_types.specs.declared.mode.Mode.TheVariants as modes
-use Rattle.world_model.specs.declared.answer.Fault.{Fault}
 use Rattle.world_model.specs.declared.answer.Fault.TheVariants as faults
-use Rattle.world_model.specs.declared.entry.Entry.{Entry}
-use Rattle.world_model.specs.declared.message.Call.{Call}
-use Rattle.world_model.specs.declared.op.Op.{Op}
 use Rattle.world_model.specs.declared.op.Op.TheVariants as ops
-use Rattle.claims.specs.Asks.{Asks, IsWriter}
+use Rattle.claims.specs.Asks.{IsWriter}
 use Rattle.claims.specs.Asks as acts
 use Rattle.claims.specs.GoesOn.{GoesOn}
 use Rattle.claims.specs.GoesOn as on
 use Rattle.claims.specs.RefusalRows.{IsLastRemove}
-use Rattle.claims.specs.Terms.{Terms}
-use Rattle.op_machines.specs.declared.begun.Mounted.{Mounted}
 use Rattle.op_machines.specs.Begun.{IsAsked}
-use Rattle.client_core.specs.declared.setup.Setup.{Setup}
-use Rattle.client_core.specs.View.{View}
 use Rattle.core_answers.specs.refusals.Asked.{AskedOr, asked, rooms, hides, removes}
 use Rattle.core_answers.specs.refusals.Rowed.{GoesSo, MayMiss, IsFinal, RefusedFor, RefusalsOwned, AsksPlainly, RefusalsRowed}
 use Rattle.core_answers.proofs.refusals.Asking.{row-of}

@@ -1,62 +1,35 @@
 -- What a reply comes to for an operation, by its call: a status refuses the call, a broken rule does, and no reply is of another procedure.
-use Rattle.std.proofs.Common.{◌≡◌, ◌≢◌, ◌<◌, ◌+◌, ◌||◌, ◌==◌, ◌⊎◌, inl, inr, ℕ, Bool, true, false, List, [], ◌∷◌, length, Option, Some, None, Result, Ok, Err, refl, sym, subst, arith}
-use Rattle.std.specs.Prelude.{if◌then◌else◌, nat_lt, nat_eq, not, ◌&&◌}
-use Rattle.std.proofs.lemmas.Bool.{eqb-true, eqb-false, ltb-true}
-use Rattle.nfs_types.specs.declared.attr.Attr.{Attr}
-use Rattle.nfs_types.specs.declared.verf.Verf.{Verf}
-use Rattle.nfs_types.specs.declared.wcc.Wcc.{Wcc}
+use Rattle.core_answers.proofs.Prelude.{◌≡◌, ◌≢◌, ◌<◌, ◌+◌, ◌||◌, ◌==◌, ◌⊎◌, inl, inr, ℕ, Bool, true, false, List, [], ◌∷◌, length, Option, Some, None, Result, Ok, Err, refl, sym, subst, arith, if◌then◌else◌, nat_lt, eqb-true, eqb-false, Attr, Verf, Wcc, DirKept, PlusRow, FileCall, FileKept, ListFault, More, End, last_cookie, listing_limit, page_step, Fault, Value, Call, Reply, look_up, list_call, SpellsReply, Pending, Sent, Saving, write_told_by, written_by, commit_told, Said, part, refusal, said_to, breaks_rule, Turn, access_call, access_told, deed_call, deed_told, link_call, linked_told, found_by, moved_told, text_call, sym_link_call, sym_linked_told, FineOption, FineResult, fine-fault, write_of}
+use Rattle.std.specs.Prelude.{nat_eq, not, ◌&&◌}
+use Rattle.std.proofs.lemmas.Bool.{ltb-true}
 use Rattle.nfs_dir_calls.specs.declared.call.DirCall.{DirCall}
 use Rattle.nfs_dir_calls.specs.declared.call.DirCall.TheVariants as dirs
 use Rattle.nfs_dir_calls.specs.declared.create.Making.{Making}
-use Rattle.nfs_dir_calls.specs.declared.keeping.DirKept.{DirKept}
 use Rattle.nfs_dir_calls.specs.declared.keeping.DirKept.TheVariants as found
-use Rattle.nfs_dir_calls.specs.declared.plus_page.PlusRow.{PlusRow}
-use Rattle.nfs_file_calls.specs.declared.call.FileCall.{FileCall}
 use Rattle.nfs_file_calls.specs.declared.call.FileCall.TheVariants as files
-use Rattle.nfs_file_calls.specs.declared.owned.FileKept.{FileKept}
 use Rattle.nfs_file_calls.specs.declared.owned.FileKept.TheVariants as kept
-use Rattle.dir_list.specs.declared.progress.ListFault.{ListFault}
 use Rattle.dir_list.specs.declared.progress.ListFault.TheVariants as list_faults
-use Rattle.dir_list.specs.declared.progress.Step.TheVariants.{More, End}
-use Rattle.dir_list.specs.Listings.{counted, last_cookie, listing_limit, page_step}
-use Rattle.world_model.specs.declared.answer.Fault.{Fault}
+use Rattle.dir_list.specs.Listings.{counted}
 use Rattle.world_model.specs.declared.answer.Fault.TheVariants as faults
-use Rattle.world_model.specs.declared.answer.Value.{Value}
 use Rattle.world_model.specs.declared.answer.Value.TheVariants as values
-use Rattle.world_model.specs.declared.message.Call.{Call}
 use Rattle.world_model.specs.declared.message.Call.TheVariants as calls
-use Rattle.world_model.specs.declared.message.Reply.{Reply}
 use Rattle.world_model.specs.declared.message.Reply.TheVariants as replies
-use Rattle.claims.specs.Asks.{look_up}
-use Rattle.world_model.specs.Chains.{list_call}
 use Rattle.world_model.specs.Heard.{status_of}
-use Rattle.world_model.specs.Messages.{SpellsReply}
 use Rattle.claims.specs.PageRules.{RefusesSo, refuses, breaks, wrong_data, no_entry, WrongData, longer, unlike, nothing}
 use Rattle.world_model.specs.Rules.{wrong_committed, wrong_count}
-use Rattle.write_back.specs.Files.{Pending}
-use Rattle.write_back.specs.Pieces.{Sent}
-use Rattle.file_ops.specs.declared.saving.Saving.{Saving}
-use Rattle.file_ops.specs.Judging.{write_told_by, written_by, commit_told}
-use Rattle.file_ops.specs.ReadReply.{Said, part, refusal, said_by, said_to, breaks_rule}
+use Rattle.file_ops.specs.ReadReply.{said_by}
 use Rattle.file_ops.specs.Saves as saves
 use Rattle.file_ops.specs.Told as told
 use Rattle.file_ops.specs.TruncateFile as truncates
-use Rattle.client_shelf.specs.declared.turn.Turn.{Turn}
 use Rattle.name_ops.specs.declared.dir_change.DirDeed.TheVariants as deeds
-use Rattle.name_ops.specs.Access.{access_call, access_told}
-use Rattle.name_ops.specs.DirChange.{deed_call, deed_told}
-use Rattle.name_ops.specs.Link.{link_call, linked_told}
 use Rattle.name_ops.specs.ListDir as listing
-use Rattle.name_ops.specs.Looking.{found_by}
-use Rattle.name_ops.specs.Moving.{move_call, moved_told}
-use Rattle.name_ops.specs.ReadLink.{text_call, TellsText}
+use Rattle.name_ops.specs.Moving.{move_call}
+use Rattle.name_ops.specs.ReadLink.{TellsText}
 use Rattle.name_ops.specs.RemoveFile as removals
 use Rattle.name_ops.specs.Stat as stats
-use Rattle.name_ops.specs.SymLink.{sym_link_call, sym_linked_told}
-use Rattle.core_facts.proofs.Faults.{FineOption, FineResult, fine-some, fine-fault}
+use Rattle.core_facts.proofs.Faults.{fine-some}
 use Rattle.core_answers.proofs.answers.PieceSteps.{IsPiece}
 use Rattle.core_answers.proofs.answers.SaveFaults.{CallFaults, FitsSave}
-use Rattle.core_answers.specs.writes.Carried.{write_of}
 
 or-either : (a b : Bool) → (a || b) ≡ true → (a ≡ true) ⊎ (b ≡ true)
 or-either true b is = inl refl

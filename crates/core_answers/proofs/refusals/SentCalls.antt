@@ -1,32 +1,9 @@
 -- Of each call that waits and was sent: for which operation its record was first sent, and that the operation's machine waited for it then.
-use Rattle.std.proofs.Common.{◌≡◌, ℕ, List, ◌++◌, length, false, Some, slice_get, ap, subst, ◌∙◌, arith, append_assoc}
+use Rattle.core_answers.proofs.Prelude.{◌≡◌, ℕ, List, ◌++◌, length, false, Some, slice_get, ap, subst, ◌∙◌, arith, append_assoc, Waiting, next_xid, waiting_at, waits_early, Entry, Call, Op, SpellsCallBy, program_of, UnderWay, Machine, Lane, Purpose, Busy, Setup, View, calls_for, in_flight, IsUnbegun, Reaches, IsMade, IsOutstanding, IsKnown, calls-some, known-only, reached-count, ExpectLaws, lanes-under-way, reached-lanes, Rows, reached-rows, reached-good}
 use Rattle.nfs_types.specs.declared.program.TheConstants.{NFS_PROGRAM}
-use Rattle.rpc_retry.specs.declared.waiting.Waiting.{Waiting}
-use Rattle.rpc_retry.specs.Held.{next_xid}
-use Rattle.rpc_retry.specs.Waiting.{waiting_at}
-use Rattle.rpc_retry.proofs.Lookups.{waits_early}
 use Rattle.rpc_retry.proofs.Records.{waits_late}
-use Rattle.world_model.specs.declared.entry.Entry.{Entry}
-use Rattle.world_model.specs.declared.message.Call.{Call}
 use Rattle.world_model.specs.declared.message.Call.TheVariants as calls
-use Rattle.world_model.specs.declared.op.Op.{Op}
-use Rattle.world_model.specs.Messages.{SpellsCallBy, program_of}
-use Rattle.world_model.specs.Operations.{UnderWay}
-use Rattle.op_machines.specs.declared.machine.Machine.{Machine}
-use Rattle.client_core.specs.declared.lane.Lane.{Lane}
-use Rattle.client_core.specs.declared.lane.Purpose.{Purpose}
-use Rattle.client_core.specs.declared.lane.State.TheVariants.{Busy}
-use Rattle.client_core.specs.declared.setup.Setup.{Setup}
-use Rattle.client_core.specs.View.{View}
-use Rattle.core_facts.specs.Counted.{calls_for}
-use Rattle.core_facts.specs.InFlight.{in_flight, IsUnbegun}
-use Rattle.core_facts.specs.Reaches.{Reaches}
-use Rattle.core_facts.specs.Tries.{IsMade, IsOutstanding}
-use Rattle.core_facts.proofs.Counting.{IsKnown, calls-some, known-only, reached-count}
-use Rattle.core_facts.proofs.Expects.{ExpectLaws}
-use Rattle.core_facts.proofs.LaneMarks.{lanes-under-way, reached-lanes}
-use Rattle.core_facts.proofs.Rows.{Rows, reached-rows}
-use Rattle.core_facts.proofs.Tales.{IsExpected, reached-good}
+use Rattle.core_facts.proofs.Tales.{IsExpected}
 use Rattle.core_answers.proofs.asks.Limits.{reached-limit}
 use Rattle.core_answers.proofs.asks.Sendings.{SentFor, NoCall, NoShelf, NoStory, no-laws}
 use Rattle.core_answers.proofs.bonds.OneCall.{IsNfs, one-call}

@@ -1,38 +1,12 @@
 -- Where a call that waits was first sent: it waited in the core's view then, in the same lane, for the operation that is under way there now.
-use Rattle.std.proofs.Common.{◌≡◌, ◌<◌, ◌≤◌, ◌⊎◌, inl, inr, ℕ, List, [], ◌∷◌, ◌++◌, length, true, false, nat_eq, Option, Some, None, slice_get, refl, sym, ap, subst, ◌∙◌, arith, append_assoc}
-use Rattle.std.proofs.lemmas.Bool.{cases_lt}
-use Rattle.std.proofs.lemmas.List.{length-append}
+use Rattle.core_answers.proofs.Prelude.{◌≡◌, ◌<◌, ◌≤◌, ◌⊎◌, inl, inr, ℕ, List, [], ◌∷◌, ◌++◌, length, true, false, nat_eq, Option, Some, None, slice_get, refl, sym, ap, subst, ◌∙◌, arith, append_assoc, cases_lt, length-append, Waiting, failed_after, next_xid, WaitedAs, made_call, waiting_at, without, others_made, others_taken, gone, before_sent, before_failed, Answer, Entry, Began, Answered, Dialed, Executed, Foreign, Flushed, Reboot, Delivered, Failed, Clock, Call, Op, At, proc_of, Ended, UnderWay, At-grow, At-below, At-back, At-cases, Machine, Purpose, Busy, Setup, record_of, counted, View, turn_at, IsUnbegun, StepsTo, Reaches, last_reading, Heard, dropped, replied, sent_now, FailedNow, goes_on, gives_up, failed_now, answered_now, taken_one, reached-since, Rows, rows-stay, same-rows, taken-rows, rows-grow, silent-grow, taken-quiet, not-sent, reached-rows, Stays, begins-stay, hears-for-stay}
 use borrow.Author.Tests.{eqb-true}
-use Rattle.rpc_retry.specs.declared.waiting.Waiting.{Waiting}
-use Rattle.rpc_retry.specs.Fail.{failed_after}
-use Rattle.rpc_retry.specs.Held.{Held, next_xid}
-use Rattle.rpc_retry.specs.Records.{WaitedAs}
-use Rattle.rpc_retry.specs.Waiting.{made_call, waiting_at, without}
-use Rattle.rpc_retry.proofs.Lookups.{others_made, others_taken}
-use Rattle.rpc_retry.proofs.Records.{gone, before_sent, before_failed}
-use Rattle.world_model.specs.declared.answer.Answer.{Answer}
-use Rattle.world_model.specs.declared.entry.Entry.{Entry}
-use Rattle.world_model.specs.declared.entry.Entry.TheVariants.{Began, Answered, Dialed, Sent, Executed, Foreign, Flushed, Reboot, Delivered, Failed, Clock}
-use Rattle.world_model.specs.declared.message.Call.{Call}
-use Rattle.world_model.specs.declared.op.Op.{Op}
-use Rattle.world_model.specs.Entries.{At}
-use Rattle.world_model.specs.Messages.{proc_of}
-use Rattle.world_model.specs.Operations.{Ended, UnderWay}
+use Rattle.rpc_retry.specs.Held.{Held}
+use Rattle.world_model.specs.declared.entry.Entry.TheVariants.{Sent}
 use Rattle.world_model.specs.Waiting.{FirstSent}
-use Rattle.world_model.proofs.Places.{At-grow, At-below, At-back, At-cases}
-use Rattle.op_machines.specs.declared.machine.Machine.{Machine}
-use Rattle.client_core.specs.declared.lane.Purpose.{Purpose}
-use Rattle.client_core.specs.declared.lane.State.TheVariants.{Busy}
-use Rattle.client_core.specs.declared.setup.Setup.{Setup}
-use Rattle.client_core.specs.Steps.{record_of, counted}
-use Rattle.client_core.specs.View.{View, turn_at}
 use Rattle.core_facts.specs.Counted.{IsOfOperation}
-use Rattle.core_facts.specs.InFlight.{IsUnbegun}
-use Rattle.core_facts.specs.Reaches.{StepsTo, Reaches, last_reading}
-use Rattle.core_facts.proofs.Cases.{Heard, dropped, replied, heard, SentNow, sent_now, FailedNow, goes_on, gives_up, failed_now, answered_now, taken_one}
-use Rattle.core_facts.proofs.Owning.{reached-since, reached-owned}
-use Rattle.core_facts.proofs.Rows.{Rows, rows-stay, same-rows, taken-rows, rows-grow, silent-grow, taken-quiet, not-sent, reached-rows}
-use Rattle.core_facts.proofs.Walks.{Stays, begins-stay, hears-for-stay}
+use Rattle.core_facts.proofs.Cases.{heard, SentNow}
+use Rattle.core_facts.proofs.Owning.{reached-owned}
 use Rattle.core_answers.proofs.refusals.Passing.{Passes, passes_fresh, passes_step, passes_lost, forget, Anything, passes-any}
 
 -- As the record at a place was sent, a call waited for the lane under the xid, with these bytes.

@@ -1,37 +1,11 @@
 -- Whole rows of the answers of syncs, closes, writes, fills and reads: with their values.
-use Rattle.std.proofs.Common.{◌≡◌, ℕ, List, Result, refl, ap, subst, ◌∙◌}
+use Rattle.core_answers.proofs.Prelude.{◌≡◌, ℕ, List, Result, refl, ap, subst, ◌∙◌, Fault, Value, Entry, Reply, Op, Ended, Next, Shelf, Turn, file_to_write, file_at, CloseFile, ReadFile, SyncFile, WriteFile, Mounted, Machine, machine_of, Starts, Resumes, Takes, State, Busy, Over, Setup, View, Reaches, begins-unbegun, ThenOf}
 use Rattle.std.specs.FinMap as finite
 use Rattle.world_model.specs.declared.answer.Answer.TheVariants as answers
-use Rattle.world_model.specs.declared.answer.Fault.{Fault}
-use Rattle.world_model.specs.declared.answer.Value.{Value}
-use Rattle.world_model.specs.declared.entry.Entry.{Entry}
-use Rattle.world_model.specs.declared.message.Reply.{Reply}
-use Rattle.world_model.specs.declared.op.Op.{Op}
 use Rattle.world_model.specs.declared.op.Op.TheVariants as ops
-use Rattle.world_model.specs.Operations.{Ended}
-use Rattle.client_shelf.specs.declared.next.Next.{Next}
 use Rattle.client_shelf.specs.declared.next.Next.TheVariants as nexts
-use Rattle.client_shelf.specs.declared.shelf.Shelf.{Shelf}
-use Rattle.client_shelf.specs.declared.turn.Turn.{Turn}
-use Rattle.file_ops.specs.Opens.{file_to_write}
-use Rattle.file_ops.specs.SlotFiles.{file_at}
-use Rattle.file_ops.specs.declared.close_file.CloseFile.{CloseFile}
-use Rattle.file_ops.specs.declared.read_file.ReadFile.{ReadFile}
-use Rattle.file_ops.specs.declared.sync_file.SyncFile.{SyncFile}
-use Rattle.file_ops.specs.declared.write_file.WriteFile.{WriteFile}
-use Rattle.op_machines.specs.declared.begun.Mounted.{Mounted}
 use Rattle.op_machines.specs.declared.file_machine.FileMachine.TheVariants as files
-use Rattle.op_machines.specs.declared.machine.Machine.{Machine}
 use Rattle.op_machines.specs.declared.machine.Machine.TheVariants as machines
-use Rattle.op_machines.specs.Begun.{machine_of}
-use Rattle.op_machines.specs.Steps.{Starts, Resumes, Takes}
-use Rattle.client_core.specs.declared.lane.State.{State}
-use Rattle.client_core.specs.declared.lane.State.TheVariants.{Busy, Over}
-use Rattle.client_core.specs.declared.setup.Setup.{Setup}
-use Rattle.client_core.specs.View.{View}
-use Rattle.core_facts.specs.Reaches.{Reaches}
-use Rattle.core_facts.proofs.AllCounts.{begins-unbegun}
-use Rattle.core_facts.proofs.Steps.{ThenOf}
 use Rattle.core_facts.proofs.Stories.{StoryLaws, reached-answered}
 use Rattle.core_answers.proofs.rows.Valued.{OfAnswer, Gives, IsNothing, HasBytes, HasSpace, ReadStep, write-starts, write-resumes, write-takes, sync-starts, sync-resumes, sync-takes, close-starts, close-resumes, close-takes, read-starts, read-resumes, read-takes}
 

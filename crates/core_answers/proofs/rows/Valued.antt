@@ -1,58 +1,25 @@
 -- What operations on the file of a slot answer where they go well: nothing, and a read at most as many bytes as it was asked for.
-use Rattle.std.proofs.Common.{◌≡◌, ◌≤◌, ◌-◌, ◌+◌, ℕ, zero, suc, min, max, Bool, true, false, List, [], ◌∷◌, ◌++◌, length, Option, Some, None, Result, Ok, Err, inl, inr, refl, sym, ap, subst, ◌∙◌, arith}
-use Rattle.std.specs.Prelude.{if◌then◌else◌}
-use Rattle.nfs_types.specs.declared.attr.Attr.{Attr}
-use Rattle.nfs_types.specs.declared.mode.Mode.{Mode}
+use Rattle.core_answers.proofs.Prelude.{◌≡◌, ◌≤◌, ◌-◌, ◌+◌, ℕ, zero, suc, max, Bool, true, false, List, [], ◌∷◌, ◌++◌, length, Option, Some, None, Result, Ok, Err, inl, inr, refl, sym, ap, subst, ◌∙◌, arith, if◌then◌else◌, Attr, Mode, Opened, Pages, Pending, of_file, last_end, Answer, Fault, Value, Call, Reply, goes_again, fails_busy, left, is_first, Next, Repeat, Shelf, Turn, CloseFile, Closing, Removal, ReadFile, Phase, Reading, Saving, SyncFile, Syncing, WriteFile, Writing, closed_answer, refusal_of, remove_of, remove_busy, place_after, Said, part, refusal, joined, got_by, by-step, ends_as}
+use Rattle.std.proofs.Common.{min}
 use Rattle.nfs_types.specs.declared.mode.Mode.TheVariants as modes
 use Rattle.xdr_codec.specs.declared.blob.Memory as memory
-use Rattle.open_files.specs.declared.opened.Opened.{Opened}
-use Rattle.page_cache.specs.Pages.{Pages}
-use Rattle.write_back.specs.Files.{Pending, of_file}
-use Rattle.write_back.specs.Segments.{last_end}
 use Rattle.write_back.proofs.EndAndBytes.{shown-length}
-use Rattle.world_model.specs.declared.answer.Answer.{Answer}
 use Rattle.world_model.specs.declared.answer.Answer.TheVariants as answers
-use Rattle.world_model.specs.declared.answer.Fault.{Fault}
 use Rattle.world_model.specs.declared.answer.Fault.TheVariants as faults
-use Rattle.world_model.specs.declared.answer.Value.{Value}
 use Rattle.world_model.specs.declared.answer.Value.TheVariants as values
-use Rattle.world_model.specs.declared.message.Call.{Call}
-use Rattle.world_model.specs.declared.message.Reply.{Reply}
-use Rattle.client_shelf.specs.Busy.{goes_again, fails_busy}
-use Rattle.client_shelf.specs.LaneFiles.{left, is_first}
-use Rattle.client_shelf.specs.declared.next.Next.{Next}
 use Rattle.client_shelf.specs.declared.next.Next.TheVariants as nexts
-use Rattle.client_shelf.specs.declared.repeats.Repeat.{Repeat}
-use Rattle.client_shelf.specs.declared.shelf.Shelf.{Shelf}
-use Rattle.client_shelf.specs.declared.turn.Turn.{Turn}
-use Rattle.file_ops.specs.declared.close_file.CloseFile.{CloseFile}
-use Rattle.file_ops.specs.declared.close_file.Closing.{Closing}
 use Rattle.file_ops.specs.declared.close_file.Closing.TheVariants as closing
-use Rattle.file_ops.specs.declared.closing.Removal.{Removal}
-use Rattle.file_ops.specs.declared.read_file.ReadFile.{ReadFile}
-use Rattle.file_ops.specs.declared.reading.Phase.{Phase}
 use Rattle.file_ops.specs.declared.reading.Phase.TheVariants as phases
-use Rattle.file_ops.specs.declared.reading.Reading.{Reading}
-use Rattle.file_ops.specs.declared.saving.Saving.{Saving}
-use Rattle.file_ops.specs.declared.sync_file.SyncFile.{SyncFile}
-use Rattle.file_ops.specs.declared.sync_file.Syncing.{Syncing}
 use Rattle.file_ops.specs.declared.sync_file.Syncing.TheVariants as syncing
-use Rattle.file_ops.specs.declared.write_file.WriteFile.{WriteFile}
-use Rattle.file_ops.specs.declared.write_file.Writing.{Writing}
 use Rattle.file_ops.specs.declared.write_file.Writing.TheVariants as writing
 use Rattle.file_ops.specs.Closes as closes
-use Rattle.file_ops.specs.Closings.{closed_answer, refusal_of, remove_of, remove_busy}
-use Rattle.file_ops.specs.Base.{place_after}
 use Rattle.file_ops.specs.Overlaid.{listed, byte_shown, size_shown, size_to, bytes_from}
 use Rattle.file_ops.specs.ReadFile as reads
-use Rattle.file_ops.specs.ReadReply.{Said, part, refusal, says_busy}
+use Rattle.file_ops.specs.ReadReply.{says_busy}
 use Rattle.file_ops.specs.Reading as reading
 use Rattle.file_ops.specs.Saves as saves
-use Rattle.file_ops.specs.SlotFiles.{joined}
 use Rattle.file_ops.specs.Syncs as syncs
-use Rattle.file_ops.specs.Told.{got_by}
 use Rattle.file_ops.specs.WriteFile as writes
-use Rattle.file_ops.proofs.SaveCounts.{by-step, ends_as}
 
 -- V holds of the value that the step ends with
 abbrev pub OfAnswer : (Value → Type 0) → Answer → Type 0

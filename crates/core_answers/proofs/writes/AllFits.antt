@@ -1,74 +1,31 @@
 -- Along a history each WRITE that waits is one of an operation that sends bytes of its file, and each COMMIT of one that waits for it.
-use Rattle.std.proofs.Common.{◌≡◌, ◌≤◌, ◌+◌, ◌-◌, ◌&&◌, ◌==◌, ℕ, Bool, true, false, List, Option, Some, None, Result, Ok, Err, refl, sym, ap, subst, ◌∙◌, arith}
-use Rattle.std.specs.Prelude.{nat_lt, if◌then◌else◌}
-use Rattle.std.proofs.lemmas.Bool.{eqb-true}
-use Rattle.world_model.specs.declared.answer.Fault.{Fault}
-use Rattle.world_model.specs.declared.message.Call.{Call}
-use Rattle.world_model.specs.declared.message.Reply.{Reply}
-use Rattle.write_back.specs.Choice.{chosen}
-use Rattle.write_back.specs.Files.{Pending, of_file}
-use Rattle.client_shelf.specs.declared.next.Next.{Next}
+use Rattle.core_answers.proofs.Prelude.{◌≡◌, ◌≤◌, ◌+◌, ◌-◌, ◌&&◌, ◌==◌, ℕ, Bool, true, false, List, Option, Some, None, Result, Ok, Err, refl, sym, ap, subst, ◌∙◌, arith, nat_lt, if◌then◌else◌, eqb-true, Fault, Call, Reply, chosen, Pending, of_file, Next, Shelf, Turn, is_first, CloseFile, Closing, PutFile, Putting, Saving, SyncFile, Syncing, Writing, by-step, Pair, Deed, Look, Seek, Move, Remove, RemoveFile, Walk, WalkNext, access_call, deed_call, link_call, found_by, look_again, text_call, rename_call, sym_link_call, FileMachine, Machine, NameMachine, Opener, PathMachine, file_of, slot_taken, begun_at, placed, Starts, Resumes, Takes, of_name, of_walk, visit_by, own_or, removal_by, of_saving, of_writing, of_syncing, of_closing, of_putting, in_flight, Counts, counts-calls, of_path, path-file, WalkAwaits, OwnOr, ExpectLaws, flies_path, flies_of, RemoveAwaits, AskedOf, KeptOf}
 use Rattle.client_shelf.specs.declared.next.Next.TheVariants as nexts
-use Rattle.client_shelf.specs.declared.shelf.Shelf.{Shelf}
-use Rattle.client_shelf.specs.declared.turn.Turn.{Turn}
-use Rattle.client_shelf.specs.LaneFiles.{is_first}
-use Rattle.file_ops.specs.declared.close_file.CloseFile.{CloseFile}
-use Rattle.file_ops.specs.declared.close_file.Closing.{Closing}
 use Rattle.file_ops.specs.declared.close_file.Closing.TheVariants as closing
-use Rattle.file_ops.specs.declared.put_file.PutFile.{PutFile}
-use Rattle.file_ops.specs.declared.put_file.Putting.{Putting}
 use Rattle.file_ops.specs.declared.put_file.Putting.TheVariants as putting
-use Rattle.file_ops.specs.declared.saving.Saving.{Saving}
-use Rattle.file_ops.specs.declared.sync_file.SyncFile.{SyncFile}
-use Rattle.file_ops.specs.declared.sync_file.Syncing.{Syncing}
 use Rattle.file_ops.specs.declared.sync_file.Syncing.TheVariants as syncing
-use Rattle.file_ops.specs.declared.write_file.Writing.{Writing}
 use Rattle.file_ops.specs.declared.write_file.Writing.TheVariants as writing
 use Rattle.file_ops.specs.Closes as closes
 use Rattle.file_ops.specs.PutFile as puts
 use Rattle.file_ops.specs.Saves as saves
 use Rattle.file_ops.specs.Syncs as syncs
 use Rattle.file_ops.specs.WriteFile as writes
-use Rattle.file_ops.proofs.SaveCounts.{by-step}
-use Rattle.name_ops.specs.declared.pair.Pair.{Pair}
-use Rattle.name_ops.specs.declared.remove_file.Deed.{Deed}
-use Rattle.name_ops.specs.declared.remove_file.Deed.TheVariants.{Look, Seek, Move, Remove}
-use Rattle.name_ops.specs.declared.remove_file.RemoveFile.{RemoveFile}
 use Rattle.name_ops.specs.declared.dir_change.DirDeed.TheVariants as deeds
-use Rattle.name_ops.specs.declared.walk.Walk.{Walk}
-use Rattle.name_ops.specs.declared.walk.WalkNext.{WalkNext}
 use Rattle.name_ops.specs.declared.walk.WalkNext.TheVariants as walks
-use Rattle.name_ops.specs.Access.{access_call}
-use Rattle.name_ops.specs.DirChange.{deed_call}
-use Rattle.name_ops.specs.Link.{link_call}
 use Rattle.name_ops.specs.ListDir as listing
-use Rattle.name_ops.specs.Looking.{found_by, look_again}
-use Rattle.name_ops.specs.ReadLink.{text_call}
 use Rattle.name_ops.specs.RemoveFile as removals
-use Rattle.name_ops.specs.Rename.{rename_call}
 use Rattle.name_ops.specs.Stat as stats
-use Rattle.name_ops.specs.SymLink.{sym_link_call}
 use Rattle.name_ops.specs.Walking as walking
-use Rattle.op_machines.specs.declared.file_machine.FileMachine.{FileMachine}
 use Rattle.op_machines.specs.declared.file_machine.FileMachine.TheVariants as files
-use Rattle.op_machines.specs.declared.machine.Machine.{Machine}
 use Rattle.op_machines.specs.declared.machine.Machine.TheVariants as machines
-use Rattle.op_machines.specs.declared.name_machine.NameMachine.{NameMachine}
 use Rattle.op_machines.specs.declared.name_machine.NameMachine.TheVariants as names
-use Rattle.op_machines.specs.declared.opener.Opener.{Opener}
-use Rattle.op_machines.specs.declared.path_machine.PathMachine.{PathMachine}
 use Rattle.op_machines.specs.FileSteps as steps
-use Rattle.op_machines.specs.Openers.{file_of, slot_taken, begun_at, placed}
 use Rattle.op_machines.specs.PathSteps as paths
-use Rattle.op_machines.specs.Steps.{Starts, Resumes, Takes}
-use Rattle.core_facts.specs.InFlight.{of_name, of_walk, visit_by, pair_by, own_or, removal_by, of_names, of_saving, of_writing, of_syncing, of_closing, of_putting, of_file as calls_of, in_flight, Counts}
-use Rattle.core_facts.proofs.AllCounts.{counts-calls, of_path, path-file}
-use Rattle.core_facts.proofs.Awaited.{WalkAwaits, OwnOr, PairOr}
-use Rattle.core_facts.proofs.Expects.{ExpectLaws}
-use Rattle.core_facts.proofs.Flights.{flies_path, flies_of, resumes-stay, takes-stay}
+use Rattle.core_facts.specs.InFlight.{pair_by, of_names, of_file as calls_of}
+use Rattle.core_facts.proofs.Awaited.{PairOr}
+use Rattle.core_facts.proofs.Flights.{resumes-stay, takes-stay}
 use Rattle.core_facts.proofs.NameLives.{WhileGoing}
-use Rattle.core_facts.proofs.NamesAwaited.{RemoveAwaits, NameAwaits, Sends, name-goes, name-takes}
-use Rattle.core_facts.proofs.Steps.{AskedOf, KeptOf}
+use Rattle.core_facts.proofs.NamesAwaited.{NameAwaits, Sends, name-goes, name-takes}
 use Rattle.core_answers.proofs.writes.CallFits.{commits_if, commits_save, commits_write, commits_sync, commits_close, commits_put, commits_file, Fits, other-fits, AskFits, file-starts, file-resumes, file-takes}
 use Rattle.core_answers.proofs.writes.Plain.{IsOther}
 

@@ -1,65 +1,23 @@
 -- Along a history each operation on a file whose call waits is the first in the order of its file.
-use Rattle.std.proofs.Common.{◌≡◌, ◌≢◌, ◌+◌, ◌-◌, ◌⊎◌, inl, inr, ℕ, Bool, true, false, List, [], ◌∷◌, ◌++◌, length, Option, Some, None, position, slice_get, slice_set, Result, Err, refl, sym, ap, subst, ◌∙◌}
-use Rattle.rpc_retry.specs.declared.waiting.Waiting.{Waiting}
-use Rattle.rpc_retry.specs.Waiting.{waiting_at}
-use Rattle.world_model.specs.declared.answer.Fault.{Fault}
-use Rattle.world_model.specs.declared.entry.Entry.{Entry}
-use Rattle.world_model.specs.declared.entry.Entry.TheVariants.{Began}
-use Rattle.world_model.specs.declared.message.Reply.{Reply}
-use Rattle.world_model.specs.declared.op.Op.{Op}
-use Rattle.call_replies.specs.Says.{said_of}
-use Rattle.client_shelf.specs.declared.lane_files.LaneFile.{LaneFile}
-use Rattle.client_shelf.specs.declared.next.Next.{Next}
-use Rattle.client_shelf.specs.declared.next.Next.TheVariants.{Send, Wait, Done}
-use Rattle.client_shelf.specs.declared.shelf.Shelf.{Shelf}
-use Rattle.client_shelf.specs.declared.turn.Turn.{Turn}
-use Rattle.client_shelf.specs.LaneFiles.{added, left}
-use Rattle.file_ops.specs.declared.close_file.Closing.{Closing}
+use Rattle.core_answers.proofs.Prelude.{◌≡◌, ◌≢◌, ◌+◌, ◌-◌, ◌⊎◌, inl, inr, ℕ, Bool, true, false, List, [], ◌∷◌, ◌++◌, length, Option, Some, None, position, slice_get, slice_set, Result, Err, refl, sym, ap, subst, ◌∙◌, Waiting, waiting_at, Fault, Entry, Began, Reply, Op, said_of, LaneFile, Next, Send, Wait, Done, Shelf, Turn, left, Closing, Putting, Syncing, Truncating, Writing, WalkNext, Mounted, FileMachine, Machine, Opener, PathMachine, machine_of, file_of, slot_taken, begun_at, placed, Starts, Resumes, Takes, Lane, Purpose, State, Busy, Over, Setup, is_busy, IsIdle, with_state, IsRefused, Leads, Stirs, counted, StartsLane, TakesAt, View, turn_at, unmade_turn, in_flight, Counts, counts-calls, begins-unbegun, of_path, path-file, taken_one, Known, lanes-stay, lanes-begin, lanes-under-way, idle-numbers, number_of, at-set, at-push, get-push, to-map, by-place, set-other}
+use Rattle.client_shelf.specs.LaneFiles.{added}
 use Rattle.file_ops.specs.declared.close_file.Closing.TheVariants as closing
-use Rattle.file_ops.specs.declared.put_file.Putting.{Putting}
 use Rattle.file_ops.specs.declared.put_file.Putting.TheVariants as putting
-use Rattle.file_ops.specs.declared.sync_file.Syncing.{Syncing}
 use Rattle.file_ops.specs.declared.sync_file.Syncing.TheVariants as syncing
-use Rattle.file_ops.specs.declared.truncate_file.Truncating.{Truncating}
 use Rattle.file_ops.specs.declared.truncate_file.Truncating.TheVariants as truncating
-use Rattle.file_ops.specs.declared.write_file.Writing.{Writing}
 use Rattle.file_ops.specs.declared.write_file.Writing.TheVariants as writing
-use Rattle.name_ops.specs.declared.walk.WalkNext.{WalkNext}
 use Rattle.name_ops.specs.declared.walk.WalkNext.TheVariants as walks
 use Rattle.name_ops.specs.Walking as walking
-use Rattle.op_machines.specs.declared.begun.Mounted.{Mounted}
-use Rattle.op_machines.specs.declared.file_machine.FileMachine.{FileMachine}
 use Rattle.op_machines.specs.declared.file_machine.FileMachine.TheVariants as files
-use Rattle.op_machines.specs.declared.machine.Machine.{Machine}
 use Rattle.op_machines.specs.declared.machine.Machine.TheVariants as machines
-use Rattle.op_machines.specs.declared.opener.Opener.{Opener}
 use Rattle.op_machines.specs.declared.opener.Opener.TheVariants as openers
-use Rattle.op_machines.specs.declared.path_machine.PathMachine.{PathMachine}
-use Rattle.op_machines.specs.Begun.{machine_of}
-use Rattle.op_machines.specs.Openers.{file_of, slot_taken, begun_at, placed}
 use Rattle.op_machines.specs.PathSteps as paths
-use Rattle.op_machines.specs.Steps.{Starts, Resumes, Takes}
-use Rattle.client_core.specs.declared.lane.Lane.{Lane}
-use Rattle.client_core.specs.declared.lane.Purpose.{Purpose}
-use Rattle.client_core.specs.declared.lane.State.{State}
-use Rattle.client_core.specs.declared.lane.State.TheVariants.{Busy, Over}
-use Rattle.client_core.specs.declared.setup.Setup.{Setup}
-use Rattle.client_core.specs.Lanes.{is_busy}
-use Rattle.client_core.specs.Numbers.{IsIdle}
-use Rattle.client_core.specs.Steps.{with_state, IsRefused, Leads, Stirs, counted, StartsLane, TakesAt}
-use Rattle.client_core.specs.View.{View, turn_at, unmade_turn}
-use Rattle.core_facts.specs.InFlight.{in_flight, Counts}
 use Rattle.core_facts.specs.Lanes.{AreApart}
-use Rattle.core_facts.proofs.AllCounts.{counts-calls, begins-unbegun, of_path, path-file}
 use Rattle.core_facts.proofs.AllSeats.{IsLive, IsFreshFor, OnPath, begins-fresh}
 use Rattle.core_facts.proofs.AllSeats as seats
-use Rattle.core_facts.proofs.Cases.{taken_one}
 use Rattle.core_facts.proofs.FileSeats.{FileLive, Seats}
-use Rattle.core_facts.proofs.Keeping.{Known, Keeps, taker-one}
-use Rattle.core_facts.proofs.LaneMarks.{lanes-stay, lanes-begin, lanes-under-way, idle-numbers, number_of}
-use Rattle.core_facts.proofs.Lists.{at-set, at-push, get-push, to-map}
+use Rattle.core_facts.proofs.Keeping.{Keeps, taker-one}
 use Rattle.core_facts.proofs.Placing.{Placed, AllLive, StateLive, keeps-placed}
-use Rattle.core_facts.proofs.Stories.{by-place, set-other}
 use Rattle.core_answers.proofs.writes.Firsts.{first-left, first-added}
 use Rattle.core_answers.proofs.writes.Holding.{StateHas, LanesHave, lanes-without}
 use Rattle.core_answers.proofs.writes.Turns.{Still, IsFirst, SyncTurn, CloseTurn, WriteTurn, TruncateTurn, PutTurn, FileTurn, file-starts, file-resumes, file-takes}

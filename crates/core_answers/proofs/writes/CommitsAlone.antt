@@ -1,62 +1,27 @@
 -- While a COMMIT of a file waits nothing of it is in flight, and no WRITE of it waits.
-use Rattle.std.proofs.Common.{◌≡◌, ◌≢◌, ◌≤◌, ◌⊎◌, inl, inr, ℕ, Bool, true, false, List, [], ◌∷◌, Option, Some, None, option_map, slice_get, refl, sym, ap, subst, ◌∙◌, arith}
-use Rattle.rpc_retry.specs.declared.waiting.Waiting.{Waiting}
-use Rattle.rpc_retry.specs.Waiting.{waiting_at}
-use Rattle.write_back.specs.Files.{of_file, HasNoPiece}
-use Rattle.write_back.specs.Pieces.{Sent, piece_under}
-use Rattle.write_back.proofs.WritesByFile.{same-or}
-use Rattle.world_model.specs.declared.entry.Entry.{Entry}
-use Rattle.world_model.specs.declared.message.Call.{Call}
+use Rattle.core_answers.proofs.Prelude.{◌≡◌, ◌≢◌, ◌≤◌, ◌⊎◌, inl, inr, ℕ, Bool, true, false, List, [], ◌∷◌, Option, Some, None, option_map, slice_get, refl, sym, ap, subst, ◌∙◌, arith, Waiting, waiting_at, of_file, Sent, piece_under, same-or, Entry, Call, Op, LaneFile, Next, Shelf, IsUnused, Closing, Opening, Putting, Saving, Syncing, Truncating, Writing, Mounted, FileMachine, Machine, Opener, PathMachine, machine_of, file_of, Lane, Purpose, Busy, Setup, View, of_writing, of_syncing, of_closing, of_truncating, of_putting, in_flight, Reaches, begins-unbegun, of_path, path-file, calls-some, flies_if, flies_save, flies_write, flies_sync, flies_close, flies_put, flies_file, flies_path, flies_of, Flies, Flown, sender, look_at, keeps-flown, Known, purpose_at, reached-all, lanes-under-way, TaleLaws, Did, reached-good}
+use Rattle.write_back.specs.Files.{HasNoPiece}
 use Rattle.world_model.specs.declared.message.Call.TheVariants as calls
-use Rattle.world_model.specs.declared.op.Op.{Op}
-use Rattle.client_shelf.specs.declared.lane_files.LaneFile.{LaneFile}
-use Rattle.client_shelf.specs.declared.next.Next.{Next}
 use Rattle.client_shelf.specs.declared.next.Next.TheVariants as nexts
-use Rattle.client_shelf.specs.declared.shelf.Shelf.{Shelf}
-use Rattle.file_ops.specs.SlotFiles.{IsUnused}
-use Rattle.file_ops.specs.declared.close_file.Closing.{Closing}
 use Rattle.file_ops.specs.declared.close_file.Closing.TheVariants as closing
-use Rattle.file_ops.specs.declared.opening.Opening.{Opening}
-use Rattle.file_ops.specs.declared.put_file.Putting.{Putting}
 use Rattle.file_ops.specs.declared.put_file.Putting.TheVariants as putting
-use Rattle.file_ops.specs.declared.saving.Saving.{Saving}
-use Rattle.file_ops.specs.declared.sync_file.Syncing.{Syncing}
 use Rattle.file_ops.specs.declared.sync_file.Syncing.TheVariants as syncing
-use Rattle.file_ops.specs.declared.truncate_file.Truncating.{Truncating}
 use Rattle.file_ops.specs.declared.truncate_file.Truncating.TheVariants as truncating
-use Rattle.file_ops.specs.declared.write_file.Writing.{Writing}
 use Rattle.file_ops.specs.declared.write_file.Writing.TheVariants as writing
 use Rattle.file_ops.specs.Saves as saves
-use Rattle.op_machines.specs.declared.begun.Mounted.{Mounted}
-use Rattle.op_machines.specs.declared.file_machine.FileMachine.{FileMachine}
 use Rattle.op_machines.specs.declared.file_machine.FileMachine.TheVariants as files
-use Rattle.op_machines.specs.declared.machine.Machine.{Machine}
 use Rattle.op_machines.specs.declared.machine.Machine.TheVariants as machines
-use Rattle.op_machines.specs.declared.opener.Opener.{Opener}
-use Rattle.op_machines.specs.declared.path_machine.PathMachine.{PathMachine}
-use Rattle.op_machines.specs.Begun.{machine_of}
-use Rattle.op_machines.specs.Openers.{file_of}
-use Rattle.client_core.specs.declared.lane.Lane.{Lane}
-use Rattle.client_core.specs.declared.lane.Purpose.{Purpose}
-use Rattle.client_core.specs.declared.lane.State.TheVariants.{Busy}
-use Rattle.client_core.specs.declared.setup.Setup.{Setup}
-use Rattle.client_core.specs.View.{View}
 use Rattle.core_facts.specs.Counted.{AreOwned}
-use Rattle.core_facts.specs.InFlight.{of_writing, of_syncing, of_closing, of_truncating, of_putting, of_file as calls_of, in_flight}
+use Rattle.core_facts.specs.InFlight.{of_file as calls_of}
 use Rattle.core_facts.specs.Lanes.{AreApart}
-use Rattle.core_facts.specs.Reaches.{Reaches}
-use Rattle.core_facts.proofs.AllCounts.{begins-unbegun, of_path, path-file}
 use Rattle.core_facts.proofs.AllSeats.{path_seat, seat_of, IsLive, OnPath}
-use Rattle.core_facts.proofs.Counting.{calls-some}
 use Rattle.core_facts.proofs.FileSeats.{seat_write, seat_sync, seat_close, seat_put, seat_file, FileLive}
-use Rattle.core_facts.proofs.Flights.{flies_if, flies_save, flies_write, flies_sync, flies_close, flies_put, flies_file, flies_path, flies_of, Flies}
-use Rattle.core_facts.proofs.Flown.{Flown, flies_state, sender, look_at, keeps-flown}
-use Rattle.core_facts.proofs.Keeping.{Known, purpose_at, lane-count, reached-all, reached-kept}
-use Rattle.core_facts.proofs.LaneMarks.{lanes-under-way}
+use Rattle.core_facts.proofs.Flown.{flies_state}
+use Rattle.core_facts.proofs.Keeping.{lane-count, reached-kept}
 use Rattle.core_facts.proofs.Looks.{look-at}
 use Rattle.core_facts.proofs.Owning.{reached-owned}
 use Rattle.core_facts.proofs.Placing.{seat_state, seat_in}
-use Rattle.core_facts.proofs.Tales.{TaleLaws, Did, AllGood, reached-good}
+use Rattle.core_facts.proofs.Tales.{AllGood}
 use Rattle.core_answers.proofs.bonds.OneCall.{IsNfs, one-call}
 use Rattle.core_answers.specs.writes.Alone.{written_file, committed_file, IsWaiting, IsQuiet}
 use Rattle.core_answers.proofs.writes.AllFits.{commits_path, commits_of, CallFits, fits-laws}

@@ -1,24 +1,22 @@
 -- What holds of each pending byte, by its place and its number, goes on holding: no change of what is pending makes a byte.
-use Rattle.std.proofs.Common.{◌≡◌, ◌≢◌, ◌≤◌, ◌+◌, ◌-◌, ◌&&◌, ◌||◌, ◌⊎◌, inl, inr, ℕ, Bool, true, false, List, [], ◌∷◌, ◌++◌, length, take, drop, Option, Some, None, option_map, refl, sym, ap, subst, ◌∙◌, arith, length-take, length-drop}
-use Rattle.std.specs.Prelude.{nat_le, nat_lt, nat_eq, slice_index, if◌then◌else◌}
+use Rattle.core_answers.proofs.Prelude.{◌≡◌, ◌≢◌, ◌≤◌, ◌+◌, ◌-◌, ◌&&◌, ◌||◌, ◌⊎◌, inl, inr, ℕ, Bool, true, false, List, [], ◌∷◌, ◌++◌, length, take, drop, Option, Some, None, option_map, refl, sym, ap, subst, ◌∙◌, arith, nat_lt, if◌then◌else◌, Verf, Segments, with_sent, Pending, of_file, OnFile, with_xid, Sent, FilePending, nothing, piece_under, renumbered, same-or}
+use Rattle.std.proofs.Common.{length-take, length-drop}
+use Rattle.std.specs.Prelude.{nat_le, nat_eq, slice_index}
 use Rattle.std.proofs.lemmas.Bool.{ltb-true}
 use Rattle.std.proofs.lemmas.List.{get_or-take, get_or-drop}
-use Rattle.nfs_types.specs.declared.verf.Verf.{Verf}
 use Rattle.write_back.specs.declared.change.Change.{Change}
 use Rattle.write_back.specs.declared.change.Change.TheVariants as by_change
 use Rattle.write_back.specs.declared.sent.Part.{Part}
 use Rattle.write_back.specs.declared.state.State.{State}
 use Rattle.write_back.specs.States.{is_in_flight}
-use Rattle.write_back.specs.Segments.{Segment, Segments, Cell, covers, cell_in, cell_at, end_of, head_of, tail_of, written, before, after, split_if, split, split_flying, cut_from}
+use Rattle.write_back.specs.Segments.{Segment, Cell, covers, cell_in, cell_at, end_of, head_of, tail_of, written, before, after, split_if, split, split_flying, cut_from}
 use Rattle.write_back.specs.Changes.{fate, left_of, fate_between, changed, all_changed}
-use Rattle.write_back.specs.Choice.{with_sent}
-use Rattle.write_back.specs.Files.{Pending, of_file, OnFile, with_bytes}
-use Rattle.write_back.specs.Landing.{landed, changed_part, landed_part, at_piece, at_xid, with_change, with_cut, with_xid}
-use Rattle.write_back.specs.Pieces.{Sent, FilePending, Flown, nothing, part_at, flown_in, fly_in, rest_of, rest_at, piece_under, without, renumbered, end_of_sent}
+use Rattle.write_back.specs.Files.{with_bytes}
+use Rattle.write_back.specs.Landing.{landed, changed_part, landed_part, at_piece, at_xid, with_change, with_cut}
+use Rattle.write_back.specs.Pieces.{Flown, part_at, flown_in, fly_in, rest_of, rest_at, without, end_of_sent}
 use Rattle.write_back.specs.Places.{PutsInFlight}
 use Rattle.write_back.proofs.ByPlace.{covered}
 use Rattle.write_back.proofs.Keys.{low-of, high-of}
-use Rattle.write_back.proofs.WritesByFile.{same-or}
 use Rattle.commit_verf.specs.Decisions.{decided}
 
 some-cell : (a b : Cell) → Some a ≡ Some b → a ≡ b

@@ -1,19 +1,6 @@
 -- A fact of what is pending and one of each operation under way, over what a step of a lane leads to.
-use Rattle.std.proofs.Common.{◌≡◌, ◌⊎◌, inl, inr, ℕ, List, [], ◌∷◌, ◌++◌, length, remove, Some, slice_get, slice_set, Err, sym, subst, ◌∙◌}
-use Rattle.world_model.specs.declared.answer.Fault.{Fault}
-use Rattle.write_back.specs.Files.{Pending}
-use Rattle.client_shelf.specs.declared.next.Next.{Next}
-use Rattle.client_shelf.specs.declared.next.Next.TheVariants.{Send, Wait, Done}
-use Rattle.client_shelf.specs.declared.shelf.Shelf.{Shelf}
-use Rattle.op_machines.specs.declared.machine.Machine.{Machine}
-use Rattle.op_machines.specs.Steps.{Takes}
-use Rattle.client_core.specs.declared.lane.Lane.{Lane}
-use Rattle.client_core.specs.declared.lane.State.{State}
-use Rattle.client_core.specs.declared.lane.State.TheVariants.{Busy, Over}
-use Rattle.client_core.specs.Steps.{IsRefused, Leads}
-use Rattle.client_core.specs.View.{View, turn_at, unmade_turn}
-use Rattle.core_facts.proofs.Lists.{at-set, get-push, get-remove, skip}
-use Rattle.core_facts.proofs.Stories.{by-place, set-other}
+use Rattle.core_answers.proofs.Prelude.{◌≡◌, ◌⊎◌, inl, inr, ℕ, List, [], ◌∷◌, ◌++◌, length, Some, slice_get, slice_set, Err, sym, subst, ◌∙◌, Fault, Pending, Next, Send, Wait, Done, Shelf, Machine, Takes, Lane, State, Busy, Over, IsRefused, Leads, View, turn_at, unmade_turn, at-set, get-push, get-remove, skip, by-place, set-other}
+use Rattle.std.proofs.Common.{remove}
 
 abbrev pub StateHas : (Machine → Type 0) → State → Type 0
 StateHas K (Busy machine) = K machine

@@ -1,28 +1,14 @@
 -- What is said of pending bytes, and of those that an operation may add, says whatever follows of each byte.
-use Rattle.std.proofs.Common.{ℕ, Bool, true, false, List, [], ◌∷◌}
-use Rattle.world_model.specs.declared.message.Call.{Call}
-use Rattle.open_files.specs.Slots.{Opens}
-use Rattle.write_back.specs.Files.{Pending, of_file}
-use Rattle.write_back.specs.Pieces.{Sent, FilePending}
-use Rattle.write_back.specs.Segments.{Segments}
-use Rattle.client_shelf.specs.declared.next.Next.{Next}
+use Rattle.core_answers.proofs.Prelude.{ℕ, Bool, true, false, List, [], ◌∷◌, Call, Opens, Pending, of_file, Sent, FilePending, Segments, Next, Closing, Putting, Syncing, Writing, FileMachine, Machine, Opener, file_of}
 use Rattle.client_shelf.specs.declared.next.Next.TheVariants as nexts
-use Rattle.file_ops.specs.declared.close_file.Closing.{Closing}
 use Rattle.file_ops.specs.declared.close_file.Closing.TheVariants as closing
-use Rattle.file_ops.specs.declared.put_file.Putting.{Putting}
 use Rattle.file_ops.specs.declared.put_file.Putting.TheVariants as putting
-use Rattle.file_ops.specs.declared.sync_file.Syncing.{Syncing}
 use Rattle.file_ops.specs.declared.sync_file.Syncing.TheVariants as syncing
-use Rattle.file_ops.specs.declared.write_file.Writing.{Writing}
 use Rattle.file_ops.specs.declared.write_file.Writing.TheVariants as writing
 use Rattle.file_ops.specs.WriteFile as writes
-use Rattle.op_machines.specs.declared.file_machine.FileMachine.{FileMachine}
 use Rattle.op_machines.specs.declared.file_machine.FileMachine.TheVariants as files
-use Rattle.op_machines.specs.declared.machine.Machine.{Machine}
 use Rattle.op_machines.specs.declared.machine.Machine.TheVariants as machines
-use Rattle.op_machines.specs.declared.opener.Opener.{Opener}
 use Rattle.op_machines.specs.declared.opener.Opener.TheVariants as openers
-use Rattle.op_machines.specs.Openers.{file_of}
 use Rattle.core_answers.proofs.writes.AllBacks.{OnWay, OtherBy, AsksOther, PathSaves, Saves, PathBrings, Brings, StartsWith}
 use Rattle.core_answers.proofs.writes.Backs.{RoomIs, PutIs, FileBrings, FileStartsWith, SyncSaves, CloseSaves, WriteSaves, PutSaves, FileSaves}
 use Rattle.core_answers.proofs.writes.Given.{OfSegments, OfPieces, OfFile, OfBack}

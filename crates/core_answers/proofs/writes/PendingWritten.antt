@@ -1,56 +1,20 @@
 -- Each byte that is pending is one that an operation gave.
-use Rattle.std.proofs.Common.{◌≡◌, ◌+◌, ◌-◌, ℕ, List, [], ◌∷◌, ◌++◌, length, Bool, true, false, Option, Some, None, Result, Ok, Err, position, slice_get, replicate, refl, sym, ap, subst, ◌∙◌, arith}
+use Rattle.core_answers.proofs.Prelude.{◌≡◌, ◌+◌, ◌-◌, ℕ, List, [], ◌∷◌, ◌++◌, length, Bool, true, false, Option, Some, None, Result, Ok, Err, position, slice_get, refl, sym, ap, subst, ◌∙◌, arith, if◌then◌else◌, Mode, Waiting, waiting_at, Opened, Pending, of_file, nothing, Fault, Entry, Began, Answered, Delivered, Reply, Op, At, Modes, IsOf, Terms, At-grow, At-below, At-last, said_of, Next, Shelf, Turn, in_mode, of_open, file_to_write, Mounted, Machine, machine_of, Starts, Resumes, Takes, Lane, Purpose, Busy, Setup, is_busy, IsIdle, with_state, Stirs, counted, StartsLane, TakesAt, View, turn_at, unmade_turn, Reaches, begins-unbegun, taken_one, held-begins, Given, is-given, Known, at-push, at-set}
+use Rattle.std.proofs.Common.{replicate}
 use Rattle.std.specs.FinMap as finite
-use Rattle.std.specs.Prelude.{slice_index, if◌then◌else◌}
+use Rattle.std.specs.Prelude.{slice_index}
 use Rattle.std.proofs.lemmas.Bool.{le-ltb}
 use Rattle.std.proofs.lemmas.Option.{slice_get-get_or}
-use Rattle.nfs_types.specs.declared.mode.Mode.{Mode}
 use Rattle.nfs_types.specs.declared.mode.Mode.TheVariants as modes
-use Rattle.rpc_retry.specs.declared.waiting.Waiting.{Waiting}
-use Rattle.rpc_retry.specs.Waiting.{waiting_at}
-use Rattle.open_files.specs.declared.opened.Opened.{Opened}
 use Rattle.write_back.specs.Segments.{covers}
-use Rattle.write_back.specs.Files.{Pending, of_file}
-use Rattle.write_back.specs.Pieces.{nothing}
 use Rattle.write_back.proofs.Keys.{low-of, high-of}
-use Rattle.world_model.specs.declared.answer.Fault.{Fault}
-use Rattle.world_model.specs.declared.entry.Entry.{Entry}
-use Rattle.world_model.specs.declared.entry.Entry.TheVariants.{Began, Answered, Delivered}
-use Rattle.world_model.specs.declared.message.Reply.{Reply}
-use Rattle.world_model.specs.declared.op.Op.{Op}
 use Rattle.world_model.specs.declared.op.Op.TheVariants as ops
-use Rattle.world_model.specs.Entries.{At}
-use Rattle.claims.specs.Modes.{Modes}
 use Rattle.claims.specs.Rights.{can_write}
-use Rattle.claims.specs.Slots.{IsOf, slot_of}
-use Rattle.claims.specs.Terms.{Terms}
-use Rattle.world_model.proofs.Places.{At-grow, At-below, At-last}
-use Rattle.call_replies.specs.Says.{said_of}
-use Rattle.client_shelf.specs.declared.next.Next.{Next}
+use Rattle.claims.specs.Slots.{slot_of}
 use Rattle.client_shelf.specs.declared.next.Next.TheVariants as nexts
-use Rattle.client_shelf.specs.declared.shelf.Shelf.{Shelf}
-use Rattle.client_shelf.specs.declared.turn.Turn.{Turn}
 use Rattle.file_ops.specs.Syncs as syncs
-use Rattle.file_ops.specs.Opens.{in_mode, of_open, file_to_write}
-use Rattle.op_machines.specs.declared.begun.Mounted.{Mounted}
-use Rattle.op_machines.specs.declared.machine.Machine.{Machine}
-use Rattle.op_machines.specs.Begun.{machine_of}
-use Rattle.op_machines.specs.Steps.{Starts, Resumes, Takes}
-use Rattle.client_core.specs.declared.lane.Lane.{Lane}
-use Rattle.client_core.specs.declared.lane.Purpose.{Purpose}
-use Rattle.client_core.specs.declared.lane.State.TheVariants.{Busy}
-use Rattle.client_core.specs.declared.setup.Setup.{Setup}
-use Rattle.client_core.specs.Lanes.{is_busy}
-use Rattle.client_core.specs.Numbers.{IsIdle}
-use Rattle.client_core.specs.Steps.{with_state, Stirs, counted, StartsLane, TakesAt}
-use Rattle.client_core.specs.View.{View, turn_at, unmade_turn}
-use Rattle.core_facts.specs.Reaches.{Reaches}
 use Rattle.core_facts.specs.SlotAnswers.{GoesWith}
-use Rattle.core_facts.proofs.AllCounts.{begins-unbegun}
-use Rattle.core_facts.proofs.Cases.{taken_one}
-use Rattle.core_facts.proofs.HeldSlots.{may, held-begins, Given, is-given}
-use Rattle.core_facts.proofs.Keeping.{Known}
-use Rattle.core_facts.proofs.Lists.{at-push, at-set}
+use Rattle.core_facts.proofs.HeldSlots.{may}
 use Rattle.core_facts.proofs.SlotGrowth.{IsHeld, held-grow}
 use Rattle.core_answers.specs.writes.Written.{byte_from, byte_by, IsAtFile, IsWritten, PlaceWritten}
 use Rattle.core_answers.proofs.writes.AllBacks.{Brings, StartsWith, all-starts, all-resumes, all-takes}

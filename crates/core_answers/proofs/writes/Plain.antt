@@ -1,48 +1,19 @@
 -- The operations that put nothing in flight ask for no WRITE and no COMMIT.
-use Rattle.std.proofs.Common.{◌≡◌, ℕ, Bool, true, false, List, Option, Some, None, Result, Ok, Err, refl, sym, subst, ◌∙◌, inl, inr}
-use Rattle.std.specs.Prelude.{if◌then◌else◌}
+use Rattle.core_answers.proofs.Prelude.{◌≡◌, ℕ, Bool, true, false, List, Option, Some, None, Result, Ok, Err, refl, sym, subst, ◌∙◌, inl, inr, if◌then◌else◌, Attr, Wcc, Attrs, Pages, Opens, Opened, Fault, Answer, Call, Reply, Pending, Repeat, Shelf, Turn, FileCall, Next, Opening, OpeningStep, OpeningNext, Led, OpenFile, ReadFile, Reading, Phase, TruncateFile, Truncating, fails_busy, goes_again, Said, part, refusal, joined, got_by}
 use Rattle.std.specs.FinMap as finite
-use Rattle.nfs_types.specs.declared.attr.Attr.{Attr}
-use Rattle.nfs_types.specs.declared.wcc.Wcc.{Wcc}
 use Rattle.xdr_codec.specs.declared.blob.Memory as memory
-use Rattle.attr_cache.specs.Attrs.{Attrs}
-use Rattle.page_cache.specs.Pages.{Pages}
-use Rattle.open_files.specs.Slots.{Place, Opens}
-use Rattle.open_files.specs.declared.opened.Opened.{Opened}
-use Rattle.world_model.specs.declared.answer.Fault.{Fault}
+use Rattle.open_files.specs.Slots.{Place}
 use Rattle.world_model.specs.declared.answer.Fault.TheVariants as faults
-use Rattle.world_model.specs.declared.answer.Answer.{Answer}
 use Rattle.world_model.specs.declared.answer.Answer.TheVariants as answers
-use Rattle.world_model.specs.declared.message.Call.{Call}
-use Rattle.world_model.specs.declared.message.Reply.{Reply}
-use Rattle.write_back.specs.Files.{Pending}
-use Rattle.client_shelf.specs.declared.repeats.Repeat.{Repeat}
-use Rattle.client_shelf.specs.declared.shelf.Shelf.{Shelf}
-use Rattle.client_shelf.specs.declared.turn.Turn.{Turn}
 use Rattle.nfs_file_calls.specs.declared.call.FileCall.TheVariants as file_calls
-use Rattle.nfs_file_calls.specs.declared.call.FileCall.{FileCall}
 use Rattle.world_model.specs.declared.message.Call.TheVariants as calls
-use Rattle.client_shelf.specs.declared.next.Next.{Next}
 use Rattle.client_shelf.specs.declared.next.Next.TheVariants as nexts
-use Rattle.file_ops.specs.declared.opening.Opening.{Opening}
-use Rattle.file_ops.specs.declared.opening.OpeningStep.{OpeningStep}
 use Rattle.file_ops.specs.declared.opening.OpeningStep.TheVariants.{Look, Make, Find, Ask}
-use Rattle.file_ops.specs.declared.opening.OpeningNext.{OpeningNext}
 use Rattle.file_ops.specs.declared.opening.OpeningNext.TheVariants as steps
-use Rattle.file_ops.specs.declared.opening.Led.{Led}
 use Rattle.file_ops.specs.declared.opening.Led.TheVariants as leads
-use Rattle.file_ops.specs.declared.open_file.OpenFile.{OpenFile}
-use Rattle.file_ops.specs.declared.read_file.ReadFile.{ReadFile}
-use Rattle.file_ops.specs.declared.reading.Reading.{Reading}
-use Rattle.file_ops.specs.declared.reading.Phase.{Phase}
 use Rattle.file_ops.specs.declared.reading.Phase.TheVariants as phases
-use Rattle.file_ops.specs.declared.truncate_file.TruncateFile.{TruncateFile}
-use Rattle.file_ops.specs.declared.truncate_file.Truncating.{Truncating}
 use Rattle.file_ops.specs.declared.truncate_file.Truncating.TheVariants as truncating
-use Rattle.client_shelf.specs.Busy.{fails_busy, goes_again}
-use Rattle.file_ops.specs.ReadReply.{Said, part, refusal, says_busy}
-use Rattle.file_ops.specs.SlotFiles.{joined}
-use Rattle.file_ops.specs.Told.{got_by}
+use Rattle.file_ops.specs.ReadReply.{says_busy}
 use Rattle.file_ops.specs.Opening as opening
 use Rattle.file_ops.specs.OpenFile as opens
 use Rattle.file_ops.specs.Reading as reading

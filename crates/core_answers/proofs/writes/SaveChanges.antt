@@ -1,32 +1,14 @@
 -- What each change of what is pending keeps that a save makes, each step of a save keeps.
-use Rattle.std.proofs.Common.{◌≡◌, ◌||◌, ◌==◌, inl, inr, ℕ, Bool, true, false, List, [], ◌∷◌, length, Option, Some, None, Result, Ok, Err, refl, sym, subst}
-use Rattle.std.specs.Prelude.{nat_lt}
-use Rattle.commit_verf.specs.declared.commit.Verdict.{Verdict}
-use Rattle.commit_verf.specs.declared.commit.Verdict.TheVariants.{AllStable, SendAgain}
-use Rattle.commit_verf.specs.Decisions.{decided, verdict_of}
+use Rattle.core_answers.proofs.Prelude.{◌≡◌, ◌||◌, ◌==◌, inl, inr, ℕ, Bool, true, false, List, [], ◌∷◌, length, Option, Some, None, Result, Ok, Err, refl, sym, subst, nat_lt, Verdict, AllStable, SendAgain, verdict_of, Verf, Wcc, Fault, Reply, lost, chosen, piece_of, with_sent, Pending, of_file, OnFile, with_xid, Sent, Segments, Repeat, Turn, goes_again, Sending, Committing, Resending, CommittingAgain, Saving, write_told, commit_told}
+use Rattle.commit_verf.specs.Decisions.{decided}
 use Rattle.nfs_file_calls.specs.declared.owned.FileKept.TheVariants as kept_replies
-use Rattle.nfs_types.specs.declared.verf.Verf.{Verf}
-use Rattle.nfs_types.specs.declared.wcc.Wcc.{Wcc}
-use Rattle.world_model.specs.declared.answer.Fault.{Fault}
-use Rattle.world_model.specs.declared.message.Reply.{Reply}
 use Rattle.world_model.specs.declared.message.Reply.TheVariants as replies
 use Rattle.world_model.specs.declared.answer.Fault.TheVariants as faults
 use Rattle.write_back.specs.declared.change.Change.{Change}
 use Rattle.write_back.specs.declared.change.Change.TheVariants as by_change
-use Rattle.write_back.specs.Changes.{lost}
-use Rattle.write_back.specs.Choice.{chosen, piece_of, with_sent}
-use Rattle.write_back.specs.Files.{Pending, of_file, OnFile}
-use Rattle.write_back.specs.Landing.{landed, landed_part, at_xid, acked_by, with_xid}
-use Rattle.write_back.specs.Pieces.{Sent}
+use Rattle.write_back.specs.Landing.{landed, landed_part, at_xid, acked_by}
 use Rattle.write_back.specs.Places.{PutsInFlight}
-use Rattle.write_back.specs.Segments.{Segments}
-use Rattle.client_shelf.specs.declared.repeats.Repeat.{Repeat}
-use Rattle.client_shelf.specs.declared.turn.Turn.{Turn}
-use Rattle.client_shelf.specs.Busy.{goes_again}
 use Rattle.file_ops.specs.declared.saving.Phase.{Phase}
-use Rattle.file_ops.specs.declared.saving.Phase.TheVariants.{Sending, Committing, Resending, CommittingAgain}
-use Rattle.file_ops.specs.declared.saving.Saving.{Saving}
-use Rattle.file_ops.specs.Judging.{write_told, commit_told}
 use Rattle.file_ops.specs.Saves as saves
 
 -- P stays where bytes take off under the xid of the step, where what is under the asked xid lands or gets the xid of the step, and at a verifier.

@@ -1,43 +1,14 @@
 -- An operation on a file whose call waits is the first in the order of its file.
-use Rattle.std.proofs.Common.{◌≡◌, ◌≤◌, ◌+◌, ◌&&◌, ℕ, Bool, true, false, List, Option, Some, None, Result, Ok, Err, inl, inr, refl, sym, ap, subst, arith}
-use Rattle.std.specs.Prelude.{if◌then◌else◌}
-use Rattle.world_model.specs.declared.answer.Answer.{Answer}
+use Rattle.core_answers.proofs.Prelude.{◌≡◌, ◌≤◌, ◌+◌, ◌&&◌, ℕ, Bool, true, false, List, Option, Some, None, Result, Ok, Err, inl, inr, refl, sym, ap, subst, arith, if◌then◌else◌, Answer, Fault, Reply, last_end, of_file, LaneFile, Next, Shelf, Turn, goes_again, left, is_first, CloseFile, Closing, Removal, OpeningNext, PutFile, Putting, Saving, SyncFile, Syncing, TruncateFile, Truncating, WriteFile, Writing, is_full, refusal_of, remove_busy, file_to_write, file_at, joined, by-step, ends_as, FileMachine, of_saving, of_writing, of_syncing, of_closing, of_putting}
 use Rattle.world_model.specs.declared.answer.Answer.TheVariants as answers
-use Rattle.world_model.specs.declared.answer.Fault.{Fault}
-use Rattle.world_model.specs.declared.message.Reply.{Reply}
-use Rattle.write_back.specs.Segments.{last_end}
-use Rattle.write_back.specs.Files.{of_file}
-use Rattle.client_shelf.specs.declared.lane_files.LaneFile.{LaneFile}
-use Rattle.client_shelf.specs.declared.next.Next.{Next}
 use Rattle.client_shelf.specs.declared.next.Next.TheVariants as nexts
-use Rattle.client_shelf.specs.declared.shelf.Shelf.{Shelf}
-use Rattle.client_shelf.specs.declared.turn.Turn.{Turn}
-use Rattle.client_shelf.specs.Busy.{goes_again}
-use Rattle.client_shelf.specs.LaneFiles.{left, is_first}
-use Rattle.file_ops.specs.declared.close_file.CloseFile.{CloseFile}
-use Rattle.file_ops.specs.declared.close_file.Closing.{Closing}
 use Rattle.file_ops.specs.declared.close_file.Closing.TheVariants as closing
-use Rattle.file_ops.specs.declared.closing.Removal.{Removal}
-use Rattle.file_ops.specs.declared.opening.OpeningNext.{OpeningNext}
 use Rattle.file_ops.specs.declared.opening.OpeningNext.TheVariants as openings
-use Rattle.file_ops.specs.declared.put_file.PutFile.{PutFile}
-use Rattle.file_ops.specs.declared.put_file.Putting.{Putting}
 use Rattle.file_ops.specs.declared.put_file.Putting.TheVariants as putting
-use Rattle.file_ops.specs.declared.saving.Saving.{Saving}
-use Rattle.file_ops.specs.declared.sync_file.SyncFile.{SyncFile}
-use Rattle.file_ops.specs.declared.sync_file.Syncing.{Syncing}
 use Rattle.file_ops.specs.declared.sync_file.Syncing.TheVariants as syncing
-use Rattle.file_ops.specs.declared.truncate_file.TruncateFile.{TruncateFile}
-use Rattle.file_ops.specs.declared.truncate_file.Truncating.{Truncating}
 use Rattle.file_ops.specs.declared.truncate_file.Truncating.TheVariants as truncating
-use Rattle.file_ops.specs.declared.write_file.WriteFile.{WriteFile}
-use Rattle.file_ops.specs.declared.write_file.Writing.{Writing}
 use Rattle.file_ops.specs.declared.write_file.Writing.TheVariants as writing
-use Rattle.file_ops.specs.Adding.{is_full}
-use Rattle.file_ops.specs.Closings.{refusal_of, remove_busy}
-use Rattle.file_ops.specs.Opens.{file_to_write}
 use Rattle.file_ops.specs.Quiet.{is_quiet}
-use Rattle.file_ops.specs.SlotFiles.{file_at, joined}
 use Rattle.file_ops.specs.Opening as opening
 use Rattle.file_ops.specs.Closes as closes
 use Rattle.file_ops.specs.PutFile as puts
@@ -45,11 +16,9 @@ use Rattle.file_ops.specs.Saves as saves
 use Rattle.file_ops.specs.Syncs as syncs
 use Rattle.file_ops.specs.TruncateFile as truncates
 use Rattle.file_ops.specs.WriteFile as writes
-use Rattle.file_ops.proofs.SaveCounts.{by-step, ends_as}
-use Rattle.op_machines.specs.declared.file_machine.FileMachine.{FileMachine}
 use Rattle.op_machines.specs.declared.file_machine.FileMachine.TheVariants as files
 use Rattle.op_machines.specs.FileSteps as steps
-use Rattle.core_facts.specs.InFlight.{of_saving, of_writing, of_syncing, of_closing, of_putting, of_file as calls_of}
+use Rattle.core_facts.specs.InFlight.{of_file as calls_of}
 
 -- ---- whose turn it is
 

@@ -1,6 +1,5 @@
 -- A WRITE that was to be made again, and can't be: what was in flight under its first xid is to be sent again.
-use Rattle.std.proofs.Common.{◌≡◌, ◌≢◌, ℕ, List, Option, Some, refl, sym, ap, ◌∙◌}
-use Rattle.write_back.specs.Files.{Pending}
+use Rattle.core_counts.proofs.Prelude.{◌≡◌, ◌≢◌, ℕ, List, Option, Some, refl, sym, ap, ◌∙◌, Pending}
 use Rattle.model_writes.specs.Machine.{Cell, Flight, View, again, Came, stays, covered, acks, firms, returns, Renamed, unmoved, moved, PlacesAfter}
 use Rattle.model_writes.specs.Story.{File, Spot, Call, Reply, write, denied}
 use Rattle.step_pending.specs.Cells.{Leads}

@@ -1,47 +1,14 @@
 -- Along a history the machine goes with the core.
-use Rattle.std.proofs.Common.{arith, ◌≡◌, ◌⊎◌, inl, inr, ◌+◌, ℕ, Bool, List, [], ◌∷◌, ◌++◌, true, false, Option, Some, None, option_map, position, length, refl, sym, ap, subst, ◌∙◌}
-use Rattle.rpc_message.specs.Call.{xid_at}
-use Rattle.rpc_retry.specs.declared.waiting.Waiting.{Waiting}
-use Rattle.rpc_retry.specs.Held.{Held, next_xid}
-use Rattle.rpc_retry.specs.Take.{after_taking, awaited}
-use Rattle.rpc_retry.specs.Waiting.{waiting_at}
-use Rattle.world_model.specs.declared.answer.Answer.{Answer}
-use Rattle.world_model.specs.declared.entry.Entry.{Entry}
-use Rattle.world_model.specs.declared.entry.Entry.TheVariants.{Began, Answered, Sent, Delivered}
-use Rattle.world_model.specs.declared.op.Op.{Op}
-use Rattle.world_model.specs.Messages.{SpellsCallBy}
-use Rattle.call_replies.specs.Says.{said_of}
-use Rattle.client_shelf.specs.declared.shelf.Shelf.{Shelf}
-use Rattle.op_machines.specs.declared.begun.Mounted.{Mounted}
-use Rattle.op_machines.specs.Begun.{machine_of}
-use Rattle.op_machines.specs.Fits.{Fits}
+use Rattle.core_counts.proofs.Prelude.{arith, ◌≡◌, ◌⊎◌, inl, inr, ◌+◌, ℕ, Bool, List, [], ◌∷◌, ◌++◌, true, false, Option, Some, None, option_map, position, length, refl, sym, ap, subst, ◌∙◌, xid_at, Waiting, Held, next_xid, awaited, waiting_at, Answer, Entry, Began, Answered, Sent, Delivered, Op, SpellsCallBy, said_of, Shelf, Mounted, machine_of, Fits, Purpose, Busy, Setup, IsFresh, is_busy, IsIdle, with_state, Stirs, counted, StartsLane, TakesAt, AnswersAt, View, turn_at, StepsTo, HearsRecord, Reaches, begins, goes, loses, last_reading, begins-unbegun, taken_one, Known, same-rows, SameCalls, unused-next, Basis, basis-ready, stirs-basis, starts-basis, takes-basis, keeps-basis, Wholly, starts-has, resumes-has, stirs-wholly, starts-wholly, takes-wholly, keeps-wholly, Shows, MakesLong, Moves, Hears, ShownCall, ShownCalls, Shown}
+use Rattle.rpc_retry.specs.Take.{after_taking}
 use Rattle.op_machines.proofs.AllLaws as laws
-use Rattle.client_core.specs.declared.lane.Purpose.{Purpose}
-use Rattle.client_core.specs.declared.lane.State.TheVariants.{Busy}
-use Rattle.client_core.specs.declared.setup.Setup.{Setup}
-use Rattle.client_core.specs.Fresh.{IsFresh}
-use Rattle.client_core.specs.Lanes.{is_busy}
-use Rattle.client_core.specs.Numbers.{IsIdle}
-use Rattle.client_core.specs.Steps.{with_state, taken, Stirs, counted, StartsLane, TakesAt, AnswersAt}
-use Rattle.client_core.specs.View.{View, turn_at}
-use Rattle.core_facts.specs.Reaches.{StepsTo, HearsRecord, Reaches, begins, goes, loses, last_reading}
-use Rattle.core_facts.proofs.AllCounts.{begins-unbegun}
-use Rattle.core_facts.proofs.Cases.{taken_one}
-use Rattle.core_facts.proofs.Keeping.{Known}
-use Rattle.core_facts.proofs.Rows.{same-rows}
+use Rattle.client_core.specs.Steps.{taken}
 use Rattle.core_answers.proofs.writes.AllFits as fitting
-use Rattle.core_answers.proofs.writes.Along.{SameCalls}
-use Rattle.core_answers.proofs.writes.PiecesCarried.{unused-next}
-use Rattle.core_session.proofs.order.Basis.{Basis, basis-ready, stirs-basis, starts-basis, takes-basis, keeps-basis}
 use Rattle.core_session.proofs.saves.HearingAlong.{IsPlain}
-use Rattle.core_session.proofs.saves.WholeSteps.{Wholly, starts-has, resumes-has, stirs-wholly, starts-wholly, takes-wholly, keeps-wholly}
 use Rattle.model_writes.specs.Machine as coarse
-use Rattle.step_pending.specs.Cells.{Shows}
 use Rattle.step_pending.proofs.Cutting.{nothing-shown}
-use Rattle.core_counts.specs.coarse.Long.{MakesLong}
-use Rattle.core_counts.specs.coarse.Moves.{Moves, Hears}
 use Rattle.core_counts.specs.coarse.Moves as machine
-use Rattle.core_counts.specs.coarse.Runs.{RestsAt, ShownCall, ShownCalls, Shown, heard_as, Runs, CoreIsCoarse}
+use Rattle.core_counts.specs.coarse.Runs.{RestsAt, heard_as, Runs, CoreIsCoarse}
 use Rattle.core_counts.specs.coarse.Runs as runs
 use Rattle.core_counts.specs.coarse.WereLong.{WritesWereLong}
 use Rattle.core_counts.proofs.coarse.WereLong.{Longs, Sents, longs-then, longs-moved, longs-stirred, longs-taken, sents-then, sents-other, lost-unsent, sents-first}

@@ -1,34 +1,17 @@
 -- What a step of any operation makes of the machine.
-use Rattle.std.proofs.Common.{◌≡◌, ◌⊎◌, inl, inr, ◌+◌, ℕ, Bool, true, List, [], ◌∷◌, Result, Err, refl, sym, subst}
-use Rattle.rpc_retry.specs.Held.{Held}
-use Rattle.world_model.specs.declared.answer.Fault.{Fault}
+use Rattle.core_counts.proofs.Prelude.{◌≡◌, ◌⊎◌, inl, inr, ◌+◌, ℕ, Bool, true, List, [], ◌∷◌, Result, Err, refl, sym, subst, Held, Fault, Call, Reply, Pending, of_file, with_bytes, HasNoPiece, IsNewest, OnFile, with_cut, nothing, Next, Shelf, Turn, Saving, IsUnused, Machine, Fits, Starts, Resumes, Takes, Purpose, Setup, After, TakesHas, NearAs, EachSound}
 use Rattle.world_model.specs.declared.answer.Fault.TheVariants as faults
-use Rattle.world_model.specs.declared.message.Call.{Call}
-use Rattle.world_model.specs.declared.message.Reply.{Reply}
-use Rattle.write_back.specs.Files.{Pending, of_file, with_bytes, HasNoPiece, IsNewest, OnFile}
-use Rattle.write_back.specs.Landing.{with_cut}
-use Rattle.write_back.specs.Pieces.{Sent, nothing}
-use Rattle.client_shelf.specs.declared.next.Next.{Next}
+use Rattle.write_back.specs.Pieces.{Sent}
 use Rattle.client_shelf.specs.declared.next.Next.TheVariants as nexts
-use Rattle.client_shelf.specs.declared.shelf.Shelf.{Shelf}
-use Rattle.client_shelf.specs.declared.turn.Turn.{Turn}
-use Rattle.file_ops.specs.declared.saving.Saving.{Saving}
 use Rattle.file_ops.specs.Quiet.{is_quiet, are_none}
 use Rattle.file_ops.specs.Saves as saves
-use Rattle.file_ops.specs.SlotFiles.{IsUnused}
 use Rattle.file_ops.specs.Syncs as syncs
-use Rattle.op_machines.specs.declared.machine.Machine.{Machine}
-use Rattle.op_machines.specs.Fits.{Fits}
-use Rattle.op_machines.specs.Steps.{Starts, Resumes, Takes}
-use Rattle.client_core.specs.declared.lane.Purpose.{Purpose}
-use Rattle.client_core.specs.declared.setup.Setup.{Setup}
 use Rattle.core_answers.proofs.writes.AllBacks.{Saves}
-use Rattle.core_answers.proofs.writes.Backs.{After, CarriesReply}
+use Rattle.core_answers.proofs.writes.Backs.{CarriesReply}
 use Rattle.core_session.proofs.order.Adds as adding
-use Rattle.core_session.proofs.order.Adds.{Bears, TakesHas}
-use Rattle.core_session.proofs.order.Sounds.{Sounds, SoundsFirst, SoundCall, NearAs, bears-sounds, replies-sounds}
+use Rattle.core_session.proofs.order.Adds.{Bears}
+use Rattle.core_session.proofs.order.Sounds.{Sounds, SoundsFirst, SoundCall, bears-sounds, replies-sounds}
 use Rattle.model_writes.specs.Machine.{View}
-use Rattle.step_pending.specs.Cells.{EachSound}
 use Rattle.step_pending.proofs.Below.{rest-below, fly-below}
 use Rattle.step_pending.proofs.ComingIn.{comes-in}
 use Rattle.step_pending.proofs.Cutting.{cut-leads, given-leads}

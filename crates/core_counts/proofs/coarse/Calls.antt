@@ -1,27 +1,11 @@
 -- The calls that wait, as the machine shows them, after one was made or answered.
-use Rattle.std.proofs.Common.{◌≡◌, ◌⊎◌, inl, inr, ◌+◌, ℕ, zero, suc, Bool, true, false, nat_eq, List, [], ◌∷◌, ◌++◌, Option, Some, None, refl, sym, ap, subst, ◌∙◌, arith}
-use Rattle.std.specs.Prelude.{if◌then◌else◌}
-use Rattle.std.proofs.lemmas.Bool.{eqb-true}
-use Rattle.nfs_file_calls.specs.declared.call.FileCall.{FileCall}
+use Rattle.core_counts.proofs.Prelude.{◌≡◌, ◌⊎◌, inl, inr, ◌+◌, ℕ, zero, suc, Bool, true, false, nat_eq, List, [], ◌∷◌, ◌++◌, Option, Some, None, refl, sym, ap, subst, ◌∙◌, arith, if◌then◌else◌, eqb-true, FileCall, Waiting, Held, next_xid, AreSound, waiting_at, without, at_made, others_made, others_taken, gone, Call, SpellsCallBy, Purpose, Setup, written_file, call_of, if-true, if-false, ShownCall, ShownCalls}
 use Rattle.nfs_file_calls.specs.declared.call.FileCall.TheVariants as file_calls
-use Rattle.rpc_retry.specs.declared.waiting.Waiting.{Waiting}
-use Rattle.rpc_retry.specs.Held.{Held, next_xid}
-use Rattle.rpc_retry.specs.Sound.{AreSound}
-use Rattle.rpc_retry.specs.Waiting.{waiting_at, without}
-use Rattle.rpc_retry.proofs.Lookups.{at_made, others_made, others_taken}
-use Rattle.rpc_retry.proofs.Records.{gone}
-use Rattle.world_model.specs.declared.message.Call.{Call}
 use Rattle.world_model.specs.declared.message.Call.TheVariants as calls
-use Rattle.world_model.specs.Messages.{SpellsCallBy}
-use Rattle.client_core.specs.declared.lane.Purpose.{Purpose}
-use Rattle.client_core.specs.declared.setup.Setup.{Setup}
-use Rattle.core_answers.specs.writes.Alone.{written_file}
 use Rattle.model_writes.specs.Machine.{Cell, Flight, View, PlacesAfter}
-use Rattle.model_writes.specs.Mirrors.{call_of, file_call_of, sized_call}
+use Rattle.model_writes.specs.Mirrors.{file_call_of, sized_call}
 use Rattle.model_writes.specs.Story as story
-use Rattle.step_pending.proofs.Leading.{if-true, if-false}
 use Rattle.core_counts.specs.coarse.Moves.{IsOther}
-use Rattle.core_counts.specs.coarse.Runs.{ShownCall, ShownCalls}
 use Rattle.core_counts.proofs.coarse.Views.{called, ended}
 
 -- ---- which call it is, where it is no WRITE

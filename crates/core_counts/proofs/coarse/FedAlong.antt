@@ -1,21 +1,10 @@
 -- Along a history the kept pages and names go on by steps of their machines.
-use Rattle.std.proofs.Common.{◌≡◌, List, [], ◌∷◌, ◌++◌, refl, sym, ap, subst, ◌∙◌, append_assoc, append-nil}
+use Rattle.core_counts.proofs.Prelude.{◌≡◌, List, [], ◌∷◌, ◌++◌, refl, sym, ap, subst, ◌∙◌, append_assoc, append-nil, Pages, Entry, History, Lawful, Shelf, machine_of, Mounted, Setup, View, Numbered, Reaches, begins, goes, loses, until, WasRun}
 use Rattle.name_cache.specs.Names.{Entries}
-use Rattle.page_cache.specs.Pages.{Pages, nothing_kept}
-use Rattle.world_model.specs.declared.entry.Entry.{Entry}
-use Rattle.world_model.specs.History.{History}
-use Rattle.world_model.specs.Lawful.{Lawful}
-use Rattle.client_shelf.specs.declared.shelf.Shelf.{Shelf}
-use Rattle.op_machines.specs.Begun.{machine_of}
-use Rattle.op_machines.specs.declared.begun.Mounted.{Mounted}
-use Rattle.client_core.specs.declared.setup.Setup.{Setup}
-use Rattle.client_core.specs.View.{View}
-use Rattle.law_calls.specs.Calls.{Numbered}
+use Rattle.page_cache.specs.Pages.{nothing_kept}
 use Rattle.law_names.specs.Feeds as feeds
-use Rattle.core_facts.specs.Reaches.{Reaches, begins, goes, loses}
 use Rattle.core_answers.proofs.pages.MachinePages.{pages-starts, pages-resumes, pages-takes}
-use Rattle.core_counts.specs.coarse.Fed.{until, Fed, CoreIsFed, PagesFed, NamesFed}
-use Rattle.core_counts.specs.coarse.FedAttrs.{WasRun}
+use Rattle.core_counts.specs.coarse.Fed.{Fed, CoreIsFed, PagesFed, NamesFed}
 use Rattle.core_counts.specs.coarse.FedNames as name_steps
 use Rattle.core_counts.specs.coarse.FedPages as page_steps
 use Rattle.core_counts.proofs.coarse.FedEach.{numbered-at, over-on, each-step}

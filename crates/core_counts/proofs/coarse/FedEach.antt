@@ -1,33 +1,11 @@
 -- A relation of the shelf before and after each step of an operation holds over each entry.
-use Rattle.std.proofs.Common.{◌≡◌, inl, inr, ◌+◌, ℕ, List, [], ◌∷◌, ◌++◌, Bool, true, false, Option, Some, None, MatchOption, position, refl, sym, ap, subst, ◌∙◌, append_assoc}
-use Rattle.rpc_message.specs.Call.{xid_at}
-use Rattle.rpc_retry.specs.declared.waiting.Waiting.{Waiting}
+use Rattle.core_counts.proofs.Prelude.{◌≡◌, inl, inr, ◌+◌, ℕ, List, [], ◌∷◌, ◌++◌, Bool, true, false, Option, Some, None, MatchOption, position, refl, sym, ap, subst, ◌∙◌, append_assoc, xid_at, Waiting, waiting_at, Entry, Began, Answered, Dialed, Sent, Executed, Foreign, Flushed, Reboot, Delivered, Failed, Clock, Op, History, Lawful, said_of, Shelf, machine_of, Mounted, Purpose, Setup, is_busy, moves_none, moves_more, BeginsIf, TakesAt, View, Numbered, StepsTo, HearsRecord, Reaches, goes, last_reading, begins-unbegun, dropped, replied, sent_now, FailedNow, goes_on, gives_up, failed_now, answered_now, taken_one, none-busy, heard-lost, reached-rows, Passes, until, WasRun}
 use Rattle.rpc_retry.specs.Take.{after_taking}
-use Rattle.rpc_retry.specs.Waiting.{waiting_at}
-use Rattle.world_model.specs.declared.entry.Entry.{Entry}
-use Rattle.world_model.specs.declared.entry.Entry.TheVariants.{Began, Answered, Dialed, Sent, Executed, Foreign, Flushed, Reboot, Delivered, Failed, Clock}
-use Rattle.world_model.specs.declared.op.Op.{Op}
-use Rattle.world_model.specs.History.{History}
-use Rattle.world_model.specs.Lawful.{Lawful}
-use Rattle.call_replies.specs.Says.{said_of}
-use Rattle.client_shelf.specs.declared.shelf.Shelf.{Shelf}
-use Rattle.op_machines.specs.Begun.{machine_of}
-use Rattle.op_machines.specs.declared.begun.Mounted.{Mounted}
-use Rattle.client_core.specs.declared.lane.Purpose.{Purpose}
-use Rattle.client_core.specs.declared.setup.Setup.{Setup}
-use Rattle.client_core.specs.Lanes.{is_busy}
-use Rattle.client_core.specs.Steps.{Moves, moves_none, moves_more, BeginsIf, TakesAt}
-use Rattle.client_core.specs.View.{View}
-use Rattle.law_calls.specs.Calls.{Numbered}
-use Rattle.core_facts.specs.Reaches.{StepsTo, HearsRecord, Reaches, goes, last_reading}
-use Rattle.core_facts.proofs.AllCounts.{begins-unbegun}
-use Rattle.core_facts.proofs.Cases.{Heard, dropped, replied, heard, sent_now, FailedNow, goes_on, gives_up, failed_now, answered_now, taken_one}
-use Rattle.core_facts.proofs.Counting.{none-busy, heard-lost, reached-count}
-use Rattle.core_facts.proofs.Rows.{reached-rows}
-use Rattle.core_answers.specs.pages.Passing.{Passes}
+use Rattle.client_core.specs.Steps.{Moves}
+use Rattle.core_facts.proofs.Cases.{Heard, heard}
+use Rattle.core_facts.proofs.Counting.{reached-count}
 use Rattle.core_answers.specs.pages.Passing as passing
-use Rattle.core_counts.specs.coarse.Fed.{until, EachStep}
-use Rattle.core_counts.specs.coarse.FedAttrs.{WasRun}
+use Rattle.core_counts.specs.coarse.Fed.{EachStep}
 use Rattle.core_counts.proofs.coarse.FedSteps.{StepLaws, passed-known, ran, starts-step, stirs-step, takes-step}
 use Rattle.core_counts.proofs.coarse.FedUntil.{lawful-until}
 use Rattle.core_counts.proofs.coarse.Lost.{lost-shelf}

@@ -1,59 +1,30 @@
 -- What a step of an operation on a file, or of one on its way, leaves of the kept names: what holds of each of them, if it holds of what a
 -- LOOKUP was answered with.
 -- ---- writes
-use Rattle.std.proofs.Common.{◌≡◌, ◌-◌, ℕ, Bool, true, false, List, Option, Some, None, Result, Ok, Err, inl, inr, refl, ap, ◌∙◌}
+use Rattle.core_counts.proofs.Prelude.{◌≡◌, ◌-◌, ℕ, Bool, true, false, List, Option, Some, None, Result, Ok, Err, inl, inr, refl, ap, ◌∙◌, Fault, Call, Reply, of_file, last_end, is_first, Next, Shelf, Turn, CloseFile, Closing, Removal, Opening, OpeningNext, Saving, Writing, refusal_of, joined, file_at, OpeningStep, by-step, ends_as, WalkNext, file_to_write, FileMachine, Machine, PathMachine, file_of, slot_taken, begun_at, Starts, Resumes, Takes, PutFile, Putting}
 use Rattle.world_model.specs.declared.answer.Answer.TheVariants as answers
-use Rattle.world_model.specs.declared.answer.Fault.{Fault}
-use Rattle.world_model.specs.declared.message.Call.{Call}
-use Rattle.world_model.specs.declared.message.Reply.{Reply}
-use Rattle.write_back.specs.Files.{of_file}
-use Rattle.write_back.specs.Segments.{last_end}
-use Rattle.client_shelf.specs.LaneFiles.{is_first}
 use Rattle.client_shelf.specs.Unmade.{came_unmade}
-use Rattle.client_shelf.specs.declared.next.Next.{Next}
 use Rattle.client_shelf.specs.declared.next.Next.TheVariants as nexts
-use Rattle.client_shelf.specs.declared.shelf.Shelf.{Shelf}
-use Rattle.client_shelf.specs.declared.turn.Turn.{Turn}
-use Rattle.file_ops.specs.declared.close_file.CloseFile.{CloseFile}
-use Rattle.file_ops.specs.declared.close_file.Closing.{Closing}
 use Rattle.file_ops.specs.declared.close_file.Closing.TheVariants as closing
-use Rattle.file_ops.specs.declared.closing.Removal.{Removal}
-use Rattle.file_ops.specs.declared.opening.Opening.{Opening}
-use Rattle.file_ops.specs.declared.opening.OpeningNext.{OpeningNext}
 use Rattle.file_ops.specs.declared.opening.OpeningNext.TheVariants as openings
-use Rattle.file_ops.specs.declared.saving.Saving.{Saving}
-use Rattle.file_ops.specs.declared.write_file.Writing.{Writing}
 use Rattle.file_ops.specs.declared.write_file.Writing.TheVariants as writing
 use Rattle.file_ops.specs.Closes as closes
-use Rattle.file_ops.specs.Closings.{refusal_of}
 use Rattle.file_ops.specs.Opening as opening
 use Rattle.file_ops.specs.Saves as saves
-use Rattle.file_ops.specs.SlotFiles.{joined}
 use Rattle.file_ops.specs.WriteFile as writes
-use Rattle.file_ops.specs.declared.opening.OpeningStep.{OpeningStep}
 use Rattle.file_ops.specs.declared.opening.OpeningStep.TheVariants as opening_steps
-use Rattle.file_ops.proofs.SaveCounts.{by-step, ends_as}
 use Rattle.name_cache.specs.Names as names
-use Rattle.name_ops.specs.declared.walk.WalkNext.{WalkNext}
 use Rattle.name_ops.specs.declared.walk.WalkNext.TheVariants as walks
 use Rattle.name_ops.specs.Walking as walking
-use Rattle.file_ops.specs.SlotFiles.{file_at}
-use Rattle.file_ops.specs.Opens.{file_to_write}
 use Rattle.file_ops.specs.TruncateFile.{found_file}
-use Rattle.op_machines.specs.declared.file_machine.FileMachine.{FileMachine}
 use Rattle.op_machines.specs.declared.file_machine.FileMachine.TheVariants as files
-use Rattle.op_machines.specs.declared.machine.Machine.{Machine}
 use Rattle.op_machines.specs.declared.machine.Machine.TheVariants as machines
-use Rattle.op_machines.specs.declared.path_machine.PathMachine.{PathMachine}
 use Rattle.op_machines.specs.FileSteps as steps
-use Rattle.op_machines.specs.Openers.{file_of, slot_taken, begun_at, placed}
+use Rattle.op_machines.specs.Openers.{placed}
 use Rattle.op_machines.specs.PathSteps as paths
-use Rattle.op_machines.specs.Steps.{Starts, Resumes, Takes}
 use Rattle.core_counts.proofs.coarse.FedNameSteps.{QuietLaws, CallTells, told-as, left-told, shelf-as, go-told, looked-told, walk-told, name-goes, name-takes}
 use Rattle.core_facts.proofs.FilesKept.{write-starts, write-resumes, write-takes, sync-starts, sync-resumes, sync-takes, truncate-starts, truncate-takes, put-resumes}
 use Rattle.core_facts.proofs.AllAwaited.{PutAwaits, FileAwaits, PathOr, Awaits}
-use Rattle.file_ops.specs.declared.put_file.PutFile.{PutFile}
-use Rattle.file_ops.specs.declared.put_file.Putting.{Putting}
 use Rattle.file_ops.specs.declared.put_file.Putting.TheVariants as putting
 use Rattle.file_ops.specs.PutFile as puts
 

@@ -1,17 +1,8 @@
 -- What opens and puts under way have found, and what listings under way have taken.
-use Rattle.std.proofs.Common.{◌≡◌, ◌≤◌, ℕ, List, length, sym, subst, arith}
+use Rattle.core_counts.proofs.Prelude.{◌≡◌, ◌≤◌, ℕ, List, length, sym, subst, arith, Verf, Entry, Opening, OpeningStep, Putting, ListDir, Machine, front_of, last_of, Busy}
 use Rattle.nfs_dir_calls.specs.declared.plus_page.PlusRow.{PlusRow}
-use Rattle.nfs_types.specs.declared.verf.Verf.{Verf}
-use Rattle.world_model.specs.declared.entry.Entry.{Entry}
-use Rattle.file_ops.specs.declared.opening.Opening.{Opening}
-use Rattle.file_ops.specs.declared.opening.OpeningStep.{OpeningStep}
 use Rattle.file_ops.specs.declared.opening.OpeningStep.TheVariants as opening_steps
-use Rattle.file_ops.specs.declared.put_file.Putting.{Putting}
 use Rattle.file_ops.specs.declared.put_file.Putting.TheVariants as putting
-use Rattle.name_ops.specs.declared.list_dir.ListDir.{ListDir}
-use Rattle.op_machines.specs.declared.machine.Machine.{Machine}
-use Rattle.op_machines.specs.Begun.{front_of, last_of}
-use Rattle.client_core.specs.declared.lane.State.TheVariants.{Busy}
 use Rattle.core_answers.proofs.bonds.AttrsShown.{fresh-attrs}
 use Rattle.core_answers.proofs.bonds.NamesShown.{none-kept}
 use Rattle.core_answers.proofs.bonds.StatsLed.{Both, Kept}

@@ -1,13 +1,8 @@
 -- What an operation makes of the kept names, it makes by steps of their machine.
-use Rattle.std.proofs.Common.{◌≡◌, Some, Result, Ok, refl, sym, subst}
+use Rattle.core_counts.proofs.Prelude.{◌≡◌, Some, Result, Ok, refl, sym, subst, stamp_of, Fault, Call, Reply, History}
 use Rattle.name_cache.specs.Names.{Entries, after_look, learnt, without_dir}
-use Rattle.nfs_types.specs.Stamps.{stamp_of}
 use Rattle.nfs_dir_calls.specs.declared.keeping.DirKept.TheVariants as kept
-use Rattle.world_model.specs.declared.answer.Fault.{Fault}
-use Rattle.world_model.specs.declared.message.Call.{Call}
-use Rattle.world_model.specs.declared.message.Reply.{Reply}
 use Rattle.world_model.specs.declared.message.Reply.TheVariants as replies
-use Rattle.world_model.specs.History.{History}
 use Rattle.law_names.specs.Feeds as feeds
 use Rattle.law_names.specs.Feeds.{IsFed}
 use Rattle.core_counts.specs.coarse.FedNames.{Step, learns, looks, drops, Steps, stays, goes}

@@ -1,26 +1,12 @@
 -- What an operation makes of the kept pages, it makes by steps of their machine.
-use Rattle.std.proofs.Common.{◌≡◌, ◌≤◌, ◌-◌, ◌&&◌, ◌||◌, ◌⊎◌, inl, inr, ℕ, Bool, true, false, nat_lt, nat_le, List, length, take, drop, Some, None, Result, Ok, refl, ap, subst, arith}
-use Rattle.std.specs.Prelude.{if◌then◌else◌}
-use Rattle.std.proofs.lemmas.Bool.Decides.{nat_tests}
-use Rattle.std.proofs.lemmas.List.{length-take}
-use Rattle.nfs_types.specs.declared.attr.Attr.{Attr}
-use Rattle.nfs_types.specs.declared.verf.Verf.{Verf}
-use Rattle.nfs_types.specs.declared.wcc.Stamp.{Stamp}
-use Rattle.nfs_types.specs.declared.wcc.Wcc.{Wcc}
-use Rattle.nfs_types.specs.Stamps.{stamp_of}
+use Rattle.core_counts.proofs.Prelude.{◌≡◌, ◌≤◌, ◌-◌, ◌&&◌, ◌||◌, ◌⊎◌, inl, inr, ℕ, Bool, true, false, nat_le, List, length, take, drop, Some, None, Result, Ok, refl, ap, subst, arith, if◌then◌else◌, nat_tests, length-take, Attr, Verf, Stamp, Wcc, stamp_of, start_of, Pages, after_page, saw, Fault, Executed, Call, Reply, At, History, kept_page}
+use Rattle.std.proofs.Common.{nat_lt}
 use Rattle.nfs_file_calls.specs.declared.call.FileCall.TheVariants as files
 use Rattle.nfs_file_calls.specs.declared.owned.FileKept.TheVariants as kept
-use Rattle.page_cache.specs.Bytes.{start_of}
-use Rattle.page_cache.specs.Pages.{Pages, after_page, opened, saw, wrote, cut}
-use Rattle.world_model.specs.declared.answer.Fault.{Fault}
-use Rattle.world_model.specs.declared.entry.Entry.TheVariants.{Executed}
-use Rattle.world_model.specs.declared.message.Call.{Call}
+use Rattle.page_cache.specs.Pages.{opened, wrote, cut}
 use Rattle.world_model.specs.declared.message.Call.TheVariants as calls
-use Rattle.world_model.specs.declared.message.Reply.{Reply}
 use Rattle.world_model.specs.declared.message.Reply.TheVariants as replies
-use Rattle.world_model.specs.Entries.{At}
-use Rattle.world_model.specs.History.{History}
-use Rattle.file_ops.specs.Kept.{is_given, kept_page, offered_told, offered}
+use Rattle.file_ops.specs.Kept.{is_given, offered_told, offered}
 use Rattle.file_ops.specs.TruncateFile.{size_call}
 use Rattle.law_pages.specs.Feeds.{IsOffered}
 use Rattle.core_answers.proofs.pages.FilePages.{QuietLaws, ToldLaws}

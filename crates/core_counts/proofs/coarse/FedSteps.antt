@@ -1,66 +1,26 @@
 -- A relation of the shelf before and after each step of an operation holds of each step of the core.
-use Rattle.std.proofs.Common.{◌≡◌, ◌<◌, ◌+◌, ◌-◌, inl, inr, ℕ, List, [], ◌∷◌, ◌++◌, length, false, position, slice_get, Some, option_map, Result, Ok, Err, sym, ap, subst, ◌∙◌, append_assoc, append-nil, arith}
-use Rattle.rpc_message.specs.Call.{xid_at}
-use Rattle.rpc_retry.specs.declared.waiting.Waiting.{Waiting}
-use Rattle.rpc_retry.specs.Waiting.{waiting_at}
-use Rattle.world_model.specs.declared.answer.Fault.{Fault}
-use Rattle.world_model.specs.declared.entry.Entry.{Entry}
-use Rattle.world_model.specs.declared.entry.Entry.TheVariants.{Sent, Delivered}
-use Rattle.world_model.specs.declared.message.Call.{Call}
-use Rattle.world_model.specs.declared.message.Reply.{Reply}
-use Rattle.world_model.specs.declared.op.Op.{Op}
-use Rattle.world_model.specs.Heard.{Heard}
-use Rattle.world_model.specs.History.{History}
-use Rattle.world_model.specs.Lawful.{Lawful}
-use Rattle.world_model.specs.Messages.{HasXid, SpellsCall}
-use Rattle.world_model.proofs.Growth.{FirstSent-grow}
-use Rattle.world_model.proofs.Places.{At-grow, At-below, At-back, At-last, length_last}
-use Rattle.call_replies.specs.Says.{said_of, Says, SpellsOne}
-use Rattle.client_shelf.specs.declared.next.Next.{Next}
+use Rattle.core_counts.proofs.Prelude.{◌≡◌, ◌<◌, ◌+◌, ◌-◌, inl, inr, ℕ, List, [], ◌∷◌, ◌++◌, length, false, position, slice_get, Some, option_map, Result, Ok, Err, sym, ap, subst, ◌∙◌, append_assoc, append-nil, arith, xid_at, Waiting, waiting_at, Fault, Entry, Sent, Delivered, Call, Reply, Op, Heard, History, Lawful, HasXid, SpellsCall, FirstSent-grow, At-grow, At-below, At-back, At-last, length_last, said_of, Says, Next, Shelf, Turn, machine_of, Mounted, Machine, Starts, Resumes, Takes, Purpose, Busy, Setup, is_busy, with_state, Leads, Stirs, counted, StartsLane, TakesAt, View, turn_at, unmade_turn, Numbered, in_flight, HearsRecord, Reaches, IsMade, IsOutstanding, Tried, begins-unbegun, taken_one, was-sent, says-of, Known, reached-all, taker-is, taker-one, reached-rows, AskedOf, ThenOf, Passes, IsNfs, Both, nfs-of, WasRun}
+use Rattle.call_replies.specs.Says.{SpellsOne}
 use Rattle.client_shelf.specs.declared.next.Next.TheVariants as nexts
-use Rattle.client_shelf.specs.declared.shelf.Shelf.{Shelf}
-use Rattle.client_shelf.specs.declared.turn.Turn.{Turn}
-use Rattle.op_machines.specs.Begun.{machine_of}
-use Rattle.op_machines.specs.declared.begun.Mounted.{Mounted}
-use Rattle.op_machines.specs.declared.machine.Machine.{Machine}
-use Rattle.op_machines.specs.Steps.{Starts, Resumes, Takes}
-use Rattle.client_core.specs.declared.lane.Purpose.{Purpose}
-use Rattle.client_core.specs.declared.lane.State.TheVariants.{Busy}
-use Rattle.client_core.specs.declared.setup.Setup.{Setup}
-use Rattle.client_core.specs.Lanes.{is_busy}
-use Rattle.client_core.specs.Steps.{with_state, Leads, Stirs, counted, StartsLane, TakesAt}
-use Rattle.client_core.specs.View.{View, turn_at, unmade_turn}
-use Rattle.law_calls.specs.Calls.{Numbered}
 use Rattle.core_facts.specs.Counted.{IsOfOperation}
-use Rattle.core_facts.specs.InFlight.{in_flight}
-use Rattle.core_facts.specs.Reaches.{HearsRecord, Reaches}
-use Rattle.core_facts.specs.Tries.{IsMade, IsOutstanding, Tried, unsent, runs, ended}
+use Rattle.core_facts.specs.Tries.{unsent, runs, ended}
 use Rattle.core_facts.proofs.AllAwaited.{Awaits}
-use Rattle.core_facts.proofs.AllCounts.{begins-unbegun}
-use Rattle.core_facts.proofs.Cases.{taken_one}
 use Rattle.core_facts.proofs.Flown.{Flown, keeps-flown}
-use Rattle.core_facts.proofs.Hearing.{was-sent, says-of}
 use Rattle.core_facts.proofs.Owning.{reached-owned}
-use Rattle.core_facts.proofs.Keeping.{Known, reached-all, reached-kept, taker-is, taker-one}
-use Rattle.core_facts.proofs.Rows.{reached-rows}
-use Rattle.core_facts.proofs.Steps.{AskedOf, ThenOf}
+use Rattle.core_facts.proofs.Keeping.{reached-kept}
 use Rattle.core_answers.specs.bonds.Kept.{HadShown}
-use Rattle.core_answers.specs.pages.Passing.{Passes}
 use Rattle.core_answers.proofs.bonds.AttrsShown.{time-grows, answered-last}
 use Rattle.core_answers.proofs.bonds.Executions.{answered-ran}
 use Rattle.core_answers.proofs.bonds.FileCalls.{Asking}
 use Rattle.core_answers.proofs.bonds.Keeping.{AskLaws, WasTold}
 use Rattle.core_answers.proofs.bonds.NamesShown.{awaits-asks}
-use Rattle.core_answers.proofs.bonds.OneCall.{IsNfs}
 use Rattle.core_answers.proofs.bonds.Timed.{MadeAfter, reached-timed}
 use Rattle.core_answers.proofs.pages.FilePages.{IsSentAs}
 use Rattle.core_answers.proofs.pages.Keeping.{BondLaws, reached-known}
-use Rattle.core_answers.proofs.pages.PageCalls.{Both, both-asks}
+use Rattle.core_answers.proofs.pages.PageCalls.{both-asks}
 use Rattle.core_answers.proofs.pages.PiecesCalled.{Spelled, called-sent}
 use Rattle.core_answers.proofs.reads.Passed.{passed-along}
-use Rattle.core_answers.proofs.refusals.SentCalls.{nfs-of}
 use Rattle.core_answers.proofs.writes.Along.{KeepsAlong}
-use Rattle.core_counts.specs.coarse.FedAttrs.{WasRun}
 
 -- ---- for which call an operation waits
 

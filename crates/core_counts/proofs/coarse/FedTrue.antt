@@ -1,22 +1,15 @@
 -- What the machine of pages keeps under a stamp is the file's page: so it is at first, and after each step.
-use Rattle.std.proofs.Common.{IsSome, inl, inr, ◌⊎◌, ◌≡◌, ◌≤◌, ◌+◌, ◌-◌, ◌*◌, ℕ, suc, true, List, [], ◌∷◌, length, take, drop, Some, refl, sym, ap, subst, ◌∙◌}
-use Rattle.std.proofs.lemmas.List.Elements.{All-nil}
-use Rattle.nfs_types.specs.declared.wcc.Stamp.{Stamp}
-use Rattle.nfs_types.specs.declared.wcc.Wcc.{Wcc}
-use Rattle.nfs_types.specs.Stamps.{stamp_of}
-use Rattle.page_cache.specs.declared.state.Keep.{Keep}
-use Rattle.page_cache.specs.declared.state.Keep.TheVariants.{Kept, Stale, Differs}
+use Rattle.core_counts.proofs.Prelude.{inl, inr, ◌⊎◌, ◌≡◌, ◌≤◌, ◌+◌, ◌-◌, ◌*◌, ℕ, suc, true, List, [], ◌∷◌, length, take, drop, Some, refl, sym, ap, subst, ◌∙◌, All-nil, Stamp, Wcc, stamp_of, Keep, Kept, Stale, Differs, Pages, known_of, keep_answer, after_keep, History, Lawful}
+use Rattle.std.proofs.Common.{IsSome}
 use Rattle.page_cache.specs.Bytes as paged
 use Rattle.page_cache.specs.Bytes.{page_at, put_page, cut_page}
-use Rattle.page_cache.specs.Pages.{Pages, nothing_kept, known_of, keep_answer, after_keep}
+use Rattle.page_cache.specs.Pages.{nothing_kept}
 use Rattle.page_cache.specs.Sound.{AreKnown}
 use Rattle.page_cache.proofs.Bytes.{page-cut, page-put}
 use Rattle.page_cache.proofs.Believed.{AreTrue, Follows, IsTrueUnder, true-page, true-shown, true-opened, true-saw, true-kept, true-wrote, true-cut}
 use Rattle.world_model.specs.Bytes.{put_at, resized}
 use Rattle.world_model.specs.FileService.{ReadsBytes}
 use Rattle.world_model.specs.Fresh.{Fresh}
-use Rattle.world_model.specs.History.{History}
-use Rattle.world_model.specs.Lawful.{Lawful}
 use Rattle.law_reads.specs.Kept.{HasStamp, Leads, Sized}
 use Rattle.law_reads.proofs.KeptBytes.{same_bytes, reads, writes, serves, later, put_before, put_after, stamp_there, resized_so}
 use Rattle.law_pages.specs.Feeds.{IsOffered, IsWritten, IsSized}

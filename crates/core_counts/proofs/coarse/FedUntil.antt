@@ -1,14 +1,8 @@
 -- What came first of a lawful history is lawful.
-use Rattle.std.proofs.Common.{◌≡◌, ◌<◌, ℕ, suc, List, ◌++◌, length, sym, ap, subst, arith}
+use Rattle.core_counts.proofs.Prelude.{◌≡◌, ◌<◌, ℕ, suc, List, ◌++◌, length, sym, ap, subst, arith, Entry, Began, Answered, Dialed, Sent, Executed, Foreign, Flushed, Reboot, Delivered, Failed, Clock, At, History, Lawful, At-grow, At-below, At-back, until}
 use Rattle.std.proofs.lemmas.List.{length-append}
-use Rattle.world_model.specs.declared.entry.Entry.{Entry}
-use Rattle.world_model.specs.declared.entry.Entry.TheVariants.{Began, Answered, Dialed, Sent, Executed, Foreign, Flushed, Reboot, Delivered, Failed, Clock}
-use Rattle.world_model.specs.Entries.{At}
-use Rattle.world_model.specs.History.{History}
-use Rattle.world_model.specs.Lawful.{Lawful, LawfulAt, IsReplied, replied, refused}
+use Rattle.world_model.specs.Lawful.{LawfulAt, IsReplied, replied, refused}
 use Rattle.world_model.specs.Server.{Server}
-use Rattle.world_model.proofs.Places.{At-grow, At-below, At-back}
-use Rattle.core_counts.specs.coarse.Fed.{until}
 
 module _ (t : History) (h rest : List Entry) (along : t.entries ≡ h ++ rest) where
   at-all : (n : ℕ) (e : Entry) → At h n e → At t.entries n e

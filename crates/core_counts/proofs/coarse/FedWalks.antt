@@ -1,73 +1,32 @@
 -- Each walk of an operation stands where the names lead that it has gone through.
-use Rattle.std.proofs.Common.{◌≡◌, ◌<◌, ◌≤◌, ◌-◌, ℕ, Bool, true, false, List, [], ◌∷◌, ◌++◌, length, take, Option, Some, None, Result, Ok, Err, inl, inr, refl, sym, ap, subst, ◌∙◌, arith}
-use Rattle.std.specs.Prelude.{if◌then◌else◌}
+use Rattle.core_counts.proofs.Prelude.{◌≡◌, ◌<◌, ◌≤◌, ◌-◌, ℕ, Bool, true, false, List, [], ◌∷◌, ◌++◌, length, take, Option, Some, None, Result, Ok, Err, inl, inr, refl, sym, ap, subst, ◌∙◌, arith, if◌then◌else◌, Attr, Fault, Entry, Began, Call, Reply, Op, length_last, Next, Shelf, Turn, Link, ListDir, Pair, PairNext, Deed, Look, Seek, Move, Remove, RemoveFile, Rename, Stat, SymLink, Visit, Walk, WalkNext, access_call, deed_call, TakesLink, look_again, found_by, text_call, TakesText, TakesRename, TakesShow, sym_link_call, TakesSymLink, Mounted, Machine, NameMachine, PathMachine, machine_of, file_of, slot_taken, begun_at, Starts, Resumes, Takes, Opens, State, Busy, Over, ThenOf}
 use Rattle.attr_cache.specs.Attrs as attrs
-use Rattle.nfs_types.specs.declared.attr.Attr.{Attr}
-use Rattle.world_model.specs.declared.answer.Fault.{Fault}
-use Rattle.world_model.specs.declared.entry.Entry.{Entry}
-use Rattle.world_model.specs.declared.entry.Entry.TheVariants.{Began}
-use Rattle.world_model.specs.declared.message.Call.{Call}
-use Rattle.world_model.specs.declared.message.Reply.{Reply}
-use Rattle.world_model.specs.declared.op.Op.{Op}
 use Rattle.world_model.specs.declared.op.Op.TheVariants as ops
-use Rattle.world_model.proofs.Places.{length_last}
 use Rattle.dir_list.specs.declared.progress.Step.{Step}
 use Rattle.dir_list.specs.declared.progress.Step.TheVariants.{More, End}
 use Rattle.dir_list.specs.declared.progress.ListFault.{ListFault}
 use Rattle.dir_list.specs.Listings.{page_step}
-use Rattle.client_shelf.specs.declared.next.Next.{Next}
 use Rattle.client_shelf.specs.declared.next.Next.TheVariants as nexts
-use Rattle.client_shelf.specs.declared.shelf.Shelf.{Shelf}
-use Rattle.client_shelf.specs.declared.turn.Turn.{Turn}
-use Rattle.name_ops.specs.declared.link.Link.{Link}
-use Rattle.name_ops.specs.declared.list_dir.ListDir.{ListDir}
-use Rattle.name_ops.specs.declared.pair.Pair.{Pair}
-use Rattle.name_ops.specs.declared.pair.PairNext.{PairNext}
-use Rattle.name_ops.specs.declared.remove_file.Deed.{Deed}
-use Rattle.name_ops.specs.declared.remove_file.Deed.TheVariants.{Look, Seek, Move, Remove}
-use Rattle.name_ops.specs.declared.remove_file.RemoveFile.{RemoveFile}
-use Rattle.name_ops.specs.declared.rename.Rename.{Rename}
-use Rattle.name_ops.specs.declared.stat.Stat.{Stat}
-use Rattle.name_ops.specs.declared.sym_link.SymLink.{SymLink}
-use Rattle.name_ops.specs.declared.visit.Visit.{Visit}
 use Rattle.name_ops.specs.declared.visit.VisitNext.{VisitNext}
-use Rattle.name_ops.specs.declared.walk.Walk.{Walk}
-use Rattle.name_ops.specs.declared.walk.WalkNext.{WalkNext}
 use Rattle.name_ops.specs.declared.walk.WalkNext.TheVariants as walks
 use Rattle.name_ops.specs.Changing as changing
-use Rattle.name_ops.specs.Access.{access_call}
-use Rattle.name_ops.specs.DirChange.{deed_call}
-use Rattle.name_ops.specs.Link.{link_call, TakesLink}
+use Rattle.name_ops.specs.Link.{link_call}
 use Rattle.name_ops.specs.ListDir as listing
-use Rattle.name_ops.specs.Looking.{look_again, found_by}
 use Rattle.name_ops.specs.Pairs as pairs
-use Rattle.name_ops.specs.ReadLink.{text_call, TakesText}
 use Rattle.name_ops.specs.RemoveFile as removals
-use Rattle.name_ops.specs.Rename.{rename_call, TakesRename}
-use Rattle.name_ops.specs.Showing.{TakesShow}
+use Rattle.name_ops.specs.Rename.{rename_call}
 use Rattle.name_ops.specs.Stat as stats
-use Rattle.name_ops.specs.SymLink.{sym_link_call, TakesSymLink}
 use Rattle.name_ops.specs.Visiting as visiting
 use Rattle.name_ops.specs.Walking as walking
-use Rattle.op_machines.specs.declared.begun.Mounted.{Mounted}
-use Rattle.op_machines.specs.declared.machine.Machine.{Machine}
 use Rattle.op_machines.specs.declared.machine.Machine.TheVariants as machines
-use Rattle.op_machines.specs.declared.name_machine.NameMachine.{NameMachine}
 use Rattle.op_machines.specs.declared.name_machine.NameMachine.TheVariants as names
-use Rattle.op_machines.specs.declared.path_machine.PathMachine.{PathMachine}
-use Rattle.op_machines.specs.Begun.{machine_of}
 use Rattle.op_machines.specs.NameSteps as steps
-use Rattle.op_machines.specs.Openers.{file_of, slot_taken, begun_at, placed}
+use Rattle.op_machines.specs.Openers.{placed}
 use Rattle.op_machines.specs.PathSteps as paths
-use Rattle.op_machines.specs.Steps.{Starts, Resumes, Takes}
-use Rattle.open_files.specs.Slots.{Opens}
-use Rattle.client_core.specs.declared.lane.State.{State}
-use Rattle.client_core.specs.declared.lane.State.TheVariants.{Busy, Over}
 use Rattle.core_facts.proofs.AllAwaited.{PathOr, Awaits}
 use Rattle.core_facts.proofs.Awaited.{WalkAwaits, OwnOr, PairOr}
 use Rattle.core_facts.proofs.NamesAwaited.{RemoveAwaits, NameAwaits}
 use Rattle.core_facts.proofs.NamesKept.{Told, go-told, walk-told}
-use Rattle.core_facts.proofs.Steps.{ThenOf}
 use Rattle.core_answers.proofs.bonds.AttrsShown.{ShownIn, fresh-attrs}
 use Rattle.core_answers.proofs.bonds.Keeping.{BondLaws, ToldSince, IsLate, take-early, take-whole, reached-known}
 use Rattle.core_answers.proofs.bonds.Learnt.{Good, good-as}

@@ -1,37 +1,20 @@
 -- What a reply makes of the machine, as an operation takes what came of its call.
-use Rattle.std.proofs.Common.{◌≡◌, ◌⊎◌, inl, inr, ℕ, true, false, List, Option, Some, Result, Ok, refl, sym, ap, subst, ◌∙◌}
+use Rattle.core_counts.proofs.Prelude.{◌≡◌, ◌⊎◌, inl, inr, ℕ, true, false, List, Option, Some, Result, Ok, refl, sym, ap, subst, ◌∙◌, decided, Verf, Wcc, Held, next_xid, AreSound, without, Fault, Call, Reply, Pending, of_file, OnFile, acked_by, at_xid, landed, landed_part, with_xid, FilePending, rest_at, piece_under, Turn, Saving, Purpose, Setup, SameUnder, EachSound, Shows, Hears, ShownCalls}
 use Rattle.std.specs.Prelude.{unwrap_or}
-use Rattle.commit_verf.specs.Decisions.{decided}
-use Rattle.nfs_types.specs.declared.verf.Verf.{Verf}
-use Rattle.nfs_types.specs.declared.wcc.Wcc.{Wcc}
 use Rattle.nfs_file_calls.specs.declared.owned.FileKept.TheVariants as kept
-use Rattle.rpc_retry.specs.Held.{Held, next_xid}
-use Rattle.rpc_retry.specs.Sound.{AreSound}
-use Rattle.rpc_retry.specs.Waiting.{without}
-use Rattle.world_model.specs.declared.answer.Fault.{Fault}
-use Rattle.world_model.specs.declared.message.Call.{Call}
-use Rattle.world_model.specs.declared.message.Reply.{Reply}
 use Rattle.world_model.specs.declared.message.Reply.TheVariants as replies
 use Rattle.write_back.specs.declared.change.Change.TheVariants as by_change
-use Rattle.write_back.specs.Files.{Pending, of_file, OnFile}
-use Rattle.write_back.specs.Landing.{acked_by, at_xid, landed, landed_part, with_xid}
-use Rattle.write_back.specs.Pieces.{Sent, FilePending, rest_at, piece_under}
-use Rattle.client_shelf.specs.declared.turn.Turn.{Turn}
-use Rattle.file_ops.specs.declared.saving.Saving.{Saving}
+use Rattle.write_back.specs.Pieces.{Sent}
 use Rattle.file_ops.specs.Saves as saves
-use Rattle.client_core.specs.declared.lane.Purpose.{Purpose}
-use Rattle.client_core.specs.declared.setup.Setup.{Setup}
-use Rattle.core_answers.proofs.writes.Under.{SameUnder}
 use Rattle.model_writes.specs.Machine as coarse
 use Rattle.model_writes.specs.Story as story
-use Rattle.step_pending.specs.Cells.{IsRest, EachSound, Shows, Leads}
+use Rattle.step_pending.specs.Cells.{IsRest, Leads}
 use Rattle.step_pending.specs.Steps.{Renames, IsOf}
 use Rattle.step_pending.proofs.Hearing.{heard-leads}
 use Rattle.step_pending.proofs.Renaming.{renamed-leads}
 use Rattle.step_pending.proofs.Replied.{acked-leads, returned-leads, refused-leads}
 use Rattle.core_counts.specs.coarse.Moves as machine
-use Rattle.core_counts.specs.coarse.Moves.{Hears}
-use Rattle.core_counts.specs.coarse.Runs.{ShownCalls, heard_as}
+use Rattle.core_counts.specs.coarse.Runs.{heard_as}
 use Rattle.core_counts.proofs.coarse.Calls.{CommitOr, leaves-places, shown-ended}
 use Rattle.core_counts.proofs.coarse.Led.{Led}
 use Rattle.core_counts.proofs.coarse.Taken.{Fates}

@@ -1,30 +1,16 @@
 -- What a save makes of the machine as it goes on: nothing, or bytes take off for the WRITE that it asks for.
-use Rattle.std.proofs.Common.{◌≡◌, inl, inr, ◌⊎◌, ◌+◌, length, ℕ, Bool, true, false, [], ◌∷◌, Option, Some, None, refl, sym, subst}
-use Rattle.rpc_retry.specs.Held.{Held}
-use Rattle.world_model.specs.declared.answer.Fault.{Fault}
-use Rattle.world_model.specs.declared.message.Call.{Call}
-use Rattle.write_back.specs.Choice.{chosen, piece_of, with_sent}
-use Rattle.write_back.specs.Files.{Pending, of_file, OnFile, PutsPiece}
+use Rattle.core_counts.proofs.Prelude.{◌≡◌, inl, inr, ◌⊎◌, ◌+◌, length, ℕ, Bool, true, false, [], ◌∷◌, Option, Some, None, refl, sym, subst, Held, Fault, Call, chosen, piece_of, Pending, of_file, OnFile, PutsInFlight, Segment, Segments, Next, Saving, IsUnused, Purpose, Setup, After, EachSound, Shows, Stops, Moves, ShownCalls}
+use Rattle.write_back.specs.Choice.{with_sent}
+use Rattle.write_back.specs.Files.{PutsPiece}
 use Rattle.write_back.specs.Pieces.{Sent}
-use Rattle.write_back.specs.Places.{PutsInFlight}
-use Rattle.write_back.specs.Segments.{Segment, Segments}
-use Rattle.client_shelf.specs.declared.next.Next.{Next}
 use Rattle.client_shelf.specs.declared.next.Next.TheVariants as nexts
-use Rattle.file_ops.specs.declared.saving.Saving.{Saving}
 use Rattle.file_ops.specs.Saves as saves
-use Rattle.file_ops.specs.SlotFiles.{IsUnused}
 use Rattle.file_ops.specs.Syncs as syncs
-use Rattle.client_core.specs.declared.lane.Purpose.{Purpose}
-use Rattle.client_core.specs.declared.setup.Setup.{Setup}
-use Rattle.core_answers.proofs.writes.Backs.{After}
 use Rattle.model_writes.specs.Machine.{View}
 use Rattle.model_writes.specs.Story.{File}
-use Rattle.step_pending.specs.Cells.{EachSound, Shows, Leads}
+use Rattle.step_pending.specs.Cells.{Leads}
 use Rattle.step_pending.specs.Steps.{TakesOff}
 use Rattle.step_pending.proofs.TakingOff.{sent-leads}
-use Rattle.core_counts.specs.coarse.Long.{Stops}
-use Rattle.core_counts.specs.coarse.Moves.{Moves}
-use Rattle.core_counts.specs.coarse.Runs.{ShownCalls}
 use Rattle.core_counts.proofs.coarse.Long.{piece-long}
 
 -- From a view of which H holds, which shows these calls, with y as the xid of the call that the step makes.

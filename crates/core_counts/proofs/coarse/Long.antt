@@ -1,21 +1,17 @@
 -- A piece that is taken has as many bytes as a WRITE may have, or they don't go on where it ends.
-use Rattle.std.proofs.Common.{◌≡◌, ◌<◌, ◌≤◌, ◌⊎◌, inl, inr, ◌+◌, ◌-◌, ◌&&◌, ℕ, Bool, true, false, List, [], ◌∷◌, ◌++◌, length, min, take, Option, Some, None, refl, sym, ap, subst, ◌∙◌, arith, length-append, length-take}
-use Rattle.std.specs.Prelude.{nat_le, nat_lt, nat_eq, not}
-use Rattle.std.proofs.lemmas.Bool.{le-leb, lt-ltb, le-ltb, ltb-false, eq-eqb, eqb-true, and_parts, cases_lt}
+use Rattle.core_counts.proofs.Prelude.{◌≡◌, ◌<◌, ◌≤◌, ◌⊎◌, inl, inr, ◌+◌, ◌-◌, ◌&&◌, ℕ, Bool, true, false, List, [], ◌∷◌, ◌++◌, length, take, Option, Some, None, refl, sym, ap, subst, ◌∙◌, arith, length-append, nat_lt, le-leb, lt-ltb, ltb-false, eq-eqb, eqb-true, cases_lt, InFlight, Acked, chosen, piece_of, FilePending, Flown, flown_in, rest_of, rest_at, fly_at, fly_in, PutsInFlight, Segment, Segments, Cell, covers, cell_in, cell_at, IsSound, is_ready, is_in_flight, if-true, if-false, Stops}
+use Rattle.std.proofs.Common.{min, length-take}
+use Rattle.std.specs.Prelude.{nat_le, nat_eq, not}
+use Rattle.std.proofs.lemmas.Bool.{le-ltb, and_parts}
 use Rattle.write_back.specs.declared.state.State.{State}
-use Rattle.write_back.specs.declared.state.State.TheVariants.{Waiting, InFlight, Acked}
-use Rattle.write_back.specs.Choice.{may_go, how_of_segment, run_from, chosen_from, chosen, bytes_in, piece_of}
-use Rattle.write_back.specs.Pieces.{Sent, FilePending, Flown, flown_in, overlaps, rest_of, rest_at, fly_at, fly_in}
-use Rattle.write_back.specs.Places.{PutsInFlight}
-use Rattle.write_back.specs.Segments.{Segment, Segments, Cell, AreApart, covers, cell_in, cell_at, end_of, head_of}
-use Rattle.write_back.specs.Sound.{IsSound}
-use Rattle.write_back.specs.States.{is_ready, is_in_flight}
+use Rattle.write_back.specs.declared.state.State.TheVariants.{Waiting}
+use Rattle.write_back.specs.Choice.{may_go, how_of_segment, run_from, chosen_from, bytes_in}
+use Rattle.write_back.specs.Pieces.{Sent, overlaps}
+use Rattle.write_back.specs.Segments.{AreApart, end_of, head_of}
 use Rattle.write_back.proofs.Cells.{later-none}
 use Rattle.write_back.proofs.Flying.{overlaps-free}
 use Rattle.write_back.proofs.Gathering.{run-zero}
 use Rattle.write_back.proofs.Running.{chosen-is}
-use Rattle.step_pending.proofs.Leading.{if-true, if-false}
-use Rattle.core_counts.specs.coarse.Long.{Stops}
 use Rattle.core_counts.specs.coarse.Long as long
 
 -- a segment stands there which doesn't go on

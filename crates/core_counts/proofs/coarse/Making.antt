@@ -1,57 +1,23 @@
 -- What a step leads to: the call is made for which the operation asks, or reaches it as a refusal; or it waits, or has its answer.
-use Rattle.std.proofs.Common.{◌≡◌, ◌≤◌, ◌≢◌, ◌⊎◌, inl, inr, ◌+◌, ℕ, Bool, true, false, length, List, [], ◌∷◌, ◌++◌, Option, Some, None, option_map, Err, refl, sym, ap, subst, ◌∙◌, arith}
+use Rattle.core_counts.proofs.Prelude.{◌≡◌, ◌≤◌, ◌≢◌, ◌⊎◌, inl, inr, ◌+◌, ℕ, Bool, true, false, length, List, [], ◌∷◌, ◌++◌, Option, Some, None, option_map, Err, refl, sym, ap, subst, ◌∙◌, arith, cases_lt, eqb-true, Waiting, Held, next_xid, made_call, waiting_at, waits_early, at_made, others_made, Entry, Call, SpellsCallBy, proc_of, Pending, of_file, OnFile, at_xid, landed, FilePending, piece_under, Next, Shelf, Turn, Saving, IsReady, IsUnused, Mounted, Machine, machine_of, Purpose, Setup, record_of, with_state, Makes, Refuses, IsRefused, Leads, View, turn_at, unmade_turn, Flies, flies_of, sender, look_at, nfs-of, Rows, made-known, made-asked, written_file, one-call, Asks, commits_of, After, Free, SameUnder, NearAs, unmade-has, Has, call_of, EachSound, Shows, Stops, MakesLong, Moves, Shown, ShownCalls}
 use Rattle.std.specs.Prelude.{nat_eq}
-use Rattle.std.proofs.lemmas.Bool.{cases_lt, eqb-true}
-use Rattle.rpc_retry.specs.declared.waiting.Waiting.{Waiting}
-use Rattle.rpc_retry.specs.Held.{Held, next_xid}
-use Rattle.rpc_retry.specs.Waiting.{made_call, waiting_at}
-use Rattle.rpc_retry.proofs.Lookups.{waits_early, at_made, others_made}
-use Rattle.world_model.specs.declared.entry.Entry.{Entry}
 use Rattle.nfs_file_calls.specs.declared.call.FileCall.TheVariants as files
-use Rattle.world_model.specs.declared.message.Call.{Call}
 use Rattle.world_model.specs.declared.message.Call.TheVariants as calls
-use Rattle.world_model.specs.Messages.{SpellsCallBy, proc_of}
 use Rattle.write_back.specs.declared.change.Change.TheVariants as by_change
-use Rattle.write_back.specs.Files.{Pending, of_file, OnFile}
-use Rattle.write_back.specs.Landing.{at_xid, landed}
-use Rattle.write_back.specs.Pieces.{Sent, FilePending, piece_under}
-use Rattle.client_shelf.specs.declared.next.Next.{Next}
+use Rattle.write_back.specs.Pieces.{Sent}
 use Rattle.client_shelf.specs.declared.next.Next.TheVariants as nexts
-use Rattle.client_shelf.specs.declared.shelf.Shelf.{Shelf}
-use Rattle.client_shelf.specs.declared.turn.Turn.{Turn}
-use Rattle.file_ops.specs.declared.saving.Saving.{Saving}
-use Rattle.file_ops.specs.Ready.{IsReady}
 use Rattle.file_ops.specs.Saves as saves
-use Rattle.file_ops.specs.SlotFiles.{IsUnused}
 use Rattle.file_ops.specs.Syncs as syncs
-use Rattle.op_machines.specs.declared.begun.Mounted.{Mounted}
-use Rattle.op_machines.specs.declared.machine.Machine.{Machine}
-use Rattle.op_machines.specs.Begun.{machine_of}
-use Rattle.client_core.specs.declared.lane.Purpose.{Purpose}
-use Rattle.client_core.specs.declared.setup.Setup.{Setup}
-use Rattle.client_core.specs.Steps.{record_of, put_view, with_state, Makes, Refuses, IsRefused, Leads}
-use Rattle.client_core.specs.View.{View, turn_at, unmade_turn}
-use Rattle.core_facts.proofs.Flights.{Flies, flies_of}
-use Rattle.core_facts.proofs.Flown.{Flown, sender, look_at}
-use Rattle.core_answers.proofs.refusals.SentCalls.{nfs-of}
-use Rattle.core_facts.proofs.Rows.{Rows, made-known, made-asked}
-use Rattle.core_answers.specs.writes.Alone.{written_file, IsWaiting}
-use Rattle.core_answers.proofs.bonds.OneCall.{one-call}
-use Rattle.core_answers.proofs.writes.AllFits.{Asks, commits_of}
-use Rattle.core_answers.proofs.writes.Backs.{After}
-use Rattle.core_answers.proofs.writes.OwnPieces.{Free, carries-same, after-same}
-use Rattle.core_answers.proofs.writes.Under.{SameUnder, under-last}
-use Rattle.core_session.proofs.order.Sounds.{NearAs}
-use Rattle.core_session.proofs.order.Unmade.{unmade-has}
-use Rattle.core_session.proofs.saves.WholeSteps.{HasPiece, Has}
+use Rattle.client_core.specs.Steps.{put_view}
+use Rattle.core_facts.proofs.Flown.{Flown}
+use Rattle.core_answers.specs.writes.Alone.{IsWaiting}
+use Rattle.core_answers.proofs.writes.OwnPieces.{carries-same, after-same}
+use Rattle.core_answers.proofs.writes.Under.{under-last}
+use Rattle.core_session.proofs.saves.WholeSteps.{HasPiece}
 use Rattle.model_writes.specs.Machine as coarse
-use Rattle.model_writes.specs.Mirrors.{call_of}
 use Rattle.model_writes.specs.Story as story
-use Rattle.step_pending.specs.Cells.{EachSound, Shows}
-use Rattle.core_counts.specs.coarse.Long.{Stops, MakesLong}
 use Rattle.core_counts.specs.coarse.Moves as machine
-use Rattle.core_counts.specs.coarse.Moves.{Moves, Move}
-use Rattle.core_counts.specs.coarse.Runs.{Shown, ShownCalls}
+use Rattle.core_counts.specs.coarse.Moves.{Move}
 use Rattle.core_counts.proofs.coarse.Alone.{waits-then, commits-file, no-commit, nothing-flies, grounded}
 use Rattle.core_counts.proofs.coarse.Bearing.{Stays, Since, WithCall, none-stays, takes-by}
 use Rattle.core_counts.proofs.coarse.Calls.{NoWrite, CommitOr, commit-or, shown-called}

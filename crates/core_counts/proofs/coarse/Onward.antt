@@ -1,22 +1,7 @@
 -- How a session goes on from a view between the steps, to where a history goes with it.
-use Rattle.std.proofs.Common.{◌≡◌, ◌≤◌, ◌<◌, ℕ, Bool, true, false, cond, inl, inr, nat_eq, List, [], ◌∷◌, ◌++◌, Some, None, Err, refl, sym, subst, ◌∙◌, arith}
-use Rattle.rpc_retry.specs.declared.waiting.Waiting.{Waiting}
-use Rattle.rpc_retry.specs.Held.{next_xid}
-use Rattle.rpc_retry.specs.Waiting.{waiting_at}
-use Rattle.world_model.specs.declared.entry.Entry.{Entry}
-use Rattle.world_model.specs.declared.message.Call.{Call}
-use Rattle.world_model.specs.declared.op.Op.{Op}
-use Rattle.client_shelf.specs.declared.next.Next.{Next}
+use Rattle.core_counts.proofs.Prelude.{◌≡◌, ◌≤◌, ◌<◌, ℕ, Bool, true, false, cond, inl, inr, nat_eq, List, [], ◌∷◌, ◌++◌, Some, None, Err, refl, sym, subst, ◌∙◌, arith, Waiting, next_xid, waiting_at, Entry, Call, Op, Next, Machine, Purpose, Busy, Setup, with_state, Makes, Leads, Stirs, View, turn_at, unmade_turn, Reaches, SameUnder}
 use Rattle.client_shelf.specs.declared.next.Next.TheVariants as nexts
-use Rattle.op_machines.specs.declared.machine.Machine.{Machine}
-use Rattle.client_core.specs.declared.lane.Purpose.{Purpose}
-use Rattle.client_core.specs.declared.lane.State.TheVariants.{Busy}
-use Rattle.client_core.specs.declared.setup.Setup.{Setup}
-use Rattle.client_core.specs.Steps.{with_state, Makes, Leads, Stirs}
-use Rattle.client_core.specs.View.{View, turn_at, unmade_turn}
-use Rattle.core_facts.specs.Reaches.{Reaches}
 use Rattle.core_answers.proofs.writes.PiecesCarried.{resumes-under, takes-under}
-use Rattle.core_answers.proofs.writes.Under.{SameUnder}
 
 -- All calls that wait go on waiting, and what is in flight under their xids stays there.
 pub record Onward (v fin : View) : Type 0 where

@@ -1,78 +1,28 @@
 -- An operation takes what came of its call, and the machine hears what the record says.
-use Rattle.std.proofs.Common.{◌⊎◌, ◌≡◌, ◌≢◌, inl, inr, ◌≤◌, ◌<◌, ◌+◌, ◌-◌, ℕ, false, List, Option, Some, None, position, Result, refl, sym, ap, subst, ◌∙◌, arith}
+use Rattle.core_counts.proofs.Prelude.{◌⊎◌, ◌≡◌, ◌≢◌, inl, inr, ◌≤◌, ◌<◌, ◌+◌, ◌-◌, ℕ, false, List, Option, Some, None, position, Result, refl, sym, ap, subst, ◌∙◌, arith, Waiting, next_xid, made_call, waiting_at, waits_early, others_made, gone, Entry, Fault, Call, Reply, Op, SpellsCallBy, proc_of, said_of, Pending, of_file, OnFile, at_xid, landed, FilePending, fly_at, piece_under, Next, Shelf, Turn, Saving, IsReady, IsUnused, Mounted, Machine, machine_of, Fits, Purpose, Busy, Setup, is_busy, with_state, record_of, Makes, Refuses, TakesAt, View, turn_at, in_flight, Reaches, begins-unbegun, taken_one, flies_of, Known, taker-is, taker-one, Rows, same-rows, taken-rows, reached-good, written_file, Expects, expects-laws, Saves, one-call, nfs-of, CallFits, Asks, commits_of, fits-laws, After, tales, Free, unused-next, waits-late, SameUnder, Basis, basis-ready, sent-piece, Has, Wholly, takes-has, call_of, EachSound, Moves, Hears, MakesLong, Shown, ShownCall}
 use Rattle.std.proofs.lemmas.Bool.{ne_eqb}
-use Rattle.rpc_retry.specs.declared.waiting.Waiting.{Waiting}
-use Rattle.rpc_retry.specs.Held.{next_xid}
-use Rattle.rpc_retry.specs.Waiting.{made_call, waiting_at}
-use Rattle.rpc_retry.proofs.Lookups.{waits_early, others_made}
-use Rattle.rpc_retry.proofs.Records.{gone}
-use Rattle.world_model.specs.declared.entry.Entry.{Entry}
-use Rattle.world_model.specs.declared.answer.Fault.{Fault}
-use Rattle.world_model.specs.declared.message.Call.{Call}
-use Rattle.world_model.specs.declared.message.Reply.{Reply}
-use Rattle.world_model.specs.declared.op.Op.{Op}
-use Rattle.world_model.specs.Messages.{SpellsCallBy, proc_of}
-use Rattle.call_replies.specs.Says.{said_of}
 use Rattle.write_back.specs.declared.change.Change.TheVariants as by_change
-use Rattle.write_back.specs.Files.{Pending, of_file, OnFile}
-use Rattle.write_back.specs.Landing.{at_xid, landed}
-use Rattle.write_back.specs.Pieces.{Sent, FilePending, fly_at, piece_under}
-use Rattle.client_shelf.specs.declared.next.Next.{Next}
+use Rattle.write_back.specs.Pieces.{Sent}
 use Rattle.client_shelf.specs.declared.next.Next.TheVariants as nexts
-use Rattle.client_shelf.specs.declared.shelf.Shelf.{Shelf}
-use Rattle.client_shelf.specs.declared.turn.Turn.{Turn}
-use Rattle.file_ops.specs.declared.saving.Saving.{Saving}
-use Rattle.file_ops.specs.Ready.{IsReady}
 use Rattle.file_ops.specs.Saves as saves
-use Rattle.file_ops.specs.SlotFiles.{IsUnused}
-use Rattle.op_machines.specs.declared.begun.Mounted.{Mounted}
-use Rattle.op_machines.specs.declared.machine.Machine.{Machine}
-use Rattle.op_machines.specs.Begun.{machine_of}
-use Rattle.op_machines.specs.Fits.{Fits}
 use Rattle.op_machines.proofs.AllLaws as laws
-use Rattle.client_core.specs.declared.lane.Purpose.{Purpose}
-use Rattle.client_core.specs.declared.lane.State.TheVariants.{Busy}
-use Rattle.client_core.specs.declared.setup.Setup.{Setup}
-use Rattle.client_core.specs.Lanes.{is_busy}
-use Rattle.client_core.specs.Steps.{with_state, record_of, Makes, Refuses, Leads as LeadsTo, TakesAt}
-use Rattle.client_core.specs.View.{View, turn_at}
-use Rattle.core_facts.specs.InFlight.{in_flight}
-use Rattle.core_facts.specs.Reaches.{Reaches}
-use Rattle.core_facts.proofs.AllCounts.{begins-unbegun}
-use Rattle.core_facts.proofs.Cases.{taken_one}
-use Rattle.core_facts.proofs.Flights.{flies_of}
+use Rattle.client_core.specs.Steps.{Leads as LeadsTo}
 use Rattle.core_facts.proofs.Flown.{Flown}
-use Rattle.core_facts.proofs.Keeping.{Known, taker-is, taker-one}
-use Rattle.core_facts.proofs.Rows.{Rows, same-rows, taken-rows}
-use Rattle.core_facts.proofs.Tales.{TaleLaws, Did, reached-good}
-use Rattle.core_answers.specs.writes.Alone.{written_file}
+use Rattle.core_facts.proofs.Tales.{TaleLaws, Did}
 use Rattle.core_answers.specs.writes.Flights.{IsInFlight}
-use Rattle.core_answers.proofs.asks.CallsAwaited.{Names, Expects, expects-laws}
-use Rattle.core_answers.proofs.asks.SavedCalls.{Saves}
-use Rattle.core_answers.proofs.bonds.OneCall.{one-call}
-use Rattle.core_answers.proofs.refusals.SentCalls.{nfs-of}
-use Rattle.core_answers.proofs.writes.AllFits.{CallFits, Asks, commits_of, fits-laws}
+use Rattle.core_answers.proofs.asks.CallsAwaited.{Names}
 use Rattle.core_answers.proofs.writes.AllFits as fitting
-use Rattle.core_answers.proofs.writes.Backs.{After}
-use Rattle.core_answers.proofs.writes.CommitsAlone.{tales}
-use Rattle.core_answers.proofs.writes.OwnPieces.{Free}
-use Rattle.core_answers.proofs.writes.PiecesCarried.{unused-next, unmade-under, waits-late}
-use Rattle.core_answers.proofs.writes.Under.{SameUnder, as_xid, renamed-under}
-use Rattle.core_session.proofs.order.Basis.{Basis, basis-ready}
-use Rattle.core_session.proofs.saves.Taking.{sent-is, sent-piece}
-use Rattle.core_session.proofs.saves.WholeSteps.{Has, Wholly, takes-has}
+use Rattle.core_answers.proofs.writes.PiecesCarried.{unmade-under}
+use Rattle.core_answers.proofs.writes.Under.{as_xid, renamed-under}
+use Rattle.core_session.proofs.saves.Taking.{sent-is}
 use Rattle.core_session.proofs.syncs.Showings as showings
 use Rattle.model_writes.specs.Machine as coarse
-use Rattle.model_writes.specs.Mirrors.{call_of}
 use Rattle.model_writes.specs.Story as story
-use Rattle.step_pending.specs.Cells.{EachSound}
 use Rattle.step_pending.specs.Steps.{IsOf}
 use Rattle.step_pending.proofs.Replied.{returned-leads}
 use Rattle.step_pending.proofs.Shown.{flown-of, not-under}
-use Rattle.core_counts.specs.coarse.Moves.{Moves, Hears}
 use Rattle.core_counts.specs.coarse.Moves as machine
-use Rattle.core_counts.specs.coarse.Long.{MakesLong}
-use Rattle.core_counts.specs.coarse.Runs.{Shown, ShownCall, heard_as}
+use Rattle.core_counts.specs.coarse.Runs.{heard_as}
 use Rattle.core_counts.proofs.coarse.Again as again
 use Rattle.core_counts.proofs.coarse.Bearing.{none-stays, takes-by}
 use Rattle.core_counts.proofs.coarse.Calls.{NoWrite, commit-or, shown-ended}

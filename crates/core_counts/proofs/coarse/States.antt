@@ -1,20 +1,10 @@
 -- The states to which the machine comes beside the core.
-use Rattle.std.proofs.Common.{◌≡◌, List, [], Option, Some, None, refl, sym, subst}
-use Rattle.rpc_retry.specs.Held.{Held}
-use Rattle.rpc_retry.specs.Waiting.{waiting_at}
-use Rattle.world_model.specs.declared.entry.Entry.{Entry}
-use Rattle.write_back.specs.Files.{Pending}
-use Rattle.op_machines.specs.declared.begun.Mounted.{Mounted}
-use Rattle.client_shelf.specs.declared.shelf.Shelf.{Shelf}
-use Rattle.client_core.specs.declared.lane.Purpose.{Purpose}
-use Rattle.client_core.specs.declared.setup.Setup.{Setup}
-use Rattle.client_core.specs.Fresh.{IsFresh}
-use Rattle.client_core.specs.View.{View}
+use Rattle.core_counts.proofs.Prelude.{◌≡◌, List, [], Option, Some, None, refl, sym, subst, Held, waiting_at, Entry, Pending, Mounted, Shelf, Purpose, Setup, IsFresh, View, Shows, Moves, Shown, ShownCall}
 use Rattle.model_writes.specs.Machine as coarse
-use Rattle.step_pending.specs.Cells.{IsRest, Shows}
-use Rattle.core_counts.specs.coarse.Moves.{Moves, IsBegun, IsReached}
+use Rattle.step_pending.specs.Cells.{IsRest}
+use Rattle.core_counts.specs.coarse.Moves.{IsBegun, IsReached}
 use Rattle.core_counts.specs.coarse.Moves as machine
-use Rattle.core_counts.specs.coarse.Runs.{Shown, ShownCall, Runs, StatesReached}
+use Rattle.core_counts.specs.coarse.Runs.{Runs, StatesReached}
 use Rattle.core_counts.specs.coarse.Runs as runs
 use Rattle.core_counts.proofs.coarse.Along.{core-coarse}
 

@@ -1,43 +1,18 @@
 -- What a save makes of the machine as it takes what came of its call.
-use Rattle.std.proofs.Common.{◌≡◌, ◌⊎◌, inl, inr, ◌&&◌, ◌||◌, ◌==◌, ℕ, Bool, true, false, List, Option, Some, None, Result, Ok, Err, refl, sym, ap, subst}
-use Rattle.std.specs.Prelude.{nat_lt}
-use Rattle.commit_verf.specs.declared.commit.Verdict.{Verdict}
-use Rattle.commit_verf.specs.declared.commit.Verdict.TheVariants.{AllStable, SendAgain}
-use Rattle.commit_verf.specs.Decisions.{decided, verdict_of}
+use Rattle.core_counts.proofs.Prelude.{◌≡◌, ◌⊎◌, inl, inr, ◌&&◌, ◌||◌, ◌==◌, ℕ, Bool, true, false, List, Option, Some, None, Result, Ok, Err, refl, sym, ap, subst, nat_lt, Verdict, AllStable, SendAgain, decided, verdict_of, Verf, Wcc, Held, Fault, Call, Reply, lost, Pending, of_file, OnFile, acked_by, at_xid, landed, landed_part, with_xid, Next, Repeat, Turn, goes_again, Sending, Committing, Resending, CommittingAgain, Saving, write_told, commit_told, IsUnused, Purpose, Setup, After, EachSound}
 use Rattle.nfs_types.specs.declared.status.Status.{Status}
-use Rattle.nfs_types.specs.declared.verf.Verf.{Verf}
-use Rattle.nfs_types.specs.declared.wcc.Wcc.{Wcc}
 use Rattle.nfs_file_calls.specs.declared.owned.FileKept.TheVariants as kept_replies
-use Rattle.rpc_retry.specs.Held.{Held}
-use Rattle.world_model.specs.declared.answer.Fault.{Fault}
 use Rattle.world_model.specs.declared.answer.Fault.TheVariants as faults
-use Rattle.world_model.specs.declared.message.Call.{Call}
-use Rattle.world_model.specs.declared.message.Reply.{Reply}
 use Rattle.world_model.specs.declared.message.Reply.TheVariants as replies
 use Rattle.write_back.specs.declared.change.Change.TheVariants as by_change
-use Rattle.write_back.specs.Changes.{lost}
-use Rattle.write_back.specs.Files.{Pending, of_file, OnFile}
-use Rattle.write_back.specs.Landing.{acked_by, at_xid, landed, landed_part, with_xid}
-use Rattle.client_shelf.specs.declared.next.Next.{Next}
 use Rattle.client_shelf.specs.declared.next.Next.TheVariants as nexts
-use Rattle.client_shelf.specs.declared.repeats.Repeat.{Repeat}
-use Rattle.client_shelf.specs.declared.turn.Turn.{Turn}
-use Rattle.client_shelf.specs.Busy.{goes_again}
 use Rattle.file_ops.specs.declared.saving.Phase.{Phase}
-use Rattle.file_ops.specs.declared.saving.Phase.TheVariants.{Sending, Committing, Resending, CommittingAgain}
-use Rattle.file_ops.specs.declared.saving.Saving.{Saving}
-use Rattle.file_ops.specs.Judging.{write_told, commit_told}
 use Rattle.file_ops.specs.Saves as saves
-use Rattle.file_ops.specs.SlotFiles.{IsUnused}
 use Rattle.file_ops.specs.Syncs as syncs
 use Rattle.file_ops.proofs.Landed.{lands-out}
-use Rattle.client_core.specs.declared.lane.Purpose.{Purpose}
-use Rattle.client_core.specs.declared.setup.Setup.{Setup}
 use Rattle.core_facts.proofs.Syncing.{CameCommitted, told-commit}
-use Rattle.core_answers.proofs.writes.Backs.{After}
 use Rattle.core_answers.proofs.writes.OwnPieces.{on-free, out-free}
 use Rattle.model_writes.specs.Machine.{View}
-use Rattle.step_pending.specs.Cells.{EachSound}
 use Rattle.step_pending.proofs.Hearing.{sound-heard}
 use Rattle.step_pending.proofs.Replied.{sound-acked, sound-returned, sound-refused}
 use Rattle.core_counts.proofs.coarse.Led.{Led, Asked, led-after, goes-led}

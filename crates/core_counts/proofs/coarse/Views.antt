@@ -1,10 +1,8 @@
 -- Views after a step: with other places, with a call that waits more, or fewer.
-use Rattle.std.proofs.Common.{◌≡◌, ◌≢◌, ℕ, ◌+◌, true, nat_eq, Option, Some, None, refl, ◌∙◌}
-use Rattle.std.specs.Prelude.{if◌then◌else◌}
-use Rattle.std.proofs.lemmas.Bool.{eq-eqb, ne_eqb}
+use Rattle.core_counts.proofs.Prelude.{◌≡◌, ◌≢◌, ℕ, ◌+◌, true, nat_eq, Option, Some, None, refl, ◌∙◌, if◌then◌else◌, eq-eqb, if-true, if-false}
+use Rattle.std.proofs.lemmas.Bool.{ne_eqb}
 use Rattle.model_writes.specs.Machine.{Cell, Flight, View, NewCall, Took, Renews, Renamed, PlacesAfter}
 use Rattle.model_writes.specs.Story.{Spot, Call, Reply}
-use Rattle.step_pending.proofs.Leading.{if-true, if-false}
 
 -- a call waits under an xid, and no other is changed
 abbrev pub called : View → ℕ → Call → (Spot → Option Cell) → (Spot → Option Flight) → View

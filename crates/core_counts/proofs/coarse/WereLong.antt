@@ -1,33 +1,15 @@
 -- WRITEs that wait, and those that were sent, were long as they were made.
-use Rattle.std.proofs.Common.{◌≡◌, ◌≤◌, ◌⊎◌, inl, inr, ◌+◌, ◌++◌, ℕ, Bool, true, false, List, [], ◌∷◌, length, Option, Some, None, refl, sym, ap, subst, ◌∙◌, arith, append_assoc, append-nil, length-append}
+use Rattle.core_counts.proofs.Prelude.{◌≡◌, ◌≤◌, ◌⊎◌, inl, inr, ◌+◌, ◌++◌, ℕ, Bool, true, false, List, [], ◌∷◌, length, Option, Some, None, refl, sym, ap, subst, ◌∙◌, arith, append_assoc, append-nil, length-append, eqb-true, eqb-false, Waiting, waiting_at, Entry, Sent, Call, At, SpellsCall, SpellsCallBy, At-cases, Mounted, Purpose, Setup, SendsIf, View, IsSetUp, one-call, call_of, of_file, Stops, MakesLong, Moves, Hears, ShownCall, Shown}
 use Rattle.std.specs.Prelude.{nat_eq}
-use Rattle.std.proofs.lemmas.Bool.{eqb-true, eqb-false}
 use Rattle.nfs_file_calls.specs.declared.call.FileCall.TheVariants as files
-use Rattle.rpc_retry.specs.declared.waiting.Waiting.{Waiting}
-use Rattle.rpc_retry.specs.Waiting.{waiting_at}
-use Rattle.world_model.specs.declared.entry.Entry.{Entry}
-use Rattle.world_model.specs.declared.entry.Entry.TheVariants.{Sent}
-use Rattle.world_model.specs.declared.message.Call.{Call}
 use Rattle.world_model.specs.declared.message.Call.TheVariants as calls
-use Rattle.world_model.specs.Entries.{At}
-use Rattle.world_model.specs.Messages.{SpellsCall, SpellsCallBy}
-use Rattle.world_model.proofs.Places.{At-cases}
-use Rattle.op_machines.specs.declared.begun.Mounted.{Mounted}
-use Rattle.client_core.specs.declared.lane.Purpose.{Purpose}
-use Rattle.client_core.specs.declared.setup.Setup.{Setup}
-use Rattle.client_core.specs.Steps.{SendsIf, SendsBy}
-use Rattle.client_core.specs.View.{View}
-use Rattle.core_facts.specs.Reaches.{IsSetUp}
-use Rattle.core_answers.proofs.bonds.OneCall.{one-call}
+use Rattle.client_core.specs.Steps.{SendsBy}
 use Rattle.law_calls.proofs.CallsWait.{xid_of_call}
 use Rattle.model_writes.specs.Machine as coarse
-use Rattle.model_writes.specs.Mirrors.{call_of}
 use Rattle.model_writes.specs.Story as story
-use Rattle.write_back.specs.Files.{of_file}
-use Rattle.core_counts.specs.coarse.Long.{Stops, MakesLong}
-use Rattle.core_counts.specs.coarse.Moves.{Move, Moves, Hears}
+use Rattle.core_counts.specs.coarse.Moves.{Move}
 use Rattle.core_counts.specs.coarse.Moves as machine
-use Rattle.core_counts.specs.coarse.Runs.{RestsAt, ShownCall, Shown, Runs}
+use Rattle.core_counts.specs.coarse.Runs.{RestsAt, Runs}
 use Rattle.core_counts.specs.coarse.WereLong.{write_call, WasLong}
 use Rattle.core_counts.proofs.coarse.Calls.{CommitOr, commit-or}
 

@@ -1,34 +1,9 @@
 -- Of a session of one lane: in each view marks of files are older than the calls of those that read, and pages that are followed stay.
-use Rattle.std.proofs.Common.{◌≡◌, ◌<◌, ◌≤◌, inl, inr, ℕ, Bool, true, false, nat_eq, List, [], ◌∷◌, ◌++◌, Option, Some, slice_get, slice_set, Result, Ok, Err, refl, sym, ap, subst, ◌∙◌, arith}
-use Rattle.std.proofs.lemmas.Bool.{eqb-true, eqb-false}
-use Rattle.nfs_types.specs.declared.wcc.Stamp.{Stamp}
-use Rattle.rpc_retry.specs.declared.waiting.Waiting.{Waiting}
-use Rattle.rpc_retry.specs.Held.{next_xid}
-use Rattle.rpc_retry.specs.Waiting.{made_call, waiting_at}
-use Rattle.rpc_retry.proofs.Lookups.{at_made, others_made}
-use Rattle.page_cache.specs.Pages.{Pages, after_page}
-use Rattle.world_model.specs.declared.answer.Answer.{Answer}
-use Rattle.world_model.specs.declared.answer.Fault.{Fault}
+use Rattle.core_counts.proofs.Prelude.{◌≡◌, ◌<◌, ◌≤◌, inl, inr, ℕ, Bool, true, false, nat_eq, List, [], ◌∷◌, ◌++◌, Option, Some, slice_get, slice_set, Result, Ok, Err, refl, sym, ap, subst, ◌∙◌, arith, eqb-true, eqb-false, Stamp, Waiting, next_xid, made_call, waiting_at, at_made, others_made, Pages, after_page, Answer, Fault, Entry, Reply, Call, proc_of, Next, Machine, Lane, Purpose, State, Busy, Over, Setup, record_of, IsRefused, Refuses, Leads, with_state, View, turn_at, unmade_turn, at-set, Rows, ThenOf, set-other}
 use Rattle.world_model.specs.declared.answer.Fault.TheVariants as faults
-use Rattle.world_model.specs.declared.entry.Entry.{Entry}
-use Rattle.world_model.specs.declared.message.Reply.{Reply}
-use Rattle.world_model.specs.declared.message.Call.{Call}
-use Rattle.world_model.specs.Messages.{proc_of}
 use Rattle.client_shelf.specs.Unmade.{is_unmade, came_unmade}
-use Rattle.client_shelf.specs.declared.next.Next.{Next}
 use Rattle.client_shelf.specs.declared.next.Next.TheVariants as nexts
-use Rattle.op_machines.specs.declared.machine.Machine.{Machine}
-use Rattle.client_core.specs.declared.lane.Lane.{Lane}
-use Rattle.client_core.specs.declared.lane.Purpose.{Purpose}
-use Rattle.client_core.specs.declared.lane.State.{State}
-use Rattle.client_core.specs.declared.lane.State.TheVariants.{Busy, Over}
-use Rattle.client_core.specs.declared.setup.Setup.{Setup}
-use Rattle.client_core.specs.Steps.{record_of, put_view, IsRefused, IsUnmade, Refuses, Leads, with_state}
-use Rattle.client_core.specs.View.{View, turn_at, unmade_turn}
-use Rattle.core_facts.proofs.Lists.{at-set}
-use Rattle.core_facts.proofs.Rows.{Rows}
-use Rattle.core_facts.proofs.Steps.{ThenOf}
-use Rattle.core_facts.proofs.Stories.{set-other}
+use Rattle.client_core.specs.Steps.{put_view, IsUnmade}
 use Rattle.core_counts.proofs.thrift.Distinct.{Few}
 use Rattle.core_counts.proofs.thrift.Growth.{GoodPages, good-shown, good-known}
 use Rattle.core_counts.proofs.thrift.OtherPages.{good-later}

@@ -1,35 +1,11 @@
 -- What a record that comes tells of the call that waits for it.
-use Rattle.std.proofs.Common.{◌≡◌, ◌<◌, ℕ, List, [], ◌∷◌, ◌++◌, length, Some, slice_get, Ok, sym, subst, arith, append_assoc}
-use Rattle.rpc_message.specs.Call.{xid_at}
-use Rattle.rpc_retry.specs.declared.waiting.Waiting.{Waiting}
-use Rattle.rpc_retry.specs.Waiting.{waiting_at}
-use Rattle.world_model.specs.declared.entry.Entry.{Entry}
-use Rattle.world_model.specs.declared.entry.Entry.TheVariants.{Sent, Delivered}
-use Rattle.world_model.specs.declared.message.Call.{Call}
-use Rattle.world_model.specs.declared.message.Reply.{Reply}
-use Rattle.world_model.specs.Entries.{At}
-use Rattle.world_model.specs.Heard.{Heard}
-use Rattle.world_model.specs.Messages.{HasXid, SpellsCall, SpellsReply}
+use Rattle.core_counts.proofs.Prelude.{◌≡◌, ◌<◌, ℕ, List, [], ◌∷◌, ◌++◌, length, Some, slice_get, Ok, sym, subst, arith, append_assoc, xid_at, Waiting, waiting_at, Entry, Sent, Delivered, Call, Reply, At, Heard, HasXid, SpellsCall, SpellsReply, FirstSent-grow, At-grow, At-below, At-back, At-last, said_of, Says, Next, Mounted, Machine, machine_of, Purpose, Busy, Setup, View, HearsRecord, Reaches, IsMade, Tried, IsOutstanding, was-sent, says-of, reached-rows, ThenOf, Both}
 use Rattle.claims.specs.Thrifty.{CameWithin}
-use Rattle.world_model.proofs.Growth.{FirstSent-grow}
-use Rattle.world_model.proofs.Places.{At-grow, At-below, At-back, At-last}
-use Rattle.call_replies.specs.Says.{said_of, Says, SpellsOne}
-use Rattle.client_shelf.specs.declared.next.Next.{Next}
+use Rattle.call_replies.specs.Says.{SpellsOne}
 use Rattle.client_shelf.specs.declared.next.Next.TheVariants as nexts
-use Rattle.op_machines.specs.declared.begun.Mounted.{Mounted}
-use Rattle.op_machines.specs.declared.machine.Machine.{Machine}
-use Rattle.op_machines.specs.Begun.{machine_of}
-use Rattle.client_core.specs.declared.lane.Purpose.{Purpose}
-use Rattle.client_core.specs.declared.lane.State.TheVariants.{Busy}
-use Rattle.client_core.specs.declared.setup.Setup.{Setup}
-use Rattle.client_core.specs.View.{View}
-use Rattle.core_facts.specs.Reaches.{HearsRecord, Reaches}
-use Rattle.core_facts.specs.Tries.{IsMade, Tried, unsent, runs, ended, IsOutstanding}
-use Rattle.core_facts.proofs.Hearing.{was-sent, says-of}
-use Rattle.core_facts.proofs.Rows.{reached-rows}
-use Rattle.core_facts.proofs.Steps.{ThenOf}
+use Rattle.core_facts.specs.Tries.{unsent, runs, ended}
 use Rattle.core_answers.proofs.pages.Keeping as keeping
-use Rattle.core_answers.proofs.pages.PageCalls.{Both, both-asks}
+use Rattle.core_answers.proofs.pages.PageCalls.{both-asks}
 
 -- The call that is answered was first sent at a place, and the record spells this reply to it alone.
 pub record CameNow (h : List Entry) (rec : List ℕ) (xid : ℕ) (call : Waiting Purpose) (asked : Call) (reply : Reply) : Type 0 where

@@ -1,38 +1,12 @@
 -- What holds of a history and the view that goes with it, as `core_session.proofs.current.Along`; where a record is dropped, it is known that no call waited for it.
 -- an operation takes what came, the record that was heard is known, and between the steps, through which views the core passed.
-use Rattle.std.proofs.Common.{◌≡◌, inl, inr, ℕ, List, [], ◌∷◌, ◌++◌, Bool, true, false, Option, Some, None, MatchOption, position, refl, sym, ap, subst, ◌∙◌}
-use Rattle.rpc_message.specs.Call.{xid_at}
-use Rattle.rpc_retry.specs.declared.waiting.Waiting.{Waiting}
-use Rattle.rpc_retry.specs.Fail.{failed_after}
-use Rattle.rpc_retry.specs.Take.{awaited}
-use Rattle.rpc_retry.specs.Waiting.{waiting_at}
-use Rattle.rpc_retry.proofs.Records.{before_sent, before_failed}
-use Rattle.world_model.specs.declared.answer.Answer.{Answer}
-use Rattle.world_model.specs.declared.entry.Entry.{Entry}
-use Rattle.world_model.specs.declared.entry.Entry.TheVariants.{Began, Answered, Dialed, Sent, Executed, Foreign, Flushed, Reboot, Delivered, Failed, Clock}
-use Rattle.world_model.specs.declared.op.Op.{Op}
-use Rattle.call_replies.specs.Says.{said_of}
-use Rattle.client_shelf.specs.declared.shelf.Shelf.{Shelf}
-use Rattle.op_machines.specs.declared.machine.Machine.{Machine}
-use Rattle.op_machines.specs.Fits.{Fits}
-use Rattle.client_core.specs.declared.lane.Purpose.{Purpose}
-use Rattle.client_core.specs.declared.lane.State.{State}
-use Rattle.client_core.specs.declared.setup.Setup.{Setup}
-use Rattle.client_core.specs.Fresh.{IsFresh}
-use Rattle.client_core.specs.Lanes.{is_busy}
-use Rattle.client_core.specs.Numbers.{IsIdle, numbers_of}
-use Rattle.client_core.specs.Steps.{Stirs, Moves, moves_none, moves_more, counted, StartsLane, BeginsIf, TakesAt, AnswersAt}
-use Rattle.client_core.specs.View.{View}
+use Rattle.core_counts.proofs.Prelude.{◌≡◌, inl, inr, ℕ, List, [], ◌∷◌, ◌++◌, Bool, true, false, Option, Some, None, MatchOption, position, refl, sym, ap, subst, ◌∙◌, xid_at, Waiting, failed_after, awaited, waiting_at, before_sent, Answer, Entry, Began, Answered, Dialed, Sent, Executed, Foreign, Flushed, Reboot, Delivered, Failed, Clock, Op, said_of, Shelf, Machine, Fits, Purpose, State, Setup, IsFresh, is_busy, IsIdle, numbers_of, Stirs, moves_none, moves_more, counted, StartsLane, BeginsIf, TakesAt, AnswersAt, View, MaySetUp, IsSetUp, StepsTo, HearsRecord, Reaches, begins, goes, loses, last_reading, dropped, replied, sent_now, FailedNow, goes_on, gives_up, failed_now, answered_now, taken_one, none-busy, heard-lost, Known, purpose_at, reached-all, LanesKnown, quiet-facts, lanes-stay, lanes-begin, lanes-under-way, Rows, rows-stay, same-rows, rows-grow, silent-grow, taken-quiet, not-sent, taken-rows, SameCalls, sent-purposes, stirs-stay, starts-stay, steps-stay, Passes}
+use Rattle.rpc_retry.proofs.Records.{before_failed}
+use Rattle.client_core.specs.Steps.{Moves}
 use Rattle.core_facts.specs.InFlight.{IsUnbegun}
-use Rattle.core_facts.specs.Reaches.{MaySetUp, IsSetUp, StepsTo, HearsRecord, Reaches, begins, goes, loses, last_reading}
-use Rattle.core_facts.proofs.Cases.{Heard, dropped, replied, heard, sent_now, FailedNow, goes_on, gives_up, failed_now, answered_now, taken_one}
-use Rattle.core_facts.proofs.Counting.{stirs-count, starts-count, hears-count, none-busy, heard-lost}
-use Rattle.core_facts.proofs.Keeping.{Known, purpose_at, reached-all}
-use Rattle.core_facts.proofs.LaneMarks.{LanesKnown, quiet-facts, lanes-stay, lanes-begin, lanes-under-way}
-use Rattle.core_facts.proofs.Rows.{Rows, rows-stay, same-rows, rows-grow, silent-grow, taken-quiet, not-sent, taken-rows}
-use Rattle.core_answers.proofs.writes.Along.{SameCalls, sent-purposes, failed-purposes}
-use Rattle.core_facts.proofs.Walks.{stirs-stay, starts-stay, steps-stay}
-use Rattle.core_answers.specs.pages.Passing.{Passes}
+use Rattle.core_facts.proofs.Cases.{Heard, heard}
+use Rattle.core_facts.proofs.Counting.{stirs-count, starts-count, hears-count}
+use Rattle.core_answers.proofs.writes.Along.{failed-purposes}
 use Rattle.core_answers.specs.pages.Passing as passing
 
 -- It holds of a fresh core; each step of a lane keeps it, also where an operation begins or a reply comes, each answer that is noted, and each

@@ -1,38 +1,17 @@
 -- The step in which a page is given: the read that is under way takes the reply, and keeps the page.
-use Rattle.std.proofs.Common.{◌≡◌, ◌<◌, ◌≤◌, ◌&&◌, ◌||◌, ◌⊎◌, inl, inr, not, ℕ, Bool, true, false, nat_eq, nat_lt, List, [], ◌∷◌, ◌++◌, length, Option, Some, Result, Ok, refl, sym, ap, subst, ◌∙◌, arith}
-use Rattle.std.specs.Prelude.{if◌then◌else◌}
-use Rattle.std.proofs.lemmas.Bool.{eqb-true, cases_lt}
-use Rattle.std.proofs.lemmas.Bool.Decides.{nat_tests}
-use Rattle.nfs_types.specs.declared.attr.Attr.{Attr}
+use Rattle.core_counts.proofs.Prelude.{◌≡◌, ◌<◌, ◌≤◌, ◌&&◌, ◌||◌, ◌⊎◌, inl, inr, not, ℕ, Bool, true, false, nat_eq, List, [], ◌∷◌, ◌++◌, length, Option, Some, Result, Ok, refl, sym, ap, subst, ◌∙◌, arith, if◌then◌else◌, eqb-true, cases_lt, nat_tests, Attr, Accepted, Pages, after_page, Pending, Answer, Fault, Entry, Began, Answered, Call, Reply, Op, At, SpellsReply, AnsweredBefore, EndsAt, UnderWay, At-grow, At-below, At-back, Next, Repeat, Turn, Phase, Reading, place_after, part, refusal, said_to, breaks_rule}
+use Rattle.std.proofs.Common.{nat_lt}
 use Rattle.nfs_file_calls.specs.declared.owned.FileKept.TheVariants as kept
-use Rattle.rpc_message.specs.Reply.{RpcReply, Accepted, refusal_number, SpellsRefusal}
+use Rattle.rpc_message.specs.Reply.{RpcReply, refusal_number, SpellsRefusal}
 use Rattle.rpc_message.specs.declared.reply.ReplyFault.{ReplyFault}
 use Rattle.rpc_message.proofs.ReplyLaws.{reply_again}
-use Rattle.page_cache.specs.Pages.{Pages, after_page}
-use Rattle.write_back.specs.Files.{Pending}
-use Rattle.world_model.specs.declared.answer.Answer.{Answer}
-use Rattle.world_model.specs.declared.answer.Fault.{Fault}
 use Rattle.world_model.specs.declared.answer.Fault.TheVariants as faults
-use Rattle.world_model.specs.declared.entry.Entry.{Entry}
-use Rattle.world_model.specs.declared.entry.Entry.TheVariants.{Began, Answered}
-use Rattle.world_model.specs.declared.message.Call.{Call}
-use Rattle.world_model.specs.declared.message.Reply.{Reply}
 use Rattle.world_model.specs.declared.message.Reply.TheVariants as replies
-use Rattle.world_model.specs.declared.op.Op.{Op}
-use Rattle.world_model.specs.Entries.{At}
-use Rattle.world_model.specs.Messages.{SpellsReply}
-use Rattle.world_model.specs.Operations.{Ended, AnsweredBefore, EndsAt, answered, unanswered, UnderWay}
+use Rattle.world_model.specs.Operations.{Ended, answered, unanswered}
 use Rattle.claims.specs.PageRules.{WrongData, longer, unlike, nothing}
-use Rattle.world_model.proofs.Places.{At-grow, At-below, At-back}
-use Rattle.client_shelf.specs.declared.next.Next.{Next}
-use Rattle.client_shelf.specs.declared.repeats.Repeat.{Repeat}
-use Rattle.client_shelf.specs.declared.turn.Turn.{Turn}
-use Rattle.file_ops.specs.declared.reading.Phase.{Phase}
 use Rattle.file_ops.specs.declared.reading.Phase.TheVariants as phases
-use Rattle.file_ops.specs.declared.reading.Reading.{Reading}
-use Rattle.file_ops.specs.Base.{place_after}
 use Rattle.file_ops.specs.Reading as reading
-use Rattle.file_ops.specs.ReadReply.{Said, part, refusal, said_to, breaks_rule}
+use Rattle.file_ops.specs.ReadReply.{Said}
 use Rattle.core_session.proofs.current.FedPages.{gone-pages, settled-pages}
 
 -- ---- the part is noted, and then pages are looked at alone

@@ -1,18 +1,9 @@
 -- What is known of all kept pages where operations only read: marks are no later than a moment, each page was met, and those that are followed stay.
-use Rattle.std.proofs.Common.{◌≡◌, ◌≤◌, ◌||◌, ℕ, max, Bool, true, false, nat_le, List, ◌∷◌, length, Option, Some, None, option_map, refl, sym, ap, ◌∙◌, arith}
-use Rattle.std.specs.Prelude.{if◌then◌else◌}
-use Rattle.std.specs.Option.{option_map_or}
-use Rattle.std.specs.Map.{remove_entry}
-use Rattle.std.proofs.lemmas.Bool.{eq-eqb}
-use Rattle.std.proofs.lemmas.List.Elements.{All-cons}
-use Rattle.nfs_types.specs.declared.wcc.Stamp.{Stamp}
-use Rattle.page_cache.specs.declared.state.FileState.{FileState}
-use Rattle.page_cache.specs.declared.state.Keep.{Keep}
-use Rattle.page_cache.specs.declared.state.Keep.TheVariants.{Kept, Stale, Differs}
-use Rattle.page_cache.specs.Pages.{Pages, state_of, known_of, mark_of, with_state, restarted, is_place, is_stamp, opened, opened_over, fronted, kept, keep_answer, after_keep, after_page, saw, saw_over}
-use Rattle.page_cache.proofs.Inserts.{same, same-self}
+use Rattle.core_counts.proofs.Prelude.{◌≡◌, ◌≤◌, ◌||◌, ℕ, Bool, true, false, nat_le, List, ◌∷◌, length, Option, Some, None, option_map, refl, sym, ap, ◌∙◌, arith, if◌then◌else◌, option_map_or, remove_entry, eq-eqb, All-cons, Stamp, FileState, Keep, Kept, Stale, Differs, Pages, state_of, known_of, is_place, fronted, keep_answer, after_keep, after_page, saw, same-self, kept_page}
+use Rattle.std.proofs.Common.{max}
+use Rattle.page_cache.specs.Pages.{mark_of, with_state, restarted, is_stamp, opened, opened_over, kept, saw_over}
+use Rattle.page_cache.proofs.Inserts.{same}
 use Rattle.page_cache.proofs.States.{state_opened, state_kept, state_saw, state-opened, state-kept, state-saw, mark-after}
-use Rattle.file_ops.specs.Kept.{kept_page}
 use Rattle.core_counts.proofs.thrift.Distinct.{Entry, Distinct, Few, all-removed, distinct-promoted, distinct-others, distinct-front, distinct-fronted, few-kept}
 use Rattle.core_counts.proofs.thrift.Holds.{HoldsPage, holds-shown, holds-opened, holds-saw, holds-kept}
 use Rattle.core_counts.proofs.thrift.PageNames.{AllOf, quiet-all, answer-all}

@@ -1,58 +1,16 @@
 -- Along a session of one lane: where the reply to a call comes, pages that are followed stay.
-use Rattle.std.proofs.Common.{◌≡◌, ◌<◌, ◌≤◌, ◌+◌, inl, ℕ, Bool, true, false, nat_eq, nat_le, List, [], ◌∷◌, ◌++◌, length, Option, Some, None, position, slice_get, Result, Ok, refl, sym, ap, subst, ◌∙◌, arith}
-use Rattle.std.specs.Option.{option_map_or}
-use Rattle.std.proofs.lemmas.Bool.{eqb-true, eqb-false}
-use Rattle.std.proofs.lemmas.Bool.Decides.{nat_tests}
-use Rattle.nfs_types.specs.declared.attr.Attr.{Attr}
-use Rattle.nfs_types.specs.declared.wcc.Stamp.{Stamp}
-use Rattle.nfs_types.specs.Stamps.{stamp_of}
+use Rattle.core_counts.proofs.Prelude.{◌≡◌, ◌<◌, ◌≤◌, ◌+◌, inl, ℕ, Bool, true, false, nat_eq, nat_le, List, [], ◌∷◌, ◌++◌, length, Option, Some, None, position, slice_get, Result, Ok, refl, sym, ap, subst, ◌∙◌, arith, option_map_or, eqb-true, eqb-false, nat_tests, Attr, Stamp, stamp_of, xid_at, Waiting, next_xid, waiting_at, without, others_taken, gone, Pages, Fault, Entry, Sent, Delivered, Call, Reply, At, SpellsCall, read_call, At-grow, At-below, length_last, said_of, breaks_rule, Mounted, machine_of, Lane, Purpose, Busy, Setup, is_busy, with_state, TakesAt, View, turn_at, HearsRecord, Reaches, begins-unbegun, taken_one, flies_of, Known, at-set, at-position, Rows, rows-stay, rows-grow, taken-quiet, not-sent, taken-rows, ThenOf, set-other, reached-good, NoCall, NoShelf, NoStory, no-laws, CallFits, fits-laws}
 use Rattle.nfs_file_calls.specs.declared.call.FileCall.TheVariants as file_calls
 use Rattle.nfs_file_calls.specs.declared.owned.FileKept.TheVariants as kept
-use Rattle.rpc_message.specs.Call.{xid_at}
-use Rattle.rpc_retry.specs.declared.waiting.Waiting.{Waiting}
-use Rattle.rpc_retry.specs.Held.{next_xid}
-use Rattle.rpc_retry.specs.Waiting.{waiting_at, without}
-use Rattle.rpc_retry.proofs.Lookups.{others_taken}
-use Rattle.rpc_retry.proofs.Records.{gone}
-use Rattle.page_cache.specs.Pages.{Pages, mark_of}
-use Rattle.world_model.specs.declared.answer.Fault.{Fault}
-use Rattle.world_model.specs.declared.entry.Entry.{Entry}
-use Rattle.world_model.specs.declared.entry.Entry.TheVariants.{Sent, Delivered}
-use Rattle.world_model.specs.declared.message.Call.{Call}
+use Rattle.page_cache.specs.Pages.{mark_of}
 use Rattle.world_model.specs.declared.message.Call.TheVariants as calls
-use Rattle.world_model.specs.declared.message.Reply.{Reply}
 use Rattle.world_model.specs.declared.message.Reply.TheVariants as replies
-use Rattle.world_model.specs.Entries.{At}
-use Rattle.world_model.specs.Messages.{SpellsCall}
 use Rattle.claims.specs.Shown.{ShowsAttr, of_object, object_of}
-use Rattle.claims.specs.Thrifty.{read_call, CameWithin, ChangesFile}
-use Rattle.world_model.proofs.Places.{At-grow, At-below, length_last}
-use Rattle.call_replies.specs.Says.{said_of}
+use Rattle.claims.specs.Thrifty.{CameWithin, ChangesFile}
 use Rattle.file_ops.specs.PagesOpened.{is_late, opened_pages}
-use Rattle.file_ops.specs.ReadReply.{breaks_rule}
 use Rattle.file_ops.specs.Reading as reading
-use Rattle.op_machines.specs.declared.begun.Mounted.{Mounted}
-use Rattle.op_machines.specs.Begun.{machine_of}
-use Rattle.client_core.specs.declared.lane.Lane.{Lane}
-use Rattle.client_core.specs.declared.lane.Purpose.{Purpose}
-use Rattle.client_core.specs.declared.lane.State.TheVariants.{Busy}
-use Rattle.client_core.specs.declared.setup.Setup.{Setup}
-use Rattle.client_core.specs.Lanes.{is_busy}
-use Rattle.client_core.specs.Steps.{with_state, TakesAt}
-use Rattle.client_core.specs.View.{View, turn_at}
-use Rattle.core_facts.specs.Reaches.{HearsRecord, Reaches}
-use Rattle.core_facts.proofs.AllCounts.{begins-unbegun}
-use Rattle.core_facts.proofs.Cases.{taken_one}
-use Rattle.core_facts.proofs.Flights.{flies_of}
-use Rattle.core_facts.proofs.Keeping.{Known}
-use Rattle.core_facts.proofs.Lists.{at-set, at-position}
-use Rattle.core_facts.proofs.Rows.{Rows, rows-stay, rows-grow, taken-quiet, not-sent, taken-rows}
-use Rattle.core_facts.proofs.Steps.{ThenOf}
-use Rattle.core_facts.proofs.Stories.{set-other}
-use Rattle.core_facts.proofs.Tales.{IsExpected, reached-good}
-use Rattle.core_answers.proofs.asks.Sendings.{NoCall, NoShelf, NoStory, no-laws}
+use Rattle.core_facts.proofs.Tales.{IsExpected}
 use Rattle.core_answers.proofs.bonds.Learnt.{IsOn}
-use Rattle.core_answers.proofs.writes.AllFits.{CallFits, fits-laws}
 use Rattle.core_counts.proofs.thrift.Calm.{Kind, quiet, putting, saver, Young, leads-calm}
 use Rattle.core_counts.proofs.thrift.Came.{CameNow, CameLate, OutNow, out-now, came-now, came-within, came-late, Mine, mine-of}
 use Rattle.core_counts.proofs.thrift.Growth.{Tells, good-opened, good-known}

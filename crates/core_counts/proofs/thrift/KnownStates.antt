@@ -1,28 +1,11 @@
 -- An open that goes by kept attributes leaves its file in the known state; and each file that was opened has a state in the page cache.
-use Rattle.std.proofs.Common.{◌≡◌, ℕ, ◌+◌, Bool, true, false, ◌&&◌, ◌==◌, List, Option, Some, None, Result, refl, sym, ap, ◌∙◌, arith}
-use Rattle.std.specs.Prelude.{if◌then◌else◌}
-use Rattle.nfs_types.specs.declared.attr.Attr.{Attr}
-use Rattle.nfs_types.specs.declared.mode.Mode.{Mode}
-use Rattle.nfs_types.specs.declared.wcc.Stamp.{Stamp}
-use Rattle.nfs_types.specs.Stamps.{same_stamp, stamp_of}
-use Rattle.attr_cache.specs.Attrs.{Attrs, looked}
-use Rattle.page_cache.specs.declared.state.FileState.{FileState}
-use Rattle.page_cache.specs.Pages.{Pages, state_of, known_of}
-use Rattle.world_model.specs.declared.answer.Fault.{Fault}
-use Rattle.world_model.specs.declared.entry.Entry.{Entry}
-use Rattle.world_model.specs.declared.message.Reply.{Reply}
-use Rattle.claims.specs.Modes.{Modes}
+use Rattle.core_counts.proofs.Prelude.{◌≡◌, ℕ, ◌+◌, Bool, true, false, ◌&&◌, ◌==◌, List, Option, Some, None, Result, refl, sym, ap, ◌∙◌, arith, if◌then◌else◌, Attr, Mode, Stamp, stamp_of, Attrs, FileState, Pages, state_of, known_of, Fault, Entry, Reply, Modes, Led, OpeningStep, Mounted, machine_of, Setup, View, Reaches}
+use Rattle.nfs_types.specs.Stamps.{same_stamp}
+use Rattle.attr_cache.specs.Attrs.{looked}
 use Rattle.claims.specs.Slots.{Finds, asked, looked_up, made, Opens}
-use Rattle.file_ops.specs.declared.opening.Led.{Led}
 use Rattle.file_ops.specs.declared.opening.Led.TheVariants as leads
-use Rattle.file_ops.specs.declared.opening.OpeningStep.{OpeningStep}
 use Rattle.file_ops.specs.declared.opening.OpeningStep.TheVariants as steps
 use Rattle.file_ops.specs.Opening as opening
-use Rattle.op_machines.specs.declared.begun.Mounted.{Mounted}
-use Rattle.op_machines.specs.Begun.{machine_of}
-use Rattle.client_core.specs.declared.setup.Setup.{Setup}
-use Rattle.client_core.specs.View.{View}
-use Rattle.core_facts.specs.Reaches.{Reaches}
 use Rattle.core_answers.specs.bonds.Kept.{LastAtMost}
 use Rattle.core_session.proofs.current.FedPages.{told-knows}
 use Rattle.core_session.proofs.current.Good.{reached-good}

@@ -1,18 +1,8 @@
 -- A page that a READ met is one of those that the range of a read meets.
-use Rattle.std.proofs.Common.{◌<◌, inl, inr, ℕ, List, arith}
-use Rattle.world_model.specs.declared.entry.Entry.{Entry}
-use Rattle.world_model.specs.declared.entry.Entry.TheVariants.{Sent}
-use Rattle.world_model.specs.Entries.{At}
-use Rattle.world_model.specs.Messages.{SpellsCall}
+use Rattle.core_counts.proofs.Prelude.{◌<◌, inl, inr, ℕ, List, arith, Entry, Sent, At, SpellsCall, Terms, read_call, MeetsPage, Mounted, Setup, View, GoesFrom, session, early-or}
 use Rattle.claims.specs.Pages.{InsidePages}
-use Rattle.claims.specs.Terms.{Terms}
-use Rattle.claims.specs.Thrifty.{read_call, MeetsPage, FilePage, IsMet}
-use Rattle.op_machines.specs.declared.begun.Mounted.{Mounted}
-use Rattle.client_core.specs.declared.setup.Setup.{Setup}
-use Rattle.client_core.specs.View.{View}
-use Rattle.core_session.specs.calls.Whole.{GoesFrom}
+use Rattle.claims.specs.Thrifty.{FilePage, IsMet}
 use Rattle.core_session.proofs.calls.Causes.{under-now}
-use Rattle.core_session.proofs.calls.Whole.{session, early-or}
 use Rattle.core_counts.proofs.thrift.ReadsLong.{reads, none-early}
 
 -- a READ that was sent before the place n meets the page

@@ -1,21 +1,11 @@
 -- What becomes of the kept pages where the part that a READ gave is noted: those that are followed stay, and the pages that it gave are kept.
-use Rattle.std.proofs.Common.{◌≡◌, ◌<◌, ◌≤◌, ◌+◌, ◌-◌, ◌/◌, ◌&&◌, ◌||◌, ◌==◌, ◌⊎◌, inl, inr, ℕ, zero, suc, Bool, true, false, nat_le, nat_lt, List, length, take, drop, Option, Some, None, option_map, refl, sym, ap, subst, ◌∙◌, arith}
-use Rattle.std.specs.Prelude.{if◌then◌else◌}
+use Rattle.core_counts.proofs.Prelude.{◌≡◌, ◌<◌, ◌≤◌, ◌+◌, ◌-◌, ◌/◌, ◌&&◌, ◌||◌, ◌==◌, ◌⊎◌, inl, inr, ℕ, zero, suc, Bool, true, false, nat_le, List, length, take, drop, Option, Some, None, option_map, refl, sym, ap, subst, ◌∙◌, arith, if◌then◌else◌, remove_entry, cases_lt, eq-eqb, nat_tests, Attr, Stamp, stamp_of, FileState, Kept, start_of, Pages, state_of, known_of, saw, keep_answer, is_place, same-self, kept_page}
+use Rattle.std.proofs.Common.{nat_lt}
 use Rattle.std.specs.Option.{option_and_then}
-use Rattle.std.specs.Map.{remove_entry}
-use Rattle.std.proofs.lemmas.Bool.{cases_lt, eq-eqb}
-use Rattle.std.proofs.lemmas.Bool.Decides.{nat_tests}
 use Rattle.std.proofs.lemmas.List.{length-drop}
-use Rattle.nfs_types.specs.declared.attr.Attr.{Attr}
-use Rattle.nfs_types.specs.declared.wcc.Stamp.{Stamp}
-use Rattle.nfs_types.specs.Stamps.{stamp_of}
-use Rattle.page_cache.specs.declared.state.FileState.{FileState}
-use Rattle.page_cache.specs.declared.state.Keep.TheVariants.{Kept}
-use Rattle.page_cache.specs.Bytes.{start_of}
-use Rattle.page_cache.specs.Pages.{Pages, state_of, known_of, saw, keep_answer, answer_over, kept, is_place}
-use Rattle.page_cache.proofs.Inserts.{same-self}
+use Rattle.page_cache.specs.Pages.{answer_over, kept}
 use Rattle.page_cache.proofs.States.{state_kept, state-kept}
-use Rattle.file_ops.specs.Kept.{is_given, kept_page, offered_told, offered, offered_from}
+use Rattle.file_ops.specs.Kept.{is_given, offered_told, offered, offered_from}
 use Rattle.file_ops.specs.Reading as reading
 use Rattle.claims.specs.Thrifty.{GivesPage, whole, last}
 use Rattle.core_counts.proofs.thrift.Distinct.{Few}

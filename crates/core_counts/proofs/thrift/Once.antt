@@ -1,37 +1,8 @@
 -- A page that a READ gave isn't asked for again, as long as nothing shows a change.
-use Rattle.std.proofs.Common.{◌≡◌, ◌<◌, ◌≤◌, ◌+◌, ◌⊎◌, inl, inr, ℕ, false, List, [], ◌∷◌, ◌++◌, length, Option, Some, None, option_map, position, slice_get, refl, sym, ap, subst, ◌∙◌, arith}
-use Rattle.std.proofs.lemmas.List.Elements.{All-weaker}
-use Rattle.nfs_types.specs.declared.wcc.Stamp.{Stamp}
-use Rattle.rpc_message.specs.Call.{xid_at}
-use Rattle.rpc_retry.specs.declared.waiting.Waiting.{Waiting}
-use Rattle.rpc_retry.specs.Take.{awaited}
-use Rattle.rpc_retry.specs.Waiting.{waiting_at}
-use Rattle.world_model.specs.declared.entry.Entry.{Entry}
-use Rattle.world_model.specs.declared.entry.Entry.TheVariants.{Began, Sent, Delivered}
-use Rattle.world_model.specs.Entries.{At}
-use Rattle.world_model.specs.Messages.{SpellsCall}
-use Rattle.claims.specs.Terms.{Terms}
-use Rattle.claims.specs.Thrifty.{read_call, MeetsPage, OneLane, TookPage, Unchanged, IsMet}
-use Rattle.world_model.specs.Waiting.{FirstSent}
-use Rattle.world_model.proofs.Places.{At-grow, At-below, At-back, At-last}
-use Rattle.call_replies.specs.Says.{said_of}
-use Rattle.op_machines.specs.declared.begun.Mounted.{Mounted}
+use Rattle.core_counts.proofs.Prelude.{◌≡◌, ◌<◌, ◌≤◌, ◌+◌, ◌⊎◌, inl, inr, ℕ, false, List, [], ◌∷◌, ◌++◌, length, Option, Some, None, option_map, position, slice_get, refl, sym, ap, subst, ◌∙◌, arith, All-weaker, Stamp, xid_at, Waiting, awaited, waiting_at, Entry, Began, Sent, Delivered, At, SpellsCall, Terms, read_call, MeetsPage, OneLane, FirstSent, At-grow, At-below, At-back, At-last, said_of, Mounted, machine_of, Purpose, Setup, is_busy, TakesAt, View, HearsRecord, Reaches, begins-unbegun, taken_one, Known, IsSession, GoesFrom, Outgoing, session, early-or}
+use Rattle.claims.specs.Thrifty.{TookPage, Unchanged, IsMet}
 use Rattle.op_machines.specs.declared.file_machine.FileMachine.TheVariants as files
 use Rattle.op_machines.specs.declared.machine.Machine.TheVariants as machines
-use Rattle.op_machines.specs.Begun.{machine_of}
-use Rattle.client_core.specs.declared.lane.Purpose.{Purpose}
-use Rattle.client_core.specs.declared.setup.Setup.{Setup}
-use Rattle.client_core.specs.Lanes.{is_busy}
-use Rattle.client_core.specs.Steps.{TakesAt}
-use Rattle.client_core.specs.View.{View}
-use Rattle.core_facts.specs.Reaches.{HearsRecord, Reaches}
-use Rattle.core_facts.proofs.AllCounts.{begins-unbegun}
-use Rattle.core_facts.proofs.Cases.{taken_one}
-use Rattle.core_facts.proofs.Keeping.{Known}
-use Rattle.core_session.specs.calls.Sessions.{IsSession}
-use Rattle.core_session.specs.calls.Whole.{GoesFrom}
-use Rattle.core_session.proofs.calls.Outgoing.{Outgoing}
-use Rattle.core_session.proofs.calls.Whole.{session, early-or}
 use Rattle.core_session.proofs.kept.OwnHeeds.{Awaits, AllHeard, HeardFrom, keeps-heard}
 use Rattle.core_session.proofs.syncs.WatchingAlong.{reached-watching}
 use Rattle.core_counts.specs.thrift.KeptReads.{KeptOnce}

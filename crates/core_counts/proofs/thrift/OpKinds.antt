@@ -1,14 +1,8 @@
 -- Operations by how they begin: those that change no file's bytes, those that store bytes or sizes, and puts.
-use Rattle.std.proofs.Common.{◌≡◌, ℕ, false, refl}
-use Rattle.world_model.specs.declared.op.Op.{Op}
+use Rattle.core_counts.proofs.Prelude.{◌≡◌, ℕ, false, refl, Op, PutFile, Mounted, FileMachine, PathMachine, machine_of}
 use Rattle.world_model.specs.declared.op.Op.TheVariants as ops
-use Rattle.file_ops.specs.declared.put_file.PutFile.{PutFile}
-use Rattle.op_machines.specs.declared.begun.Mounted.{Mounted}
-use Rattle.op_machines.specs.declared.file_machine.FileMachine.{FileMachine}
 use Rattle.op_machines.specs.declared.machine.Machine.TheVariants as machines
 use Rattle.op_machines.specs.declared.opener.Opener.TheVariants as openers
-use Rattle.op_machines.specs.declared.path_machine.PathMachine.{PathMachine}
-use Rattle.op_machines.specs.Begun.{machine_of}
 use Rattle.core_counts.proofs.thrift.Savers.{Stores}
 
 -- an open, a read, or an operation on names

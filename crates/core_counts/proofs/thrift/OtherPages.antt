@@ -1,12 +1,9 @@
 -- A page that is kept under its file's known stamp stays so where another file is written or cut.
-use Rattle.std.proofs.Common.{◌≡◌, ◌≤◌, ℕ, Bool, true, false, List, [], ◌∷◌, map, Option, Some, None, option_map, option_and_then, refl, sym, ap, ◌∙◌, arith}
-use Rattle.std.specs.Prelude.{if◌then◌else◌}
-use Rattle.std.proofs.lemmas.List.Elements.{All-map, All-weaker}
-use Rattle.nfs_types.specs.declared.wcc.Stamp.{Stamp}
-use Rattle.nfs_types.specs.declared.wcc.Wcc.{Wcc}
-use Rattle.page_cache.specs.declared.state.FileState.{FileState}
+use Rattle.core_counts.proofs.Prelude.{◌≡◌, ◌≤◌, ℕ, Bool, true, false, List, [], ◌∷◌, map, Option, Some, None, option_map, refl, sym, ap, ◌∙◌, arith, if◌then◌else◌, All-weaker, Stamp, Wcc, FileState, Pages, state_of, known_of, is_place}
+use Rattle.std.proofs.Common.{option_and_then}
+use Rattle.std.proofs.lemmas.List.Elements.{All-map}
 use Rattle.page_cache.specs.Bytes.{put_page, cut_page}
-use Rattle.page_cache.specs.Pages.{Pages, state_of, known_of, is_place, is_of_other, changed_page, changed_over, led_on, led_to, wrote, cut}
+use Rattle.page_cache.specs.Pages.{is_of_other, changed_page, changed_over, led_on, led_to, wrote, cut}
 use Rattle.page_cache.proofs.Inserts.{same, same-is}
 use Rattle.page_cache.proofs.States.{state_changed, state-wrote, state-cut, known-after, mark-after}
 use Rattle.core_counts.proofs.thrift.Distinct.{Entry, Distinct, Few, IsApart, distinct-others}

@@ -1,21 +1,11 @@
 -- What is known of each kept page, by its file and its number alone, stays known after each call of the cache.
-use Rattle.std.proofs.Common.{◌≡◌, ◌<◌, ◌≤◌, ◌+◌, ◌-◌, ◌/◌, ◌&&◌, ◌||◌, ◌==◌, ◌⊎◌, inl, inr, ℕ, zero, suc, max, Bool, true, false, nat_le, nat_lt, List, [], length, take, drop, All, Option, Some, None, refl, arith}
-use Rattle.std.specs.Prelude.{if◌then◌else◌}
-use Rattle.std.specs.Option.{option_map_or}
-use Rattle.std.proofs.lemmas.Bool.Decides.{nat_tests}
+use Rattle.core_counts.proofs.Prelude.{◌≡◌, ◌<◌, ◌≤◌, ◌+◌, ◌-◌, ◌/◌, ◌&&◌, ◌||◌, ◌==◌, ◌⊎◌, inl, inr, ℕ, zero, suc, Bool, true, false, nat_le, List, [], length, take, drop, All, Option, Some, None, refl, arith, if◌then◌else◌, option_map_or, nat_tests, Attr, Stamp, Wcc, stamp_of, PagePlace, FileState, Keep, Kept, Stale, Differs, start_of, Pages, state_of, is_place, fronted, keep_answer, after_keep, saw, kept_page}
+use Rattle.std.proofs.Common.{max, nat_lt}
 use Rattle.std.proofs.lemmas.List.{length-drop}
-use Rattle.nfs_types.specs.declared.attr.Attr.{Attr}
-use Rattle.nfs_types.specs.declared.wcc.Stamp.{Stamp}
-use Rattle.nfs_types.specs.declared.wcc.Wcc.{Wcc}
-use Rattle.nfs_types.specs.Stamps.{stamp_of}
-use Rattle.page_cache.specs.declared.place.PagePlace.{PagePlace}
-use Rattle.page_cache.specs.declared.state.FileState.{FileState}
-use Rattle.page_cache.specs.declared.state.Keep.{Keep}
-use Rattle.page_cache.specs.declared.state.Keep.TheVariants.{Kept, Stale, Differs}
-use Rattle.page_cache.specs.Bytes.{start_of, put_page, cut_page}
-use Rattle.page_cache.specs.Pages.{Pages, state_of, with_state, restarted, is_place, is_stamp, opened, opened_over, fronted, kept, keep_answer, after_keep, saw, saw_over, led_on, led_to, changed_over, wrote, cut}
+use Rattle.page_cache.specs.Bytes.{put_page, cut_page}
+use Rattle.page_cache.specs.Pages.{with_state, restarted, is_stamp, opened, opened_over, kept, saw_over, led_on, led_to, changed_over, wrote, cut}
 use Rattle.page_cache.proofs.Entries.{All-promoted, All-fronted, All-others, All-changed}
-use Rattle.file_ops.specs.Kept.{is_given, kept_page, offered_told, offered, offered_from}
+use Rattle.file_ops.specs.Kept.{is_given, offered_told, offered, offered_from}
 use Rattle.file_ops.specs.Reading as reading
 use Rattle.file_ops.specs.Saves.{untold}
 use Rattle.core_answers.proofs.pages.FilePages.{QuietLaws}

@@ -1,24 +1,12 @@
 -- Operations other than reads add no page.
-use Rattle.std.proofs.Common.{◌≡◌, ◌⊎◌, inl, inr, ℕ, List, Result, Ok, refl, sym, ◌∙◌}
+use Rattle.core_counts.proofs.Prelude.{◌≡◌, ◌⊎◌, inl, inr, ℕ, List, Result, Ok, refl, sym, ◌∙◌, Fault, Call, Reply, read_call, Pending, Next, Shelf, Turn, Truncating, FileMachine, Machine, Takes}
 use Rattle.nfs_file_calls.specs.declared.call.FileCall.TheVariants as calls_of
-use Rattle.world_model.specs.declared.answer.Fault.{Fault}
-use Rattle.world_model.specs.declared.message.Call.{Call}
 use Rattle.world_model.specs.declared.message.Call.TheVariants as calls
-use Rattle.world_model.specs.declared.message.Reply.{Reply}
-use Rattle.claims.specs.Thrifty.{read_call}
-use Rattle.write_back.specs.Files.{Pending}
-use Rattle.client_shelf.specs.declared.next.Next.{Next}
-use Rattle.client_shelf.specs.declared.shelf.Shelf.{Shelf}
-use Rattle.client_shelf.specs.declared.turn.Turn.{Turn}
-use Rattle.file_ops.specs.declared.truncate_file.Truncating.{Truncating}
 use Rattle.file_ops.specs.declared.truncate_file.Truncating.TheVariants as truncating
 use Rattle.file_ops.specs.Saves.{write_of}
 use Rattle.file_ops.specs.TruncateFile.{size_call}
-use Rattle.op_machines.specs.declared.file_machine.FileMachine.{FileMachine}
 use Rattle.op_machines.specs.declared.file_machine.FileMachine.TheVariants as files
-use Rattle.op_machines.specs.declared.machine.Machine.{Machine}
 use Rattle.op_machines.specs.declared.machine.Machine.TheVariants as machines
-use Rattle.op_machines.specs.Steps.{Takes}
 use Rattle.core_answers.proofs.pages.FilePages.{ToldLaws, IsSentAs}
 use Rattle.core_answers.proofs.pages.MachinePages.{pages-takes}
 use Rattle.core_answers.proofs.pages.PageCalls.{SizeAwaits, FileAwaits, PageAwaits}

@@ -1,41 +1,15 @@
 -- A read, step by step: what it asks for is as long as may be, and the pages that it offers were met by its READ.
-use Rattle.std.proofs.Common.{◌≡◌, ◌<◌, ◌≤◌, ◌+◌, ◌-◌, ◌%◌, inl, inr, ◌&&◌, ◌||◌, ◌==◌, not, ℕ, Bool, true, false, nat_lt, nat_eq, List, length, Option, Some, None, Result, Ok, Err, refl, sym, ap, subst, ◌∙◌, arith}
-use Rattle.std.specs.Prelude.{if◌then◌else◌}
-use Rattle.std.proofs.lemmas.Bool.Decides.{nat_tests}
+use Rattle.core_counts.proofs.Prelude.{◌≡◌, ◌<◌, ◌≤◌, ◌+◌, ◌-◌, ◌%◌, inl, inr, ◌&&◌, ◌||◌, ◌==◌, not, ℕ, Bool, true, false, nat_eq, List, length, Option, Some, None, Result, Ok, Err, refl, sym, ap, subst, ◌∙◌, arith, if◌then◌else◌, nat_tests, Attr, Mode, FileKept, Opened, start_of, Pages, Pending, Fault, Entry, Sent, Call, Reply, At, SpellsCall, read_call, Next, Repeat, Turn, Found, ReadFile, Phase, Reading, Bytes, place_after, with_more, part, refusal, said_to, said_by, breaks_rule, got_by}
+use Rattle.std.proofs.Common.{nat_lt}
 use Rattle.xdr_codec.specs.declared.blob.Memory as memory
-use Rattle.nfs_types.specs.declared.attr.Attr.{Attr}
-use Rattle.nfs_types.specs.declared.mode.Mode.{Mode}
 use Rattle.nfs_types.specs.declared.mode.Mode.TheVariants as modes
-use Rattle.nfs_file_calls.specs.declared.owned.FileKept.{FileKept}
 use Rattle.nfs_file_calls.specs.declared.owned.FileKept.TheVariants as kept
-use Rattle.open_files.specs.declared.opened.Opened.{Opened}
-use Rattle.page_cache.specs.Bytes.{start_of}
-use Rattle.page_cache.specs.Pages.{Pages}
-use Rattle.write_back.specs.Files.{Pending}
-use Rattle.world_model.specs.declared.answer.Fault.{Fault}
 use Rattle.world_model.specs.declared.answer.Fault.TheVariants as faults
-use Rattle.world_model.specs.declared.entry.Entry.{Entry}
-use Rattle.world_model.specs.declared.entry.Entry.TheVariants.{Sent}
-use Rattle.world_model.specs.declared.message.Call.{Call}
-use Rattle.world_model.specs.declared.message.Reply.{Reply}
 use Rattle.world_model.specs.declared.message.Reply.TheVariants as replies
-use Rattle.world_model.specs.Entries.{At}
-use Rattle.world_model.specs.Messages.{SpellsCall}
-use Rattle.claims.specs.Thrifty.{read_call}
-use Rattle.client_shelf.specs.declared.next.Next.{Next}
-use Rattle.client_shelf.specs.declared.repeats.Repeat.{Repeat}
-use Rattle.client_shelf.specs.declared.turn.Turn.{Turn}
-use Rattle.file_ops.specs.declared.gather.Found.{Found}
 use Rattle.file_ops.specs.declared.gather.Found.TheVariants as found
-use Rattle.file_ops.specs.declared.read_file.ReadFile.{ReadFile}
-use Rattle.file_ops.specs.declared.reading.Phase.{Phase}
 use Rattle.file_ops.specs.declared.reading.Phase.TheVariants as phases
-use Rattle.file_ops.specs.declared.reading.Reading.{Reading}
-use Rattle.file_ops.specs.Base.{Bytes, place_after, with_more}
 use Rattle.file_ops.specs.ReadFile as reads
 use Rattle.file_ops.specs.Reading as reading
-use Rattle.file_ops.specs.ReadReply.{part, refusal, said_to, said_by, breaks_rule}
-use Rattle.file_ops.specs.Told.{got_by}
 use Rattle.core_answers.proofs.pages.FilePages.{gone-pages, settled-pages, pages-opened}
 use Rattle.core_answers.proofs.pages.PageCalls.{PhaseAwaits, ReadAwaits}
 use Rattle.core_counts.proofs.thrift.PageNames.{quiet-all, noted-all}

@@ -1,21 +1,9 @@
 -- How many bytes a READ asks for, and why no more.
-use Rattle.std.proofs.Common.{◌≡◌, ◌≤◌, ◌+◌, ◌-◌, ◌/◌, inl, inr, ℕ, zero, suc, Bool, true, false, nat_le, List, length, is_some, Option, Some, None, refl, arith}
-use Rattle.std.specs.Prelude.{if◌then◌else◌}
-use Rattle.std.proofs.lemmas.Bool.{cases_lt}
-use Rattle.std.proofs.lemmas.Bool.Decides.{nat_tests}
-use Rattle.page_cache.specs.Bytes.{start_of}
-use Rattle.page_cache.specs.Pages.{Pages, page_of, is_place, after_page}
+use Rattle.core_counts.proofs.Prelude.{◌≡◌, ◌≤◌, ◌+◌, ◌-◌, ◌/◌, inl, inr, ℕ, zero, suc, Bool, true, false, nat_le, List, length, Option, Some, None, refl, arith, if◌then◌else◌, cases_lt, nat_tests, start_of, Pages, page_of, is_place, after_page, Entry, Sent, At, SpellsCall, read_call, MeetsPage, Phase, Reading, Bytes, place_after, next_page}
+use Rattle.std.proofs.Common.{is_some}
 use Rattle.page_cache.proofs.Entries.{All-page, All-promoted}
-use Rattle.world_model.specs.declared.entry.Entry.{Entry}
-use Rattle.world_model.specs.declared.entry.Entry.TheVariants.{Sent}
-use Rattle.world_model.specs.Entries.{At}
-use Rattle.world_model.specs.Messages.{SpellsCall}
-use Rattle.claims.specs.Thrifty.{read_call, MeetsPage}
-use Rattle.file_ops.specs.declared.reading.Phase.{Phase}
 use Rattle.file_ops.specs.declared.reading.Phase.TheVariants as phases
-use Rattle.file_ops.specs.declared.reading.Reading.{Reading}
-use Rattle.file_ops.specs.Base.{Bytes, place_after}
-use Rattle.file_ops.specs.Gather.{Planned, stopped, planned, most_asked, next_page, next_plan, next_count}
+use Rattle.file_ops.specs.Gather.{Planned, stopped, planned, most_asked, next_plan, next_count}
 use Rattle.core_counts.proofs.thrift.PageNames.{Of, AllOf}
 
 -- A READ of the file that was sent met the page.

@@ -1,45 +1,24 @@
 -- Puts before their bytes are pending: their steps, and what becomes of the kept pages.
-use Rattle.std.proofs.Common.{◌≡◌, ◌≤◌, ◌-◌, ◌⊎◌, inl, inr, ℕ, Bool, true, false, List, Result, Ok, Err, refl, sym, ap, subst, ◌∙◌}
-use Rattle.std.specs.Prelude.{if◌then◌else◌}
-use Rattle.page_cache.specs.Pages.{Pages, after_page}
-use Rattle.world_model.specs.declared.answer.Answer.{Answer}
+use Rattle.core_counts.proofs.Prelude.{◌≡◌, ◌≤◌, ◌-◌, ◌⊎◌, inl, inr, ℕ, Bool, true, false, List, Result, Ok, Err, refl, sym, ap, subst, ◌∙◌, if◌then◌else◌, Pages, after_page, Answer, Fault, Call, Reply, Next, Shelf, Turn, WalkNext, Led, Opening, OpeningNext, PutFile, Putting, Machine, Opener, PathMachine, file_of, slot_taken, begun_at, Starts, Resumes, Takes, ThenOf, kept-as, Both}
 use Rattle.world_model.specs.declared.answer.Answer.TheVariants as answers
-use Rattle.world_model.specs.declared.answer.Fault.{Fault}
 use Rattle.world_model.specs.declared.answer.Fault.TheVariants as faults
-use Rattle.world_model.specs.declared.message.Call.{Call}
-use Rattle.world_model.specs.declared.message.Reply.{Reply}
-use Rattle.client_shelf.specs.declared.next.Next.{Next}
 use Rattle.client_shelf.specs.declared.next.Next.TheVariants as nexts
-use Rattle.client_shelf.specs.declared.shelf.Shelf.{Shelf}
-use Rattle.client_shelf.specs.declared.turn.Turn.{Turn}
-use Rattle.name_ops.specs.declared.walk.WalkNext.{WalkNext}
 use Rattle.name_ops.specs.declared.walk.WalkNext.TheVariants as walks
 use Rattle.name_ops.specs.Walking as walking
-use Rattle.file_ops.specs.declared.opening.Led.{Led}
 use Rattle.file_ops.specs.declared.opening.Led.TheVariants as leads
-use Rattle.file_ops.specs.declared.opening.Opening.{Opening}
-use Rattle.file_ops.specs.declared.opening.OpeningNext.{OpeningNext}
 use Rattle.file_ops.specs.declared.opening.OpeningNext.TheVariants as openings
-use Rattle.file_ops.specs.declared.put_file.PutFile.{PutFile}
-use Rattle.file_ops.specs.declared.put_file.Putting.{Putting}
 use Rattle.file_ops.specs.declared.put_file.Putting.TheVariants as putting
 use Rattle.file_ops.specs.Opening as opening
 use Rattle.file_ops.specs.PutFile as puts
 use Rattle.op_machines.specs.declared.file_machine.FileMachine.TheVariants as files
-use Rattle.op_machines.specs.declared.machine.Machine.{Machine}
 use Rattle.op_machines.specs.declared.machine.Machine.TheVariants as machines
-use Rattle.op_machines.specs.declared.opener.Opener.{Opener}
 use Rattle.op_machines.specs.declared.opener.Opener.TheVariants as openers
-use Rattle.op_machines.specs.declared.path_machine.PathMachine.{PathMachine}
 use Rattle.op_machines.specs.FileSteps as steps
-use Rattle.op_machines.specs.Openers.{file_of, slot_taken, begun_at, opening_in, placed}
+use Rattle.op_machines.specs.Openers.{opening_in, placed}
 use Rattle.op_machines.specs.PathSteps as paths
-use Rattle.op_machines.specs.Steps.{Starts, Resumes, Takes}
-use Rattle.core_facts.proofs.Steps.{ThenOf}
 use Rattle.core_answers.proofs.bonds.FileCalls.{OpeningOn, PutOn, FileAsks}
 use Rattle.core_answers.proofs.bonds.MachineCalls.{PathOn, Asks}
-use Rattle.core_answers.proofs.pages.NamePages.{SamePages, kept-as, walk-takes-kept}
-use Rattle.core_answers.proofs.pages.PageCalls.{Both}
+use Rattle.core_answers.proofs.pages.NamePages.{SamePages, walk-takes-kept}
 use Rattle.core_session.proofs.current.FedPages.{as-shelf}
 use Rattle.core_session.proofs.kept.OwnTold.{added-same}
 use Rattle.core_counts.proofs.thrift.SaverSteps.{PutSaves, stays-any, stays-done, adds-then}

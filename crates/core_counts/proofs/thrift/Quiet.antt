@@ -1,37 +1,15 @@
 -- Opens, reads and operations on names stay such, with the moment at which they began.
-use Rattle.std.proofs.Common.{◌≡◌, ◌≤◌, ◌-◌, ℕ, Bool, true, false, List, Option, Some, None, Result, Ok, Err, inl, inr, refl, sym, ap, subst, ◌∙◌}
-use Rattle.std.specs.Prelude.{if◌then◌else◌}
+use Rattle.core_counts.proofs.Prelude.{◌≡◌, ◌≤◌, ◌-◌, ℕ, Bool, true, false, List, Option, Some, None, Result, Ok, Err, inl, inr, refl, sym, ap, subst, ◌∙◌, if◌then◌else◌, Mode, Opened, Pages, Pending, Answer, Fault, Call, Reply, Op, Next, Shelf, Turn, ReadFile, Phase, Reading, Mounted, Machine, NameMachine, machine_of, Starts, Resumes, Takes, ThenOf}
 use Rattle.std.specs.FinMap as finite
-use Rattle.nfs_types.specs.declared.mode.Mode.{Mode}
 use Rattle.nfs_types.specs.declared.mode.Mode.TheVariants as modes
-use Rattle.open_files.specs.declared.opened.Opened.{Opened}
-use Rattle.page_cache.specs.Pages.{Pages}
-use Rattle.write_back.specs.Files.{Pending}
-use Rattle.world_model.specs.declared.answer.Answer.{Answer}
-use Rattle.world_model.specs.declared.answer.Fault.{Fault}
 use Rattle.world_model.specs.declared.answer.Fault.TheVariants as faults
-use Rattle.world_model.specs.declared.message.Call.{Call}
-use Rattle.world_model.specs.declared.message.Reply.{Reply}
-use Rattle.world_model.specs.declared.op.Op.{Op}
 use Rattle.world_model.specs.declared.op.Op.TheVariants as ops
-use Rattle.client_shelf.specs.declared.next.Next.{Next}
 use Rattle.client_shelf.specs.declared.next.Next.TheVariants as nexts
-use Rattle.client_shelf.specs.declared.shelf.Shelf.{Shelf}
-use Rattle.client_shelf.specs.declared.turn.Turn.{Turn}
-use Rattle.file_ops.specs.declared.read_file.ReadFile.{ReadFile}
-use Rattle.file_ops.specs.declared.reading.Phase.{Phase}
 use Rattle.file_ops.specs.declared.reading.Phase.TheVariants as phases
-use Rattle.file_ops.specs.declared.reading.Reading.{Reading}
 use Rattle.file_ops.specs.ReadFile as reads
 use Rattle.file_ops.specs.Reading as reading
-use Rattle.op_machines.specs.declared.begun.Mounted.{Mounted}
 use Rattle.op_machines.specs.declared.file_machine.FileMachine.TheVariants as files
-use Rattle.op_machines.specs.declared.machine.Machine.{Machine}
 use Rattle.op_machines.specs.declared.machine.Machine.TheVariants as machines
-use Rattle.op_machines.specs.declared.name_machine.NameMachine.{NameMachine}
-use Rattle.op_machines.specs.Begun.{machine_of}
-use Rattle.op_machines.specs.Steps.{Starts, Resumes, Takes}
-use Rattle.core_facts.proofs.Steps.{ThenOf}
 use Rattle.core_answers.proofs.bonds.MachineCalls.{Asks}
 use Rattle.core_session.proofs.current.OpenMarks.{IsOpening, IsRefusal, opening-starts, opening-resumes, opening-takes, Took, took_on, took_well, took_known}
 use Rattle.core_session.proofs.current.OpenMarks as marks

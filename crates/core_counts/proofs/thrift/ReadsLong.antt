@@ -1,59 +1,27 @@
 -- Each READ of a session is as long as may be.
-use Rattle.std.proofs.Common.{◌≡◌, ◌≤◌, ◌+◌, ◌-◌, ◌*◌, ◌%◌, ◌==◌, inl, inr, ℕ, zero, suc, Bool, true, false, List, [], length, Option, Some, None, refl, sym, subst, ◌∙◌, arith, append-nil}
-use Rattle.std.specs.Prelude.{if◌then◌else◌}
+use Rattle.core_counts.proofs.Prelude.{◌≡◌, ◌≤◌, ◌+◌, ◌-◌, ◌*◌, ◌%◌, ◌==◌, inl, inr, ℕ, zero, suc, Bool, true, false, List, [], length, Option, Some, None, refl, sym, subst, ◌∙◌, arith, append-nil, if◌then◌else◌, eqb-true, Entry, Sent, Call, Op, IsCause, mounts, informs, asked, At, SpellsCall, UnderWay, IsOf, Terms, read_call, At-grow, At-below, ReadFile, Phase, Reading, place_after, Mounted, Machine, machine_of, Busy, Setup, View, of_phase, of_reading, in_flight, begins-unbegun, Given, is-given, Expects, expects-laws, PhaseNames, ReadNames, PhaseAt, ReadAt, one-call, IsSession, GoesFrom, Outgoing, session, early-or}
 use Rattle.std.specs.Int.{div_ceil}
 use Rattle.std.proofs.lemmas.Grind.{div_ceil_times}
-use Rattle.std.proofs.lemmas.Bool.{eqb-true}
 use Rattle.nfs_file_calls.specs.declared.call.FileCall.TheVariants as calls_of
 use Rattle.mount_calls.specs.declared.call.MountCall.TheVariants as mount_calls
-use Rattle.world_model.specs.declared.entry.Entry.{Entry}
-use Rattle.world_model.specs.declared.entry.Entry.TheVariants.{Sent}
-use Rattle.world_model.specs.declared.message.Call.{Call}
 use Rattle.world_model.specs.declared.message.Call.TheVariants as calls
-use Rattle.world_model.specs.declared.op.Op.{Op}
 use Rattle.world_model.specs.declared.op.Op.TheVariants as ops
 use Rattle.claims.specs.Asks.{Asks, Acts}
 use Rattle.claims.specs.Asks as asks
-use Rattle.claims.specs.CallsAsked.{IsCause, mounts, informs, asked}
-use Rattle.world_model.specs.Entries.{At}
-use Rattle.world_model.specs.Messages.{SpellsCall}
-use Rattle.world_model.specs.Operations.{UnderWay}
 use Rattle.claims.specs.Pages.{page_from, InsidePages}
 use Rattle.world_model.specs.ReadSize.{ReadSized, page_bytes}
-use Rattle.claims.specs.Slots.{IsOf}
-use Rattle.claims.specs.Terms.{Terms}
-use Rattle.claims.specs.Thrifty.{read_call, IsLong, MetEarlier}
+use Rattle.claims.specs.Thrifty.{IsLong, MetEarlier}
 use Rattle.claims.specs.Thrifty as thrift
-use Rattle.world_model.proofs.Places.{At-grow, At-below}
-use Rattle.file_ops.specs.declared.read_file.ReadFile.{ReadFile}
-use Rattle.file_ops.specs.declared.reading.Phase.{Phase}
 use Rattle.file_ops.specs.declared.reading.Phase.TheVariants as phases
-use Rattle.file_ops.specs.declared.reading.Reading.{Reading}
-use Rattle.file_ops.specs.Base.{pages_size, place_after}
-use Rattle.op_machines.specs.declared.begun.Mounted.{Mounted}
+use Rattle.file_ops.specs.Base.{pages_size}
 use Rattle.op_machines.specs.declared.file_machine.FileMachine.TheVariants as files
-use Rattle.op_machines.specs.declared.machine.Machine.{Machine}
 use Rattle.op_machines.specs.declared.machine.Machine.TheVariants as machines
-use Rattle.op_machines.specs.Begun.{machine_of}
-use Rattle.client_core.specs.declared.lane.State.TheVariants.{Busy}
-use Rattle.client_core.specs.declared.setup.Setup.{Setup}
-use Rattle.client_core.specs.View.{View}
-use Rattle.core_facts.specs.InFlight.{of_phase, of_reading, in_flight}
-use Rattle.core_facts.proofs.AllCounts.{begins-unbegun}
-use Rattle.core_facts.proofs.HeldSlots.{Given, is-given}
 use Rattle.core_facts.proofs.Stories.{good-over}
 use Rattle.core_answers.specs.asks.PutCalls as room
-use Rattle.core_answers.proofs.asks.CallsAwaited.{Expects, expects-laws}
 use Rattle.core_answers.proofs.asks.ReadAsks.{ReadIn, ReadRuns, ReadStory, read-laws}
-use Rattle.core_answers.proofs.asks.ReadsAwaited.{PhaseNames, ReadNames}
-use Rattle.core_answers.proofs.asks.ReadSteps.{PhaseAt, ReadAt}
-use Rattle.core_answers.proofs.bonds.OneCall.{one-call}
 use Rattle.core_session.specs.calls.Made.{IsBeside, makes_room, removes}
-use Rattle.core_session.specs.calls.Sessions.{IsSession}
-use Rattle.core_session.specs.calls.Whole.{GoesFrom}
 use Rattle.core_session.proofs.calls.Causes.{Now, Spelt, under-now, rooted-here, cause, sized-grow}
-use Rattle.core_session.proofs.calls.Outgoing.{Outgoing, sent-nfs}
-use Rattle.core_session.proofs.calls.Whole.{session, early-or}
+use Rattle.core_session.proofs.calls.Outgoing.{sent-nfs}
 use Rattle.core_counts.specs.thrift.Reads.{ReadsLong}
 use Rattle.core_counts.proofs.thrift.Parts.{WasMet, IsPart, whole, ends, met, PhaseLong}
 use Rattle.core_counts.proofs.thrift.PartSteps.{LongIn}

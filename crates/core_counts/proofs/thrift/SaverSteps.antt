@@ -1,24 +1,10 @@
 -- Puts whose bytes are pending, or for which room is made, stay such until they are answered.
-use Rattle.std.proofs.Common.{◌≡◌, ℕ, Bool, true, false, List, Result, sym, subst}
-use Rattle.world_model.specs.declared.answer.Answer.{Answer}
+use Rattle.core_counts.proofs.Prelude.{◌≡◌, ℕ, Bool, true, false, List, Result, sym, subst, Answer, Fault, Reply, Next, Shelf, Turn, is_first, PutFile, Putting, Saving, Writing, joined, by-step, ThenOf}
 use Rattle.world_model.specs.declared.answer.Answer.TheVariants as answers
-use Rattle.world_model.specs.declared.answer.Fault.{Fault}
-use Rattle.world_model.specs.declared.message.Reply.{Reply}
-use Rattle.client_shelf.specs.declared.next.Next.{Next}
 use Rattle.client_shelf.specs.declared.next.Next.TheVariants as nexts
-use Rattle.client_shelf.specs.declared.shelf.Shelf.{Shelf}
-use Rattle.client_shelf.specs.declared.turn.Turn.{Turn}
-use Rattle.client_shelf.specs.LaneFiles.{is_first}
-use Rattle.file_ops.specs.declared.put_file.PutFile.{PutFile}
-use Rattle.file_ops.specs.declared.put_file.Putting.{Putting}
 use Rattle.file_ops.specs.declared.put_file.Putting.TheVariants as putting
-use Rattle.file_ops.specs.declared.saving.Saving.{Saving}
-use Rattle.file_ops.specs.declared.write_file.Writing.{Writing}
 use Rattle.file_ops.specs.PutFile as puts
 use Rattle.file_ops.specs.Saves as saves
-use Rattle.file_ops.specs.SlotFiles.{joined}
-use Rattle.file_ops.proofs.SaveCounts.{by-step}
-use Rattle.core_facts.proofs.Steps.{ThenOf}
 
 -- its bytes are pending, or room is made for them
 abbrev pub StateSaves : Putting → Type 0

@@ -1,44 +1,23 @@
 -- Operations that make bytes stable or set a size, as any operation: what their steps lead to, and what becomes of the kept pages.
-use Rattle.std.proofs.Common.{◌≡◌, ◌≤◌, ◌-◌, ℕ, Bool, true, false, List, [], Option, Some, None, Result, Ok, Err, refl, sym, ap, subst, ◌∙◌}
-use Rattle.nfs_types.specs.declared.wcc.Stamp.{Stamp}
-use Rattle.nfs_types.specs.declared.wcc.Wcc.{Wcc}
-use Rattle.nfs_file_calls.specs.declared.call.FileCall.{FileCall}
+use Rattle.core_counts.proofs.Prelude.{◌≡◌, ◌≤◌, ◌-◌, ℕ, Bool, true, false, List, [], Option, Some, None, Result, Ok, Err, refl, sym, ap, subst, ◌∙◌, Stamp, Wcc, FileCall, Pages, Answer, Fault, Call, Reply, Next, Shelf, Turn, PutFile, Truncating, FileMachine, Machine, Opener, PathMachine, file_of, Starts, Resumes, Takes, flies_file, flies_path, flies_of, ThenOf, written_file, kept-as}
 use Rattle.nfs_file_calls.specs.declared.call.FileCall.TheVariants as file_calls
-use Rattle.page_cache.specs.Pages.{Pages}
-use Rattle.world_model.specs.declared.answer.Answer.{Answer}
-use Rattle.world_model.specs.declared.answer.Fault.{Fault}
-use Rattle.world_model.specs.declared.message.Call.{Call}
 use Rattle.world_model.specs.declared.message.Call.TheVariants as calls
-use Rattle.world_model.specs.declared.message.Reply.{Reply}
 use Rattle.claims.specs.Thrifty.{ChangesFile}
 use Rattle.claims.specs.Thrifty as thrifty
 use Rattle.client_shelf.specs.Unmade.{came_unmade}
-use Rattle.client_shelf.specs.declared.next.Next.{Next}
 use Rattle.client_shelf.specs.declared.next.Next.TheVariants as nexts
-use Rattle.client_shelf.specs.declared.shelf.Shelf.{Shelf}
-use Rattle.client_shelf.specs.declared.turn.Turn.{Turn}
-use Rattle.file_ops.specs.declared.put_file.PutFile.{PutFile}
 use Rattle.file_ops.specs.declared.truncate_file.TruncateFile.{TruncateFile}
-use Rattle.file_ops.specs.declared.truncate_file.Truncating.{Truncating}
 use Rattle.file_ops.specs.declared.truncate_file.Truncating.TheVariants as truncating
 use Rattle.file_ops.specs.Saves as saves
 use Rattle.file_ops.specs.TruncateFile as truncates
 use Rattle.file_ops.proofs.Failed.{failed-as, failed-unmade}
-use Rattle.op_machines.specs.declared.file_machine.FileMachine.{FileMachine}
 use Rattle.op_machines.specs.declared.file_machine.FileMachine.TheVariants as files
-use Rattle.op_machines.specs.declared.machine.Machine.{Machine}
 use Rattle.op_machines.specs.declared.machine.Machine.TheVariants as machines
-use Rattle.op_machines.specs.declared.opener.Opener.{Opener}
 use Rattle.op_machines.specs.declared.opener.Opener.TheVariants as openers
-use Rattle.op_machines.specs.declared.path_machine.PathMachine.{PathMachine}
 use Rattle.op_machines.specs.FileSteps as steps
-use Rattle.op_machines.specs.Openers.{file_of}
 use Rattle.op_machines.specs.PathSteps as paths
-use Rattle.op_machines.specs.Steps.{Starts, Resumes, Takes}
-use Rattle.core_facts.proofs.Flights.{flies_file, flies_path, flies_of}
-use Rattle.core_facts.proofs.Steps.{ThenOf}
-use Rattle.core_answers.specs.writes.Alone.{write_in, written_file}
-use Rattle.core_answers.proofs.pages.NamePages.{SamePages, kept-as}
+use Rattle.core_answers.specs.writes.Alone.{write_in}
+use Rattle.core_answers.proofs.pages.NamePages.{SamePages}
 use Rattle.core_answers.proofs.pages.PageCalls.{PageAwaits}
 use Rattle.core_session.proofs.kept.OwnTold.{takes-wrote}
 use Rattle.core_counts.proofs.thrift.Distinct.{Few}

@@ -1,49 +1,11 @@
 -- Along a session of one lane pages that are followed stay, from where they were given.
-use Rattle.std.proofs.Common.{◌≡◌, ◌<◌, ◌≤◌, ◌+◌, ◌⊎◌, inl, inr, ℕ, Bool, true, false, nat_eq, List, [], ◌∷◌, ◌++◌, length, Option, Some, None, remove, slice_get, refl, sym, ap, subst, ◌∙◌, arith, append_assoc}
-use Rattle.std.proofs.lemmas.Bool.{eqb-true, eqb-false, cases_lt}
-use Rattle.std.proofs.lemmas.List.Elements.{All-nil}
-use Rattle.nfs_types.specs.declared.attr.Attr.{Attr}
-use Rattle.nfs_types.specs.declared.wcc.Stamp.{Stamp}
-use Rattle.nfs_types.specs.Stamps.{stamp_of}
-use Rattle.rpc_retry.specs.declared.waiting.Waiting.{Waiting}
-use Rattle.rpc_retry.specs.Waiting.{waiting_at}
-use Rattle.page_cache.specs.Pages.{Pages, after_page}
-use Rattle.world_model.specs.declared.answer.Answer.{Answer}
-use Rattle.world_model.specs.declared.entry.Entry.{Entry}
-use Rattle.world_model.specs.declared.entry.Entry.TheVariants.{Began, Answered, Delivered}
-use Rattle.world_model.specs.declared.message.Call.{Call}
-use Rattle.world_model.specs.declared.message.Reply.{Reply}
-use Rattle.world_model.specs.declared.op.Op.{Op}
-use Rattle.world_model.specs.Entries.{At}
-use Rattle.world_model.specs.Heard.{Heard}
+use Rattle.core_counts.proofs.Prelude.{◌≡◌, ◌<◌, ◌≤◌, ◌+◌, ◌⊎◌, inl, inr, ℕ, Bool, true, false, nat_eq, List, [], ◌∷◌, ◌++◌, length, Option, Some, None, slice_get, refl, sym, ap, subst, ◌∙◌, arith, append_assoc, eqb-true, eqb-false, cases_lt, All-nil, Attr, Stamp, stamp_of, Waiting, waiting_at, Pages, after_page, Answer, Entry, Began, Answered, Delivered, Call, Reply, Op, At, Heard, OneLane, At-grow, At-back, At-last, length_last, Next, Shelf, Mounted, Machine, machine_of, Starts, Lane, Purpose, Busy, Over, Setup, IsFresh, IsIdle, numbers_of, with_state, Stirs, counted, StartsLane, AnswersAt, View, turn_at, IsSetUp, Reaches, begins-unbegun, Known, lanes-under-way, idle-numbers, number_of, at-set, at-push, get-push, get-remove, skip, to-map, Rows, rows-stay, same-rows, silent-grow, ThenOf, set-other, SameCalls}
+use Rattle.std.proofs.Common.{remove}
 use Rattle.claims.specs.Shown.{ShowsAttr}
-use Rattle.claims.specs.Thrifty.{OneLane, CameWithin, ChangesFile}
-use Rattle.world_model.proofs.Places.{At-grow, At-back, At-last, length_last}
-use Rattle.client_shelf.specs.declared.next.Next.{Next}
+use Rattle.claims.specs.Thrifty.{CameWithin, ChangesFile}
 use Rattle.client_shelf.specs.declared.next.Next.TheVariants as nexts
-use Rattle.client_shelf.specs.declared.shelf.Shelf.{Shelf}
-use Rattle.op_machines.specs.declared.begun.Mounted.{Mounted}
-use Rattle.op_machines.specs.declared.machine.Machine.{Machine}
-use Rattle.op_machines.specs.Begun.{machine_of}
-use Rattle.op_machines.specs.Steps.{Starts}
-use Rattle.client_core.specs.declared.lane.Lane.{Lane}
-use Rattle.client_core.specs.declared.lane.Purpose.{Purpose}
-use Rattle.client_core.specs.declared.lane.State.TheVariants.{Busy, Over}
-use Rattle.client_core.specs.declared.setup.Setup.{Setup}
-use Rattle.client_core.specs.Fresh.{IsFresh}
-use Rattle.client_core.specs.Numbers.{IsIdle, numbers_of}
-use Rattle.client_core.specs.Steps.{with_state, Stirs, counted, StartsLane, AnswersAt}
-use Rattle.client_core.specs.View.{View, turn_at}
-use Rattle.core_facts.specs.Reaches.{IsSetUp, Reaches}
-use Rattle.core_facts.proofs.AllCounts.{begins-unbegun}
-use Rattle.core_facts.proofs.Keeping.{Known}
-use Rattle.core_facts.proofs.LaneMarks.{lanes-under-way, idle-numbers, number_of}
-use Rattle.core_facts.proofs.Lists.{at-set, at-push, get-push, get-remove, skip, skip-other, to-map}
+use Rattle.core_facts.proofs.Lists.{skip-other}
 use Rattle.core_facts.proofs.Owning.{reached-owned}
-use Rattle.core_facts.proofs.Rows.{Rows, rows-stay, same-rows, silent-grow}
-use Rattle.core_facts.proofs.Steps.{ThenOf}
-use Rattle.core_facts.proofs.Stories.{set-other}
-use Rattle.core_answers.proofs.writes.Along.{SameCalls}
 use Rattle.core_session.proofs.current.FedMachines.{pages-starts, pages-resumes}
 use Rattle.core_counts.proofs.thrift.Calm.{Calm, Kind, quiet, putting, saver, Young, leads-calm}
 use Rattle.core_counts.proofs.thrift.Distinct.{Few}

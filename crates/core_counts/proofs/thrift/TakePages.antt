@@ -1,64 +1,34 @@
 -- What an open, a read or an operation on names makes of the kept pages where its call was answered, and of its moment.
-use Rattle.std.proofs.Common.{◌≡◌, ◌≤◌, ℕ, Bool, true, false, List, Option, Some, None, Result, Ok, Err, refl, sym, ap, subst, ◌∙◌}
-use Rattle.std.specs.Prelude.{if◌then◌else◌}
+use Rattle.core_counts.proofs.Prelude.{◌≡◌, ◌≤◌, ℕ, Bool, true, false, List, Option, Some, None, Result, Ok, Err, refl, sym, ap, subst, ◌∙◌, if◌then◌else◌, Attr, Stamp, Attrs, FileKept, Pages, known_of, after_page, Pending, Fault, Call, Reply, Next, Repeat, Shelf, Turn, WalkNext, Led, Opening, OpeningStep, OpeningNext, ReadFile, Phase, Reading, place_after, part, refusal, said_to, said_by, breaks_rule, got_by, FileMachine, Machine, NameMachine, Opener, PathMachine, file_of, Takes, kept-as, Both}
 use Rattle.xdr_codec.specs.declared.blob.Memory as memory
-use Rattle.nfs_types.specs.declared.attr.Attr.{Attr}
-use Rattle.nfs_types.specs.declared.wcc.Stamp.{Stamp}
-use Rattle.attr_cache.specs.Attrs.{Attrs}
 use Rattle.nfs_file_calls.specs.declared.call.FileCall.TheVariants as file_calls
-use Rattle.nfs_file_calls.specs.declared.owned.FileKept.{FileKept}
 use Rattle.nfs_file_calls.specs.declared.owned.FileKept.TheVariants as kept
-use Rattle.page_cache.specs.Pages.{Pages, known_of, opened, after_page}
-use Rattle.write_back.specs.Files.{Pending}
-use Rattle.world_model.specs.declared.answer.Fault.{Fault}
+use Rattle.page_cache.specs.Pages.{opened}
 use Rattle.world_model.specs.declared.answer.Fault.TheVariants as faults
-use Rattle.world_model.specs.declared.message.Call.{Call}
 use Rattle.world_model.specs.declared.message.Call.TheVariants as calls
-use Rattle.world_model.specs.declared.message.Reply.{Reply}
 use Rattle.world_model.specs.declared.message.Reply.TheVariants as replies
-use Rattle.client_shelf.specs.declared.next.Next.{Next}
-use Rattle.client_shelf.specs.declared.repeats.Repeat.{Repeat}
-use Rattle.client_shelf.specs.declared.shelf.Shelf.{Shelf}
-use Rattle.client_shelf.specs.declared.turn.Turn.{Turn}
-use Rattle.name_ops.specs.declared.walk.WalkNext.{WalkNext}
 use Rattle.name_ops.specs.declared.walk.WalkNext.TheVariants as walks
 use Rattle.name_ops.specs.Walking as walking
 use Rattle.file_ops.specs.declared.open_file.OpenFile.{OpenFile}
-use Rattle.file_ops.specs.declared.opening.Led.{Led}
 use Rattle.file_ops.specs.declared.opening.Led.TheVariants as leads
-use Rattle.file_ops.specs.declared.opening.Opening.{Opening}
-use Rattle.file_ops.specs.declared.opening.OpeningStep.{OpeningStep}
 use Rattle.file_ops.specs.declared.opening.OpeningStep.TheVariants as opening_steps
-use Rattle.file_ops.specs.declared.opening.OpeningNext.{OpeningNext}
 use Rattle.file_ops.specs.declared.opening.OpeningNext.TheVariants as openings
-use Rattle.file_ops.specs.declared.read_file.ReadFile.{ReadFile}
-use Rattle.file_ops.specs.declared.reading.Phase.{Phase}
 use Rattle.file_ops.specs.declared.reading.Phase.TheVariants as phases
-use Rattle.file_ops.specs.declared.reading.Reading.{Reading}
-use Rattle.file_ops.specs.Base.{place_after}
 use Rattle.file_ops.specs.Opening as opening
 use Rattle.file_ops.specs.PagesOpened.{opened_pages, PagesOpened}
 use Rattle.file_ops.specs.ReadFile as reads
 use Rattle.file_ops.specs.Reading as reading
-use Rattle.file_ops.specs.ReadReply.{part, refusal, said_to, said_by, breaks_rule}
-use Rattle.file_ops.specs.Told.{got_by}
-use Rattle.op_machines.specs.declared.file_machine.FileMachine.{FileMachine}
 use Rattle.op_machines.specs.declared.file_machine.FileMachine.TheVariants as files
-use Rattle.op_machines.specs.declared.machine.Machine.{Machine}
 use Rattle.op_machines.specs.declared.machine.Machine.TheVariants as machines
-use Rattle.op_machines.specs.declared.name_machine.NameMachine.{NameMachine}
-use Rattle.op_machines.specs.declared.opener.Opener.{Opener}
 use Rattle.op_machines.specs.declared.opener.Opener.TheVariants as openers
-use Rattle.op_machines.specs.declared.path_machine.PathMachine.{PathMachine}
 use Rattle.op_machines.specs.FileSteps as steps
-use Rattle.op_machines.specs.Openers.{file_of, placed}
+use Rattle.op_machines.specs.Openers.{placed}
 use Rattle.op_machines.specs.PathSteps as paths
-use Rattle.op_machines.specs.Steps.{Takes}
 use Rattle.core_answers.proofs.bonds.FileCalls.{StepOn, OpeningOn, ReadOn, FileAsks}
 use Rattle.core_answers.proofs.bonds.Learnt.{IsOn}
 use Rattle.core_answers.proofs.bonds.MachineCalls.{PathOn, Asks}
-use Rattle.core_answers.proofs.pages.NamePages.{kept-as, walk-takes-kept, name-takes-kept}
-use Rattle.core_answers.proofs.pages.PageCalls.{PhaseAwaits, ReadAwaits, Both}
+use Rattle.core_answers.proofs.pages.NamePages.{walk-takes-kept, name-takes-kept}
+use Rattle.core_answers.proofs.pages.PageCalls.{PhaseAwaits, ReadAwaits}
 use Rattle.core_session.proofs.current.FedPages.{as-shelf, gone-pages, settled-pages, file-resumes, got-is, told-opens, by-opens}
 use Rattle.core_session.proofs.current.OpenMarks.{IsOpening}
 use Rattle.core_session.proofs.current.ReadMarks.{ReadIn}

@@ -1,80 +1,37 @@
 -- As the reply comes that gives a page, the page is kept.
-use Rattle.std.proofs.Common.{◌≡◌, ◌<◌, ◌≤◌, ℕ, Bool, true, false, nat_lt, List, [], ◌∷◌, ◌++◌, length, Option, Some, None, option_map, position, slice_get, Result, Ok, Err, refl, sym, ap, subst, ◌∙◌, arith, append_assoc}
-use Rattle.std.specs.Prelude.{if◌then◌else◌}
+use Rattle.core_counts.proofs.Prelude.{◌≡◌, ◌<◌, ◌≤◌, ℕ, Bool, true, false, List, [], ◌∷◌, ◌++◌, length, Option, Some, None, option_map, position, slice_get, Result, Ok, Err, refl, sym, ap, subst, ◌∙◌, arith, append_assoc, if◌then◌else◌, xid_at, DirKept, FileKept, Accepted, Waiting, waiting_at, FileState, state_of, Fault, Entry, Began, Sent, Delivered, Call, Reply, At, HasXid, SpellsCall, SpellsReply, EndsAt, UnderWay, Terms, read_call, At-grow, At-back, At-last, said_of, Says, ReadFile, Phase, Reading, place_after, breaks_rule, Mounted, Machine, machine_of, Takes, Purpose, Busy, Setup, is_busy, TakesAt, View, turn_at, in_flight, of_phase, of_reading, HearsRecord, Reaches, begins-unbegun, taken_one, Given, is-given, Known, lanes-under-way, Expects, expects-laws, PhaseNames, ReadNames, NoCall, NoShelf, NoStory, no-laws, one-call}
+use Rattle.std.proofs.Common.{nat_lt}
 use Rattle.nfs_file_calls.specs.declared.call.FileCall.TheVariants as calls_of
 use Rattle.nfs_file_calls.specs.declared.owned.FileKept.TheVariants as kept
-use Rattle.rpc_message.specs.Call.{xid_at}
 use Rattle.xdr_codec.specs.declared.reader.XdrFault.{XdrFault}
-use Rattle.nfs_dir_calls.specs.declared.keeping.DirKept.{DirKept}
 use Rattle.nfs_dir_calls.specs.Calls.{is_dir_proc}
 use Rattle.nfs_dir_calls.specs.Replies.{dir_reply_at}
-use Rattle.nfs_file_calls.specs.declared.owned.FileKept.{FileKept}
 use Rattle.nfs_file_calls.specs.Calls.{is_file_proc}
 use Rattle.nfs_file_calls.specs.Replies.{file_reply_at}
 use Rattle.rpc_message.specs.declared.reply.ReplyFault.{ReplyFault}
 use Rattle.rpc_message.specs.declared.reply.ReplyFault.TheVariants.{NotReply, Xdr}
-use Rattle.rpc_message.specs.Reply.{RpcReply, Accepted, Refused, Denied, reply_at}
+use Rattle.rpc_message.specs.Reply.{RpcReply, Refused, Denied, reply_at}
 use Rattle.world_model.specs.Rules.{most_bytes}
-use Rattle.rpc_retry.specs.declared.waiting.Waiting.{Waiting}
-use Rattle.rpc_retry.specs.Waiting.{waiting_at}
-use Rattle.page_cache.specs.declared.state.FileState.{FileState}
-use Rattle.page_cache.specs.Pages.{state_of}
-use Rattle.world_model.specs.declared.answer.Fault.{Fault}
 use Rattle.world_model.specs.declared.answer.Fault.TheVariants as faults
-use Rattle.world_model.specs.declared.entry.Entry.{Entry}
-use Rattle.world_model.specs.declared.entry.Entry.TheVariants.{Began, Sent, Delivered}
-use Rattle.world_model.specs.declared.message.Call.{Call}
 use Rattle.world_model.specs.declared.message.Call.TheVariants as calls
-use Rattle.world_model.specs.declared.message.Reply.{Reply}
 use Rattle.world_model.specs.declared.message.Reply.TheVariants as replies
 use Rattle.world_model.specs.declared.op.Op.TheVariants as ops
-use Rattle.world_model.specs.Entries.{At}
 use Rattle.world_model.specs.Heard.{Refuses}
-use Rattle.world_model.specs.Messages.{HasXid, SpellsCall, SpellsReply}
-use Rattle.world_model.specs.Operations.{EndsAt, UnderWay}
 use Rattle.claims.specs.PageRules.{refuses, breaks, wrong_data, WrongData}
-use Rattle.claims.specs.Terms.{Terms}
-use Rattle.claims.specs.Thrifty.{read_call, TookPage}
-use Rattle.world_model.proofs.Places.{At-grow, At-back, At-last}
+use Rattle.claims.specs.Thrifty.{TookPage}
 use Rattle.call_replies.specs.Records.{results_read}
 use Rattle.call_replies.specs.Results.{dir_said, file_said}
-use Rattle.call_replies.specs.Says.{said_by, said_of, Says}
-use Rattle.file_ops.specs.declared.read_file.ReadFile.{ReadFile}
-use Rattle.file_ops.specs.declared.reading.Phase.{Phase}
+use Rattle.call_replies.specs.Says.{said_by}
 use Rattle.file_ops.specs.declared.reading.Phase.TheVariants as phases
-use Rattle.file_ops.specs.declared.reading.Reading.{Reading}
-use Rattle.file_ops.specs.Base.{place_after}
 use Rattle.file_ops.specs.ReadFile as reads
 use Rattle.file_ops.specs.Reading as reading
-use Rattle.file_ops.specs.ReadReply.{breaks_rule}
-use Rattle.op_machines.specs.declared.begun.Mounted.{Mounted}
 use Rattle.op_machines.specs.declared.file_machine.FileMachine.TheVariants as files
-use Rattle.op_machines.specs.declared.machine.Machine.{Machine}
 use Rattle.op_machines.specs.declared.machine.Machine.TheVariants as machines
-use Rattle.op_machines.specs.Begun.{machine_of}
-use Rattle.op_machines.specs.Steps.{Takes}
-use Rattle.client_core.specs.declared.lane.Purpose.{Purpose}
-use Rattle.client_core.specs.declared.lane.State.TheVariants.{Busy}
-use Rattle.client_core.specs.declared.setup.Setup.{Setup}
-use Rattle.client_core.specs.Lanes.{is_busy}
-use Rattle.client_core.specs.Steps.{TakesAt}
-use Rattle.client_core.specs.View.{View, turn_at}
 use Rattle.core_facts.specs.Counted.{calls_for}
-use Rattle.core_facts.specs.InFlight.{in_flight, of_phase, of_reading}
-use Rattle.core_facts.specs.Reaches.{HearsRecord, Reaches}
-use Rattle.core_facts.proofs.AllCounts.{begins-unbegun}
-use Rattle.core_facts.proofs.Cases.{taken_one}
 use Rattle.core_facts.proofs.Counting.{calls-some, known-only}
-use Rattle.core_facts.proofs.HeldSlots.{Given, is-given}
-use Rattle.core_facts.proofs.Keeping.{Known}
-use Rattle.core_facts.proofs.LaneMarks.{lanes-under-way}
 use Rattle.core_facts.proofs.Stories.{good-over}
 use Rattle.core_facts.proofs.Tales as tales
-use Rattle.core_answers.proofs.asks.CallsAwaited.{Expects, expects-laws}
 use Rattle.core_answers.proofs.asks.ReadAsks.{ReadIn, ReadRuns, ReadStory, read-laws}
-use Rattle.core_answers.proofs.asks.ReadsAwaited.{PhaseNames, ReadNames}
-use Rattle.core_answers.proofs.asks.Sendings.{NoCall, NoShelf, NoStory, no-laws}
-use Rattle.core_answers.proofs.bonds.OneCall.{one-call}
 use Rattle.core_counts.proofs.thrift.Calm.{Young}
 use Rattle.core_counts.proofs.thrift.Came.{OutNow, out-now, says-now, came-now}
 use Rattle.core_counts.proofs.thrift.Given.{part-held, unrefused, fine-data, under-until}

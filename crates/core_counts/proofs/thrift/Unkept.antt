@@ -1,19 +1,10 @@
 -- Which pages a READ doesn't meet: none that is kept as it is planned.
-use Rattle.std.proofs.Common.{◌≡◌, ◌<◌, ◌≤◌, ◌+◌, ◌-◌, ◌*◌, ◌/◌, ◌%◌, ◌⊎◌, inl, inr, ℕ, zero, suc, Bool, true, false, nat_eq, nat_le, List, [], ◌∷◌, length, All, is_some, Option, Some, None, refl, sym, ap, ◌∙◌, arith}
-use Rattle.std.specs.Prelude.{if◌then◌else◌}
+use Rattle.core_counts.proofs.Prelude.{◌≡◌, ◌<◌, ◌≤◌, ◌+◌, ◌-◌, ◌*◌, ◌/◌, ◌%◌, ◌⊎◌, inl, inr, ℕ, zero, suc, Bool, true, false, nat_eq, nat_le, List, [], ◌∷◌, length, All, Option, Some, None, refl, sym, ap, ◌∙◌, arith, if◌then◌else◌, cases_lt, eq-eqb, nat_tests, All-nil, All-cons, All-weaker, PagePlace, start_of, Pages, page_of, is_place, after_page, same-self, MeetsPage, Bytes, place_after, next_page}
+use Rattle.std.proofs.Common.{is_some}
 use Rattle.std.specs.Cmp.Lexicographic.{pointwise}
 use Rattle.std.specs.Map.{lookup}
-use Rattle.std.proofs.lemmas.Bool.{cases_lt, eq-eqb}
-use Rattle.std.proofs.lemmas.Bool.Decides.{nat_tests}
-use Rattle.std.proofs.lemmas.List.Elements.{All-nil, All-cons, All-weaker}
-use Rattle.page_cache.specs.declared.place.PagePlace.{PagePlace}
-use Rattle.page_cache.specs.Bytes.{start_of}
-use Rattle.page_cache.specs.Pages.{Pages, page_of, is_place, after_page}
 use Rattle.page_cache.proofs.Entries.{All-page, All-promoted}
-use Rattle.page_cache.proofs.Inserts.{same-self}
-use Rattle.claims.specs.Thrifty.{MeetsPage}
-use Rattle.file_ops.specs.Base.{Bytes, place_after}
-use Rattle.file_ops.specs.Gather.{Planned, stopped, planned, most_asked, next_page, next_plan, next_count}
+use Rattle.file_ops.specs.Gather.{Planned, stopped, planned, most_asked, next_plan, next_count}
 use Rattle.core_counts.proofs.thrift.PageNames.{Of, AllOf}
 
 -- another page than this one of the file

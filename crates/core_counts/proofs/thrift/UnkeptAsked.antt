@@ -1,30 +1,9 @@
 -- Where all operations are of one lane, no READ is sent for a page that is kept then.
-use Rattle.std.proofs.Common.{◌≡◌, ◌≤◌, inl, inr, ℕ, List, ◌++◌, Option, Some, None, sym, subst, ◌∙◌, arith}
+use Rattle.core_counts.proofs.Prelude.{◌≡◌, ◌≤◌, inl, inr, ℕ, List, ◌++◌, Option, Some, None, sym, subst, ◌∙◌, arith, page_of, Entry, Began, SpellsCall, Terms, read_call, MeetsPage, OneLane, At-grow, Phase, Reading, place_after, Mounted, Machine, machine_of, Setup, View, of_phase, of_reading, begins-unbegun, PhaseNames, ReadNames, IsSession, Outgoing, session, early-or}
 use Rattle.nfs_file_calls.specs.declared.call.FileCall.TheVariants as calls_of
-use Rattle.page_cache.specs.Pages.{page_of}
-use Rattle.world_model.specs.declared.entry.Entry.{Entry}
-use Rattle.world_model.specs.declared.entry.Entry.TheVariants.{Began}
 use Rattle.world_model.specs.declared.message.Call.TheVariants as calls
-use Rattle.world_model.specs.Messages.{SpellsCall}
-use Rattle.claims.specs.Terms.{Terms}
-use Rattle.claims.specs.Thrifty.{read_call, MeetsPage, OneLane}
-use Rattle.world_model.proofs.Places.{At-grow}
-use Rattle.file_ops.specs.declared.reading.Phase.{Phase}
 use Rattle.file_ops.specs.declared.reading.Phase.TheVariants as phases
-use Rattle.file_ops.specs.declared.reading.Reading.{Reading}
-use Rattle.file_ops.specs.Base.{place_after}
-use Rattle.op_machines.specs.declared.begun.Mounted.{Mounted}
-use Rattle.op_machines.specs.declared.machine.Machine.{Machine}
-use Rattle.op_machines.specs.Begun.{machine_of}
-use Rattle.client_core.specs.declared.setup.Setup.{Setup}
-use Rattle.client_core.specs.View.{View}
-use Rattle.core_facts.specs.InFlight.{of_phase, of_reading}
-use Rattle.core_facts.proofs.AllCounts.{begins-unbegun}
-use Rattle.core_answers.proofs.asks.ReadsAwaited.{PhaseNames, ReadNames}
-use Rattle.core_session.specs.calls.Sessions.{IsSession}
 use Rattle.core_session.proofs.calls.Causes.{Spelt}
-use Rattle.core_session.proofs.calls.Outgoing.{Outgoing}
-use Rattle.core_session.proofs.calls.Whole.{session, early-or}
 use Rattle.core_counts.specs.thrift.Unkept.{IsUnkeptThen, UnkeptAsked}
 use Rattle.core_counts.proofs.thrift.ReadsLong.{its-read, ranged, names, some-wait, read-parts, none-early}
 use Rattle.core_counts.proofs.thrift.Unkept.{Missed, kept-none}

@@ -1,39 +1,19 @@
 -- A read, step by step: the READ that it asks for meets no page that is kept.
-use Rattle.std.proofs.Common.{◌≡◌, ◌<◌, ◌≤◌, ◌+◌, ◌-◌, ◌/◌, ◌%◌, ◌&&◌, ◌||◌, ◌==◌, inl, inr, not, ℕ, zero, suc, Bool, true, false, nat_lt, nat_eq, List, length, take, Option, Some, None, Result, Ok, Err, refl, sym, ap, subst, ◌∙◌, arith}
-use Rattle.std.specs.Prelude.{if◌then◌else◌}
-use Rattle.std.proofs.lemmas.Bool.Decides.{nat_tests}
-use Rattle.std.proofs.lemmas.List.{length-append, length-take}
-use Rattle.std.proofs.lemmas.List.Elements.{All-weaker}
+use Rattle.core_counts.proofs.Prelude.{◌≡◌, ◌<◌, ◌≤◌, ◌+◌, ◌-◌, ◌/◌, ◌%◌, ◌&&◌, ◌||◌, ◌==◌, inl, inr, not, ℕ, zero, suc, Bool, true, false, nat_eq, List, length, take, Option, Some, None, Result, Ok, Err, refl, sym, ap, subst, ◌∙◌, arith, if◌then◌else◌, nat_tests, length-take, All-weaker, Attr, Mode, FileKept, Opened, Pages, page_of, known_of, after_page, Pending, Fault, Reply, MeetsPage, Next, Repeat, Turn, Found, ReadFile, Phase, Reading, Bytes, place_after, with_more, next_page, part, refusal, said_to, said_by, breaks_rule, got_by}
+use Rattle.std.proofs.Common.{nat_lt}
+use Rattle.std.proofs.lemmas.List.{length-append}
 use Rattle.xdr_codec.specs.declared.blob.Memory as memory
-use Rattle.nfs_types.specs.declared.attr.Attr.{Attr}
-use Rattle.nfs_types.specs.declared.mode.Mode.{Mode}
 use Rattle.nfs_types.specs.declared.mode.Mode.TheVariants as modes
-use Rattle.nfs_file_calls.specs.declared.owned.FileKept.{FileKept}
 use Rattle.nfs_file_calls.specs.declared.owned.FileKept.TheVariants as kept
-use Rattle.open_files.specs.declared.opened.Opened.{Opened}
-use Rattle.page_cache.specs.Pages.{Pages, page_of, known_of, after_page}
-use Rattle.write_back.specs.Files.{Pending}
-use Rattle.world_model.specs.declared.answer.Fault.{Fault}
 use Rattle.world_model.specs.declared.answer.Fault.TheVariants as faults
-use Rattle.world_model.specs.declared.message.Reply.{Reply}
 use Rattle.world_model.specs.declared.message.Reply.TheVariants as replies
-use Rattle.claims.specs.Thrifty.{MeetsPage}
-use Rattle.client_shelf.specs.declared.next.Next.{Next}
-use Rattle.client_shelf.specs.declared.repeats.Repeat.{Repeat}
-use Rattle.client_shelf.specs.declared.turn.Turn.{Turn}
-use Rattle.file_ops.specs.declared.gather.Found.{Found}
 use Rattle.file_ops.specs.declared.gather.Found.TheVariants as found
-use Rattle.file_ops.specs.declared.read_file.ReadFile.{ReadFile}
-use Rattle.file_ops.specs.declared.reading.Phase.{Phase}
 use Rattle.file_ops.specs.declared.reading.Phase.TheVariants as phases
-use Rattle.file_ops.specs.declared.reading.Reading.{Reading}
-use Rattle.file_ops.specs.Base.{Bytes, place_after, is_whole, with_more}
-use Rattle.file_ops.specs.Gather.{Gathered, is_past, found_of, base_with, taken, then_taken, gathered, next_page}
+use Rattle.file_ops.specs.Base.{is_whole}
+use Rattle.file_ops.specs.Gather.{Gathered, is_past, found_of, base_with, taken, then_taken, gathered}
 use Rattle.file_ops.specs.PagesOpened.{PagesOpened}
 use Rattle.file_ops.specs.ReadFile as reads
 use Rattle.file_ops.specs.Reading as reading
-use Rattle.file_ops.specs.ReadReply.{part, refusal, said_to, said_by, breaks_rule}
-use Rattle.file_ops.specs.Told.{got_by}
 use Rattle.core_counts.proofs.thrift.PageNames.{Of, AllOf, noted-all}
 use Rattle.core_counts.proofs.thrift.PartSteps.{few-bytes}
 use Rattle.core_counts.proofs.thrift.Unkept.{NotPage, Missed, not-kept, shown-all, part-misses}

@@ -1,43 +1,10 @@
 -- Where all operations are of one lane, the READ for which a read waits meets no page that is kept.
-use Rattle.std.proofs.Common.{◌≡◌, ◌⊎◌, inl, inr, ℕ, Bool, true, false, nat_eq, List, [], ◌∷◌, ◌++◌, length, Some, None, slice_get, slice_set, Result, Err, refl, sym, ap, subst, ◌∙◌}
-use Rattle.std.proofs.lemmas.Bool.{eqb-true, eqb-false}
-use Rattle.page_cache.specs.Pages.{Pages}
-use Rattle.world_model.specs.declared.answer.Answer.{Answer}
-use Rattle.world_model.specs.declared.answer.Fault.{Fault}
-use Rattle.world_model.specs.declared.entry.Entry.{Entry}
-use Rattle.world_model.specs.declared.entry.Entry.TheVariants.{Began}
-use Rattle.world_model.specs.declared.message.Reply.{Reply}
-use Rattle.world_model.specs.declared.op.Op.{Op}
+use Rattle.core_counts.proofs.Prelude.{◌≡◌, ◌⊎◌, inl, inr, ℕ, Bool, true, false, nat_eq, List, [], ◌∷◌, ◌++◌, length, Some, None, slice_get, slice_set, Result, Err, refl, sym, ap, subst, ◌∙◌, eqb-true, eqb-false, Pages, Answer, Fault, Entry, Began, Reply, Op, OneLane, At-grow, At-last, Next, Shelf, Turn, ReadFile, Mounted, FileMachine, Machine, machine_of, Starts, Resumes, Takes, Lane, State, Busy, Over, Setup, IsIdle, numbers_of, counted, IsRefused, View, turn_at, Reaches, begins-unbegun, taken_one, Known, lanes-under-way, idle-numbers, number_of, at-set, get-push, get-remove, skip, to-map, set-other}
 use Rattle.world_model.specs.declared.op.Op.TheVariants as ops
-use Rattle.claims.specs.Thrifty.{OneLane}
-use Rattle.world_model.proofs.Places.{At-grow, At-last}
-use Rattle.client_shelf.specs.declared.next.Next.{Next}
 use Rattle.client_shelf.specs.declared.next.Next.TheVariants as nexts
-use Rattle.client_shelf.specs.declared.shelf.Shelf.{Shelf}
-use Rattle.client_shelf.specs.declared.turn.Turn.{Turn}
-use Rattle.file_ops.specs.declared.read_file.ReadFile.{ReadFile}
-use Rattle.op_machines.specs.declared.begun.Mounted.{Mounted}
-use Rattle.op_machines.specs.declared.file_machine.FileMachine.{FileMachine}
 use Rattle.op_machines.specs.declared.file_machine.FileMachine.TheVariants as files
-use Rattle.op_machines.specs.declared.machine.Machine.{Machine}
 use Rattle.op_machines.specs.declared.machine.Machine.TheVariants as machines
-use Rattle.op_machines.specs.Begun.{machine_of}
 use Rattle.op_machines.specs.FileSteps as steps
-use Rattle.op_machines.specs.Steps.{Starts, Resumes, Takes}
-use Rattle.client_core.specs.declared.lane.Lane.{Lane}
-use Rattle.client_core.specs.declared.lane.State.{State}
-use Rattle.client_core.specs.declared.lane.State.TheVariants.{Busy, Over}
-use Rattle.client_core.specs.declared.setup.Setup.{Setup}
-use Rattle.client_core.specs.Numbers.{IsIdle, numbers_of}
-use Rattle.client_core.specs.Steps.{counted, IsRefused}
-use Rattle.client_core.specs.View.{View, turn_at}
-use Rattle.core_facts.specs.Reaches.{Reaches}
-use Rattle.core_facts.proofs.AllCounts.{begins-unbegun}
-use Rattle.core_facts.proofs.Cases.{taken_one}
-use Rattle.core_facts.proofs.Keeping.{Known}
-use Rattle.core_facts.proofs.LaneMarks.{lanes-under-way, idle-numbers, number_of}
-use Rattle.core_facts.proofs.Lists.{at-set, get-push, get-remove, skip, to-map}
-use Rattle.core_facts.proofs.Stories.{set-other}
 use Rattle.core_answers.proofs.writes.Along.{KeepsAlong, reached-along}
 use Rattle.core_session.proofs.drops.Leading.{Leading, settles, unmade, Led, Pushed, stirs-led, takes-led, starts-led}
 use Rattle.core_counts.proofs.thrift.UnkeptSteps.{UnkeptIn, resumes-in, takes-in, starts-in}

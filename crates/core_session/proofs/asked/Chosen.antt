@@ -1,26 +1,10 @@
 -- A record that was sent for a write, fill or put that makes room: something of its file was pending since the operation began, and there was need of room.
-use Rattle.std.proofs.Common.{◌≡◌, inl, inr, ℕ, List, ◌++◌, length, refl, sym, subst, ◌∙◌}
-use Rattle.world_model.specs.declared.entry.Entry.{Entry}
-use Rattle.world_model.specs.declared.message.Call.{Call}
-use Rattle.world_model.specs.declared.op.Op.{Op}
+use Rattle.core_session.proofs.Prelude.{◌≡◌, inl, inr, ℕ, List, ◌++◌, length, refl, sym, subst, ◌∙◌, Entry, Call, Op, Asks, IsWriter, UnderWay, Terms, Mounted, IsAsked, IsNamed, machine_of, Busy, Setup, View, begins-unbegun, Always, over-laws, good-over, reached-good, Names, Expects, expects-laws, NoCall, IsSession}
 use Rattle.world_model.specs.declared.op.Op.TheVariants as ops
-use Rattle.claims.specs.Asks.{Asks, IsWriter, NeedsRoom, HadPending}
+use Rattle.claims.specs.Asks.{NeedsRoom, HadPending}
 use Rattle.claims.specs.Asks as asks
-use Rattle.world_model.specs.Operations.{UnderWay}
-use Rattle.claims.specs.Terms.{Terms}
-use Rattle.op_machines.specs.declared.begun.Mounted.{Mounted}
-use Rattle.op_machines.specs.Begun.{IsAsked, IsNamed, machine_of}
-use Rattle.client_core.specs.declared.lane.State.TheVariants.{Busy}
-use Rattle.client_core.specs.declared.setup.Setup.{Setup}
-use Rattle.client_core.specs.View.{View}
-use Rattle.core_facts.proofs.AllCounts.{begins-unbegun}
-use Rattle.core_facts.proofs.Stories.{Always, over-laws, good-over}
-use Rattle.core_facts.proofs.Tales.{reached-good}
-use Rattle.core_answers.proofs.asks.CallsAwaited.{Names, Expects, expects-laws}
 use Rattle.core_answers.proofs.asks.PutAsks as puts
-use Rattle.core_answers.proofs.asks.Sendings.{NoCall}
 use Rattle.core_session.specs.calls.Made as made
-use Rattle.core_session.specs.calls.Sessions.{IsSession}
 use Rattle.core_session.proofs.calls.Causes.{Now, Spelt, under-now, cause}
 use Rattle.core_session.proofs.calls.Outgoing.{Outgoing}
 use Rattle.core_session.proofs.calls.TableHeld.{AllNoted}

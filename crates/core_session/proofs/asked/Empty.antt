@@ -1,14 +1,7 @@
 -- Of a file of which nothing is pending no step of a save makes anything pending.
-use Rattle.std.proofs.Common.{◌≡◌, ◌≢◌, ◌⊎◌, inl, inr, ℕ, List, ◌∷◌, Contains, Result, refl, sym, ap, subst, ◌∙◌}
-use Rattle.world_model.specs.declared.answer.Fault.{Fault}
-use Rattle.world_model.specs.declared.message.Reply.{Reply}
-use Rattle.write_back.specs.Choice.{chosen}
-use Rattle.write_back.specs.Files.{Pending, of_file, OnFile, numbers_of, IsOldest}
-use Rattle.write_back.specs.Pieces.{FilePending, nothing}
-use Rattle.write_back.proofs.WritesByFile.{same-or}
-use Rattle.client_shelf.specs.declared.repeats.Repeat.{Repeat}
-use Rattle.client_shelf.specs.declared.turn.Turn.{Turn}
-use Rattle.file_ops.specs.declared.saving.Saving.{Saving}
+use Rattle.core_session.proofs.Prelude.{◌≡◌, ◌≢◌, ◌⊎◌, inl, inr, ℕ, List, ◌∷◌, Result, refl, sym, ap, subst, ◌∙◌, Fault, Reply, chosen, Pending, of_file, OnFile, FilePending, nothing, same-or, Repeat, Turn, Saving}
+use Rattle.std.proofs.Common.{Contains}
+use Rattle.write_back.specs.Files.{numbers_of, IsOldest}
 use Rattle.file_ops.specs.Saves as saves
 use Rattle.file_ops.proofs.Fewer.{none-in}
 use Rattle.core_session.proofs.syncs.SaveMoves.{IsKept, takes-kept}

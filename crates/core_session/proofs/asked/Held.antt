@@ -1,22 +1,12 @@
 -- What was pending at a view through which a session came may be pending at that moment, by the whole history.
-use Rattle.std.proofs.Common.{◌≡◌, ◌≤◌, ℕ, List, ◌++◌, length, refl, sym, ap, subst, ◌∙◌, arith}
-use Rattle.world_model.specs.declared.entry.Entry.{Entry}
-use Rattle.world_model.specs.declared.entry.Entry.TheVariants.{Began}
+use Rattle.core_session.proofs.Prelude.{◌≡◌, ◌≤◌, ℕ, List, ◌++◌, length, refl, sym, ap, subst, ◌∙◌, arith, Entry, Began, Terms, Mounted, machine_of, Setup, View, begins-unbegun, IsSession, PutsNamed}
 use Rattle.world_model.specs.declared.op.Op.TheVariants as ops
 use Rattle.claims.specs.Asks.{HadPending}
 use Rattle.claims.specs.Pending.{Pending}
-use Rattle.claims.specs.Terms.{Terms}
-use Rattle.op_machines.specs.declared.begun.Mounted.{Mounted}
-use Rattle.op_machines.specs.Begun.{machine_of}
-use Rattle.client_core.specs.declared.setup.Setup.{Setup}
-use Rattle.client_core.specs.View.{View}
-use Rattle.core_facts.proofs.AllCounts.{begins-unbegun}
-use Rattle.core_session.specs.calls.Sessions.{IsSession}
 use Rattle.core_session.proofs.calls.Outgoing.{Outgoing}
 use Rattle.core_session.proofs.calls.TableHeld.{AllNoted}
 use Rattle.core_session.proofs.pending.Unsettled.{held-whole}
 use Rattle.core_session.proofs.room.Onward.{Onward}
-use Rattle.core_session.specs.syncs.Synced.{PutsNamed}
 use Rattle.core_session.proofs.asked.Onwards.{onward-then, onward-rest, onward-longer}
 use Rattle.core_session.proofs.asked.Soon.{held-soon}
 use Rattle.core_session.proofs.asked.Sought.{Had}

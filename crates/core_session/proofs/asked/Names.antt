@@ -1,21 +1,10 @@
 -- The call for which an operation waits that makes room is WRITE or COMMIT of the file that it saves.
-use Rattle.std.proofs.Common.{◌≡◌, ◌≤◌, ℕ, true, List, subst, arith}
-use Rattle.world_model.specs.declared.message.Call.{Call}
-use Rattle.file_ops.specs.declared.put_file.PutFile.{PutFile}
-use Rattle.file_ops.specs.declared.put_file.Putting.{Putting}
+use Rattle.core_session.proofs.Prelude.{◌≡◌, ◌≤◌, ℕ, true, List, subst, arith, Call, PutFile, Putting, WriteFile, Writing, Walk, Machine, of_writing, of_putting, in_flight, Names, WriteNames, StateNames, Saves}
 use Rattle.file_ops.specs.declared.put_file.Putting.TheVariants as puttings
-use Rattle.file_ops.specs.declared.write_file.WriteFile.{WriteFile}
-use Rattle.file_ops.specs.declared.write_file.Writing.{Writing}
 use Rattle.file_ops.specs.declared.write_file.Writing.TheVariants as writings
-use Rattle.name_ops.specs.declared.walk.Walk.{Walk}
 use Rattle.op_machines.specs.declared.file_machine.FileMachine.TheVariants as files
-use Rattle.op_machines.specs.declared.machine.Machine.{Machine}
 use Rattle.op_machines.specs.declared.machine.Machine.TheVariants as machines
 use Rattle.op_machines.specs.declared.opener.Opener.TheVariants as openers
-use Rattle.core_facts.specs.InFlight.{of_writing, of_putting, in_flight}
-use Rattle.core_answers.proofs.asks.CallsAwaited.{Names}
-use Rattle.core_answers.proofs.asks.FilesAwaited.{WriteNames, StateNames}
-use Rattle.core_answers.proofs.asks.SavedCalls.{Saves}
 use Rattle.core_session.proofs.asked.Seeks.{WriteSeeks, PutSeeks, Seeks}
 
 module _ (N : List ℕ → Type 0) (call : Call) where

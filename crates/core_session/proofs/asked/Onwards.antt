@@ -1,11 +1,5 @@
 -- From one view to a later one, and on from there.
-use Rattle.std.proofs.Common.{◌≡◌, ◌≤◌, ℕ, List, [], ◌∷◌, ◌++◌, length, sym, ap, subst, ◌∙◌, append_assoc, append-nil, arith}
-use Rattle.world_model.specs.declared.entry.Entry.{Entry}
-use Rattle.world_model.specs.declared.op.Op.{Op}
-use Rattle.world_model.proofs.Places.{length_last}
-use Rattle.op_machines.specs.declared.machine.Machine.{Machine}
-use Rattle.client_core.specs.declared.setup.Setup.{Setup}
-use Rattle.client_core.specs.View.{View}
+use Rattle.core_session.proofs.Prelude.{◌≡◌, ◌≤◌, ℕ, List, [], ◌∷◌, ◌++◌, length, sym, ap, subst, ◌∙◌, append_assoc, append-nil, arith, Entry, Op, length_last, Machine, Setup, View}
 use Rattle.core_session.proofs.room.Onward.{Onward, stays, steps, drops}
 
 module _ (machine_of : ℕ → Op → Machine) (setup : Setup) where

@@ -1,34 +1,10 @@
 -- Of each record that was sent for an operation: the view before it, in which no answer was ready, and how the session went on from there.
-use Rattle.std.proofs.Common.{◌≡◌, ◌<◌, ◌⊎◌, inl, inr, ℕ, List, [], ◌∷◌, ◌++◌, length, Bool, true, false, Some, None, slice_get, refl, sym, ap, subst, ◌∙◌, arith, append_assoc}
-use Rattle.rpc_retry.specs.Held.{next_xid}
-use Rattle.rpc_retry.specs.Waiting.{waiting_at}
-use Rattle.rpc_retry.proofs.Lookups.{at_sent, waits_early}
+use Rattle.core_session.proofs.Prelude.{◌≡◌, ◌<◌, ◌⊎◌, inl, inr, ℕ, List, [], ◌∷◌, ◌++◌, length, Bool, true, false, Some, None, slice_get, refl, sym, ap, subst, ◌∙◌, arith, append_assoc, next_xid, waiting_at, at_sent, waits_early, Entry, Began, Sent, Op, NoneBegan, At, At-below, At-back, At-cases, Machine, Lane, Busy, Setup, SendsIf, View, calls_for, IsOfOperation, in_flight, IsUnbegun, StepsTo, Reaches, SentNow, sent_now, IsKnown, calls-some, known-only, reached-count, lanes-under-way, reached-lanes, reached-owned, Rows, reached-rows, Notes, NoneReady, notes-reach}
 use Rattle.rpc_retry.proofs.Records.{waits_late}
-use Rattle.world_model.specs.declared.entry.Entry.{Entry}
-use Rattle.world_model.specs.declared.entry.Entry.TheVariants.{Began, Sent}
-use Rattle.world_model.specs.declared.op.Op.{Op}
-use Rattle.claims.specs.CallsAsked.{NoneBegan}
-use Rattle.world_model.specs.Entries.{At}
-use Rattle.world_model.proofs.Places.{At-below, At-back, At-cases}
-use Rattle.op_machines.specs.declared.machine.Machine.{Machine}
-use Rattle.client_core.specs.declared.lane.Lane.{Lane}
-use Rattle.client_core.specs.declared.lane.State.TheVariants.{Busy}
-use Rattle.client_core.specs.declared.setup.Setup.{Setup}
-use Rattle.client_core.specs.Steps.{SendsIf}
-use Rattle.client_core.specs.View.{View}
-use Rattle.core_facts.specs.Counted.{calls_for, IsOfOperation}
-use Rattle.core_facts.specs.InFlight.{in_flight, IsUnbegun}
-use Rattle.core_facts.specs.Reaches.{StepsTo, Reaches}
-use Rattle.core_facts.proofs.Cases.{SentNow, sent_now}
-use Rattle.core_facts.proofs.Counting.{IsKnown, calls-some, known-only, reached-count}
-use Rattle.core_facts.proofs.LaneMarks.{lanes-under-way, reached-lanes}
-use Rattle.core_facts.proofs.Owning.{reached-owned}
-use Rattle.core_facts.proofs.Rows.{Rows, reached-rows}
 use Rattle.core_answers.proofs.asks.Limits.{reached-limit}
 use Rattle.core_session.proofs.calls.Outgoing.{Outgoing}
 use Rattle.core_session.proofs.calls.TableHeld.{AllNoted}
-use Rattle.core_facts.specs.Notes.{Notes, notes_fresh, notes_step, notes_lost, NoneReady, ComesAfter}
-use Rattle.core_facts.proofs.Noting.{notes-reach}
+use Rattle.core_facts.specs.Notes.{notes_fresh, notes_step, notes_lost, ComesAfter}
 use Rattle.core_session.proofs.room.Onward.{Onward, stays, steps, drops}
 
 module _ (machine_of : ℕ → Op → Machine) (unbegun : (lane : ℕ) (op : Op) → IsUnbegun (machine_of lane op)) (setup : Setup) where

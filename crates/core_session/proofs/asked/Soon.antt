@@ -1,43 +1,10 @@
 -- Each slot of the table of opens holds its file by the history, at once or before a record comes: an open that has its answer is noted before.
-use Rattle.std.proofs.Common.{◌≡◌, ◌≢◌, ◌≤◌, ◌<◌, ◌+◌, ◌⊎◌, inl, inr, ℕ, List, [], ◌∷◌, ◌++◌, length, map, remove, Bool, true, false, nat_eq, Option, Some, None, slice_get, slice_set, refl, sym, ap, subst, ◌∙◌, arith, append_assoc}
-use Rattle.std.proofs.lemmas.Bool.{eqb-true, eqb-false}
+use Rattle.core_session.proofs.Prelude.{◌≡◌, ◌≢◌, ◌≤◌, ◌<◌, ◌+◌, ◌⊎◌, inl, inr, ℕ, List, [], ◌∷◌, ◌++◌, length, map, remove, Bool, true, false, nat_eq, Option, Some, None, slice_get, slice_set, refl, sym, ap, subst, ◌∙◌, arith, append_assoc, eqb-true, eqb-false, Opened, Opens, Answer, Entry, Began, Answered, Dialed, Sent, Executed, Foreign, Flushed, Reboot, Delivered, Failed, Clock, Op, At, Modes, Ended, UnderWay, Terms, At-grow, At-below, At-back, At-cases, length_last, Closing, Mounted, Machine, machine_of, Lane, State, Busy, Over, Setup, lost_lane, IsOther, numbers_of, AnswersAt, View, StepsTo, Reaches, last_reading, GoesWith, begins-unbegun, FailedNow, goes_on, gives_up, sent_now, failed_now, answered_now, always-later, LanesKnown, number_of, idle-numbers, lanes-under-way, reached-lanes, still-there, before-push, to-map, IsHeld, Agrees, held-grow, Kind, plainly, kind_of, StoryOf, SlotsAgree, Slots, reached-slots, under-back, set-other, Always, over-laws}
 use Rattle.std.specs.FinMap as finite
-use Rattle.open_files.specs.declared.opened.Opened.{Opened}
-use Rattle.open_files.specs.Slots.{Opens}
-use Rattle.world_model.specs.declared.answer.Answer.{Answer}
-use Rattle.world_model.specs.declared.entry.Entry.{Entry}
-use Rattle.world_model.specs.declared.entry.Entry.TheVariants.{Began, Answered, Dialed, Sent, Executed, Foreign, Flushed, Reboot, Delivered, Failed, Clock}
-use Rattle.world_model.specs.declared.op.Op.{Op}
-use Rattle.world_model.specs.Entries.{At}
-use Rattle.claims.specs.Modes.{Modes}
-use Rattle.world_model.specs.Operations.{Ended, UnderWay}
-use Rattle.claims.specs.Terms.{Terms}
-use Rattle.world_model.proofs.Places.{At-grow, At-below, At-back, At-cases, length_last}
-use Rattle.file_ops.specs.declared.close_file.Closing.{Closing}
 use Rattle.file_ops.specs.declared.close_file.Closing.TheVariants as closing_states
-use Rattle.op_machines.specs.declared.begun.Mounted.{Mounted}
-use Rattle.op_machines.specs.declared.machine.Machine.{Machine}
-use Rattle.op_machines.specs.Begun.{machine_of}
-use Rattle.client_core.specs.declared.lane.Lane.{Lane}
-use Rattle.client_core.specs.declared.lane.State.{State}
-use Rattle.client_core.specs.declared.lane.State.TheVariants.{Busy, Over}
-use Rattle.client_core.specs.declared.setup.Setup.{Setup}
-use Rattle.client_core.specs.Lanes.{lost_lane}
-use Rattle.client_core.specs.Numbers.{IsOther, numbers_of}
-use Rattle.client_core.specs.Steps.{AnswersAt}
-use Rattle.client_core.specs.View.{View}
-use Rattle.core_facts.specs.Reaches.{StepsTo, Reaches, last_reading}
-use Rattle.core_facts.specs.SlotAnswers.{GoesWith}
-use Rattle.core_facts.proofs.AllCounts.{begins-unbegun}
-use Rattle.core_facts.proofs.Cases.{FailedNow, goes_on, gives_up, sent_now, failed_now, answered_now}
 use Rattle.core_facts.proofs.CloseSlots.{ClosingHas}
-use Rattle.core_facts.proofs.HeldSlots.{always-later}
-use Rattle.core_facts.proofs.LaneMarks.{LanesKnown, number_of, idle-numbers, lanes-under-way, reached-lanes}
-use Rattle.core_facts.proofs.Lists.{still-there, before-push, to-map}
-use Rattle.core_facts.proofs.SlotGrowth.{IsHeld, Agrees, held-grow}
-use Rattle.core_facts.proofs.Slots.{Kind, opening, closing, plainly, kind_of, StoryOf, SlotsAgree, over-later, noted}
-use Rattle.core_facts.proofs.SlotsAlong.{Slots, reached-slots}
-use Rattle.core_facts.proofs.Stories.{under-back, set-other, Always, over-laws, answered-under}
+use Rattle.core_facts.proofs.Slots.{opening, closing, over-later, noted}
+use Rattle.core_facts.proofs.Stories.{answered-under}
 use Rattle.core_session.proofs.calls.TableHeld.{IsLane, lane-or, AllNoted}
 use Rattle.core_session.proofs.calls.WriteCause.{WriteStory, write-laws}
 use Rattle.core_session.proofs.drops.LaneIs.{state-is, number-is, answer-is, busy-over}

@@ -1,43 +1,12 @@
 -- Of the file that an operation saves to make room something was pending, at a view of the core since the operation began.
-use Rattle.std.proofs.Common.{◌≡◌, ◌≤◌, ◌⊎◌, inl, inr, ℕ, List, [], ◌∷◌, ◌++◌, length, remove, Bool, true, false, Option, Some, None, MatchOption, position, slice_get, slice_set, Result, Err, refl, sym, ap, subst, ◌∙◌, arith}
-use Rattle.world_model.specs.declared.answer.Fault.{Fault}
-use Rattle.world_model.specs.declared.entry.Entry.{Entry}
-use Rattle.world_model.specs.declared.message.Reply.{Reply}
-use Rattle.world_model.specs.declared.op.Op.{Op}
+use Rattle.core_session.proofs.Prelude.{◌≡◌, ◌≤◌, ◌⊎◌, inl, inr, ℕ, List, [], ◌∷◌, ◌++◌, length, remove, Bool, true, false, Option, Some, None, MatchOption, position, slice_get, slice_set, Result, Err, refl, sym, ap, subst, ◌∙◌, arith, Fault, Entry, Reply, Op, UnderWay, said_of, Pending, of_file, Segments, Cell, covers, cell_at, newest_at, Next, Shelf, Turn, Mounted, Machine, machine_of, Lane, Purpose, State, Busy, Over, Setup, is_busy, with_state, IsRefused, Leads, Stirs, Moves, moves_none, moves_more, counted, StartsLane, BeginsIf, TakesAt, View, turn_at, unmade_turn, StepsTo, Reaches, begins, goes, loses, last_reading, Heard, dropped, replied, sent_now, FailedNow, goes_on, gives_up, failed_now, answered_now, taken_one, at-set, get-push, get-remove, skip, to-map, under-back, set-other, by-place, Began, Answered, Dialed, Sent, Executed, Foreign, Flushed, Reboot, Delivered, Failed, Clock, length_last, FilePending, Flown, nothing, fly_at, fly_in, flown_in, IsSound, IsOver, covered, flown-some, some-of, numbers_of, heard-lost, number_of, idle-numbers}
 use Rattle.world_model.specs.declared.op.Op.TheVariants as ops
-use Rattle.world_model.specs.Operations.{UnderWay}
-use Rattle.call_replies.specs.Says.{said_of}
-use Rattle.write_back.specs.Files.{Pending, of_file}
-use Rattle.write_back.specs.Segments.{Segments, Cell, AreApart, covers, cell_in, cell_at, newest_at}
-use Rattle.client_shelf.specs.declared.next.Next.{Next}
+use Rattle.write_back.specs.Segments.{AreApart, cell_in}
 use Rattle.client_shelf.specs.declared.next.Next.TheVariants as nexts
-use Rattle.client_shelf.specs.declared.shelf.Shelf.{Shelf}
-use Rattle.client_shelf.specs.declared.turn.Turn.{Turn}
-use Rattle.op_machines.specs.declared.begun.Mounted.{Mounted}
-use Rattle.op_machines.specs.declared.machine.Machine.{Machine}
-use Rattle.op_machines.specs.Begun.{machine_of}
-use Rattle.client_core.specs.declared.lane.Lane.{Lane}
-use Rattle.client_core.specs.declared.lane.Purpose.{Purpose}
-use Rattle.client_core.specs.declared.lane.State.{State}
-use Rattle.client_core.specs.declared.lane.State.TheVariants.{Busy, Over}
-use Rattle.client_core.specs.declared.setup.Setup.{Setup}
-use Rattle.client_core.specs.Lanes.{is_busy}
-use Rattle.client_core.specs.Steps.{IsBusyAt, with_state, IsRefused, Leads, Stirs, Moves, moves_none, moves_more, counted, StartsLane, BeginsIf, TakesAt, HearsOwn}
-use Rattle.client_core.specs.View.{View, turn_at, unmade_turn}
-use Rattle.core_facts.specs.Reaches.{StepsTo, Reaches, begins, goes, loses, last_reading}
-use Rattle.core_facts.proofs.Cases.{Heard, dropped, replied, heard, sent_now, FailedNow, goes_on, gives_up, failed_now, answered_now, taken_one}
-use Rattle.core_facts.proofs.Lists.{at-set, get-push, get-remove, skip, to-map}
-use Rattle.core_facts.proofs.Stories.{under-back, set-other, by-place}
-use Rattle.world_model.specs.declared.entry.Entry.TheVariants.{Began, Answered, Dialed, Sent, Executed, Foreign, Flushed, Reboot, Delivered, Failed, Clock}
-use Rattle.world_model.proofs.Places.{length_last}
-use Rattle.write_back.specs.Pieces.{Sent as SentPiece, FilePending, Flown, nothing, fly_at, fly_in, flown_in}
-use Rattle.write_back.specs.Sound.{IsSound, AreSent, IsOver}
-use Rattle.write_back.proofs.ByPlace.{covered}
-use Rattle.write_back.proofs.Flying.{flown-some}
-use Rattle.step_pending.proofs.Shown.{some-of}
-use Rattle.client_core.specs.Numbers.{numbers_of}
-use Rattle.core_facts.proofs.Counting.{heard-lost}
-use Rattle.core_facts.proofs.LaneMarks.{number_of, idle-numbers}
+use Rattle.client_core.specs.Steps.{IsBusyAt, HearsOwn}
+use Rattle.core_facts.proofs.Cases.{heard}
+use Rattle.write_back.specs.Pieces.{Sent as SentPiece}
+use Rattle.write_back.specs.Sound.{AreSent}
 use Rattle.core_session.proofs.order.Basis.{reached-basis}
 use Rattle.core_session.proofs.asked.Empty.{IsEmpty}
 use Rattle.core_session.proofs.order.Unmade.{unmade-has}

@@ -1,28 +1,13 @@
 -- Each call of a session was asked for.
-use Rattle.std.proofs.Common.{◌≡◌, ◌⊎◌, inl, inr, ℕ, List, refl, sym, subst}
-use Rattle.world_model.specs.declared.entry.Entry.{Entry}
-use Rattle.world_model.specs.declared.entry.Entry.TheVariants.{Sent}
-use Rattle.world_model.specs.declared.message.Call.{Call}
-use Rattle.claims.specs.Asks.{Asks}
-use Rattle.claims.specs.CallsAsked.{NoneBegan, IsCaused, asked, KeepsTo}
-use Rattle.world_model.specs.Entries.{At}
-use Rattle.world_model.specs.Messages.{SpellsCallBy}
-use Rattle.world_model.specs.Operations.{UnderWay}
-use Rattle.claims.specs.Terms.{Terms}
-use Rattle.op_machines.specs.declared.begun.Mounted.{Mounted}
-use Rattle.op_machines.specs.Begun.{IsAsked, machine_of}
-use Rattle.client_core.specs.declared.setup.Setup.{Setup}
-use Rattle.client_core.specs.View.{View}
-use Rattle.core_facts.proofs.AllCounts.{begins-unbegun}
-use Rattle.core_session.specs.calls.Sessions.{IsSession}
-use Rattle.core_session.specs.calls.Whole.{GoesFrom, IsCausedBeside, CallsAskedBut}
+use Rattle.core_session.proofs.Prelude.{◌≡◌, ◌⊎◌, inl, inr, ℕ, List, refl, sym, subst, Entry, Sent, Call, Asks, NoneBegan, IsCaused, KeepsTo, At, SpellsCallBy, UnderWay, Terms, Mounted, IsAsked, machine_of, Setup, View, begins-unbegun, IsSession, GoesFrom, CallsAskedBut, Notes}
+use Rattle.claims.specs.CallsAsked.{asked}
+use Rattle.core_session.specs.calls.Whole.{IsCausedBeside}
 use Rattle.core_session.proofs.calls.Causes.{Now, Spelt, under-now, reads-keep}
 use Rattle.core_session.proofs.calls.Outgoing.{Outgoing}
 use Rattle.core_session.proofs.calls.OwnBytes.{own-bytes}
 use Rattle.core_session.proofs.calls.TableHeld.{AllNoted}
 use Rattle.core_session.proofs.calls.Whole.{session, calls-asked-but}
 use Rattle.core_session.proofs.calls.WriteKeeps.{writes-keep}
-use Rattle.core_facts.specs.Notes.{Notes}
 use Rattle.core_session.proofs.room.Onward.{Onward}
 use Rattle.core_session.specs.asked.Asked.{CallsAreAsked}
 use Rattle.core_session.proofs.asked.Chosen.{out-asks}

@@ -1,29 +1,15 @@
 -- What an operation may add, it has where it adds it.
-use Rattle.std.proofs.Common.{ℕ, List, Bool, true, false, Result}
-use Rattle.world_model.specs.declared.answer.Fault.{Fault}
-use Rattle.world_model.specs.declared.message.Reply.{Reply}
-use Rattle.client_shelf.specs.declared.next.Next.{Next}
-use Rattle.client_shelf.specs.declared.shelf.Shelf.{Shelf}
-use Rattle.client_shelf.specs.declared.turn.Turn.{Turn}
-use Rattle.file_ops.specs.declared.put_file.PutFile.{PutFile}
-use Rattle.file_ops.specs.declared.put_file.Putting.{Putting}
+use Rattle.core_session.proofs.Prelude.{ℕ, List, Bool, true, false, Result, Fault, Reply, Next, Shelf, Turn, PutFile, Putting, WriteFile, Writing, FileMachine, Machine, PathMachine, file_of, Takes, RoomIs}
 use Rattle.file_ops.specs.declared.put_file.Putting.TheVariants as putting
-use Rattle.file_ops.specs.declared.write_file.WriteFile.{WriteFile}
-use Rattle.file_ops.specs.declared.write_file.Writing.{Writing}
 use Rattle.file_ops.specs.declared.write_file.Writing.TheVariants as writing
 use Rattle.file_ops.specs.PutFile as puts
 use Rattle.file_ops.specs.WriteFile as writes
-use Rattle.op_machines.specs.declared.file_machine.FileMachine.{FileMachine}
 use Rattle.op_machines.specs.declared.file_machine.FileMachine.TheVariants as files
-use Rattle.op_machines.specs.declared.machine.Machine.{Machine}
 use Rattle.op_machines.specs.declared.machine.Machine.TheVariants as machines
-use Rattle.op_machines.specs.declared.path_machine.PathMachine.{PathMachine}
 use Rattle.op_machines.specs.FileSteps as steps
-use Rattle.op_machines.specs.Openers.{file_of}
 use Rattle.op_machines.specs.PathSteps as paths
-use Rattle.op_machines.specs.Steps.{Takes}
 use Rattle.core_answers.proofs.writes.AllBacks.{Brings, PathBrings}
-use Rattle.core_answers.proofs.writes.Backs.{RoomIs, PutIs, FileBrings}
+use Rattle.core_answers.proofs.writes.Backs.{PutIs, FileBrings}
 use Rattle.core_session.proofs.order.Adds.{RoomHas, PutHas, FileHas, PathHas, TakesHas}
 
 module _ (wsize : ℕ) (sent turn : Turn) (came : Result Reply Fault) where

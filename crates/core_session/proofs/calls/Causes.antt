@@ -1,42 +1,21 @@
 -- The operation for which a record was sent asks for its call, or the call is one of those of which that isn't said.
-use Rattle.std.proofs.Common.{◌≡◌, ◌≤◌, ◌⊎◌, inl, inr, ℕ, List, ◌++◌, length, refl, sym, subst, arith}
+use Rattle.core_session.proofs.Prelude.{◌≡◌, ◌≤◌, ◌⊎◌, inl, inr, ℕ, List, ◌++◌, length, refl, sym, subst, arith, Entry, Call, Op, Asks, Acts, SpellsCallBy, Rooted, info_call, UnderWay, Terms, Asked, Asked-grow, Asked-wide, Mounted, IsAsked, IsNamed, machine_of, Busy, Setup, View, Awaits, awaits-laws, begins-unbegun, good-over, over-laws, Always, reached-good, IsForRoom, Expects, expects-laws, NoCall, SentFor, IsSession}
 use Rattle.nfs_file_calls.specs.declared.call.FileCall.TheVariants as files
-use Rattle.world_model.specs.declared.entry.Entry.{Entry}
-use Rattle.world_model.specs.declared.message.Call.{Call}
 use Rattle.world_model.specs.declared.message.Call.TheVariants as calls
 use Rattle.world_model.specs.declared.message.Reply.TheVariants as replies
 use Rattle.nfs_file_calls.specs.declared.owned.FileKept.TheVariants as kept
-use Rattle.world_model.specs.declared.op.Op.{Op}
 use Rattle.world_model.specs.declared.op.Op.TheVariants as ops
-use Rattle.claims.specs.Asks.{Asks, Acts}
 use Rattle.claims.specs.Asks as asks
-use Rattle.world_model.specs.Messages.{SpellsCallBy}
-use Rattle.world_model.specs.Mounts.{Rooted, info_call}
-use Rattle.world_model.specs.Operations.{UnderWay}
 use Rattle.world_model.specs.ReadSize.{ReadSized, told, untold}
-use Rattle.claims.specs.Terms.{Terms}
-use Rattle.world_model.specs.Heard.{Asked, Refused}
-use Rattle.world_model.proofs.Growth.{Asked-grow, Asked-wide, Refused-grow, Refused-wide}
-use Rattle.op_machines.specs.declared.begun.Mounted.{Mounted}
-use Rattle.op_machines.specs.Begun.{IsAsked, IsNamed, machine_of}
-use Rattle.client_core.specs.declared.lane.State.TheVariants.{Busy}
-use Rattle.client_core.specs.declared.setup.Setup.{Setup}
-use Rattle.client_core.specs.View.{View}
+use Rattle.world_model.specs.Heard.{Refused}
+use Rattle.world_model.proofs.Growth.{Refused-grow, Refused-wide}
 use Rattle.core_facts.specs.Naming.{IsOneCall}
-use Rattle.core_facts.proofs.AllAwaited.{Awaits, awaits-laws}
-use Rattle.core_facts.proofs.AllCounts.{begins-unbegun}
 use Rattle.core_facts.proofs.OneCallAsks.{AsksNow, asks-from}
 use Rattle.core_facts.proofs.OneCallStory as one_calls
-use Rattle.core_facts.proofs.Stories.{good-over, over-laws, Always}
-use Rattle.core_facts.proofs.Tales.{reached-good}
-use Rattle.core_answers.specs.asks.PutCalls.{IsForRoom}
 use Rattle.core_answers.specs.asks.PutCalls as room
-use Rattle.core_answers.proofs.asks.CallsAwaited.{Expects, expects-laws}
 use Rattle.core_answers.proofs.asks.PutAsks as puts
 use Rattle.core_answers.proofs.asks.RemoveAsks as removes
 use Rattle.core_answers.proofs.asks.StatAsks as stats
-use Rattle.core_answers.proofs.asks.Sendings.{NoCall, SentFor}
-use Rattle.core_session.specs.calls.Sessions.{IsSession}
 use Rattle.core_session.specs.calls.Made.{IsBeside, makes_room, removes as takes_away, ReadsKeep, IsMade, CallsMade}
 use Rattle.core_session.proofs.calls.ListTales as lists
 use Rattle.core_session.proofs.calls.OneTales.{one-laws}

@@ -1,72 +1,21 @@
 -- Along a history each byte that is pending of a file is one that an operation writes there: of its slot's file, or of the one to which its path leads.
-use Rattle.std.proofs.Common.{◌≡◌, ◌≤◌, ◌+◌, ◌-◌, ◌⊎◌, inl, inr, ℕ, List, [], ◌∷◌, ◌++◌, length, Bool, true, false, Option, Some, None, Result, Ok, Err, position, slice_get, slice_set, replicate, refl, sym, ap, subst, ◌∙◌, arith}
+use Rattle.core_session.proofs.Prelude.{◌≡◌, ◌≤◌, ◌+◌, ◌-◌, ◌⊎◌, inl, inr, ℕ, List, [], ◌∷◌, ◌++◌, length, Bool, true, false, Option, Some, None, Result, Ok, Err, position, slice_get, slice_set, replicate, refl, sym, ap, subst, ◌∙◌, arith, slice_index, if◌then◌else◌, le-ltb, eqb-true, slice_get-get_or, Mode, xid_at, Waiting, waiting_at, Opened, covers, Pending, of_file, nothing, low-of, high-of, Answer, Fault, Entry, Began, Answered, Delivered, Reply, Op, At, IsBusy, Modes, AnsweredBefore, UnderWay, IsOf, slot_of, At-grow, At-below, At-last, At-cases, length_last, said_of, Next, Shelf, Turn, file_to_write, Mounted, Machine, IsNamed, machine_of, Starts, Resumes, Takes, Lane, Purpose, State, Busy, Over, Setup, is_busy, IsOther, numbers_of, IsIdle, with_state, IsRefused, Leads, Stirs, counted, StartsLane, TakesAt, View, turn_at, unmade_turn, Reaches, HearsRecord, begins-unbegun, taken_one, may, held-begins, Given, is-given, Known, lanes-under-way, idle-numbers, number_of, LeadsTo, leads-from, at-set, at-push, at-position, get-push, get-remove, skip, to-map, IsHeld, held-grow, by-place, set-other, under-back, byte_from, byte_by, After, CarriesReply, any-saves}
 use Rattle.std.specs.FinMap as finite
-use Rattle.std.specs.Prelude.{slice_index, if◌then◌else◌}
-use Rattle.std.proofs.lemmas.Bool.{le-ltb, eqb-true}
-use Rattle.std.proofs.lemmas.Option.{slice_get-get_or}
-use Rattle.nfs_types.specs.declared.mode.Mode.{Mode}
 use Rattle.nfs_types.specs.declared.mode.Mode.TheVariants as modes
-use Rattle.rpc_message.specs.Call.{xid_at}
-use Rattle.rpc_retry.specs.declared.waiting.Waiting.{Waiting}
-use Rattle.rpc_retry.specs.Waiting.{waiting_at}
-use Rattle.open_files.specs.declared.opened.Opened.{Opened}
-use Rattle.write_back.specs.Segments.{covers}
-use Rattle.write_back.specs.Files.{Pending, of_file}
-use Rattle.write_back.specs.Pieces.{nothing}
-use Rattle.write_back.proofs.Keys.{low-of, high-of}
-use Rattle.world_model.specs.declared.answer.Answer.{Answer}
-use Rattle.world_model.specs.declared.answer.Fault.{Fault}
-use Rattle.world_model.specs.declared.entry.Entry.{Entry}
-use Rattle.world_model.specs.declared.entry.Entry.TheVariants.{Began, Answered, Delivered}
-use Rattle.world_model.specs.declared.message.Reply.{Reply}
-use Rattle.world_model.specs.declared.op.Op.{Op}
 use Rattle.world_model.specs.declared.op.Op.TheVariants as ops
-use Rattle.world_model.specs.Entries.{At}
-use Rattle.world_model.specs.LanesTogether.{IsBusy}
-use Rattle.claims.specs.Modes.{Modes}
 use Rattle.world_model.specs.Leads as paths
 use Rattle.world_model.specs.Mounts as origins
-use Rattle.world_model.specs.Operations.{AnsweredBefore, UnderWay}
 use Rattle.claims.specs.Rights.{can_write}
-use Rattle.claims.specs.Slots.{IsOf, slot_of}
-use Rattle.world_model.proofs.Places.{At-grow, At-below, At-last, At-cases, length_last}
-use Rattle.call_replies.specs.Says.{said_of}
-use Rattle.client_shelf.specs.declared.next.Next.{Next}
 use Rattle.client_shelf.specs.declared.next.Next.TheVariants as nexts
-use Rattle.client_shelf.specs.declared.shelf.Shelf.{Shelf}
-use Rattle.client_shelf.specs.declared.turn.Turn.{Turn}
 use Rattle.file_ops.specs.Syncs as syncs
-use Rattle.file_ops.specs.Opens.{in_mode, of_open, file_to_write}
-use Rattle.op_machines.specs.declared.begun.Mounted.{Mounted}
-use Rattle.op_machines.specs.declared.machine.Machine.{Machine}
-use Rattle.op_machines.specs.Begun.{IsNamed, machine_of}
-use Rattle.op_machines.specs.Steps.{Starts, Resumes, Takes}
-use Rattle.client_core.specs.declared.lane.Lane.{Lane}
-use Rattle.client_core.specs.declared.lane.Purpose.{Purpose}
-use Rattle.client_core.specs.declared.lane.State.{State}
-use Rattle.client_core.specs.declared.lane.State.TheVariants.{Busy, Over}
-use Rattle.client_core.specs.declared.setup.Setup.{Setup}
-use Rattle.client_core.specs.Lanes.{is_busy}
-use Rattle.client_core.specs.Numbers.{IsOther, numbers_of, IsIdle}
-use Rattle.client_core.specs.Steps.{with_state, IsRefused, Leads, Stirs, counted, StartsLane, TakesAt}
-use Rattle.client_core.specs.View.{View, turn_at, unmade_turn}
-use Rattle.core_facts.specs.Reaches.{Reaches, HearsRecord}
-use Rattle.core_facts.proofs.AllCounts.{begins-unbegun}
-use Rattle.core_facts.proofs.Cases.{taken_one}
-use Rattle.core_facts.proofs.HeldSlots.{may, held-begins, Given, is-given}
-use Rattle.core_facts.proofs.Keeping.{Known}
-use Rattle.core_facts.proofs.LaneMarks.{Rests, lanes-under-way, idle-numbers, number_of}
-use Rattle.core_facts.proofs.Leading.{LeadsTo, leads-from}
-use Rattle.core_facts.proofs.Lists.{at-set, at-push, at-position, get-push, get-remove, skip, to-map}
+use Rattle.file_ops.specs.Opens.{in_mode, of_open}
+use Rattle.core_facts.proofs.LaneMarks.{Rests}
 use Rattle.core_facts.proofs.Marks.{answered-grow}
-use Rattle.core_facts.proofs.SlotGrowth.{IsHeld, held-grow, ended-back}
-use Rattle.core_facts.proofs.Stories.{by-place, set-other, under-back}
-use Rattle.core_answers.specs.writes.Written.{byte_from, byte_by}
+use Rattle.core_facts.proofs.SlotGrowth.{ended-back}
 use Rattle.core_answers.proofs.writes.AllBacks.{Brings, StartsWith}
-use Rattle.core_answers.proofs.writes.Backs.{After, CarriesReply}
 use Rattle.core_answers.proofs.writes.Brings.{starts-brings, resumes-brings, takes-brings}
 use Rattle.core_answers.proofs.writes.Given.{OfBack, on-file-given, none-given, landed-given, landed-part-given, decided-given, cut-file-given, xid-given, bytes-given, sent-given}
-use Rattle.core_answers.proofs.writes.Mapped.{back-map, brings-map, any-saves}
+use Rattle.core_answers.proofs.writes.Mapped.{back-map, brings-map}
 use Rattle.core_answers.proofs.writes.SaveChanges.{IsKept, goes-kept, takes-kept}
 use Rattle.core_session.proofs.saves.HearingAlong.{KeepsHearing, reached-hearing}
 use Rattle.core_session.proofs.order.Adds.{Moves, Bears, TakesHas, StartsHas, all-starts, all-resumes, all-takes}

@@ -1,12 +1,9 @@
 -- A list, step by step, and for which call it waits: as the topic `rows` of `core_answers` has it, with its laws for whoever joins them with others.
-use Rattle.std.proofs.Common.{◌≡◌, ◌≤◌, ◌+◌, ◌-◌, ◌⊎◌, inl, inr, nat_lt, ℕ, zero, suc, Bool, true, false, List, [], ◌∷◌, ◌++◌, length, take, drop, slice_get, filter, map, Contains, Option, Some, None, Result, Ok, Err, refl, sym, ap, subst, ◌∙◌, arith}
-use Rattle.std.specs.Prelude.{if◌then◌else◌, ◌↔◌}
-use Rattle.std.proofs.lemmas.List.Elements.{All-nil, filter-append}
+use Rattle.core_session.proofs.Prelude.{◌≡◌, ◌≤◌, ◌+◌, ◌-◌, ◌⊎◌, inl, inr, ℕ, zero, suc, Bool, true, false, List, [], ◌∷◌, ◌++◌, length, take, drop, slice_get, map, Option, Some, None, Result, Ok, Err, refl, sym, ap, subst, ◌∙◌, arith, if◌then◌else◌, All-nil, nat_tests, Attr, Verf, DirKept, Answer, Fault, Value, Entry, Began, Call, Reply, Op, Asks, look_up, Asked, Rooted, EndsWith, Terms, Asked-grow, Asked-wide, length_last, goes_again, fails_busy, Next, Shelf, Turn, ListDir, Visit, Walk, Mounted, Machine, machine_of, Starts, Resumes, Takes, State, Busy, Over, Setup, of_name, of_walk, in_flight, IsCounted, Counts, Awaits, awaits-laws, begins-unbegun, counts-calls, OwnOr, WalkAwaits, all-starts, all-resumes, all-takes, IsNameTold, NamesTold, names-later, LeadsTo, leads-from, leads-later, WalkLeads, IsHeard, heard-tells, ends-later, ThenOf, AskedOf, IsTold, IsQuiet, AsksFor, TaleLaws}
+use Rattle.std.proofs.Common.{nat_lt, filter, Contains}
+use Rattle.std.specs.Prelude.{◌↔◌}
+use Rattle.std.proofs.lemmas.List.Elements.{filter-append}
 use Rattle.std.proofs.lemmas.List.{map-append, length-append}
-use Rattle.std.proofs.lemmas.Bool.Decides.{nat_tests}
-use Rattle.nfs_types.specs.declared.attr.Attr.{Attr}
-use Rattle.nfs_types.specs.declared.verf.Verf.{Verf}
-use Rattle.nfs_dir_calls.specs.declared.keeping.DirKept.{DirKept}
 use Rattle.nfs_dir_calls.specs.declared.keeping.DirKept.TheVariants as kept
 use Rattle.nfs_dir_calls.specs.declared.plus_page.PlusRow.{PlusRow}
 use Rattle.dir_list.specs.declared.progress.Step.{Step}
@@ -14,62 +11,27 @@ use Rattle.dir_list.specs.declared.progress.Step.TheVariants.{More, End}
 use Rattle.dir_list.specs.declared.progress.ListFault.{ListFault}
 use Rattle.dir_list.specs.declared.progress.ListFault.TheVariants as list_faults
 use Rattle.dir_list.specs.Listings.{listing_limit, counts, counted, last_cookie, page_step}
-use Rattle.world_model.specs.declared.answer.Answer.{Answer}
 use Rattle.world_model.specs.declared.answer.Answer.TheVariants as answers
-use Rattle.world_model.specs.declared.answer.Fault.{Fault}
 use Rattle.world_model.specs.declared.answer.Fault.TheVariants as faults
-use Rattle.world_model.specs.declared.answer.Value.{Value}
 use Rattle.world_model.specs.declared.answer.Value.TheVariants as values
-use Rattle.world_model.specs.declared.entry.Entry.{Entry}
-use Rattle.world_model.specs.declared.entry.Entry.TheVariants.{Began}
-use Rattle.world_model.specs.declared.message.Call.{Call}
-use Rattle.world_model.specs.declared.message.Reply.{Reply}
 use Rattle.world_model.specs.declared.message.Reply.TheVariants as replies
-use Rattle.world_model.specs.declared.op.Op.{Op}
 use Rattle.world_model.specs.declared.op.Op.TheVariants as ops
-use Rattle.claims.specs.Asks.{Asks, look_up}
 use Rattle.claims.specs.Asks as asks
 use Rattle.world_model.specs.Chains.{Chain, start, next, LastCookie, names_of, list_call, page_reply}
-use Rattle.world_model.specs.Heard.{Asked}
 use Rattle.world_model.specs.Leads as leading
 use Rattle.world_model.specs.Leads.{Leads}
-use Rattle.world_model.specs.Mounts.{Given, Rooted}
+use Rattle.world_model.specs.Mounts.{Given}
 use Rattle.claims.specs.OkRows.{ListOk, most_names}
-use Rattle.world_model.specs.Operations.{EndsWith}
-use Rattle.claims.specs.Terms.{Terms}
-use Rattle.world_model.proofs.Growth.{Asked-grow, Asked-wide}
-use Rattle.world_model.proofs.Places.{length_last}
-use Rattle.client_shelf.specs.Busy.{goes_again, fails_busy}
-use Rattle.client_shelf.specs.declared.next.Next.{Next}
 use Rattle.client_shelf.specs.declared.next.Next.TheVariants as nexts
-use Rattle.client_shelf.specs.declared.shelf.Shelf.{Shelf}
-use Rattle.client_shelf.specs.declared.turn.Turn.{Turn}
-use Rattle.name_ops.specs.declared.list_dir.ListDir.{ListDir}
-use Rattle.name_ops.specs.declared.visit.Visit.{Visit}
-use Rattle.name_ops.specs.declared.walk.Walk.{Walk}
 use Rattle.name_ops.specs.declared.walk.WalkNext.TheVariants as walks
 use Rattle.name_ops.specs.ListDir as listing
 use Rattle.name_ops.specs.Visiting as visiting
 use Rattle.name_ops.specs.Walking as walking
-use Rattle.op_machines.specs.declared.begun.Mounted.{Mounted}
-use Rattle.op_machines.specs.declared.machine.Machine.{Machine}
 use Rattle.op_machines.specs.declared.machine.Machine.TheVariants as machines
 use Rattle.op_machines.specs.declared.name_machine.NameMachine.TheVariants as names
-use Rattle.op_machines.specs.Begun.{machine_of}
-use Rattle.op_machines.specs.Steps.{Starts, Resumes, Takes}
-use Rattle.client_core.specs.declared.lane.State.{State}
-use Rattle.client_core.specs.declared.lane.State.TheVariants.{Busy, Over}
-use Rattle.client_core.specs.declared.setup.Setup.{Setup}
-use Rattle.core_facts.specs.InFlight.{of_name, of_walk, visit_by, of_visit, in_flight, IsCounted, Counts}
-use Rattle.core_facts.proofs.AllAwaited.{Awaits, awaits-laws}
-use Rattle.core_facts.proofs.AllCounts.{begins-unbegun, counts-calls}
-use Rattle.core_facts.proofs.Awaited.{OwnOr, WalkAwaits}
-use Rattle.core_facts.proofs.FilesKept.{all-starts, all-resumes, all-takes}
-use Rattle.core_facts.proofs.Leading.{IsNameTold, NamesTold, names-later, LeadsTo, leads-from, leads-later, WalkLeads, IsHeard, heard-tells}
+use Rattle.core_facts.specs.InFlight.{visit_by, of_visit}
 use Rattle.core_facts.proofs.OneCalls.{then-as, VisitStory, visit-at, visit-then, walks-then, visit-later}
-use Rattle.core_facts.proofs.OneCallStory.{ends-later}
-use Rattle.core_facts.proofs.Steps.{ThenOf, AskedOf}
-use Rattle.core_facts.proofs.Tales.{IsTold, IsLastReply, IsQuiet, AsksFor, TaleLaws}
+use Rattle.core_facts.proofs.Tales.{IsLastReply}
 
 -- ---- lists of names
 

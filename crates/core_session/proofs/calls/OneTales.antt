@@ -1,41 +1,14 @@
 -- Which calls operations of one call ask for: as `core_facts` has it, with its laws for whoever joins them with others.
-use Rattle.std.proofs.Common.{◌≡◌, ◌-◌, ℕ, List, [], ◌∷◌, ◌++◌, length, take, Result, refl, sym, ap, subst, arith}
-use Rattle.std.proofs.lemmas.List.Elements.{All-nil}
-use Rattle.world_model.specs.declared.answer.Fault.{Fault}
-use Rattle.world_model.specs.declared.entry.Entry.{Entry}
-use Rattle.world_model.specs.declared.entry.Entry.TheVariants.{Began}
-use Rattle.world_model.specs.declared.message.Call.{Call}
-use Rattle.world_model.specs.declared.message.Reply.{Reply}
-use Rattle.world_model.specs.declared.op.Op.{Op}
+use Rattle.core_session.proofs.Prelude.{◌≡◌, ◌-◌, ℕ, List, [], ◌∷◌, ◌++◌, length, take, Result, refl, sym, ap, subst, arith, All-nil, Fault, Entry, Began, Call, Reply, Op, Terms, length_last, Next, Shelf, Turn, walk_of, Mounted, Machine, IsAsked, front_of, machine_of, Starts, Setup, Awaits, awaits-laws, begins-unbegun, counts-calls, all-starts, all-resumes, all-takes, IsNameTold, NamesTold, names-later, WalkLeads, heard-tells, ThenOf, AskedOf, IsTold, AsksFor, TaleLaws, in_flight, IsCounted, Counts}
 use Rattle.world_model.specs.declared.op.Op.TheVariants as ops
 use Rattle.world_model.specs.Leads as leads
-use Rattle.claims.specs.Terms.{Terms}
-use Rattle.world_model.proofs.Places.{length_last}
-use Rattle.client_shelf.specs.declared.next.Next.{Next}
 use Rattle.client_shelf.specs.declared.next.Next.TheVariants as nexts
-use Rattle.client_shelf.specs.declared.shelf.Shelf.{Shelf}
-use Rattle.client_shelf.specs.declared.turn.Turn.{Turn}
 use Rattle.name_ops.specs.Pairs as pairs
-use Rattle.name_ops.specs.Pairs.{walk_of}
 use Rattle.name_ops.specs.Visiting as visiting
-use Rattle.op_machines.specs.declared.begun.Mounted.{Mounted}
-use Rattle.op_machines.specs.declared.machine.Machine.{Machine}
-use Rattle.op_machines.specs.Begun.{IsAsked, front_of, machine_of}
-use Rattle.op_machines.specs.Steps.{Starts}
-use Rattle.client_core.specs.declared.setup.Setup.{Setup}
 use Rattle.core_facts.specs.Naming.{IsOneCall}
-use Rattle.core_facts.proofs.AllAwaited.{Awaits, awaits-laws}
-use Rattle.core_facts.proofs.AllCounts.{begins-unbegun}
-use Rattle.core_facts.proofs.FilesKept.{all-starts, all-resumes, all-takes}
-use Rattle.core_facts.proofs.Leading.{IsNameTold, NamesTold, names-later, WalkLeads, heard-tells}
 use Rattle.core_facts.proofs.OneCalls.{VisitStory, PairStory}
-use Rattle.core_facts.proofs.Steps.{ThenOf}
-use Rattle.core_facts.proofs.Tales.{IsTold, AsksFor, TaleLaws}
-use Rattle.core_facts.specs.InFlight.{in_flight, IsCounted, Counts}
-use Rattle.core_facts.proofs.AllCounts.{counts-calls}
 use Rattle.core_facts.proofs.OneCallAsks.{AsksNow, asks-new, asks-from}
 use Rattle.core_facts.proofs.OneCallStory.{given, Runs, Story, Shelved, NoWait, Steps, heard-all, goes, takes, state-later, for-op}
-use Rattle.core_facts.proofs.Steps.{AskedOf}
 
 -- ---- operations that begin
 

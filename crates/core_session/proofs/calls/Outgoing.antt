@@ -1,43 +1,10 @@
 -- At each record that was sent: the view before it, the call that waited, and the operation of that call.
-use Rattle.std.proofs.Common.{◌+◌, ◌≡◌, ◌<◌, ◌≤◌, ◌⊎◌, inl, inr, ℕ, List, [], ◌∷◌, ◌++◌, length, Bool, true, false, Some, None, slice_get, refl, sym, ap, subst, ◌∙◌, arith, append_assoc}
+use Rattle.core_session.proofs.Prelude.{◌+◌, ◌≡◌, ◌<◌, ◌≤◌, ◌⊎◌, inl, inr, ℕ, List, [], ◌∷◌, ◌++◌, length, Bool, true, false, Some, None, slice_get, refl, sym, ap, subst, ◌∙◌, arith, append_assoc, Waiting, next_xid, waiting_at, at_sent, waits_early, Entry, Began, Answered, Dialed, Sent, Executed, Foreign, Flushed, Reboot, Delivered, Failed, Clock, Call, Op, NoneBegan, At, SpellsCall, SpellsCallBy, UnderWay, At-below, At-back, At-cases, Shelf, Machine, Lane, Purpose, State, Busy, Setup, SendsIf, View, calls_for, IsOfOperation, in_flight, IsUnbegun, StepsTo, Reaches, begins, goes, loses, SentNow, sent_now, IsKnown, calls-some, known-only, reached-count, ExpectLaws, lanes-under-way, reached-lanes, reached-owned, Rows, reached-rows, TaleLaws, IsExpected, reached-good, IsNfs, one-call, NoCall, NoShelf, NoStory, no-laws, SentFor}
 use Rattle.nfs_types.specs.declared.program.TheConstants.{NFS_PROGRAM}
-use Rattle.rpc_retry.specs.declared.waiting.Waiting.{Waiting}
-use Rattle.rpc_retry.specs.Held.{next_xid}
-use Rattle.rpc_retry.specs.Waiting.{waiting_at}
-use Rattle.rpc_retry.proofs.Lookups.{at_sent, waits_early}
 use Rattle.rpc_retry.proofs.Records.{waits_late}
-use Rattle.world_model.specs.declared.entry.Entry.{Entry}
-use Rattle.world_model.specs.declared.entry.Entry.TheVariants.{Began, Answered, Dialed, Sent, Executed, Foreign, Flushed, Reboot, Delivered, Failed, Clock}
-use Rattle.world_model.specs.declared.message.Call.{Call}
 use Rattle.world_model.specs.declared.message.Call.TheVariants as calls
-use Rattle.world_model.specs.declared.op.Op.{Op}
-use Rattle.claims.specs.CallsAsked.{NoneBegan}
-use Rattle.world_model.specs.Entries.{At}
-use Rattle.world_model.specs.Messages.{SpellsCall, SpellsCallBy, program_of}
-use Rattle.world_model.specs.Operations.{UnderWay}
-use Rattle.world_model.proofs.Places.{At-below, At-back, At-cases}
-use Rattle.client_shelf.specs.declared.shelf.Shelf.{Shelf}
-use Rattle.op_machines.specs.declared.machine.Machine.{Machine}
-use Rattle.client_core.specs.declared.lane.Lane.{Lane}
-use Rattle.client_core.specs.declared.lane.Purpose.{Purpose}
-use Rattle.client_core.specs.declared.lane.State.{State}
-use Rattle.client_core.specs.declared.lane.State.TheVariants.{Busy}
-use Rattle.client_core.specs.declared.setup.Setup.{Setup}
-use Rattle.client_core.specs.Steps.{SendsIf}
-use Rattle.client_core.specs.View.{View}
-use Rattle.core_facts.specs.Counted.{calls_for, IsOfOperation}
-use Rattle.core_facts.specs.InFlight.{in_flight, IsUnbegun}
-use Rattle.core_facts.specs.Reaches.{StepsTo, Reaches, begins, goes, loses}
-use Rattle.core_facts.proofs.Cases.{SentNow, sent_now}
-use Rattle.core_facts.proofs.Counting.{IsKnown, calls-some, known-only, reached-count}
-use Rattle.core_facts.proofs.Expects.{ExpectLaws}
-use Rattle.core_facts.proofs.LaneMarks.{lanes-under-way, reached-lanes}
-use Rattle.core_facts.proofs.Owning.{reached-owned}
-use Rattle.core_facts.proofs.Rows.{Rows, reached-rows}
-use Rattle.core_facts.proofs.Tales.{TaleLaws, IsExpected, reached-good}
-use Rattle.core_answers.proofs.bonds.OneCall.{IsNfs, one-call}
+use Rattle.world_model.specs.Messages.{program_of}
 use Rattle.core_answers.proofs.asks.Limits.{reached-limit}
-use Rattle.core_answers.proofs.asks.Sendings.{NoCall, NoShelf, NoStory, no-laws, SentFor}
 
 nfs-of : (call : Call) → program_of call ≡ NFS_PROGRAM → IsNfs call
 nfs-of (calls.File call) is = tt

@@ -1,35 +1,15 @@
 -- What a read asks for, of a record that was sent for it.
-use Rattle.std.proofs.Common.{◌≡◌, ◌≤◌, ℕ, true, List, ◌++◌, Option, Some, None, refl, sym, ap, subst, ◌∙◌, arith}
+use Rattle.core_session.proofs.Prelude.{◌≡◌, ◌≤◌, ℕ, true, List, ◌++◌, Option, Some, None, refl, sym, ap, subst, ◌∙◌, arith, Entry, Call, Op, Asks, IsOf, Terms, Phase, Reading, place_after, Mounted, Machine, machine_of, Busy, Setup, in_flight, begins-unbegun, Held, held-later, always-later, Given, is-given, good-over, Expects, expects-laws, SentFor, of-slot}
 use Rattle.nfs_file_calls.specs.declared.call.FileCall.TheVariants as calls_of
-use Rattle.world_model.specs.declared.entry.Entry.{Entry}
-use Rattle.world_model.specs.declared.message.Call.{Call}
 use Rattle.world_model.specs.declared.message.Call.TheVariants as calls
-use Rattle.world_model.specs.declared.op.Op.{Op}
 use Rattle.world_model.specs.declared.op.Op.TheVariants as ops
-use Rattle.claims.specs.Asks.{Asks}
 use Rattle.claims.specs.Asks as asks
-use Rattle.claims.specs.Slots.{IsOf}
-use Rattle.claims.specs.Terms.{Terms}
-use Rattle.file_ops.specs.declared.reading.Phase.{Phase}
 use Rattle.file_ops.specs.declared.reading.Phase.TheVariants as phases
-use Rattle.file_ops.specs.declared.reading.Reading.{Reading}
-use Rattle.file_ops.specs.Base.{place_after}
 use Rattle.file_ops.specs.Reading as reading
-use Rattle.op_machines.specs.declared.begun.Mounted.{Mounted}
-use Rattle.op_machines.specs.declared.machine.Machine.{Machine}
-use Rattle.op_machines.specs.Begun.{machine_of}
-use Rattle.client_core.specs.declared.lane.State.TheVariants.{Busy}
-use Rattle.client_core.specs.declared.setup.Setup.{Setup}
-use Rattle.core_facts.specs.InFlight.{of_phase, of_reading, in_flight}
-use Rattle.core_facts.proofs.AllCounts.{begins-unbegun}
-use Rattle.core_facts.proofs.HeldSlots.{Held, held-later, always-later, Given, is-given}
-use Rattle.core_facts.proofs.Stories.{good-over}
-use Rattle.core_answers.proofs.asks.CallsAwaited.{Expects, expects-laws}
+use Rattle.core_facts.specs.InFlight.{of_phase, of_reading}
 use Rattle.core_answers.proofs.asks.ReadRanges.{inside}
 use Rattle.core_answers.proofs.asks.ReadsAwaited.{PhaseNames, ReadNames}
 use Rattle.core_answers.proofs.asks.ReadSteps.{PhaseAt, ReadAt}
-use Rattle.core_answers.proofs.asks.Sendings.{SentFor}
-use Rattle.core_answers.proofs.asks.SlotAsks.{of-slot}
 use Rattle.core_answers.proofs.asks.ReadAsks.{ReadIn, ReadRuns, ReadStory, read-laws}
 
 -- ---- what a read asks for

@@ -1,43 +1,18 @@
 -- Each piece in flight has no more bytes than the session's size of WRITE.
-use Rattle.std.proofs.Common.{◌≡◌, ◌≢◌, ◌≤◌, ◌⊎◌, inl, inr, ℕ, Bool, true, false, nat_eq, length, List, [], ◌∷◌, ◌++◌, Option, Some, None, Result, Err, sym, ap, subst, ◌∙◌, arith}
-use Rattle.std.specs.Prelude.{if◌then◌else◌, ⊤}
-use Rattle.rpc_retry.specs.declared.waiting.Waiting.{Waiting}
-use Rattle.world_model.specs.declared.answer.Fault.{Fault}
-use Rattle.world_model.specs.declared.entry.Entry.{Entry}
+use Rattle.core_session.proofs.Prelude.{◌≡◌, ◌≢◌, ◌≤◌, ◌⊎◌, inl, inr, ℕ, Bool, true, false, nat_eq, length, List, [], ◌∷◌, ◌++◌, Option, Some, None, Result, Err, sym, ap, subst, ◌∙◌, arith, if◌then◌else◌, Waiting, Fault, Entry, Reply, Op, FilePending, nothing, piece_under, with_sent, at_xid, landed, landed_part, with_cut, with_xid, Pending, of_file, OnFile, with_bytes, same-or, decided, said_of, Next, Shelf, Turn, Mounted, Machine, machine_of, Starts, Resumes, Takes, Purpose, Busy, Setup, with_state, Leads, Stirs, counted, StartsLane, TakesAt, View, turn_at, unmade_turn, StepsTo, Reaches, begins, goes, loses, last_reading, begins-unbegun, Heard, dropped, replied, sent_now, FailedNow, goes_on, gives_up, failed_now, answered_now, taken_one, Known, Stays, After, CarriesReply, any-saves}
+use Rattle.std.specs.Prelude.{⊤}
 use Rattle.world_model.specs.declared.entry.Entry.TheVariants as entries
-use Rattle.world_model.specs.declared.message.Reply.{Reply}
-use Rattle.world_model.specs.declared.op.Op.{Op}
-use Rattle.write_back.specs.Pieces.{Sent, FilePending, nothing, piece_under, without, renumbered}
-use Rattle.write_back.specs.Choice.{with_sent}
-use Rattle.write_back.specs.Landing.{at_piece, at_xid, landed, landed_part, with_cut, with_xid}
-use Rattle.write_back.specs.Files.{Pending, of_file, OnFile, with_bytes}
-use Rattle.write_back.proofs.WritesByFile.{same-or}
-use Rattle.commit_verf.specs.Decisions.{decided}
-use Rattle.call_replies.specs.Says.{said_of}
-use Rattle.client_shelf.specs.declared.next.Next.{Next}
+use Rattle.write_back.specs.Pieces.{Sent, without, renumbered}
+use Rattle.write_back.specs.Landing.{at_piece}
 use Rattle.client_shelf.specs.declared.next.Next.TheVariants as nexts
-use Rattle.client_shelf.specs.declared.shelf.Shelf.{Shelf}
-use Rattle.client_shelf.specs.declared.turn.Turn.{Turn}
 use Rattle.file_ops.specs.Syncs as syncs
-use Rattle.op_machines.specs.declared.begun.Mounted.{Mounted}
-use Rattle.op_machines.specs.declared.machine.Machine.{Machine}
-use Rattle.op_machines.specs.Begun.{machine_of}
-use Rattle.op_machines.specs.Steps.{Starts, Resumes, Takes}
-use Rattle.client_core.specs.declared.lane.Purpose.{Purpose}
-use Rattle.client_core.specs.declared.lane.State.TheVariants.{Busy}
-use Rattle.client_core.specs.declared.setup.Setup.{Setup}
-use Rattle.client_core.specs.Steps.{with_state, Leads, Stirs, counted, StartsLane, TakesAt}
-use Rattle.client_core.specs.View.{View, turn_at, unmade_turn}
-use Rattle.core_facts.specs.Reaches.{StepsTo, Reaches, begins, goes, loses, last_reading}
-use Rattle.core_facts.proofs.AllCounts.{begins-unbegun}
-use Rattle.core_facts.proofs.Cases.{Heard, dropped, replied, heard, sent_now, FailedNow, goes_on, gives_up, failed_now, answered_now, taken_one}
-use Rattle.core_facts.proofs.Keeping.{Known}
-use Rattle.core_facts.proofs.Walks.{Stays, begins-stay, hears-for-stay}
+use Rattle.core_facts.proofs.Cases.{heard}
+use Rattle.core_facts.proofs.Walks.{begins-stay, hears-for-stay}
 use Rattle.core_answers.proofs.writes.AllBacks.{all-starts, all-resumes, all-takes}
-use Rattle.core_answers.proofs.writes.Backs.{After, Carries, CarriesReply}
+use Rattle.core_answers.proofs.writes.Backs.{Carries}
 use Rattle.core_session.proofs.saves.HearingAlong.{KeepsHearing, reached-hearing}
 use Rattle.core_session.proofs.calls.SizedSaves.{IsKept, goes-kept, takes-kept}
-use Rattle.core_answers.proofs.writes.Mapped.{any-asks, any-saves, any-brings, any-starts}
+use Rattle.core_answers.proofs.writes.Mapped.{any-asks, any-brings, any-starts}
 
 -- ---- the size stays as it was set up
 

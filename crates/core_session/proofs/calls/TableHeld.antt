@@ -1,29 +1,9 @@
 -- Where each answer that is ready was noted, what the table of opens has, a slot holds by the history.
-use Rattle.std.proofs.Common.{◌≡◌, ◌⊎◌, inl, inr, ℕ, suc, List, [], ◌∷◌, Bool, true, false, nat_eq, Option, Some, None, slice_get, refl, sym, ap, subst, ◌∙◌, length}
-use Rattle.std.proofs.lemmas.Bool.{eqb-true, eqb-false}
+use Rattle.core_session.proofs.Prelude.{◌≡◌, ◌⊎◌, inl, inr, ℕ, suc, List, [], ◌∷◌, Bool, true, false, nat_eq, Option, Some, None, slice_get, refl, sym, ap, subst, ◌∙◌, length, eqb-true, eqb-false, Answer, Entry, Modes, Opened, Opens, IsOpen, Closing, Mounted, Machine, machine_of, Lane, State, Busy, Over, Setup, IsOther, numbers_of, View, Reaches, lanes-under-way, reached-lanes, IsHeld, Agrees, Kind, plainly, kind_of, StoryOf, Slots, reached-slots}
 use Rattle.std.specs.FinMap as finite
-use Rattle.world_model.specs.declared.answer.Answer.{Answer}
-use Rattle.world_model.specs.declared.entry.Entry.{Entry}
-use Rattle.claims.specs.Modes.{Modes}
-use Rattle.open_files.specs.declared.opened.Opened.{Opened}
-use Rattle.open_files.specs.Slots.{Opens, IsOpen}
-use Rattle.file_ops.specs.declared.close_file.Closing.{Closing}
 use Rattle.file_ops.specs.declared.close_file.Closing.TheVariants as closing_states
-use Rattle.op_machines.specs.declared.begun.Mounted.{Mounted}
-use Rattle.op_machines.specs.declared.machine.Machine.{Machine}
-use Rattle.op_machines.specs.Begun.{machine_of}
-use Rattle.client_core.specs.declared.lane.Lane.{Lane}
-use Rattle.client_core.specs.declared.lane.State.{State}
-use Rattle.client_core.specs.declared.lane.State.TheVariants.{Busy, Over}
-use Rattle.client_core.specs.declared.setup.Setup.{Setup}
-use Rattle.client_core.specs.Numbers.{IsOther, numbers_of}
-use Rattle.client_core.specs.View.{View}
-use Rattle.core_facts.specs.Reaches.{Reaches}
 use Rattle.core_facts.proofs.CloseSlots.{ClosingHas}
-use Rattle.core_facts.proofs.LaneMarks.{lanes-under-way, reached-lanes}
-use Rattle.core_facts.proofs.SlotGrowth.{IsHeld, Agrees}
-use Rattle.core_facts.proofs.Slots.{Kind, opening, closing, plainly, kind_of, StoryOf}
-use Rattle.core_facts.proofs.SlotsAlong.{Slots, reached-slots}
+use Rattle.core_facts.proofs.Slots.{opening, closing}
 
 -- a lane with this number, or none
 pub record IsLane (n : ℕ) (lanes : List Lane) : Type 0 where

@@ -1,38 +1,19 @@
 -- Each call of a session was asked for, or is one of those of which that isn't said.
-use Rattle.std.proofs.Common.{◌≡◌, ◌≤◌, ◌<◌, ◌+◌, ◌⊎◌, inl, inr, ℕ, List, length, refl, sym, subst, arith}
-use Rattle.std.proofs.lemmas.Bool.{cases_lt}
+use Rattle.core_session.proofs.Prelude.{◌≡◌, ◌≤◌, ◌<◌, ◌+◌, ◌⊎◌, inl, inr, ℕ, List, length, refl, sym, subst, arith, cases_lt, Entry, Began, Sent, Call, Op, NoneBegan, IsCaused, KeepsTo, At, HasXid, SpellsCall, SpellsCallBy, Rooted, info_call, Terms, Rooted-wide, At-below, At-back, Mounted, IsAsked, machine_of, Setup, View, KnowsRoot, begins-unbegun, one-xid, reached-rows, one-call, Expects, expects-laws, IsSession, GoesFrom, CallsAskedBut, Notes}
 use Rattle.rpc_message.proofs.CallLaws.{call_xid}
-use Rattle.world_model.specs.declared.entry.Entry.{Entry}
-use Rattle.world_model.specs.declared.entry.Entry.TheVariants.{Began, Sent}
-use Rattle.world_model.specs.declared.message.Call.{Call}
-use Rattle.world_model.specs.declared.op.Op.{Op}
-use Rattle.claims.specs.CallsAsked.{NoneBegan, IsCaused, IsCause, mounts, informs, asked, AreSetUp, mount, inform, KeepsTo}
-use Rattle.world_model.specs.Entries.{At}
+use Rattle.claims.specs.CallsAsked.{IsCause, mounts, informs, asked, AreSetUp, mount, inform}
 use Rattle.world_model.specs.LanesTogether.{HasBegun}
-use Rattle.world_model.specs.Messages.{HasXid, SpellsCall, SpellsCallBy, head_of}
-use Rattle.world_model.specs.Mounts.{Rooted, Sized, mount_call, info_call}
-use Rattle.claims.specs.Terms.{Terms}
-use Rattle.world_model.proofs.Growth.{Rooted-grow, Rooted-wide, Sized-grow, Sized-wide}
-use Rattle.world_model.proofs.Places.{At-below, At-back}
-use Rattle.op_machines.specs.declared.begun.Mounted.{Mounted}
-use Rattle.op_machines.specs.Begun.{IsAsked, machine_of}
-use Rattle.client_core.specs.declared.setup.Setup.{Setup}
-use Rattle.client_core.specs.View.{View}
-use Rattle.core_facts.specs.Naming.{KnowsRoot}
-use Rattle.core_facts.proofs.AllCounts.{begins-unbegun}
-use Rattle.core_facts.proofs.Grown.{one-xid}
-use Rattle.core_facts.proofs.Rows.{reached-rows}
-use Rattle.core_answers.proofs.bonds.OneCall.{one-call}
-use Rattle.core_answers.proofs.asks.CallsAwaited.{Expects, expects-laws}
-use Rattle.core_session.specs.calls.Sessions.{IsSession, KnowsSizes}
-use Rattle.core_session.specs.calls.Whole.{GoesFrom, IsCausedBeside, CallsAskedBut, SessionsCallsAsked, AllCallsAsked}
+use Rattle.world_model.specs.Messages.{head_of}
+use Rattle.world_model.specs.Mounts.{Sized, mount_call}
+use Rattle.world_model.proofs.Growth.{Rooted-grow, Sized-grow, Sized-wide}
+use Rattle.core_session.specs.calls.Sessions.{KnowsSizes}
+use Rattle.core_session.specs.calls.Whole.{IsCausedBeside, SessionsCallsAsked, AllCallsAsked}
 use Rattle.core_session.proofs.calls.Causes.{Now, Spelt, IsPlain, under-now, cause, reads-keep, spelt-plain, sized-grow}
 use Rattle.core_session.proofs.calls.Outgoing.{Outgoing, sent-nfs}
 use Rattle.core_session.proofs.room.Onward.{Onward, SentOn, reached-on}
 use Rattle.core_session.proofs.calls.OwnBytes.{own-bytes}
 use Rattle.core_session.proofs.calls.TableHeld.{AllNoted}
 use Rattle.core_session.proofs.asked.Passed.{Passed, sends-passed}
-use Rattle.core_facts.specs.Notes.{Notes}
 use Rattle.core_session.proofs.calls.WriteKeeps.{writes-keep}
 
 module _ (m : Mounted) (terms : Terms) (setup : Setup) (before h : List Entry) (v : View) (g : GoesFrom m terms setup before h v) where

@@ -1,33 +1,11 @@
 -- A write or a fill, step by step, and that each of its calls makes room.
-use Rattle.std.proofs.Common.{◌≡◌, ◌≤◌, ℕ, List, [], ◌∷◌, ◌++◌, length, Result, ap, subst, ◌∙◌, arith}
-use Rattle.world_model.specs.declared.answer.Fault.{Fault}
-use Rattle.world_model.specs.declared.entry.Entry.{Entry}
-use Rattle.world_model.specs.declared.entry.Entry.TheVariants.{Began}
-use Rattle.world_model.specs.declared.message.Call.{Call}
-use Rattle.world_model.specs.declared.message.Reply.{Reply}
-use Rattle.world_model.specs.declared.op.Op.{Op}
+use Rattle.core_session.proofs.Prelude.{◌≡◌, ◌≤◌, ℕ, List, [], ◌∷◌, ◌++◌, length, Result, ap, subst, ◌∙◌, arith, Fault, Entry, Began, Call, Reply, Op, Next, Shelf, Turn, WriteFile, Writing, Mounted, Machine, machine_of, Starts, Resumes, Takes, State, Busy, Over, of_writing, in_flight, ThenOf, IsForRoom, Expects, WriteNames}
 use Rattle.world_model.specs.declared.op.Op.TheVariants as ops
-use Rattle.client_shelf.specs.declared.next.Next.{Next}
 use Rattle.client_shelf.specs.declared.next.Next.TheVariants as nexts
-use Rattle.client_shelf.specs.declared.shelf.Shelf.{Shelf}
-use Rattle.client_shelf.specs.declared.turn.Turn.{Turn}
-use Rattle.file_ops.specs.declared.write_file.WriteFile.{WriteFile}
-use Rattle.file_ops.specs.declared.write_file.Writing.{Writing}
 use Rattle.file_ops.specs.declared.write_file.Writing.TheVariants as writing
-use Rattle.op_machines.specs.declared.begun.Mounted.{Mounted}
 use Rattle.op_machines.specs.declared.file_machine.FileMachine.TheVariants as files
-use Rattle.op_machines.specs.declared.machine.Machine.{Machine}
 use Rattle.op_machines.specs.declared.machine.Machine.TheVariants as machines
-use Rattle.op_machines.specs.Begun.{machine_of}
-use Rattle.op_machines.specs.Steps.{Starts, Resumes, Takes}
-use Rattle.client_core.specs.declared.lane.State.{State}
-use Rattle.client_core.specs.declared.lane.State.TheVariants.{Busy, Over}
-use Rattle.core_facts.specs.InFlight.{of_writing, in_flight}
-use Rattle.core_facts.proofs.Steps.{ThenOf}
 use Rattle.core_facts.proofs.Stories.{StoryLaws}
-use Rattle.core_answers.specs.asks.PutCalls.{IsForRoom}
-use Rattle.core_answers.proofs.asks.CallsAwaited.{Expects}
-use Rattle.core_answers.proofs.asks.FilesAwaited.{WriteNames}
 use Rattle.core_answers.proofs.asks.PutAsks.{for-room}
 
 -- a write or a fill

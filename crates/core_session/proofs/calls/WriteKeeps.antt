@@ -1,23 +1,9 @@
 -- A WRITE that is sent carries a piece in flight, so no more bytes than the session's size.
-use Rattle.std.proofs.Common.{◌≡◌, ℕ, List, length, sym, ap, ◌∙◌, arith}
+use Rattle.core_session.proofs.Prelude.{◌≡◌, ℕ, List, length, sym, ap, ◌∙◌, arith, of_file, Entry, Call, Terms, Mounted, machine_of, Setup, View, begins-unbegun, Expects, expects-laws, written_file, IsInFlight, writes-whole, IsSession}
 use Rattle.nfs_file_calls.specs.declared.call.FileCall.TheVariants as files
-use Rattle.write_back.specs.Files.{of_file}
-use Rattle.world_model.specs.declared.entry.Entry.{Entry}
-use Rattle.world_model.specs.declared.message.Call.{Call}
 use Rattle.world_model.specs.declared.message.Call.TheVariants as calls
 use Rattle.claims.specs.CallsAsked.{IsWrite}
-use Rattle.claims.specs.Terms.{Terms}
 use Rattle.world_model.proofs.Growth.{Sized-wide}
-use Rattle.op_machines.specs.declared.begun.Mounted.{Mounted}
-use Rattle.op_machines.specs.Begun.{machine_of}
-use Rattle.client_core.specs.declared.setup.Setup.{Setup}
-use Rattle.client_core.specs.View.{View}
-use Rattle.core_facts.proofs.AllCounts.{begins-unbegun}
-use Rattle.core_answers.proofs.asks.CallsAwaited.{Expects, expects-laws}
-use Rattle.core_answers.specs.writes.Alone.{written_file}
-use Rattle.core_answers.specs.writes.Flights.{IsInFlight}
-use Rattle.core_answers.proofs.writes.WholeWrites.{writes-whole}
-use Rattle.core_session.specs.calls.Sessions.{IsSession}
 use Rattle.core_session.proofs.calls.Causes.{Spelt, under-now, rooted-here}
 use Rattle.core_session.proofs.calls.Outgoing.{Outgoing, sent-by}
 use Rattle.core_session.proofs.calls.Sizes.{reached-short, short-under}

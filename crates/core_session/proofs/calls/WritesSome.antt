@@ -1,26 +1,12 @@
 -- Each WRITE that a session sends carries a byte: each piece in flight has one.
-use Rattle.std.proofs.Common.{◌≡◌, ℕ, List, [], length, ap, arith, inl, inr}
+use Rattle.core_session.proofs.Prelude.{◌≡◌, ℕ, List, [], length, ap, arith, inl, inr, of_file, Entry, Sent, Call, At, SpellsCall, info_call, Terms, Mounted, machine_of, Setup, View, begins-unbegun, Expects, expects-laws, one-call, GoesFrom}
 use Rattle.nfs_file_calls.specs.declared.call.FileCall.TheVariants as files
-use Rattle.write_back.specs.Files.{of_file}
 use Rattle.write_back.proofs.Flying.{under-whole}
-use Rattle.world_model.specs.declared.entry.Entry.{Entry}
-use Rattle.world_model.specs.declared.entry.Entry.TheVariants.{Sent}
-use Rattle.world_model.specs.declared.message.Call.{Call}
 use Rattle.world_model.specs.declared.message.Call.TheVariants as calls
 use Rattle.claims.specs.CallsAsked.{IsCause, mounts, informs, asked}
-use Rattle.world_model.specs.Entries.{At}
-use Rattle.world_model.specs.Messages.{SpellsCall}
-use Rattle.world_model.specs.Mounts.{mount_call, info_call}
-use Rattle.claims.specs.Terms.{Terms}
-use Rattle.op_machines.specs.declared.begun.Mounted.{Mounted}
-use Rattle.op_machines.specs.Begun.{machine_of}
-use Rattle.client_core.specs.declared.setup.Setup.{Setup}
-use Rattle.client_core.specs.View.{View}
-use Rattle.core_facts.proofs.AllCounts.{begins-unbegun}
-use Rattle.core_answers.proofs.asks.CallsAwaited.{Expects, expects-laws}
-use Rattle.core_answers.proofs.bonds.OneCall.{one-call}
+use Rattle.world_model.specs.Mounts.{mount_call}
 use Rattle.core_session.proofs.order.Basis.{reached-basis}
-use Rattle.core_session.specs.calls.Whole.{GoesFrom, WritesCarryBytes}
+use Rattle.core_session.specs.calls.Whole.{WritesCarryBytes}
 use Rattle.core_session.proofs.calls.Causes.{Now}
 use Rattle.core_session.proofs.calls.Outgoing.{Outgoing, sent-nfs}
 use Rattle.core_session.proofs.calls.Whole.{session, early-or}

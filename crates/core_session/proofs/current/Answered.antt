@@ -1,16 +1,5 @@
 -- What the steps of operations keep is known of each answer, where nothing need be known of how the session went on.
-use Rattle.world_model.specs.declared.answer.Answer.{Answer}
-use Rattle.world_model.specs.declared.entry.Entry.{Entry}
-use Rattle.world_model.specs.declared.message.Call.{Call}
-use Rattle.world_model.specs.declared.message.Reply.{Reply}
-use Rattle.world_model.specs.declared.op.Op.{Op}
-use Rattle.std.proofs.Common.{ℕ, List, refl}
-use Rattle.client_shelf.specs.declared.shelf.Shelf.{Shelf}
-use Rattle.client_shelf.specs.declared.turn.Turn.{Turn}
-use Rattle.op_machines.specs.declared.machine.Machine.{Machine}
-use Rattle.client_core.specs.declared.lane.State.{State}
-use Rattle.client_core.specs.declared.setup.Setup.{Setup}
-use Rattle.client_core.specs.View.{View}
+use Rattle.core_session.proofs.Prelude.{Answer, Entry, Call, Reply, Op, ℕ, List, refl, Shelf, Turn, Machine, State, Setup, View}
 use Rattle.core_session.proofs.current.Keeping.{HasPassed, WasTaken, BondLaws}
 use Rattle.core_session.proofs.shown.Following.{Followed}
 use Rattle.core_session.proofs.syncs.WatchingAlong.{KeepsWatching}

@@ -1,28 +1,11 @@
 -- Attributes that are believed in a step were shown by a reply, to a call that was first sent at a time which isn't long before.
-use Rattle.std.proofs.Common.{◌≡◌, ◌<◌, ◌+◌, ℕ, Bool, true, false, List, ◌∷◌, [], ◌++◌, length, nat_lt, Option, Some, None, Result, refl, subst, arith}
-use Rattle.std.specs.Prelude.{if◌then◌else◌}
+use Rattle.core_session.proofs.Prelude.{◌≡◌, ◌<◌, ◌+◌, ℕ, Bool, true, false, List, ◌∷◌, [], ◌++◌, length, Option, Some, None, Result, refl, subst, arith, if◌then◌else◌, nat_tests, Attr, looked, Fault, Entry, Call, Reply, Next, Shelf, Turn, machine_of, Takes, Mounted, Machine, Setup, View, Reaches, HadShown, IsAnswered, LastAtMost}
+use Rattle.std.proofs.Common.{nat_lt}
 use Rattle.std.specs.Option.{option_and_then}
-use Rattle.std.proofs.lemmas.Bool.Decides.{nat_tests}
-use Rattle.nfs_types.specs.declared.attr.Attr.{Attr}
-use Rattle.attr_cache.specs.Attrs.{Attrs, kept_of, looked, is_fresh}
+use Rattle.attr_cache.specs.Attrs.{Attrs, kept_of, is_fresh}
 use Rattle.attr_cache.specs.declared.kept.KeptAttr.{KeptAttr}
 use Rattle.attr_cache.proofs.Entries.{Believed, All-lookup}
-use Rattle.world_model.specs.declared.answer.Fault.{Fault}
-use Rattle.world_model.specs.declared.entry.Entry.{Entry}
-use Rattle.world_model.specs.declared.message.Call.{Call}
-use Rattle.world_model.specs.declared.message.Reply.{Reply}
 use Rattle.claims.specs.Shown.{ShowsAttr}
-use Rattle.client_shelf.specs.declared.next.Next.{Next}
-use Rattle.client_shelf.specs.declared.shelf.Shelf.{Shelf}
-use Rattle.client_shelf.specs.declared.turn.Turn.{Turn}
-use Rattle.op_machines.specs.Begun.{machine_of}
-use Rattle.op_machines.specs.Steps.{Takes}
-use Rattle.op_machines.specs.declared.begun.Mounted.{Mounted}
-use Rattle.op_machines.specs.declared.machine.Machine.{Machine}
-use Rattle.client_core.specs.declared.setup.Setup.{Setup}
-use Rattle.client_core.specs.View.{View}
-use Rattle.core_facts.specs.Reaches.{Reaches}
-use Rattle.core_answers.specs.bonds.Kept.{HadShown, IsAnswered, LastAtMost}
 use Rattle.core_answers.proofs.bonds.AttrsShown.{ShownIn, attr-laws, fresh-attrs, no-story}
 use Rattle.core_answers.proofs.bonds.Keeping.{IsTold, reached-known}
 use Rattle.core_answers.proofs.bonds.Learnt.{Good}

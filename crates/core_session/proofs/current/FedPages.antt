@@ -1,99 +1,49 @@
 -- What each step of an operation on files makes of the kept pages, where it is known of which call a reply tells and when that was made.
-use Rattle.std.proofs.Common.{◌≡◌, ◌+◌, ◌-◌, ◌/◌, ◌&&◌, ◌||◌, ◌==◌, ℕ, zero, suc, Bool, true, false, nat_lt, nat_le, List, [], length, take, Option, Some, None, unwrap_or, is_some, Result, Ok, Err, inl, inr, refl, sym, ap, subst, ◌∙◌, arith}
-use Rattle.std.specs.Prelude.{if◌then◌else◌}
-use Rattle.std.proofs.lemmas.Bool.{eqb-true}
-use Rattle.std.proofs.lemmas.Bool.Decides.{nat_tests}
+use Rattle.core_session.proofs.Prelude.{◌≡◌, ◌+◌, ◌-◌, ◌/◌, ◌&&◌, ◌||◌, ◌==◌, ℕ, zero, suc, Bool, true, false, nat_le, List, [], length, take, Option, Some, None, Result, Ok, Err, inl, inr, refl, sym, ap, subst, ◌∙◌, arith, if◌then◌else◌, eqb-true, nat_tests, Attr, Verf, Stamp, Wcc, Mode, stamp_of, looked, FileKept, start_of, Pages, page_of, known_of, after_page, saw, cut, Fault, Call, Reply, Pending, of_file, piece_under, last_end, is_first, goes_again, Next, Repeat, Shelf, Turn, Closing, CloseFile, Removal, Found, Led, Opening, OpeningStep, OpeningNext, PutFile, Putting, ReadFile, Phase, Reading, Saving, SyncFile, Syncing, TruncateFile, Truncating, WriteFile, Writing, is_full, place_after, is_whole, remove_busy, refusal_of, Gathered, written_by, write_told, offered, file_to_write, opened_pages, PagesOpened, part, refusal, said_to, said_by, breaks_rule, file_at, joined, made_by, got_by, by-step, ends_as, FileMachine, ReadOn, IsOn, IsSentAs, PhaseAwaits, ReadAwaits}
+use Rattle.std.proofs.Common.{nat_lt, unwrap_or, is_some}
 use Rattle.xdr_codec.specs.declared.blob.Memory as memory
-use Rattle.nfs_types.specs.declared.attr.Attr.{Attr}
-use Rattle.nfs_types.specs.declared.verf.Verf.{Verf}
-use Rattle.nfs_types.specs.declared.wcc.Stamp.{Stamp}
-use Rattle.nfs_types.specs.declared.wcc.Wcc.{Wcc}
-use Rattle.nfs_types.specs.declared.mode.Mode.{Mode}
-use Rattle.nfs_types.specs.Stamps.{stamp_of, same_stamp}
-use Rattle.attr_cache.specs.Attrs.{Attrs, looked}
+use Rattle.nfs_types.specs.Stamps.{same_stamp}
+use Rattle.attr_cache.specs.Attrs.{Attrs}
 use Rattle.nfs_file_calls.specs.declared.call.FileCall.TheVariants as file_calls
-use Rattle.nfs_file_calls.specs.declared.owned.FileKept.{FileKept}
 use Rattle.nfs_file_calls.specs.declared.owned.FileKept.TheVariants as kept
-use Rattle.page_cache.specs.Bytes.{start_of}
-use Rattle.page_cache.specs.Pages.{Pages, page_of, known_of, after_page, opened, saw, wrote, cut}
+use Rattle.page_cache.specs.Pages.{opened, wrote}
 use Rattle.world_model.specs.declared.answer.Answer.TheVariants as answers
-use Rattle.world_model.specs.declared.answer.Fault.{Fault}
 use Rattle.world_model.specs.declared.answer.Fault.TheVariants as faults
-use Rattle.world_model.specs.declared.message.Call.{Call}
 use Rattle.world_model.specs.declared.message.Call.TheVariants as calls
-use Rattle.world_model.specs.declared.message.Reply.{Reply}
 use Rattle.world_model.specs.declared.message.Reply.TheVariants as replies
-use Rattle.write_back.specs.Files.{Pending, of_file}
-use Rattle.write_back.specs.Pieces.{Sent, piece_under}
-use Rattle.write_back.specs.Segments.{last_end}
-use Rattle.client_shelf.specs.LaneFiles.{is_first}
-use Rattle.client_shelf.specs.Busy.{goes_again}
-use Rattle.client_shelf.specs.declared.next.Next.{Next}
+use Rattle.write_back.specs.Pieces.{Sent}
 use Rattle.client_shelf.specs.declared.next.Next.TheVariants as nexts
-use Rattle.client_shelf.specs.declared.repeats.Repeat.{Repeat}
-use Rattle.client_shelf.specs.declared.shelf.Shelf.{Shelf}
-use Rattle.client_shelf.specs.declared.turn.Turn.{Turn}
-use Rattle.file_ops.specs.declared.close_file.Closing.{Closing}
 use Rattle.file_ops.specs.declared.close_file.Closing.TheVariants as closing
-use Rattle.file_ops.specs.declared.close_file.CloseFile.{CloseFile}
-use Rattle.file_ops.specs.declared.closing.Removal.{Removal}
-use Rattle.file_ops.specs.declared.gather.Found.{Found}
 use Rattle.file_ops.specs.declared.gather.Found.TheVariants as founds
-use Rattle.file_ops.specs.declared.opening.Led.{Led}
 use Rattle.file_ops.specs.declared.opening.Led.TheVariants as leads
-use Rattle.file_ops.specs.declared.opening.Opening.{Opening}
-use Rattle.file_ops.specs.declared.opening.OpeningStep.{OpeningStep}
 use Rattle.file_ops.specs.declared.opening.OpeningStep.TheVariants as opening_steps
-use Rattle.file_ops.specs.declared.opening.OpeningNext.{OpeningNext}
 use Rattle.file_ops.specs.declared.opening.OpeningNext.TheVariants as openings
-use Rattle.file_ops.specs.declared.put_file.PutFile.{PutFile}
-use Rattle.file_ops.specs.declared.put_file.Putting.{Putting}
 use Rattle.file_ops.specs.declared.put_file.Putting.TheVariants as putting
-use Rattle.file_ops.specs.declared.read_file.ReadFile.{ReadFile}
-use Rattle.file_ops.specs.declared.reading.Phase.{Phase}
 use Rattle.file_ops.specs.declared.reading.Phase.TheVariants as phases
-use Rattle.file_ops.specs.declared.reading.Reading.{Reading}
-use Rattle.file_ops.specs.declared.saving.Saving.{Saving}
-use Rattle.file_ops.specs.declared.sync_file.SyncFile.{SyncFile}
-use Rattle.file_ops.specs.declared.sync_file.Syncing.{Syncing}
 use Rattle.file_ops.specs.declared.sync_file.Syncing.TheVariants as syncing
-use Rattle.file_ops.specs.declared.truncate_file.TruncateFile.{TruncateFile}
-use Rattle.file_ops.specs.declared.truncate_file.Truncating.{Truncating}
 use Rattle.file_ops.specs.declared.truncate_file.Truncating.TheVariants as truncating
-use Rattle.file_ops.specs.declared.write_file.WriteFile.{WriteFile}
-use Rattle.file_ops.specs.declared.write_file.Writing.{Writing}
 use Rattle.file_ops.specs.declared.write_file.Writing.TheVariants as writing
-use Rattle.file_ops.specs.Adding.{is_full}
-use Rattle.file_ops.specs.Base.{Bytes, place_after, is_whole}
+use Rattle.file_ops.specs.Base.{Bytes}
 use Rattle.file_ops.specs.Closes as closes
-use Rattle.file_ops.specs.Closings.{remove_busy, refusal_of}
 use Rattle.file_ops.specs.Gather as gather
-use Rattle.file_ops.specs.Gather.{Gathered, Planned}
-use Rattle.file_ops.specs.Judging.{written_by, write_told_by, write_told}
-use Rattle.file_ops.specs.Kept.{offered, offered_from}
+use Rattle.file_ops.specs.Gather.{Planned}
+use Rattle.file_ops.specs.Judging.{write_told_by}
+use Rattle.file_ops.specs.Kept.{offered_from}
 use Rattle.file_ops.specs.Opening as opening
-use Rattle.file_ops.specs.Opens.{file_to_write}
-use Rattle.file_ops.specs.PagesOpened.{opened_pages, PagesOpened}
 use Rattle.file_ops.specs.PutFile as puts
 use Rattle.file_ops.specs.ReadFile as reads
 use Rattle.file_ops.specs.Reading as reading
-use Rattle.file_ops.specs.ReadReply.{part, refusal, said_to, said_by, breaks_rule}
 use Rattle.file_ops.specs.Saves as saves
-use Rattle.file_ops.specs.SlotFiles.{file_at, joined}
 use Rattle.file_ops.specs.Syncs as syncs
-use Rattle.file_ops.specs.Told.{found_by, made_by, got_by}
+use Rattle.file_ops.specs.Told.{found_by}
 use Rattle.file_ops.specs.TruncateFile as truncates
 use Rattle.file_ops.specs.WriteFile as writes
-use Rattle.file_ops.proofs.SaveCounts.{by-step, ends_as}
 use Rattle.file_ops.proofs.Failed.{failed-as}
-use Rattle.op_machines.specs.declared.file_machine.FileMachine.{FileMachine}
 use Rattle.op_machines.specs.declared.file_machine.FileMachine.TheVariants as files
 use Rattle.op_machines.specs.FileSteps as steps
 use Rattle.core_answers.proofs.pages.NamePages.{SamePages, kept-as}
-use Rattle.core_answers.proofs.bonds.FileCalls.{StepOn, OpeningOn, ReadOn, PutOn, FileAsks}
-use Rattle.core_answers.proofs.bonds.Learnt.{IsOn}
-use Rattle.core_answers.proofs.pages.FilePages.{IsSentAs}
-use Rattle.core_answers.proofs.pages.PageCalls.{PhaseAwaits, ReadAwaits, SizeAwaits, FileAwaits}
+use Rattle.core_answers.proofs.bonds.FileCalls.{StepOn, OpeningOn, PutOn, FileAsks}
+use Rattle.core_answers.proofs.pages.PageCalls.{SizeAwaits, FileAwaits}
 
 -- ---- steps that leave them
 

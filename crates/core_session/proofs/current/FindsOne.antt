@@ -1,11 +1,7 @@
 -- What an open found is one file: that which its last reply names.
-use Rattle.std.proofs.Common.{◌≡◌, ℕ, List, Option, Some, Result, Ok, Err, sym, ap, subst, ◌∙◌, arith}
+use Rattle.core_session.proofs.Prelude.{◌≡◌, ℕ, List, Option, Some, Result, Ok, Err, sym, ap, subst, ◌∙◌, arith, Attr, Wcc, DirCall, DirKept, Entry, Sent, Delivered, Call, Reply, At, HasXid, SpellsCall, SpellsReply, Modes, LastReply, Finds, At-one, IsNfs, one-call}
 use Rattle.xdr_codec.specs.declared.reader.XdrFault.{XdrFault}
-use Rattle.nfs_types.specs.declared.attr.Attr.{Attr}
-use Rattle.nfs_types.specs.declared.wcc.Wcc.{Wcc}
-use Rattle.nfs_dir_calls.specs.declared.call.DirCall.{DirCall}
 use Rattle.nfs_dir_calls.specs.declared.call.DirCall.TheVariants as dirs
-use Rattle.nfs_dir_calls.specs.declared.keeping.DirKept.{DirKept}
 use Rattle.nfs_dir_calls.specs.declared.keeping.DirKept.TheVariants as found
 use Rattle.nfs_dir_calls.specs.Calls.{dir_proc}
 use Rattle.nfs_dir_calls.proofs.Replies.{dir_reply_codec}
@@ -13,19 +9,10 @@ use Rattle.nfs_file_calls.specs.declared.call.FileCall.TheVariants as files
 use Rattle.rpc_message.specs.declared.reply.ReplyFault.{ReplyFault}
 use Rattle.rpc_message.specs.Reply.{RpcReply, Accepted, Refused as RpcRefused, Denied}
 use Rattle.rpc_message.proofs.ReplyLaws.{reply_again}
-use Rattle.world_model.specs.declared.entry.Entry.{Entry}
-use Rattle.world_model.specs.declared.entry.Entry.TheVariants.{Sent, Delivered}
-use Rattle.world_model.specs.declared.message.Call.{Call}
 use Rattle.world_model.specs.declared.message.Call.TheVariants as calls
-use Rattle.world_model.specs.declared.message.Reply.{Reply}
 use Rattle.world_model.specs.declared.message.Reply.TheVariants as replies
-use Rattle.world_model.specs.Entries.{At}
-use Rattle.world_model.specs.Messages.{HasXid, SpellsCall, SpellsReply, SpellsResults}
-use Rattle.claims.specs.Modes.{Modes}
-use Rattle.world_model.specs.Operations.{LastReply}
-use Rattle.claims.specs.Slots.{Finds, asked, looked_up, made}
-use Rattle.world_model.proofs.Places.{At-one}
-use Rattle.core_answers.proofs.bonds.OneCall.{IsNfs, one-call}
+use Rattle.world_model.specs.Messages.{SpellsResults}
+use Rattle.claims.specs.Slots.{asked, looked_up, made}
 
 -- ---- a record is one reply
 

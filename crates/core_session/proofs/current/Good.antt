@@ -1,92 +1,32 @@
 -- Of each open that went well, and of each open and read that is under way: its moment, and what is known of its file since it began.
-use Rattle.std.proofs.Common.{◌≡◌, ◌≢◌, ◌<◌, ◌≤◌, ◌+◌, ◌-◌, ◌⊎◌, inl, inr, ℕ, List, [], ◌∷◌, ◌++◌, length, take, remove, Bool, true, false, nat_eq, Some, None, option_map, position, slice_get, slice_set, Option, Result, Ok, Err, refl, sym, ap, subst, ◌∙◌, arith}
-use Rattle.std.proofs.lemmas.Bool.{eqb-true, cases_lt}
-use Rattle.nfs_types.specs.declared.attr.Attr.{Attr}
-use Rattle.nfs_types.specs.declared.wcc.Stamp.{Stamp}
-use Rattle.nfs_types.specs.declared.wcc.Wcc.{Wcc}
-use Rattle.nfs_types.specs.Stamps.{stamp_of}
+use Rattle.core_session.proofs.Prelude.{◌≡◌, ◌≢◌, ◌<◌, ◌≤◌, ◌+◌, ◌-◌, ◌⊎◌, inl, inr, ℕ, List, [], ◌∷◌, ◌++◌, length, take, remove, Bool, true, false, nat_eq, Some, None, option_map, position, slice_get, slice_set, Option, Result, Ok, Err, refl, sym, ap, subst, ◌∙◌, arith, eqb-true, cases_lt, Attr, Stamp, Wcc, stamp_of, looked, xid_at, Waiting, next_xid, made_call, waiting_at, without, at_made, others_made, others_taken, gone, Pages, after_page, Pending, Answer, Fault, Entry, Began, Answered, Delivered, Clock, Call, Reply, Op, At, SpellsReply, proc_of, Modes, Ended, UnderWay, LastReply, of_object, Finds, At-below, At-grow, length_last, said_of, Next, Shelf, Reading, opened_pages, Mounted, Machine, machine_of, Starts, Lane, Purpose, State, Busy, Over, Setup, IsFresh, is_busy, IsIdle, numbers_of, with_state, record_of, Makes, IsRefused, Leads, Stirs, counted, StartsLane, TakesAt, AnswersAt, View, turn_at, unmade_turn, IsSetUp, HearsRecord, Reaches, IsMade, IsUnsent, IsOutstanding, begins-unbegun, taken_one, Known, reached-kept, idle-numbers, number_of, at-set, at-push, at-position, get-push, get-remove, skip, to-map, reached-since, Rows, rows-stay, same-rows, silent-grow, rows-grow, taken-quiet, not-sent, taken-rows, ThenOf, Always, set-other, by-place, under-back, HadShown, LastAtMost, IsOn, ReadOn, IsSentAs, Both, both-asks, SameCalls, IsAged, IsSeen, shown, WasRegular}
 use Rattle.nfs_dir_calls.specs.declared.call.DirCall.TheVariants as dir_calls
 use Rattle.nfs_dir_calls.specs.declared.keeping.DirKept.TheVariants as dir_kept
-use Rattle.attr_cache.specs.Attrs.{looked}
 use Rattle.nfs_file_calls.specs.declared.call.FileCall.TheVariants as file_calls
 use Rattle.nfs_file_calls.specs.declared.owned.FileKept.TheVariants as kept
-use Rattle.rpc_message.specs.Call.{xid_at}
-use Rattle.rpc_retry.specs.declared.waiting.Waiting.{Waiting}
-use Rattle.rpc_retry.specs.Held.{Held, next_xid}
-use Rattle.rpc_retry.specs.Waiting.{made_call, waiting_at, without}
-use Rattle.rpc_retry.proofs.Lookups.{at_made, others_made, others_taken}
-use Rattle.rpc_retry.proofs.Records.{gone}
-use Rattle.page_cache.specs.Pages.{Pages, after_page, opened}
-use Rattle.write_back.specs.Files.{Pending}
-use Rattle.world_model.specs.declared.answer.Answer.{Answer}
+use Rattle.rpc_retry.specs.Held.{Held}
+use Rattle.page_cache.specs.Pages.{opened}
 use Rattle.world_model.specs.declared.answer.Answer.TheVariants as outcomes
-use Rattle.world_model.specs.declared.answer.Fault.{Fault}
-use Rattle.world_model.specs.declared.entry.Entry.{Entry}
-use Rattle.world_model.specs.declared.entry.Entry.TheVariants.{Began, Answered, Delivered, Clock}
-use Rattle.world_model.specs.declared.message.Call.{Call}
 use Rattle.world_model.specs.declared.message.Call.TheVariants as calls
-use Rattle.world_model.specs.declared.message.Reply.{Reply}
 use Rattle.world_model.specs.declared.message.Reply.TheVariants as replies
-use Rattle.world_model.specs.declared.op.Op.{Op}
 use Rattle.world_model.specs.declared.op.Op.TheVariants as ops
-use Rattle.world_model.specs.Entries.{At}
-use Rattle.world_model.specs.Messages.{SpellsReply, proc_of}
-use Rattle.claims.specs.Modes.{Modes}
-use Rattle.world_model.specs.Operations.{Ended, UnderWay, LastReply}
-use Rattle.claims.specs.Shown.{of_object}
 use Rattle.claims.specs.Slots as slots
-use Rattle.claims.specs.Slots.{Finds, Opens}
-use Rattle.world_model.proofs.Places.{At-below, At-grow, length_last}
-use Rattle.call_replies.specs.Says.{said_of}
-use Rattle.client_shelf.specs.declared.next.Next.{Next}
+use Rattle.claims.specs.Slots.{Opens}
 use Rattle.client_shelf.specs.declared.next.Next.TheVariants as nexts
-use Rattle.client_shelf.specs.declared.shelf.Shelf.{Shelf}
-use Rattle.file_ops.specs.declared.reading.Reading.{Reading}
 use Rattle.file_ops.specs.OpenFile as opens
-use Rattle.file_ops.specs.PagesOpened.{opened_pages}
-use Rattle.op_machines.specs.declared.begun.Mounted.{Mounted}
-use Rattle.op_machines.specs.declared.machine.Machine.{Machine}
-use Rattle.op_machines.specs.Begun.{machine_of}
-use Rattle.op_machines.specs.Steps.{Starts}
-use Rattle.client_core.specs.declared.lane.Lane.{Lane}
-use Rattle.client_core.specs.declared.lane.Purpose.{Purpose}
-use Rattle.client_core.specs.declared.lane.State.{State}
-use Rattle.client_core.specs.declared.lane.State.TheVariants.{Busy, Over}
-use Rattle.client_core.specs.declared.setup.Setup.{Setup}
-use Rattle.client_core.specs.Fresh.{IsFresh}
-use Rattle.client_core.specs.Lanes.{is_busy}
-use Rattle.client_core.specs.Numbers.{IsIdle, numbers_of}
-use Rattle.client_core.specs.Steps.{with_state, record_of, Makes, IsRefused, Refuses, Leads, Stirs, counted, StartsLane, TakesAt, AnswersAt}
-use Rattle.client_core.specs.View.{View, turn_at, unmade_turn}
-use Rattle.core_facts.specs.Reaches.{IsSetUp, HearsRecord, Reaches}
-use Rattle.core_facts.specs.Tries.{IsMade, IsUnsent, IsOutstanding}
-use Rattle.core_facts.proofs.AllCounts.{begins-unbegun}
-use Rattle.core_facts.proofs.Cases.{taken_one}
+use Rattle.client_core.specs.Steps.{Refuses}
 use Rattle.core_facts.proofs.Flown.{Flown, keeps-flown}
-use Rattle.core_facts.proofs.Keeping.{Known, reached-kept}
-use Rattle.core_facts.proofs.LaneMarks.{idle-numbers, number_of}
 use Rattle.core_facts.proofs.LastReplies.{last-back}
-use Rattle.core_facts.proofs.Lists.{at-set, at-push, at-position, get-push, get-remove, skip, to-map}
-use Rattle.core_facts.proofs.Owning.{reached-since}
-use Rattle.core_facts.proofs.Rows.{Rows, rows-stay, same-rows, silent-grow, rows-grow, taken-quiet, not-sent, taken-rows}
 use Rattle.core_facts.proofs.SlotGrowth.{ended-back, ended-now, finds-by, finds-stays}
-use Rattle.core_facts.proofs.Steps.{ThenOf}
-use Rattle.core_facts.proofs.Stories.{Always, set-other, by-place, under-back, now-told, answered-under}
+use Rattle.core_facts.proofs.Stories.{now-told, answered-under}
 use Rattle.core_facts.proofs.SlotsAlong.{Plain, plain-laws}
 use Rattle.core_answers.specs.bonds.Ages.{began_at, time_next}
-use Rattle.core_answers.specs.bonds.Kept.{HadShown, LastAtMost}
 use Rattle.core_answers.proofs.bonds.AttrsShown.{time-grows}
-use Rattle.core_answers.proofs.bonds.Learnt.{IsOn}
 use Rattle.core_answers.proofs.bonds.Keeping.{take-early}
 use Rattle.core_answers.proofs.bonds.Timed.{MadeAfter, reached-timed}
-use Rattle.core_answers.proofs.bonds.FileCalls.{ReadOn}
 use Rattle.core_answers.proofs.bonds.MachineCalls.{Asks}
-use Rattle.core_answers.proofs.pages.FilePages.{IsSentAs}
 use Rattle.core_answers.proofs.pages.Keeping as keeping
-use Rattle.core_answers.proofs.pages.PageCalls.{Both, both-asks}
 use Rattle.core_answers.proofs.pages.PiecesCalled.{called-sent}
-use Rattle.core_answers.proofs.writes.Along.{SameCalls}
-use Rattle.core_session.specs.current.Seen.{IsAged, IsSeen, shown, WasRegular}
 use Rattle.core_session.proofs.current.BelievedAttrs.{IsBelieved, believed-taken}
 use Rattle.core_session.proofs.current.FindsOne.{finds-one}
 use Rattle.core_session.proofs.current.Along.{IsPlain, KeepsMoments, reached-moments}

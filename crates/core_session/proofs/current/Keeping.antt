@@ -1,31 +1,9 @@
 -- What is known of a step of an operation, and the laws of a fact of the shelf and of the operation that steps and entries keep: what a step takes is known
 -- to answer the call that it waits for, and where that is a WRITE, what is in flight under its xid is what it writes. Of each view between the steps a
 -- fact is known that is kept along the history by itself.
-use Rattle.std.proofs.Common.{◌≡◌, ◌<◌, ◌≤◌, ◌-◌, ℕ, List, [], ◌∷◌, ◌++◌, length, Some, slice_get, Result, Ok}
-use Rattle.world_model.specs.declared.answer.Answer.TheVariants.{Refused}
-use Rattle.world_model.specs.declared.answer.Fault.{Fault}
+use Rattle.core_session.proofs.Prelude.{◌≡◌, ◌<◌, ◌≤◌, ◌-◌, ℕ, List, [], ◌∷◌, ◌++◌, length, Some, slice_get, Result, Ok, Refused, Fault, Entry, Began, Call, Reply, Op, IsLost, UnderWay, Next, Shelf, Turn, machine_of, Machine, Starts, Resumes, Takes, State, Busy, Over, Setup, View, ThenOf, Passes, IsSentAs}
 use Rattle.world_model.specs.declared.answer.Fault.TheVariants as faults
-use Rattle.world_model.specs.declared.entry.Entry.{Entry}
-use Rattle.world_model.specs.declared.entry.Entry.TheVariants.{Began}
-use Rattle.world_model.specs.declared.message.Call.{Call}
-use Rattle.world_model.specs.declared.message.Reply.{Reply}
-use Rattle.world_model.specs.declared.op.Op.{Op}
-use Rattle.world_model.specs.Lost.{IsLost}
-use Rattle.world_model.specs.Operations.{UnderWay}
-use Rattle.client_shelf.specs.declared.next.Next.{Next}
-use Rattle.client_shelf.specs.declared.shelf.Shelf.{Shelf}
-use Rattle.client_shelf.specs.declared.turn.Turn.{Turn}
-use Rattle.op_machines.specs.Begun.{machine_of}
-use Rattle.op_machines.specs.declared.machine.Machine.{Machine}
-use Rattle.op_machines.specs.Steps.{Starts, Resumes, Takes}
-use Rattle.client_core.specs.declared.lane.State.{State}
-use Rattle.client_core.specs.declared.lane.State.TheVariants.{Busy, Over}
-use Rattle.client_core.specs.declared.setup.Setup.{Setup}
-use Rattle.client_core.specs.View.{View}
-use Rattle.core_facts.proofs.Steps.{ThenOf}
 use Rattle.core_answers.proofs.bonds.Keeping.{IsLate, ToldSince}
-use Rattle.core_answers.specs.pages.Passing.{Passes}
-use Rattle.core_answers.proofs.pages.FilePages.{IsSentAs}
 use Rattle.core_session.proofs.current.Moments.{IsMoment}
 use Rattle.core_answers.specs.bonds.Ages.{time_next}
 

@@ -1,14 +1,9 @@
 -- The mark of a file and what is told of its known stamp, after each call of the page cache.
-use Rattle.std.proofs.Common.{◌≡◌, ◌<◌, ◌≤◌, ℕ, max, Bool, true, false, ◌||◌, nat_le, if◌then◌else◌, List, Option, Some, None, option_map, refl, sym, ap, subst, ◌∙◌, arith}
-use Rattle.std.proofs.lemmas.Bool.Decides.{nat_tests}
-use Rattle.nfs_types.specs.declared.attr.Attr.{Attr}
-use Rattle.nfs_types.specs.declared.wcc.Stamp.{Stamp}
-use Rattle.nfs_types.specs.declared.wcc.Wcc.{Wcc}
-use Rattle.nfs_types.specs.Stamps.{stamp_of}
-use Rattle.page_cache.specs.declared.state.FileState.{FileState}
+use Rattle.core_session.proofs.Prelude.{◌≡◌, ◌<◌, ◌≤◌, ℕ, Bool, true, false, ◌||◌, nat_le, List, Option, Some, None, option_map, refl, sym, ap, subst, ◌∙◌, arith, nat_tests, Attr, Stamp, Wcc, stamp_of, FileState, Pages, state_of, after_page, saw, cut}
+use Rattle.std.proofs.Common.{max, if◌then◌else◌}
 use Rattle.page_cache.specs.declared.state.Keep.{Keep}
 use Rattle.page_cache.specs.declared.state.Keep.TheVariants.{Stale, Differs, Kept}
-use Rattle.page_cache.specs.Pages.{Pages, state_of, is_stamp, both_same, opened, keep_answer, after_keep, kept, after_page, saw, led_to, wrote, cut}
+use Rattle.page_cache.specs.Pages.{is_stamp, both_same, opened, keep_answer, after_keep, kept, led_to, wrote}
 use Rattle.page_cache.proofs.Inserts.{same, same-is}
 use Rattle.page_cache.proofs.States.{both_same-is, state_opened, state_kept, state_saw, state_changed, state-opened, state-kept, state-saw, state-wrote, state-cut, Tells, keep-tells}
 

@@ -1,43 +1,19 @@
 -- Which calls were first sent since an operation began, by the moments that the core gave out, and what the known stamp of a file is since then.
-use Rattle.std.proofs.Common.{◌≡◌, ◌<◌, ◌≤◌, ◌-◌, ◌⊎◌, inl, inr, ℕ, max, Bool, true, false, nat_le, List, [], ◌∷◌, ◌++◌, length, take, Option, Some, None, option_map, Result, Ok, refl, sym, ap, subst, ◌∙◌, arith}
-use Rattle.std.specs.Prelude.{if◌then◌else◌}
-use Rattle.std.specs.Option.{option_map_or}
-use Rattle.std.proofs.lemmas.Bool.Decides.{nat_tests}
-use Rattle.nfs_types.specs.declared.attr.Attr.{Attr}
-use Rattle.nfs_types.specs.declared.wcc.Stamp.{Stamp}
-use Rattle.nfs_types.specs.Stamps.{stamp_of}
+use Rattle.core_session.proofs.Prelude.{◌≡◌, ◌<◌, ◌≤◌, ◌-◌, ◌⊎◌, inl, inr, ℕ, Bool, true, false, nat_le, List, [], ◌∷◌, ◌++◌, length, take, Option, Some, None, option_map, Result, Ok, refl, sym, ap, subst, ◌∙◌, arith, if◌then◌else◌, option_map_or, nat_tests, Attr, Stamp, stamp_of, Waiting, waiting_at, FileState, Pages, state_of, known_of, saw, after_page, Fault, Entry, Sent, Call, Reply, At, HasXid, of_object, At-cases, length_last, Turn, offered, opened_pages, Purpose, View, IsUnsent, IsAnswered, answered-last, IsOn, from-start, IsSeen, shown, WasRegular}
+use Rattle.std.proofs.Common.{max}
 use Rattle.nfs_file_calls.specs.declared.call.FileCall.TheVariants as files
 use Rattle.nfs_file_calls.specs.declared.owned.FileKept.TheVariants as kept
-use Rattle.rpc_retry.specs.declared.waiting.Waiting.{Waiting}
-use Rattle.rpc_retry.specs.Waiting.{waiting_at}
-use Rattle.page_cache.specs.declared.state.FileState.{FileState}
-use Rattle.page_cache.specs.Pages.{Pages, state_of, known_of, opened, wrote, saw, after_page}
+use Rattle.page_cache.specs.Pages.{opened, wrote}
 use Rattle.page_cache.proofs.Inserts.{same-self}
 use Rattle.page_cache.proofs.States.{state_opened, state_changed, state-opened, state-wrote}
-use Rattle.world_model.specs.declared.answer.Fault.{Fault}
-use Rattle.world_model.specs.declared.entry.Entry.{Entry}
-use Rattle.world_model.specs.declared.entry.Entry.TheVariants.{Sent}
-use Rattle.world_model.specs.declared.message.Call.{Call}
 use Rattle.world_model.specs.declared.message.Call.TheVariants as calls
-use Rattle.world_model.specs.declared.message.Reply.{Reply}
 use Rattle.world_model.specs.declared.message.Reply.TheVariants as replies
-use Rattle.world_model.specs.Entries.{At}
-use Rattle.world_model.specs.Messages.{HasXid}
-use Rattle.claims.specs.Shown.{object_of, object_attr, of_object}
-use Rattle.world_model.proofs.Places.{At-cases, length_last}
-use Rattle.client_shelf.specs.declared.turn.Turn.{Turn}
-use Rattle.file_ops.specs.Kept.{told_of, is_given, kept_page, offered_told, offered}
-use Rattle.file_ops.specs.PagesOpened.{is_late, opened_pages, no_wcc}
+use Rattle.claims.specs.Shown.{object_of, object_attr}
+use Rattle.file_ops.specs.Kept.{told_of, is_given, kept_page, offered_told}
+use Rattle.file_ops.specs.PagesOpened.{is_late, no_wcc}
 use Rattle.file_ops.specs.Saves.{untold}
 use Rattle.file_ops.specs.TruncateFile.{size_call}
-use Rattle.client_core.specs.declared.lane.Purpose.{Purpose}
-use Rattle.client_core.specs.View.{View}
-use Rattle.core_facts.specs.Tries.{IsUnsent}
-use Rattle.core_answers.specs.bonds.Kept.{IsAnswered}
-use Rattle.core_answers.proofs.bonds.AttrsShown.{answered-last}
-use Rattle.core_answers.proofs.bonds.Learnt.{IsOn}
-use Rattle.core_answers.proofs.pages.PagesShown.{from-start}
-use Rattle.core_session.specs.current.Seen.{IsSeen, shown, written, cut, WasRegular}
+use Rattle.core_session.specs.current.Seen.{written, cut}
 use Rattle.core_session.proofs.current.FedPages.{FedLaws}
 use Rattle.core_session.proofs.current.Marks.{IsMarked, marked-shown, marked-opened, marked-saw, marked-kept, marked-wrote, marked-cut}
 

@@ -1,29 +1,10 @@
 -- Two opens that a slot holds at once are of one file.
-use Rattle.std.proofs.Common.{◌≡◌, ◌<◌, ◌≤◌, ◌⊎◌, inl, inr, ℕ, List, [], ◌∷◌, ◌++◌, length, refl, sym, subst, arith}
-use Rattle.std.proofs.lemmas.Bool.{cases_lt}
-use Rattle.world_model.specs.declared.answer.Answer.{Answer}
+use Rattle.core_session.proofs.Prelude.{◌≡◌, ◌<◌, ◌≤◌, ◌⊎◌, inl, inr, ℕ, List, [], ◌∷◌, ◌++◌, length, refl, sym, subst, arith, cases_lt, Answer, Value, Entry, Began, Answered, Op, At, AnsweredBefore, Ended, Finds, InSlot, Terms, At-back, At-below, At-cases, At-one, Mounted, Machine, machine_of, Setup, numbers_of, View, StepsTo, Reaches, begins, goes, loses, GoesWith, LanesKnown, idle-numbers, reached-lanes}
 use Rattle.world_model.specs.declared.answer.Answer.TheVariants as answers
 use Rattle.world_model.specs.declared.answer.Fault.TheVariants as faults
-use Rattle.world_model.specs.declared.answer.Value.{Value}
-use Rattle.world_model.specs.declared.entry.Entry.{Entry}
-use Rattle.world_model.specs.declared.entry.Entry.TheVariants.{Began, Answered}
-use Rattle.world_model.specs.declared.op.Op.{Op}
 use Rattle.world_model.specs.declared.op.Op.TheVariants as ops
-use Rattle.world_model.specs.Entries.{At}
-use Rattle.world_model.specs.Operations.{AnsweredBefore, Ended}
 use Rattle.claims.specs.Rights.{taken}
-use Rattle.claims.specs.Slots.{Finds, InSlot}
-use Rattle.claims.specs.Terms.{Terms}
-use Rattle.world_model.proofs.Places.{At-back, At-below, At-cases, At-one}
-use Rattle.op_machines.specs.declared.begun.Mounted.{Mounted}
-use Rattle.op_machines.specs.declared.machine.Machine.{Machine}
-use Rattle.op_machines.specs.Begun.{machine_of}
-use Rattle.client_core.specs.declared.setup.Setup.{Setup}
-use Rattle.client_core.specs.Numbers.{numbers_of}
-use Rattle.client_core.specs.View.{View}
-use Rattle.core_facts.specs.Reaches.{BeginsOp, StepsTo, Reaches, begins, goes, loses}
-use Rattle.core_facts.specs.SlotAnswers.{GoesWith}
-use Rattle.core_facts.proofs.LaneMarks.{LanesKnown, idle-numbers, reached-lanes}
+use Rattle.core_facts.specs.Reaches.{BeginsOp}
 use Rattle.core_facts.proofs.Marks.{answered-grow}
 use Rattle.core_facts.proofs.SlotTheorems.{places-exact}
 use Rattle.core_session.proofs.current.FindsOne.{finds-one}

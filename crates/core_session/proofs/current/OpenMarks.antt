@@ -1,59 +1,31 @@
 -- What an open makes of its own moment, and which pages it leaves where it goes well.
-use Rattle.std.proofs.Common.{◌≡◌, ◌-◌, ◌==◌, ◌&&◌, inl, inr, ℕ, Bool, true, false, List, Option, Some, None, Result, Ok, Err, refl, sym, ap, subst, ◌∙◌}
-use Rattle.std.specs.Prelude.{if◌then◌else◌}
+use Rattle.core_session.proofs.Prelude.{◌≡◌, ◌-◌, ◌==◌, ◌&&◌, inl, inr, ℕ, Bool, true, false, List, Option, Some, None, Result, Ok, Err, refl, sym, ap, subst, ◌∙◌, if◌then◌else◌, eqb-true, Attr, Mode, Stamp, Wcc, stamp_of, Opened, Place, Opens, Pages, known_of, Answer, Fault, Call, Reply, Next, Shelf, Turn, looked, OpenFile, Led, Opening, OpeningNext, made_by, got_by, OpeningStep, opened_pages, WalkNext, Machine, Opener, PathMachine, file_of, slot_taken, begun_at, Starts, Resumes, Takes, ThenOf, IsOn}
 use Rattle.std.specs.FinMap as finite
-use Rattle.std.proofs.lemmas.Bool.{eqb-true}
-use Rattle.nfs_types.specs.declared.attr.Attr.{Attr}
-use Rattle.nfs_types.specs.declared.mode.Mode.{Mode}
-use Rattle.nfs_types.specs.declared.wcc.Stamp.{Stamp}
-use Rattle.nfs_types.specs.declared.wcc.Wcc.{Wcc}
-use Rattle.nfs_types.specs.Stamps.{same_stamp, stamp_of}
+use Rattle.nfs_types.specs.Stamps.{same_stamp}
 use Rattle.nfs_dir_calls.specs.declared.keeping.DirKept.TheVariants as found
 use Rattle.nfs_file_calls.specs.declared.owned.FileKept.TheVariants as kept
-use Rattle.open_files.specs.declared.opened.Opened.{Opened}
-use Rattle.open_files.specs.Slots.{Place, Opens}
-use Rattle.page_cache.specs.Pages.{Pages, known_of, opened}
+use Rattle.page_cache.specs.Pages.{opened}
 use Rattle.page_cache.proofs.States.{same_stamp-is}
-use Rattle.world_model.specs.declared.answer.Answer.{Answer}
 use Rattle.world_model.specs.declared.answer.Answer.TheVariants as answers
-use Rattle.world_model.specs.declared.answer.Fault.{Fault}
 use Rattle.world_model.specs.declared.answer.Fault.TheVariants as faults
-use Rattle.world_model.specs.declared.message.Call.{Call}
-use Rattle.world_model.specs.declared.message.Reply.{Reply}
 use Rattle.world_model.specs.declared.message.Reply.TheVariants as replies
-use Rattle.client_shelf.specs.declared.next.Next.{Next}
 use Rattle.client_shelf.specs.declared.next.Next.TheVariants as nexts
-use Rattle.client_shelf.specs.declared.shelf.Shelf.{Shelf}
-use Rattle.client_shelf.specs.declared.turn.Turn.{Turn}
-use Rattle.attr_cache.specs.Attrs.{Attrs, looked}
-use Rattle.file_ops.specs.declared.open_file.OpenFile.{OpenFile}
-use Rattle.file_ops.specs.declared.opening.Led.{Led}
+use Rattle.attr_cache.specs.Attrs.{Attrs}
 use Rattle.file_ops.specs.declared.opening.Led.TheVariants as leads
-use Rattle.file_ops.specs.declared.opening.Opening.{Opening}
-use Rattle.file_ops.specs.declared.opening.OpeningNext.{OpeningNext}
-use Rattle.file_ops.specs.Told.{found_by, made_by, got_by}
+use Rattle.file_ops.specs.Told.{found_by}
 use Rattle.file_ops.specs.declared.opening.OpeningNext.TheVariants as openings
-use Rattle.file_ops.specs.declared.opening.OpeningStep.{OpeningStep}
 use Rattle.file_ops.specs.declared.opening.OpeningStep.TheVariants as opening_steps
 use Rattle.file_ops.specs.OpenFile as opens
 use Rattle.file_ops.specs.Opening as opening
-use Rattle.file_ops.specs.PagesOpened.{opened_pages}
-use Rattle.name_ops.specs.declared.walk.WalkNext.{WalkNext}
 use Rattle.name_ops.specs.declared.walk.WalkNext.TheVariants as walks
 use Rattle.name_ops.specs.Walking as walking
 use Rattle.op_machines.specs.declared.file_machine.FileMachine.TheVariants as files
-use Rattle.op_machines.specs.declared.machine.Machine.{Machine}
 use Rattle.op_machines.specs.declared.machine.Machine.TheVariants as machines
-use Rattle.op_machines.specs.declared.opener.Opener.{Opener}
 use Rattle.op_machines.specs.declared.opener.Opener.TheVariants as openers
-use Rattle.op_machines.specs.declared.path_machine.PathMachine.{PathMachine}
 use Rattle.op_machines.specs.FileSteps as steps
-use Rattle.op_machines.specs.Openers.{file_of, slot_taken, begun_at, placed, opening_in}
+use Rattle.op_machines.specs.Openers.{placed, opening_in}
 use Rattle.op_machines.specs.PathSteps as paths
-use Rattle.op_machines.specs.Steps.{Starts, Resumes, Takes}
-use Rattle.core_facts.proofs.Steps.{ThenOf}
 use Rattle.core_answers.proofs.bonds.FileCalls.{StepOn, OpeningOn, FileAsks}
-use Rattle.core_answers.proofs.bonds.Learnt.{IsOn}
 use Rattle.core_answers.proofs.bonds.MachineCalls.{PathOn, PathAsks, Asks}
 use Rattle.core_session.proofs.current.FedPages.{told-opens, told-knows, by-opens}
 

@@ -1,10 +1,6 @@
 -- What is pending as a read begins, and as it ends, is in its answer.
-use Rattle.std.proofs.Common.{ℕ, List, sym, subst}
-use Rattle.world_model.specs.declared.entry.Entry.{Entry}
+use Rattle.core_session.proofs.Prelude.{ℕ, List, sym, subst, Entry, IsOf, machine_of, always-later}
 use Rattle.world_model.specs.declared.op.Op.TheVariants as ops
-use Rattle.claims.specs.Slots.{IsOf}
-use Rattle.op_machines.specs.Begun.{machine_of}
-use Rattle.core_facts.proofs.HeldSlots.{always-later}
 use Rattle.core_answers.proofs.pages.ReadsShown.{until}
 use Rattle.core_session.specs.current.Own.{PendingRead}
 use Rattle.core_session.specs.current.Read.{OwnShown}

@@ -1,42 +1,19 @@
 -- What a read makes of its own moment, and which pages it leaves where it has asked for its file's attributes.
-use Rattle.std.proofs.Common.{◌≡◌, ◌-◌, inl, inr, ℕ, Bool, true, false, ◌&&◌, List, Option, Some, None, Result, Ok, Err, refl, sym, ap, subst, ◌∙◌}
-use Rattle.std.specs.Prelude.{if◌then◌else◌}
+use Rattle.core_session.proofs.Prelude.{◌≡◌, ◌-◌, inl, inr, ℕ, Bool, true, false, ◌&&◌, List, Option, Some, None, Result, Ok, Err, refl, sym, ap, subst, ◌∙◌, if◌then◌else◌, Attr, Mode, Opened, Pages, after_page, Pending, Fault, Reply, Next, Repeat, Shelf, Turn, ReadFile, Phase, Reading, PagesOpened, opened_pages, part, refusal, got_by, machine_of, Mounted, FileMachine, Machine, Starts, Resumes, Takes, ThenOf}
 use Rattle.std.specs.FinMap as finite
 use Rattle.xdr_codec.specs.declared.blob.Memory as memory
-use Rattle.nfs_types.specs.declared.attr.Attr.{Attr}
-use Rattle.nfs_types.specs.declared.mode.Mode.{Mode}
 use Rattle.nfs_types.specs.declared.mode.Mode.TheVariants as modes
 use Rattle.nfs_file_calls.specs.declared.owned.FileKept.TheVariants as kept
-use Rattle.open_files.specs.declared.opened.Opened.{Opened}
-use Rattle.page_cache.specs.Pages.{Pages, after_page}
-use Rattle.write_back.specs.Files.{Pending}
-use Rattle.world_model.specs.declared.answer.Fault.{Fault}
 use Rattle.world_model.specs.declared.answer.Fault.TheVariants as faults
-use Rattle.world_model.specs.declared.message.Reply.{Reply}
 use Rattle.world_model.specs.declared.message.Reply.TheVariants as replies
 use Rattle.world_model.specs.declared.op.Op.TheVariants as ops
-use Rattle.client_shelf.specs.declared.next.Next.{Next}
 use Rattle.client_shelf.specs.declared.next.Next.TheVariants as nexts
-use Rattle.client_shelf.specs.declared.repeats.Repeat.{Repeat}
-use Rattle.client_shelf.specs.declared.shelf.Shelf.{Shelf}
-use Rattle.client_shelf.specs.declared.turn.Turn.{Turn}
-use Rattle.file_ops.specs.declared.read_file.ReadFile.{ReadFile}
-use Rattle.file_ops.specs.declared.reading.Phase.{Phase}
 use Rattle.file_ops.specs.declared.reading.Phase.TheVariants as phases
-use Rattle.file_ops.specs.declared.reading.Reading.{Reading}
-use Rattle.file_ops.specs.PagesOpened.{PagesOpened, opened_pages}
 use Rattle.file_ops.specs.ReadFile as reads
 use Rattle.file_ops.specs.Reading as reading
-use Rattle.file_ops.specs.ReadReply.{Said, part, refusal}
-use Rattle.file_ops.specs.Told.{got_by}
-use Rattle.op_machines.specs.Begun.{machine_of}
-use Rattle.op_machines.specs.declared.begun.Mounted.{Mounted}
-use Rattle.op_machines.specs.declared.file_machine.FileMachine.{FileMachine}
+use Rattle.file_ops.specs.ReadReply.{Said}
 use Rattle.op_machines.specs.declared.file_machine.FileMachine.TheVariants as files
-use Rattle.op_machines.specs.declared.machine.Machine.{Machine}
 use Rattle.op_machines.specs.declared.machine.Machine.TheVariants as machines
-use Rattle.op_machines.specs.Steps.{Starts, Resumes, Takes}
-use Rattle.core_facts.proofs.Steps.{ThenOf}
 use Rattle.core_session.proofs.current.FedPages.{got-is, gone-pages, settled-pages}
 
 -- whether the attributes came that it asks for first, if it does

@@ -1,18 +1,12 @@
 -- Bytes by their places in what a read shows, where nothing is pending at a place of the server's.
-use Rattle.std.proofs.Common.{◌≡◌, ◌<◌, ◌≤◌, ◌+◌, ◌⊎◌, inl, inr, ℕ, zero, suc, List, [], ◌∷◌, length, length-append, slice_get, slice_index, Option, Some, None, unwrap_or, option_map, refl, sym, ap, ◌∙◌, arith}
-use Rattle.std.proofs.lemmas.Bool.{cases_lt}
+use Rattle.core_session.proofs.Prelude.{◌≡◌, ◌<◌, ◌≤◌, ◌+◌, ◌⊎◌, inl, inr, ℕ, zero, suc, List, [], ◌∷◌, length, length-append, slice_get, Option, Some, None, option_map, refl, sym, ap, ◌∙◌, arith, cases_lt, slice_get_within, slice_get-get_or, Pending, of_file, newest_at, last_end, shown_over, was_pending, FilePending, IsSound, end-some, HasOr}
+use Rattle.std.proofs.Common.{slice_index, unwrap_or}
 use Rattle.std.proofs.lemmas.List.{get_or_append_left, get_or_push}
-use Rattle.std.proofs.lemmas.Option.{slice_get_within, slice_get-get_or}
-use Rattle.write_back.specs.Files.{Pending, of_file}
-use Rattle.write_back.specs.Segments.{newest_at, shown, last_end}
-use Rattle.file_ops.specs.Overlaid.{byte_or, byte_shown, listed, shown_over, size_to, size_shown, was_pending}
+use Rattle.write_back.specs.Segments.{shown}
+use Rattle.file_ops.specs.Overlaid.{byte_or, byte_shown, listed, size_to, size_shown}
 use Rattle.file_ops.proofs.Overlays.{shown-at, byte-shown}
-use Rattle.write_back.specs.Pieces.{FilePending}
-use Rattle.write_back.specs.Sound.{IsSound}
 use Rattle.write_back.specs.Waits.{IsClear, byte_pending}
-use Rattle.write_back.proofs.EndAndBytes.{newest-is, end-none, end-some}
-use Rattle.write_back.proofs.EndAndBytes.{shown-length}
-use Rattle.core_answers.proofs.pages.ReadBytes.{HasOr}
+use Rattle.write_back.proofs.EndAndBytes.{newest-is, end-none, shown-length}
 
 length-listed : (f : ℕ → ℕ) (n : ℕ) → length (listed f n) ≡ n
 length-listed f zero = refl

@@ -1,64 +1,33 @@
 -- On an honest server what a read found are bytes that the file had since its open began.
-use Rattle.std.proofs.Common.{◌≡◌, ◌<◌, ◌≤◌, ◌+◌, ◌⊎◌, inl, inr, ℕ, suc, Bool, true, false, List, [], ◌∷◌, ◌++◌, length, length-append, take, drop, slice_get, Option, Some, None, refl, sym, ap, subst, ◌∙◌, append_assoc, append-nil, arith}
-use Rattle.std.proofs.lemmas.Bool.{cases_lt}
-use Rattle.std.proofs.lemmas.List.{length-take, length-drop}
-use Rattle.std.proofs.lemmas.Option.{slice_get_within}
-use Rattle.nfs_types.specs.declared.wcc.Stamp.{Stamp}
-use Rattle.nfs_file_calls.specs.declared.call.FileCall.{FileCall}
+use Rattle.core_session.proofs.Prelude.{◌≡◌, ◌<◌, ◌≤◌, ◌+◌, ◌⊎◌, inl, inr, ℕ, suc, Bool, true, false, List, [], ◌∷◌, ◌++◌, length, length-append, take, drop, slice_get, Option, Some, None, refl, sym, ap, subst, ◌∙◌, append_assoc, append-nil, arith, cases_lt, length-take, length-drop, slice_get_within, Stamp, FileCall, FileKept, start_of, Cell, cell_at, byte_of, of_file, Entry, Began, Op, At, Fresh, History, Lawful, Modes, HeldSize, ReadsBytes, Bytes, Entries, Text, InSlot, IsOf, Terms, At-grow, At-one, Numbered, HasStamp, serves, Mounted, machine_of, Setup, View, GoesWith, begins-unbegun, always-later, reached-rows, HadShown, IsAnswered, IsPage, page-grows, IsAged, SeenFrom, WasRegular, RecentThen, IsFound, in_page, in_reply, IsEnd, by_known, by_page, by_reply}
 use Rattle.nfs_file_calls.specs.declared.call.FileCall.TheVariants as files
-use Rattle.nfs_file_calls.specs.declared.owned.FileKept.{FileKept}
 use Rattle.nfs_file_calls.specs.declared.owned.FileKept.TheVariants as kept
-use Rattle.page_cache.specs.Bytes.{start_of, page_at}
-use Rattle.write_back.specs.Segments.{Cell, cell_at, byte_of}
-use Rattle.write_back.specs.Files.{of_file}
-use Rattle.world_model.specs.declared.entry.Entry.{Entry}
-use Rattle.world_model.specs.declared.entry.Entry.TheVariants.{Began}
+use Rattle.page_cache.specs.Bytes.{page_at}
 use Rattle.world_model.specs.declared.message.Call.TheVariants as calls
 use Rattle.world_model.specs.declared.message.Reply.TheVariants as answers
-use Rattle.world_model.specs.declared.op.Op.{Op}
 use Rattle.world_model.specs.declared.op.Op.TheVariants as ops
-use Rattle.world_model.specs.Entries.{At}
-use Rattle.world_model.specs.Fresh.{Fresh}
-use Rattle.world_model.specs.History.{History}
-use Rattle.world_model.specs.Lawful.{Lawful}
-use Rattle.claims.specs.Modes.{Modes}
-use Rattle.claims.specs.ReadTrue.{HeldByte, HeldSize, ReadsBytes, Since, each_read, opened}
+use Rattle.claims.specs.ReadTrue.{HeldByte, Since, each_read, opened}
 use Rattle.claims.specs.ReadTrue as since_
-use Rattle.world_model.specs.Server.{Listed, Bytes, Entries, Text, IsSound}
+use Rattle.world_model.specs.Server.{Listed, IsSound}
 use Rattle.world_model.specs.Server as sound
-use Rattle.claims.specs.Slots.{InSlot, IsOf, Opens}
-use Rattle.claims.specs.Terms.{Terms}
-use Rattle.world_model.proofs.Places.{At-grow, At-one}
-use Rattle.law_calls.specs.Calls.{Numbered}
-use Rattle.law_reads.specs.Kept.{Done, HasStamp}
+use Rattle.claims.specs.Slots.{Opens}
+use Rattle.law_reads.specs.Kept.{Done}
 use Rattle.law_reads.proofs.Bytes.{part_stands}
-use Rattle.law_reads.proofs.KeptBytes.{reads, serves}
-use Rattle.op_machines.specs.declared.begun.Mounted.{Mounted}
-use Rattle.op_machines.specs.Begun.{machine_of}
-use Rattle.client_core.specs.declared.setup.Setup.{Setup}
-use Rattle.client_core.specs.View.{View}
-use Rattle.core_facts.specs.SlotAnswers.{GoesWith}
-use Rattle.core_facts.proofs.AllCounts.{begins-unbegun}
-use Rattle.core_facts.proofs.HeldSlots.{always-later}
-use Rattle.core_facts.proofs.Rows.{reached-rows}
+use Rattle.law_reads.proofs.KeptBytes.{reads}
 use Rattle.core_answers.specs.bonds.Aged.{TakesReadings}
 use Rattle.core_answers.specs.bonds.Ages.{IsRecent, young}
-use Rattle.core_answers.specs.bonds.Kept.{HadShown, IsAnswered}
 use Rattle.core_answers.proofs.bonds.AttrsShown.{answered-grow}
 use Rattle.core_answers.proofs.bonds.Executions.{answered-ran}
 use Rattle.core_answers.proofs.bonds.Recents.{own-of, young-of}
-use Rattle.core_answers.specs.pages.Kept.{IsPage}
 use Rattle.core_answers.specs.pages.Read.{WasPending}
-use Rattle.core_answers.proofs.pages.PagesShown.{page-grows}
 use Rattle.core_answers.proofs.pages.PagesTrue.{true-page-of}
 use Rattle.core_answers.proofs.pages.ReadsShown.{until}
 use Rattle.core_answers.proofs.reads.Passed.{passed-along}
 use Rattle.core_answers.specs.writes.Written.{IsWritten}
 use Rattle.core_answers.proofs.writes.Given.{cell-given}
 use Rattle.core_answers.proofs.writes.PendingWritten.{Known_, keeps-written, written-later}
-use Rattle.core_session.specs.current.Seen.{IsAged, SeenFrom, WasRegular}
 use Rattle.core_session.specs.current.Read as shown
-use Rattle.core_session.specs.current.Read.{RecentThen, IsFound, in_page, in_reply, IsEnd, by_known, by_page, by_reply, IsShown}
+use Rattle.core_session.specs.current.Read.{IsShown}
 use Rattle.core_session.specs.current.Recent.{IsSoFar, own, held, past, ReadsRecent}
 use Rattle.core_session.proofs.current.Good.{aged-grows, earlier}
 use Rattle.core_session.proofs.current.OneFile.{one-held}

@@ -1,16 +1,5 @@
 -- With what is known of opens and reads: what is pending is sound, along a history and through each step.
-use Rattle.std.proofs.Common.{ℕ, List, refl}
-use Rattle.rpc_retry.specs.declared.waiting.Waiting.{Waiting}
-use Rattle.world_model.specs.declared.entry.Entry.{Entry}
-use Rattle.world_model.specs.declared.entry.Entry.TheVariants.{Delivered}
-use Rattle.claims.specs.Modes.{Modes}
-use Rattle.step_pending.specs.Cells.{EachSound}
-use Rattle.op_machines.specs.Begun.{machine_of}
-use Rattle.op_machines.specs.declared.begun.Mounted.{Mounted}
-use Rattle.client_core.specs.declared.lane.Purpose.{Purpose}
-use Rattle.client_core.specs.declared.setup.Setup.{Setup}
-use Rattle.client_core.specs.View.{View}
-use Rattle.core_answers.proofs.writes.Along.{SameCalls}
+use Rattle.core_session.proofs.Prelude.{ℕ, List, refl, Waiting, Entry, Delivered, Modes, EachSound, machine_of, Mounted, Purpose, Setup, View, SameCalls}
 use Rattle.core_answers.proofs.writes.PiecesCarried.{keeps-flying}
 use Rattle.core_session.proofs.order.Basis.{Basis, keeps-basis}
 use Rattle.core_session.proofs.current.Along.{KeepsMoments}

@@ -1,16 +1,10 @@
 -- On an honest server that gives each change another stamp, a file that has a stamp again had it all the time.
-use Rattle.std.proofs.Common.{◌≡◌, ◌≤◌, ◌<◌, inl, inr, ℕ, zero, suc, Bool, true, false, ◌&&◌, ◌==◌, List, length, Some, refl, sym, ap, subst, ◌∙◌, arith}
-use Rattle.std.proofs.lemmas.Bool.{cases_lt, eq-eqb}
-use Rattle.nfs_types.specs.declared.time.Time.{Time}
-use Rattle.nfs_types.specs.declared.wcc.Stamp.{Stamp}
-use Rattle.nfs_types.specs.Stamps.{same_time, same_stamp, stamp_of}
+use Rattle.core_session.proofs.Prelude.{◌≡◌, ◌≤◌, ◌<◌, inl, inr, ℕ, zero, suc, Bool, true, false, ◌&&◌, ◌==◌, List, length, Some, refl, sym, ap, subst, ◌∙◌, arith, cases_lt, eq-eqb, Time, Stamp, stamp_of, Fresh, History, Lawful, Holds, Bytes, Entries, Text, Object, HasStamp}
+use Rattle.nfs_types.specs.Stamps.{same_time, same_stamp}
 use Rattle.page_cache.proofs.States.{same_stamp-is}
-use Rattle.world_model.specs.Fresh.{Fresh, file_stamp}
-use Rattle.world_model.specs.History.{History}
-use Rattle.world_model.specs.Lawful.{Lawful}
-use Rattle.world_model.specs.Server.{Holds, Bytes, Entries, Text, Listed, Object}
+use Rattle.world_model.specs.Fresh.{file_stamp}
+use Rattle.world_model.specs.Server.{Listed}
 use Rattle.world_model.proofs.Lasting.{SameSort, lasts}
-use Rattle.law_reads.specs.Kept.{HasStamp}
 
 both-so : (a b : Bool) → a ≡ true → b ≡ true → (a && b) ≡ true
 both-so true true p q = refl

@@ -1,11 +1,7 @@
 -- A byte that the file has all the while, and over which this client gave no other, is in the answer of a read.
-use Rattle.std.proofs.Common.{◌≡◌, ◌<◌, ◌≤◌, ◌+◌, ◌⊎◌, inl, inr, ℕ, true, false, List, length, take, Option, Some, None, slice_get, slice_index, refl, sym, ap, ◌∙◌, arith}
-use Rattle.std.proofs.lemmas.Bool.{cases_lt}
-use Rattle.std.proofs.lemmas.Option.{slice_get-get_or, slice_get_within}
-use Rattle.world_model.specs.History.{History}
-use Rattle.claims.specs.Modes.{Modes}
-use Rattle.claims.specs.ReadTrue.{HeldSize, Since, each_read, opened, kept}
-use Rattle.world_model.specs.Server.{HasBytes, Object, Server}
+use Rattle.core_session.proofs.Prelude.{◌≡◌, ◌<◌, ◌≤◌, ◌+◌, ◌⊎◌, inl, inr, ℕ, true, false, List, length, take, Option, Some, None, slice_get, refl, sym, ap, ◌∙◌, arith, cases_lt, slice_get-get_or, slice_get_within, History, Modes, HeldSize, HasBytes, Object, Server}
+use Rattle.std.proofs.Common.{slice_index}
+use Rattle.claims.specs.ReadTrue.{Since, each_read, opened, kept}
 use Rattle.core_session.specs.current.Recent.{IsSoFar, own, held, past, ReadRecent}
 use Rattle.core_session.specs.current.Steady.{IsSteady, SteadyRead, StableRead}
 use Rattle.core_session.proofs.current.ReadsRecent.{bytes-same, reads-recent}

@@ -1,28 +1,8 @@
 -- What a record that is heard tells: it answers the call that its operation waits for, which was first sent at a place.
-use Rattle.std.proofs.Common.{◌≡◌, ◌<◌, ℕ, List, [], ◌∷◌, ◌++◌, length, Some, Ok, sym, subst, arith}
-use Rattle.rpc_message.specs.Call.{xid_at}
-use Rattle.rpc_retry.specs.declared.waiting.Waiting.{Waiting}
-use Rattle.rpc_retry.specs.Waiting.{waiting_at}
-use Rattle.world_model.specs.declared.entry.Entry.{Entry}
-use Rattle.world_model.specs.declared.entry.Entry.TheVariants.{Sent, Delivered}
-use Rattle.world_model.specs.declared.message.Call.{Call}
-use Rattle.world_model.specs.declared.message.Reply.{Reply}
+use Rattle.core_session.proofs.Prelude.{◌≡◌, ◌<◌, ℕ, List, [], ◌∷◌, ◌++◌, length, Some, Ok, sym, subst, arith, xid_at, Waiting, waiting_at, Entry, Sent, Delivered, Call, Reply, HasXid, SpellsCall, SpellsReply, LastReply, FirstSent-grow, At-grow, At-below, At-back, At-last, length_last, said_of, Says, Mounted, machine_of, Purpose, Setup, View, HearsRecord, Reaches, IsMade, Tried, unsent, IsOutstanding, was-sent, says-of, reached-rows, IsAnswered}
 use Rattle.world_model.specs.Heard.{Heard}
-use Rattle.world_model.specs.Messages.{HasXid, SpellsCall, SpellsReply}
-use Rattle.world_model.specs.Operations.{LastReply}
-use Rattle.world_model.proofs.Growth.{FirstSent-grow}
-use Rattle.world_model.proofs.Places.{At-grow, At-below, At-back, At-last, length_last}
-use Rattle.call_replies.specs.Says.{said_of, Says, SpellsOne}
-use Rattle.op_machines.specs.declared.begun.Mounted.{Mounted}
-use Rattle.op_machines.specs.Begun.{machine_of}
-use Rattle.client_core.specs.declared.lane.Purpose.{Purpose}
-use Rattle.client_core.specs.declared.setup.Setup.{Setup}
-use Rattle.client_core.specs.View.{View}
-use Rattle.core_facts.specs.Reaches.{HearsRecord, Reaches}
-use Rattle.core_facts.specs.Tries.{IsMade, Tried, unsent, runs, ended, IsOutstanding}
-use Rattle.core_facts.proofs.Hearing.{was-sent, says-of}
-use Rattle.core_facts.proofs.Rows.{reached-rows}
-use Rattle.core_answers.specs.bonds.Kept.{IsAnswered}
+use Rattle.call_replies.specs.Says.{SpellsOne}
+use Rattle.core_facts.specs.Tries.{runs, ended}
 
 -- the record answers a call that was first sent at a place
 answers-call : (h : List Entry) (rec : List ℕ) (xid from : ℕ) (asked : Call) (bytes : List ℕ) → IsOutstanding h xid bytes from → SpellsCall xid asked bytes → HasXid rec xid

@@ -1,59 +1,28 @@
 -- Which faults a step of an operation gives: want of memory, those of its slot, those that it keeps, and what it makes of what came of its call where that isn't made
 -- again. A save that sends no bytes wasn't refused.
-use Rattle.std.proofs.Common.{◌≡◌, ◌-◌, ◌⊎◌, inl, inr, ℕ, Bool, true, false, List, Option, Some, None, Result, refl, sym, ap, subst, ◌∙◌}
+use Rattle.core_session.proofs.Prelude.{◌≡◌, ◌-◌, ◌⊎◌, inl, inr, ℕ, Bool, true, false, List, Option, Some, None, Result, refl, sym, ap, subst, ◌∙◌, Mode, Opened, Fault, Call, Reply, Op, Pending, Next, Repeat, fails_busy, goes_again, Shelf, Turn, Walk, WalkNext, found_by, look_again, Closing, Putting, Saving, Syncing, Writing, file_to_write, file_at, Mounted, FileMachine, Machine, Opener, PathMachine, machine_of, file_of, slot_taken, begun_at, Starts, Resumes, Takes, FineOption, FineNext, fine-as, CallFaults, FitsWalk, FitsOpening}
 use Rattle.std.specs.FinMap as finite
-use Rattle.nfs_types.specs.declared.mode.Mode.{Mode}
 use Rattle.nfs_types.specs.declared.mode.Mode.TheVariants as modes
-use Rattle.open_files.specs.declared.opened.Opened.{Opened}
-use Rattle.world_model.specs.declared.answer.Fault.{Fault}
 use Rattle.world_model.specs.declared.answer.Fault.TheVariants as faults
-use Rattle.world_model.specs.declared.message.Call.{Call}
-use Rattle.world_model.specs.declared.message.Reply.{Reply}
-use Rattle.world_model.specs.declared.op.Op.{Op}
-use Rattle.write_back.specs.Files.{Pending}
 use Rattle.world_model.specs.declared.op.Op.TheVariants as ops
-use Rattle.client_shelf.specs.declared.next.Next.{Next}
 use Rattle.client_shelf.specs.declared.next.Next.TheVariants as nexts
-use Rattle.client_shelf.specs.declared.repeats.Repeat.{Repeat}
-use Rattle.client_shelf.specs.Busy.{fails_busy, goes_again}
-use Rattle.client_shelf.specs.declared.shelf.Shelf.{Shelf}
-use Rattle.client_shelf.specs.declared.turn.Turn.{Turn}
-use Rattle.name_ops.specs.declared.walk.Walk.{Walk}
-use Rattle.name_ops.specs.declared.walk.WalkNext.{WalkNext}
 use Rattle.name_ops.specs.declared.walk.WalkNext.TheVariants as walks
-use Rattle.name_ops.specs.Looking.{found_by, look_again}
 use Rattle.name_ops.specs.Walking as walking
-use Rattle.file_ops.specs.declared.close_file.Closing.{Closing}
 use Rattle.file_ops.specs.declared.close_file.Closing.TheVariants as closing
-use Rattle.file_ops.specs.declared.put_file.Putting.{Putting}
 use Rattle.file_ops.specs.declared.put_file.Putting.TheVariants as putting
-use Rattle.file_ops.specs.declared.saving.Saving.{Saving}
-use Rattle.file_ops.specs.declared.sync_file.Syncing.{Syncing}
 use Rattle.file_ops.specs.declared.sync_file.Syncing.TheVariants as syncing
-use Rattle.file_ops.specs.declared.write_file.Writing.{Writing}
 use Rattle.file_ops.specs.declared.write_file.Writing.TheVariants as writing
 use Rattle.file_ops.specs.OpenFile.{place_of, is_taken}
 use Rattle.file_ops.specs.Opening.{opening_again, led_on, go_next}
-use Rattle.file_ops.specs.Opens.{file_to_write}
-use Rattle.file_ops.specs.SlotFiles.{file_at}
 use Rattle.file_ops.specs.TruncateFile.{found_file}
-use Rattle.op_machines.specs.declared.begun.Mounted.{Mounted}
-use Rattle.op_machines.specs.declared.file_machine.FileMachine.{FileMachine}
 use Rattle.op_machines.specs.declared.file_machine.FileMachine.TheVariants as files
-use Rattle.op_machines.specs.declared.machine.Machine.{Machine}
 use Rattle.op_machines.specs.declared.machine.Machine.TheVariants as machines
-use Rattle.op_machines.specs.declared.opener.Opener.{Opener}
 use Rattle.op_machines.specs.declared.opener.Opener.TheVariants as openers
-use Rattle.op_machines.specs.declared.path_machine.PathMachine.{PathMachine}
-use Rattle.op_machines.specs.Begun.{machine_of}
 use Rattle.op_machines.specs.FileSteps as steps
-use Rattle.op_machines.specs.Openers.{file_of, slot_taken, begun_at, placed}
+use Rattle.op_machines.specs.Openers.{placed}
 use Rattle.op_machines.specs.PathSteps as paths
-use Rattle.op_machines.specs.Steps.{Starts, Resumes, Takes}
-use Rattle.core_facts.proofs.Faults.{FineOption, FineNext, fine-as}
-use Rattle.core_answers.proofs.answers.SaveFaults.{CallFaults}
-use Rattle.core_answers.proofs.refusals.FitNames.{FineWalk, FitsWalk, FitsName, go-fine, walk-took, name-goes, name-takes}
-use Rattle.core_answers.proofs.refusals.FitReads.{FitsOpening, FitsRead, go-opening, opening-next, opening-took, led-on, open-starts, open-follows, read-starts, read-resumes, read-takes}
+use Rattle.core_answers.proofs.refusals.FitNames.{FineWalk, FitsName, go-fine, walk-took, name-goes, name-takes}
+use Rattle.core_answers.proofs.refusals.FitReads.{FitsRead, go-opening, opening-next, opening-took, led-on, open-starts, open-follows, read-starts, read-resumes, read-takes}
 use Rattle.core_answers.proofs.refusals.FitFiles.{FitsCut, of-open, truncate-starts, truncate-resumes, truncate-takes}
 use Rattle.core_session.proofs.delays.FileSteps.{FitsSync, FitsClose, FitsPut, FineSyncing, FineClosing, FinePutting, FinePut, write-starts, sync-starts, sync-resumes, sync-takes, close-starts, close-resumes, close-takes, put-starts, put-resumes, put-takes}
 use Rattle.core_session.proofs.delays.SaveSteps.{FineSave}

@@ -1,72 +1,17 @@
 -- Along a history each call that waits was put off at as many different places of its operation as it was made before; and there are no more calls that are made
 -- again than calls that wait.
-use Rattle.std.proofs.Common.{◌≡◌, ◌≢◌, ◌<◌, ◌≤◌, ◌+◌, ◌-◌, ◌⊎◌, inl, inr, ℕ, List, [], ◌∷◌, ◌++◌, length, Bool, true, false, nat_eq, Option, Some, None, option_map, position, Result, Ok, Err, refl, sym, ap, subst, ◌∙◌, arith}
-use Rattle.std.proofs.lemmas.Bool.{eqb-true, eqb-false}
-use Rattle.rpc_message.specs.Call.{xid_at}
-use Rattle.rpc_retry.specs.declared.waiting.Waiting.{Waiting}
-use Rattle.rpc_retry.specs.Held.{next_xid}
-use Rattle.rpc_retry.specs.Waiting.{made_call, waiting_at, without}
-use Rattle.rpc_retry.proofs.Lookups.{waits_early, at_made, others_made, others_taken}
-use Rattle.rpc_retry.proofs.Records.{gone}
-use Rattle.world_model.specs.declared.answer.Fault.{Fault}
+use Rattle.core_session.proofs.Prelude.{◌≡◌, ◌≢◌, ◌<◌, ◌≤◌, ◌+◌, ◌-◌, ◌⊎◌, inl, inr, ℕ, List, [], ◌∷◌, ◌++◌, length, Bool, true, false, nat_eq, Option, Some, None, option_map, position, Result, Ok, Err, refl, sym, ap, subst, ◌∙◌, arith, eqb-true, eqb-false, xid_at, Waiting, next_xid, made_call, waiting_at, without, waits_early, at_made, others_made, others_taken, gone, Fault, Entry, Began, Answered, Sent, Delivered, Call, Reply, Op, SpellsCall, SpellsCallBy, proc_of, UnderWay, RefusesSo, jukebox, FirstSent-grow, At-grow, At-below, At-back, At-last, length_last, said_of, Says, Next, Send, Wait, Done, Repeat, Shelf, goes_again, Mounted, Machine, machine_of, Purpose, Busy, Setup, is_busy, IsIdle, with_state, record_of, Makes, Leads, Stirs, counted, StartsLane, TakesAt, View, turn_at, unmade_turn, in_flight, Counts, calls_for, HearsRecord, Reaches, IsMade, IsOutstanding, Tried, unsent, counts-calls, begins-unbegun, taken_one, calls-some, known-only, was-sent, says-of, Known, purpose_at, lanes-under-way, at-position, reached-since, Rows, same-rows, rows-grow, silent-grow, taken-quiet, not-sent, taken-rows, made-known, made-asked, AskedOf, under-back, IsExpected, reached-good, ExpectLaws, Expects, expects-laws, NoCall, NoShelf, NoStory, no-laws, IsPiece, CallFaults, one-call, CallFits, fits-laws, SameCalls, machine-fits}
 use Rattle.world_model.specs.declared.answer.Fault.TheVariants as faults
-use Rattle.world_model.specs.declared.entry.Entry.{Entry}
-use Rattle.world_model.specs.declared.entry.Entry.TheVariants.{Began, Answered, Sent, Delivered}
-use Rattle.world_model.specs.declared.message.Call.{Call}
-use Rattle.world_model.specs.declared.message.Reply.{Reply}
-use Rattle.world_model.specs.declared.op.Op.{Op}
 use Rattle.world_model.specs.Heard.{Heard, Refuses}
-use Rattle.world_model.specs.Messages.{SpellsCall, SpellsCallBy, proc_of}
-use Rattle.world_model.specs.Operations.{UnderWay}
-use Rattle.claims.specs.PageRules.{RefusesSo, refuses, breaks}
-use Rattle.claims.specs.Terms.{jukebox}
-use Rattle.world_model.proofs.Growth.{FirstSent-grow}
-use Rattle.world_model.proofs.Places.{At-grow, At-below, At-back, At-last, length_last}
-use Rattle.call_replies.specs.Says.{said_of, Says}
-use Rattle.client_shelf.specs.declared.next.Next.{Next}
-use Rattle.client_shelf.specs.declared.next.Next.TheVariants.{Send, Wait, Done}
-use Rattle.client_shelf.specs.declared.repeats.Repeat.{Repeat}
-use Rattle.client_shelf.specs.declared.shelf.Shelf.{Shelf}
-use Rattle.client_shelf.specs.Busy.{goes_again, repeats_after}
+use Rattle.claims.specs.PageRules.{refuses, breaks}
+use Rattle.client_shelf.specs.Busy.{repeats_after}
 use Rattle.client_shelf.specs.Repeats.{times_of, ended, repeated, answered as answered_table}
-use Rattle.op_machines.specs.declared.begun.Mounted.{Mounted}
-use Rattle.op_machines.specs.declared.machine.Machine.{Machine}
-use Rattle.op_machines.specs.Begun.{machine_of}
-use Rattle.client_core.specs.declared.lane.Purpose.{Purpose}
-use Rattle.client_core.specs.declared.lane.State.TheVariants.{Busy}
-use Rattle.client_core.specs.declared.setup.Setup.{Setup}
-use Rattle.client_core.specs.Lanes.{is_busy}
-use Rattle.client_core.specs.Numbers.{IsIdle}
-use Rattle.client_core.specs.Steps.{with_state, record_of, Makes, IsUnmade, Refuses as RefusesStep, Leads, Stirs, counted, StartsLane, TakesAt}
-use Rattle.client_core.specs.View.{View, turn_at, unmade_turn}
-use Rattle.core_facts.specs.InFlight.{in_flight, Counts}
-use Rattle.core_facts.specs.Counted.{calls_for}
-use Rattle.core_facts.specs.Reaches.{HearsRecord, Reaches}
-use Rattle.core_facts.specs.Tries.{IsMade, IsOutstanding, Tried, unsent, runs, ended as tries_ended}
-use Rattle.core_facts.proofs.AllCounts.{counts-calls, begins-unbegun}
-use Rattle.core_facts.proofs.Cases.{taken_one}
-use Rattle.core_facts.proofs.Counting.{calls-some, known-only, none-idle}
-use Rattle.core_facts.proofs.Hearing.{was-sent, says-of}
-use Rattle.core_facts.proofs.Keeping.{Known, purpose_at}
-use Rattle.core_facts.proofs.LaneMarks.{lanes-under-way}
-use Rattle.core_facts.proofs.Lists.{at-position}
-use Rattle.core_facts.proofs.Owning.{reached-since}
-use Rattle.core_facts.proofs.Rows.{Rows, same-rows, rows-grow, silent-grow, taken-quiet, not-sent, taken-rows, made-known, made-asked}
-use Rattle.core_facts.proofs.Steps.{AskedOf}
-use Rattle.core_facts.proofs.Stories.{under-back}
-use Rattle.core_facts.proofs.Tales.{IsExpected, reached-good}
-use Rattle.core_facts.proofs.Expects.{ExpectLaws}
-use Rattle.core_answers.proofs.asks.CallsAwaited.{Expects, expects-laws}
-use Rattle.core_answers.proofs.asks.Sendings.{NoCall, NoShelf, NoStory, no-laws}
+use Rattle.client_core.specs.Steps.{IsUnmade, Refuses as RefusesStep}
+use Rattle.core_facts.specs.Tries.{runs, ended as tries_ended}
+use Rattle.core_facts.proofs.Counting.{none-idle}
 use Rattle.core_answers.proofs.answers.Both.{both-laws}
-use Rattle.core_answers.proofs.answers.PieceSteps.{IsPiece}
-use Rattle.core_answers.proofs.answers.SaveFaults.{CallFaults}
 use Rattle.core_answers.proofs.answers.Writing.{written-reached}
-use Rattle.core_answers.proofs.bonds.OneCall.{one-call}
-use Rattle.core_answers.proofs.writes.AllFits.{CallFits, fits-laws}
-use Rattle.core_answers.proofs.writes.Along.{SameCalls}
 use Rattle.core_session.proofs.saves.HearingAlong.{KeepsHearing, reached-hearing}
-use Rattle.core_answers.proofs.refusals.Fitting.{machine-fits}
 use Rattle.core_answers.proofs.refusals.Replied.{Given}
 use Rattle.core_answers.proofs.refusals.SentCalls.{nfs-of}
 use Rattle.core_session.proofs.delays.Puts.{Puts, puts-later, puts-none, puts-more}

@@ -1,56 +1,26 @@
 -- P holds of what any operation makes of what came of its call, where that isn't made again: where it may be made again, since it wasn't put off then; and else
 -- where P holds of that too.
-use Rattle.std.proofs.Common.{◌≡◌, ◌||◌, ◌==◌, inl, inr, ℕ, Bool, true, false, List, length, Option, Some, None, Result, Ok, Err, refl, sym, subst}
-use Rattle.std.specs.Prelude.{nat_lt}
-use Rattle.nfs_types.specs.declared.wcc.Wcc.{Wcc}
-use Rattle.nfs_types.specs.declared.verf.Verf.{Verf}
-use Rattle.nfs_file_calls.specs.declared.owned.FileKept.{FileKept}
+use Rattle.core_session.proofs.Prelude.{◌≡◌, ◌||◌, ◌==◌, inl, inr, ℕ, Bool, true, false, List, length, Option, Some, None, Result, Ok, Err, refl, sym, subst, nat_lt, Wcc, Verf, FileKept, Fault, Call, Reply, Pending, Next, Repeat, Shelf, Turn, fails_busy, goes_again, Closing, Led, PutFile, Putting, Saving, Syncing, Writing, written_by, write_told, commit_told, found_by, FileMachine, Machine, NameMachine, PathMachine, Takes, file_of, FineOption, FineNext, fine-as, CallFaults, FitsWalk, FineLed}
 use Rattle.nfs_file_calls.specs.declared.owned.FileKept.TheVariants as kept
-use Rattle.world_model.specs.declared.answer.Fault.{Fault}
 use Rattle.world_model.specs.declared.answer.Fault.TheVariants as faults
-use Rattle.world_model.specs.declared.message.Call.{Call}
-use Rattle.world_model.specs.declared.message.Reply.{Reply}
 use Rattle.world_model.specs.declared.message.Reply.TheVariants as replies
-use Rattle.write_back.specs.Files.{Pending}
-use Rattle.client_shelf.specs.declared.next.Next.{Next}
 use Rattle.client_shelf.specs.declared.next.Next.TheVariants as nexts
-use Rattle.client_shelf.specs.declared.repeats.Repeat.{Repeat}
-use Rattle.client_shelf.specs.declared.shelf.Shelf.{Shelf}
-use Rattle.client_shelf.specs.declared.turn.Turn.{Turn}
-use Rattle.client_shelf.specs.Busy.{is_busy, fails_busy, goes_again}
-use Rattle.file_ops.specs.declared.close_file.Closing.{Closing}
+use Rattle.client_shelf.specs.Busy.{is_busy}
 use Rattle.file_ops.specs.declared.close_file.Closing.TheVariants as closing
-use Rattle.file_ops.specs.declared.opening.Led.{Led}
 use Rattle.file_ops.specs.declared.opening.Led.TheVariants as leads
-use Rattle.file_ops.specs.declared.put_file.PutFile.{PutFile}
-use Rattle.file_ops.specs.declared.put_file.Putting.{Putting}
 use Rattle.file_ops.specs.declared.put_file.Putting.TheVariants as putting
-use Rattle.file_ops.specs.declared.saving.Saving.{Saving}
-use Rattle.file_ops.specs.declared.sync_file.Syncing.{Syncing}
 use Rattle.file_ops.specs.declared.sync_file.Syncing.TheVariants as syncing
-use Rattle.file_ops.specs.declared.write_file.Writing.{Writing}
 use Rattle.file_ops.specs.declared.write_file.Writing.TheVariants as writing
-use Rattle.file_ops.specs.Judging.{written_by, write_told, commit_told}
 use Rattle.file_ops.specs.Opening as opening
 use Rattle.file_ops.specs.Saves as saves
-use Rattle.name_ops.specs.Looking.{found_by}
 use Rattle.name_ops.specs.Walking as walking
-use Rattle.op_machines.specs.declared.file_machine.FileMachine.{FileMachine}
 use Rattle.op_machines.specs.declared.file_machine.FileMachine.TheVariants as files
-use Rattle.op_machines.specs.declared.machine.Machine.{Machine}
 use Rattle.op_machines.specs.declared.machine.Machine.TheVariants as machines
-use Rattle.op_machines.specs.declared.name_machine.NameMachine.{NameMachine}
-use Rattle.op_machines.specs.declared.path_machine.PathMachine.{PathMachine}
-use Rattle.op_machines.specs.Steps.{Takes}
-use Rattle.op_machines.specs.Openers.{file_of}
-use Rattle.core_facts.proofs.Faults.{FineOption, FineNext, fine-as, fine-fault, fine-some}
+use Rattle.core_facts.proofs.Faults.{fine-fault, fine-some}
 use Rattle.core_answers.proofs.answers.SaveFaults as once
-use Rattle.core_answers.proofs.answers.SaveFaults.{CallFaults}
 use Rattle.core_answers.proofs.answers.WriteFaults as once_write
 use Rattle.core_answers.proofs.refusals.FitAll as one
 use Rattle.core_answers.proofs.refusals.FitFiles as one_file
-use Rattle.core_answers.proofs.refusals.FitNames.{FitsWalk}
-use Rattle.core_answers.proofs.refusals.FitReads.{FineLed}
 use Rattle.core_session.proofs.delays.AllSteps.{SendsOr, Ends, FineMachine, FitsFile, FitsPath, FitsMachine, MachineStep, all-takes}
 use Rattle.core_session.proofs.delays.FileSteps.{FitsSync, FitsClose, FitsPut}
 use Rattle.core_session.proofs.delays.SaveSteps.{FitsSave}

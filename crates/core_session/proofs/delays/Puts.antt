@@ -1,13 +1,11 @@
 -- The places at which a call was put off (RFC 1813, section 2.6, NFS3ERR_JUKEBOX), as many different ones as it is said.
-use Rattle.std.proofs.Common.{◌≡◌, ◌≢◌, ◌≤◌, ◌<◌, ◌+◌, ◌-◌, ℕ, List, [], ◌∷◌, ◌++◌, length, All, AllPairs, sym, arith}
+use Rattle.core_session.proofs.Prelude.{◌≡◌, ◌≢◌, ◌≤◌, ◌<◌, ◌+◌, ◌-◌, ℕ, List, [], ◌∷◌, ◌++◌, length, sym, arith, Entry, Call, FirstSent-grow, Answers-grow}
+use Rattle.std.proofs.Common.{All, AllPairs}
 use Rattle.std.proofs.lemmas.List.Elements.{All-cons}
 use Rattle.std.proofs.lemmas.List.Kept.{AllPairs-cons}
-use Rattle.world_model.specs.declared.entry.Entry.{Entry}
-use Rattle.world_model.specs.declared.message.Call.{Call}
 use Rattle.claims.specs.GoesOn.{PutOff, FewPutOff}
 use Rattle.world_model.specs.Heard.{Heard}
 use Rattle.claims.specs.Terms.{most_tries}
-use Rattle.world_model.proofs.Growth.{FirstSent-grow, Answers-grow}
 
 pub record Puts (h : List Entry) (x n : ℕ) (call : Call) (k : ℕ) : Type 0 where
   pub places : List ℕ

@@ -1,23 +1,9 @@
 -- The rows of NFS3ERR_JUKEBOX (RFC 1813, section 2.6): the call that a record refused is one for which the operation asked.
-use Rattle.std.proofs.Common.{◌≡◌, ◌⊎◌, inl, inr, ℕ, List, refl, subst, arith}
-use Rattle.world_model.specs.declared.answer.Answer.TheVariants.{Refused}
+use Rattle.core_session.proofs.Prelude.{◌≡◌, ◌⊎◌, inl, inr, ℕ, List, refl, subst, arith, Refused, Entry, Call, Op, Asks, IsWriter, GoesOn, Ended, RefusedBy, Terms, jukebox, Mounted, IsAsked, machine_of, Setup, View, IsForRoom, GoesSo}
 use Rattle.world_model.specs.declared.answer.Fault.TheVariants as faults
-use Rattle.world_model.specs.declared.entry.Entry.{Entry}
-use Rattle.world_model.specs.declared.message.Call.{Call}
-use Rattle.world_model.specs.declared.op.Op.{Op}
-use Rattle.claims.specs.Asks.{Asks, IsWriter}
 use Rattle.claims.specs.Asks as acts
-use Rattle.claims.specs.GoesOn.{GoesOn, FewPutOff}
+use Rattle.claims.specs.GoesOn.{FewPutOff}
 use Rattle.claims.specs.GoesOn as on
-use Rattle.world_model.specs.Operations.{Ended}
-use Rattle.claims.specs.RefusalRows.{RefusedBy}
-use Rattle.claims.specs.Terms.{Terms, jukebox}
-use Rattle.op_machines.specs.declared.begun.Mounted.{Mounted}
-use Rattle.op_machines.specs.Begun.{IsAsked, machine_of}
-use Rattle.client_core.specs.declared.setup.Setup.{Setup}
-use Rattle.client_core.specs.View.{View}
-use Rattle.core_answers.specs.asks.PutCalls.{IsForRoom}
-use Rattle.core_answers.specs.refusals.Rowed.{GoesSo}
 use Rattle.core_session.specs.outcomes.Refusals.{MakesNoRoom}
 use Rattle.core_session.proofs.outcomes.OwnAsks.{asks-or-rooms, own-last}
 use Rattle.core_session.proofs.outcomes.RoomRows.{under}

@@ -1,28 +1,11 @@
 -- Which faults a step of a save gives: out of memory, those that it keeps, and those of what came of its call where that isn't made again. Where it sends no
 -- bytes it wasn't refused.
-use Rattle.std.proofs.Common.{◌≡◌, ◌+◌, ◌==◌, ◌&&◌, ℕ, Bool, true, false, List, [], ◌∷◌, Option, Some, None, Result, Ok, Err, inl, inr, refl, sym, ap, subst, ◌∙◌}
-use Rattle.std.specs.Prelude.{nat_lt, is_none}
-use Rattle.commit_verf.specs.declared.commit.Verdict.{Verdict}
-use Rattle.commit_verf.specs.declared.commit.Verdict.TheVariants.{AllStable, SendAgain}
-use Rattle.nfs_types.specs.declared.verf.Verf.{Verf}
-use Rattle.world_model.specs.declared.answer.Fault.{Fault}
-use Rattle.world_model.specs.declared.answer.Fault.TheVariants.{Memory}
-use Rattle.world_model.specs.declared.message.Reply.{Reply}
-use Rattle.client_shelf.specs.declared.next.Next.{Next}
-use Rattle.client_shelf.specs.declared.repeats.Repeat.{Repeat}
-use Rattle.client_shelf.specs.declared.turn.Turn.{Turn}
-use Rattle.client_shelf.specs.Busy.{fails_busy, goes_again}
-use Rattle.write_back.specs.Choice.{chosen}
-use Rattle.write_back.specs.Files.{Pending, of_file}
-use Rattle.write_back.specs.Segments.{Segments}
+use Rattle.core_session.proofs.Prelude.{◌≡◌, ◌+◌, ◌==◌, ◌&&◌, ℕ, Bool, true, false, List, [], ◌∷◌, Option, Some, None, Result, Ok, Err, inl, inr, refl, sym, ap, subst, ◌∙◌, nat_lt, Verdict, AllStable, SendAgain, Verf, Fault, Memory, Reply, Next, Repeat, Turn, fails_busy, goes_again, chosen, Pending, of_file, Segments, Sending, Committing, Resending, CommittingAgain, Saving, commit_told, FineResult, FineOption, FineNext, CallFaults}
+use Rattle.std.specs.Prelude.{is_none}
 use Rattle.file_ops.specs.declared.saving.Phase.{Phase}
-use Rattle.file_ops.specs.declared.saving.Phase.TheVariants.{Sending, Committing, Resending, CommittingAgain}
-use Rattle.file_ops.specs.declared.saving.Saving.{Saving}
-use Rattle.file_ops.specs.Judging.{commit_told}
 use Rattle.file_ops.specs.Saves as saves
 use Rattle.file_ops.specs.Syncs as syncs
-use Rattle.core_facts.proofs.Faults.{FineResult, FineOption, FineNext, fine-some}
-use Rattle.core_answers.proofs.answers.SaveFaults.{CallFaults}
+use Rattle.core_facts.proofs.Faults.{fine-some}
 
 clash : (R : Type 0) (b : Bool) → b ≡ true → b ≡ false → R
 clash R b is not = absurd (let wrong : true ≡ false = sym is ∙ not in cc)

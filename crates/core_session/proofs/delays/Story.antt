@@ -1,63 +1,18 @@
 -- An operation is answered with NFS3ERR_JUKEBOX (RFC 1813, section 2.6) only where a record refused so a call that was sent for this very operation, which had been put
 -- off at three places of it before, and isn't the REMOVE of a last close.
-use Rattle.std.proofs.Common.{◌≡◌, ◌≤◌, ◌<◌, ◌+◌, ◌&&◌, ℕ, List, [], ◌∷◌, ◌++◌, length, Bool, true, false, option_map, Result, Ok, Err, inl, inr, refl, sym, ap, subst, ◌∙◌, arith}
-use Rattle.std.specs.Prelude.{nat_lt}
-use Rattle.std.proofs.lemmas.Bool.{eq-eqb, lt-ltb, ltb-false}
-use Rattle.rpc_retry.specs.declared.waiting.Waiting.{Waiting}
-use Rattle.rpc_retry.specs.Waiting.{without}
-use Rattle.world_model.specs.declared.answer.Answer.{Answer}
+use Rattle.core_session.proofs.Prelude.{◌≡◌, ◌≤◌, ◌<◌, ◌+◌, ◌&&◌, ℕ, List, [], ◌∷◌, ◌++◌, length, Bool, true, false, option_map, Result, Ok, Err, inl, inr, refl, sym, ap, subst, ◌∙◌, arith, nat_lt, eq-eqb, lt-ltb, ltb-false, Waiting, without, Answer, Fault, Entry, Began, Delivered, Call, Reply, Op, Modes, RefusesSo, Ended, jukebox, FirstSent-grow, Answers-grow, length_last, Says, Next, Shelf, Turn, goes_again, CloseFile, Closing, Removal, Mounted, Machine, machine_of, Takes, Purpose, State, Busy, Over, Setup, View, of_closing, in_flight, Reaches, begins-unbegun, FineAnswer, reached-rows, ThenOf, AsksFor, Did, CloseNames, Saves, IsPiece, CallFaults, IsHeardNow, IsUnmadeFault, machine-fits}
 use Rattle.world_model.specs.declared.answer.Answer.TheVariants as answers
-use Rattle.world_model.specs.declared.answer.Fault.{Fault}
 use Rattle.world_model.specs.declared.answer.Fault.TheVariants as faults
-use Rattle.world_model.specs.declared.entry.Entry.{Entry}
-use Rattle.world_model.specs.declared.entry.Entry.TheVariants.{Began, Delivered}
-use Rattle.world_model.specs.declared.message.Call.{Call}
-use Rattle.world_model.specs.declared.message.Reply.{Reply}
-use Rattle.world_model.specs.declared.op.Op.{Op}
 use Rattle.world_model.specs.declared.op.Op.TheVariants as ops
-use Rattle.claims.specs.Modes.{Modes}
-use Rattle.claims.specs.PageRules.{RefusedSo, RefusesSo, refuses}
-use Rattle.world_model.specs.Operations.{Ended}
-use Rattle.claims.specs.Terms.{jukebox}
-use Rattle.world_model.proofs.Growth.{FirstSent-grow, Answers-grow}
-use Rattle.world_model.proofs.Places.{length_last}
-use Rattle.call_replies.specs.Says.{Says}
-use Rattle.client_shelf.specs.declared.next.Next.{Next}
+use Rattle.claims.specs.PageRules.{RefusedSo, refuses}
 use Rattle.client_shelf.specs.declared.next.Next.TheVariants as nexts
-use Rattle.client_shelf.specs.declared.shelf.Shelf.{Shelf}
-use Rattle.client_shelf.specs.declared.turn.Turn.{Turn}
-use Rattle.client_shelf.specs.Busy.{is_busy, goes_again}
+use Rattle.client_shelf.specs.Busy.{is_busy}
 use Rattle.client_shelf.specs.Repeats.{times_of, ended}
-use Rattle.file_ops.specs.declared.close_file.CloseFile.{CloseFile}
-use Rattle.file_ops.specs.declared.close_file.Closing.{Closing}
 use Rattle.file_ops.specs.declared.close_file.Closing.TheVariants as closing
-use Rattle.file_ops.specs.declared.closing.Removal.{Removal}
-use Rattle.op_machines.specs.declared.begun.Mounted.{Mounted}
-use Rattle.op_machines.specs.declared.machine.Machine.{Machine}
-use Rattle.op_machines.specs.Begun.{machine_of}
-use Rattle.op_machines.specs.Steps.{Takes}
-use Rattle.client_core.specs.declared.lane.Purpose.{Purpose}
-use Rattle.client_core.specs.declared.lane.State.{State}
-use Rattle.client_core.specs.declared.lane.State.TheVariants.{Busy, Over}
-use Rattle.client_core.specs.declared.setup.Setup.{Setup}
-use Rattle.client_core.specs.View.{View}
-use Rattle.core_facts.specs.InFlight.{of_closing, in_flight}
-use Rattle.core_facts.specs.Reaches.{Reaches}
-use Rattle.core_facts.proofs.AllCounts.{begins-unbegun}
-use Rattle.core_facts.proofs.Faults.{FineAnswer}
-use Rattle.core_facts.proofs.Rows.{reached-rows}
-use Rattle.core_facts.proofs.Steps.{ThenOf}
-use Rattle.core_facts.proofs.Tales.{AsksFor, Did}
 use Rattle.core_answers.specs.asks.SlotCalls.{IsRemoval}
-use Rattle.core_answers.proofs.asks.FilesAwaited.{CloseNames}
-use Rattle.core_answers.proofs.asks.SavedCalls.{Saves}
-use Rattle.core_answers.proofs.answers.PieceSteps.{IsPiece}
-use Rattle.core_answers.proofs.answers.SaveFaults.{CallFaults}
 use Rattle.core_answers.proofs.answers.Writing.{written-reached}
-use Rattle.core_answers.proofs.refusals.Answering.{IsHeardNow, IsUnmadeFault}
 use Rattle.core_answers.proofs.refusals.FitAll as one
 use Rattle.core_answers.proofs.refusals.FitFiles.{FitsClose}
-use Rattle.core_answers.proofs.refusals.Fitting.{machine-fits}
 use Rattle.core_answers.proofs.refusals.Refused as refused
 use Rattle.core_answers.proofs.refusals.Passing.{Passes, forget}
 use Rattle.core_answers.proofs.refusals.Refused.{IsClose, NoRemoval, SentSo}

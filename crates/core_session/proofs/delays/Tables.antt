@@ -1,15 +1,10 @@
 -- The table of the calls that are made again: what is told of each call after one was answered.
-use Rattle.std.proofs.Common.{◌≡◌, ◌≢◌, ◌≤◌, ◌+◌, ℕ, suc, not, nat_lt, nat_eq, cond, Bool, true, false, List, [], ◌∷◌, ◌++◌, length, Option, Some, None, position, remove, slice_get, refl, sym, ap, subst, ◌∙◌, arith}
-use Rattle.std.specs.Prelude.{if◌then◌else◌, option_and_then}
-use Rattle.std.specs.Option.{option_map_or}
+use Rattle.core_session.proofs.Prelude.{◌≡◌, ◌≢◌, ◌≤◌, ◌+◌, ℕ, suc, not, nat_eq, cond, Bool, true, false, List, [], ◌∷◌, ◌++◌, length, Option, Some, None, position, remove, slice_get, refl, sym, ap, subst, ◌∙◌, arith, if◌then◌else◌, option_map_or, eqb-true, eqb-false, eq-eqb, lt-ltb, ltb-true, ltb-false, Waiting, waiting_at, without, others_taken, Repeat, Purpose}
+use Rattle.std.proofs.Common.{nat_lt}
+use Rattle.std.specs.Prelude.{option_and_then}
 use Rattle.std.specs.List.{position_or_len}
-use Rattle.std.proofs.lemmas.Bool.{eqb-true, eqb-false, eq-eqb, ne_eqb, lt-ltb, ltb-true, ltb-false}
-use Rattle.rpc_retry.specs.declared.waiting.Waiting.{Waiting}
-use Rattle.rpc_retry.specs.Waiting.{waiting_at, without}
-use Rattle.rpc_retry.proofs.Lookups.{others_taken}
-use Rattle.client_shelf.specs.declared.repeats.Repeat.{Repeat}
+use Rattle.std.proofs.lemmas.Bool.{ne_eqb}
 use Rattle.client_shelf.specs.Repeats.{is_call, times_of, ended}
-use Rattle.client_core.specs.declared.lane.Purpose.{Purpose}
 
 -- the table without the first call under the xid, and how often that one was made before
 abbrev pub left : ℕ → List Repeat → List Repeat

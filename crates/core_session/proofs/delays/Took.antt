@@ -1,15 +1,8 @@
 -- What a step that takes what came of a call makes of the calls that are made again (RFC 1813, section 2.6, NFS3ERR_JUKEBOX).
-use Rattle.std.proofs.Common.{◌≡◌, ◌&&◌, ◌==◌, ℕ, Bool, true, false, List, Option, Some, None, Result, Ok, Err, refl, sym, ap, subst, ◌∙◌}
-use Rattle.std.specs.Prelude.{nat_lt}
-use Rattle.std.proofs.lemmas.Bool.{eqb-true}
-use Rattle.world_model.specs.declared.answer.Fault.{Fault}
+use Rattle.core_session.proofs.Prelude.{◌≡◌, ◌&&◌, ◌==◌, ℕ, Bool, true, false, List, Option, Some, None, Result, Ok, Err, refl, sym, ap, subst, ◌∙◌, nat_lt, eqb-true, Fault, jukebox, Repeat, Turn, fails_busy, goes_again, FineResult, FineOption}
 use Rattle.world_model.specs.declared.answer.Fault.TheVariants as faults
-use Rattle.claims.specs.Terms.{jukebox}
-use Rattle.client_shelf.specs.declared.repeats.Repeat.{Repeat}
-use Rattle.client_shelf.specs.declared.turn.Turn.{Turn}
-use Rattle.client_shelf.specs.Busy.{is_busy, fails_busy, goes_again, repeats_after}
+use Rattle.client_shelf.specs.Busy.{is_busy, repeats_after}
 use Rattle.name_ops.specs.Changing as changing
-use Rattle.core_facts.proofs.Faults.{FineResult, FineOption}
 
 -- Whether the call was put off; the calls that are made again then. Where it is made again, A; where it was put off, P of that; else C.
 pub record Took (P : Fault → Type 0) (sent turn : Turn) (old later : List Repeat) (A C : Type 0) : Type 0 where

@@ -1,108 +1,54 @@
 -- An operation on a file makes a call again that was put off, as often as it may; a save also the WRITE of a piece, and its COMMIT.
-use Rattle.std.proofs.Common.{◌≡◌, ◌≤◌, ◌&&◌, ◌||◌, ◌==◌, ℕ, Bool, true, false, List, Option, Some, None, Result, Ok, Err, inl, inr, refl, sym, ap, subst, ◌∙◌, arith}
-use Rattle.std.specs.Prelude.{nat_lt, is_none}
-use Rattle.std.proofs.lemmas.Bool.{eqb-true}
-use Rattle.nfs_types.specs.declared.attr.Attr.{Attr}
-use Rattle.nfs_types.specs.declared.verf.Verf.{Verf}
-use Rattle.nfs_types.specs.declared.wcc.Wcc.{Wcc}
-use Rattle.nfs_dir_calls.specs.declared.keeping.DirKept.{DirKept}
+use Rattle.core_session.proofs.Prelude.{◌≡◌, ◌≤◌, ◌&&◌, ◌||◌, ◌==◌, ℕ, Bool, true, false, List, Option, Some, None, Result, Ok, Err, inl, inr, refl, sym, ap, subst, ◌∙◌, arith, nat_lt, eqb-true, Attr, Verf, Wcc, DirKept, FileKept, Fault, Call, Reply, status_of, jukebox, Pending, Pages, Opens, left, Next, Repeat, Shelf, Turn, fails_busy, goes_again, CloseFile, Closing, Removal, OpenFile, Led, Opening, OpeningNext, PutFile, Putting, ReadFile, Reading, Sending, Committing, Resending, CommittingAgain, Saving, SyncFile, Syncing, TruncateFile, Truncating, WriteFile, Writing, place_after, remove_of, remove_busy, written_by, write_told, commit_told, part, refusal, said_to, got_by, by-step, ends_as, WalkNext, FileMachine, Machine, PathMachine, file_of, Takes, of_writing, of_syncing, of_closing, of_truncating, of_putting, of_walk, path_by, in_flight, PathOr, FineNext, flies_if, flies_save, flies_write, flies_sync, flies_close, flies_put, flies_file, flies_path, Expects, PathNames, SyncNames, WriteNames, CloseNames, StateNames, FileNames, Saves, IsPiece, CallFaults, CallFits, FitsWalk, FineLed, FitsOpening}
+use Rattle.std.specs.Prelude.{is_none}
 use Rattle.nfs_dir_calls.specs.declared.keeping.DirKept.TheVariants as found
 use Rattle.nfs_file_calls.specs.declared.call.FileCall.TheVariants as calls_of
-use Rattle.nfs_file_calls.specs.declared.owned.FileKept.{FileKept}
 use Rattle.nfs_file_calls.specs.declared.owned.FileKept.TheVariants as kept
-use Rattle.world_model.specs.declared.answer.Fault.{Fault}
 use Rattle.world_model.specs.declared.answer.Fault.TheVariants as faults
-use Rattle.world_model.specs.declared.message.Call.{Call}
 use Rattle.world_model.specs.declared.message.Call.TheVariants as calls
-use Rattle.world_model.specs.declared.message.Reply.{Reply}
 use Rattle.world_model.specs.declared.message.Reply.TheVariants as replies
-use Rattle.world_model.specs.Heard.{status_of}
-use Rattle.claims.specs.Terms.{jukebox}
-use Rattle.write_back.specs.Files.{Pending}
 use Rattle.write_back.specs.Pieces.{Sent}
-use Rattle.page_cache.specs.Pages.{Pages}
-use Rattle.open_files.specs.Slots.{Opens}
-use Rattle.client_shelf.specs.LaneFiles.{left}
-use Rattle.client_shelf.specs.declared.next.Next.{Next}
 use Rattle.client_shelf.specs.declared.next.Next.TheVariants as nexts
-use Rattle.client_shelf.specs.declared.repeats.Repeat.{Repeat}
-use Rattle.client_shelf.specs.declared.shelf.Shelf.{Shelf}
-use Rattle.client_shelf.specs.declared.turn.Turn.{Turn}
-use Rattle.client_shelf.specs.Busy.{is_busy, fails_busy, goes_again, repeats_after}
-use Rattle.file_ops.specs.declared.close_file.CloseFile.{CloseFile}
-use Rattle.file_ops.specs.declared.close_file.Closing.{Closing}
+use Rattle.client_shelf.specs.Busy.{is_busy, repeats_after}
 use Rattle.file_ops.specs.declared.close_file.Closing.TheVariants as closing
-use Rattle.file_ops.specs.declared.closing.Removal.{Removal}
-use Rattle.file_ops.specs.declared.open_file.OpenFile.{OpenFile}
-use Rattle.file_ops.specs.declared.opening.Led.{Led}
 use Rattle.file_ops.specs.declared.opening.Led.TheVariants as leads
-use Rattle.file_ops.specs.declared.opening.Opening.{Opening}
-use Rattle.file_ops.specs.declared.opening.OpeningNext.{OpeningNext}
 use Rattle.file_ops.specs.declared.opening.OpeningNext.TheVariants as openings
-use Rattle.file_ops.specs.declared.put_file.PutFile.{PutFile}
-use Rattle.file_ops.specs.declared.put_file.Putting.{Putting}
 use Rattle.file_ops.specs.declared.put_file.Putting.TheVariants as putting
-use Rattle.file_ops.specs.declared.read_file.ReadFile.{ReadFile}
 use Rattle.file_ops.specs.declared.reading.Phase.{Phase as ReadPhase}
 use Rattle.file_ops.specs.declared.reading.Phase.TheVariants as phases
-use Rattle.file_ops.specs.declared.reading.Reading.{Reading}
 use Rattle.file_ops.specs.declared.saving.Phase.{Phase}
-use Rattle.file_ops.specs.declared.saving.Phase.TheVariants.{Sending, Committing, Resending, CommittingAgain}
-use Rattle.file_ops.specs.declared.saving.Saving.{Saving}
-use Rattle.file_ops.specs.declared.sync_file.SyncFile.{SyncFile}
-use Rattle.file_ops.specs.declared.sync_file.Syncing.{Syncing}
 use Rattle.file_ops.specs.declared.sync_file.Syncing.TheVariants as syncing
-use Rattle.file_ops.specs.declared.truncate_file.TruncateFile.{TruncateFile}
-use Rattle.file_ops.specs.declared.truncate_file.Truncating.{Truncating}
 use Rattle.file_ops.specs.declared.truncate_file.Truncating.TheVariants as truncating
-use Rattle.file_ops.specs.declared.write_file.WriteFile.{WriteFile}
-use Rattle.file_ops.specs.declared.write_file.Writing.{Writing}
 use Rattle.file_ops.specs.declared.write_file.Writing.TheVariants as writing
-use Rattle.file_ops.specs.Base.{place_after}
 use Rattle.file_ops.specs.Closes as closes
-use Rattle.file_ops.specs.Closings.{remove_of, remove_busy, busy_by}
-use Rattle.file_ops.specs.Judging.{written_by, write_told, commit_told}
+use Rattle.file_ops.specs.Closings.{busy_by}
 use Rattle.file_ops.specs.OpenFile as opens
 use Rattle.file_ops.specs.Opening as opening
 use Rattle.file_ops.specs.PutFile as puts
 use Rattle.file_ops.specs.ReadFile as reads
 use Rattle.file_ops.specs.Reading as reading
-use Rattle.file_ops.specs.ReadReply.{Said, part, refusal, said_to, says_busy}
+use Rattle.file_ops.specs.ReadReply.{Said, says_busy}
 use Rattle.file_ops.specs.Saves as saves
 use Rattle.file_ops.specs.Syncs as syncs
-use Rattle.file_ops.specs.Told.{got_by}
 use Rattle.file_ops.specs.TruncateFile as truncates
 use Rattle.file_ops.specs.WriteFile as writes
-use Rattle.file_ops.proofs.SaveCounts.{by-step, ends_as}
-use Rattle.name_ops.specs.declared.walk.WalkNext.{WalkNext}
 use Rattle.name_ops.specs.declared.walk.WalkNext.TheVariants as walks
 use Rattle.name_ops.specs.Walking as walking
-use Rattle.op_machines.specs.declared.file_machine.FileMachine.{FileMachine}
 use Rattle.op_machines.specs.declared.file_machine.FileMachine.TheVariants as files
-use Rattle.op_machines.specs.declared.machine.Machine.{Machine}
 use Rattle.op_machines.specs.declared.machine.Machine.TheVariants as machines
-use Rattle.op_machines.specs.declared.path_machine.PathMachine.{PathMachine}
 use Rattle.op_machines.specs.FileSteps as steps
-use Rattle.op_machines.specs.Openers.{file_of}
 use Rattle.op_machines.specs.PathSteps as paths
-use Rattle.op_machines.specs.Steps.{Takes}
-use Rattle.core_facts.specs.InFlight.{of_phase, of_reading, of_writing, of_syncing, of_closing, of_truncating, of_putting, of_file, of_walk, path_by, in_flight}
-use Rattle.core_facts.proofs.AllAwaited.{PutAwaits, FileAwaits, PathOr}
-use Rattle.core_facts.proofs.Faults.{FineNext}
-use Rattle.core_facts.proofs.Flights.{flies_if, flies_save, flies_write, flies_sync, flies_close, flies_put, flies_file, flies_path}
-use Rattle.core_answers.proofs.asks.CallsAwaited.{Expects, PathNames}
-use Rattle.core_answers.proofs.asks.FilesAwaited.{SyncNames, WriteNames, CloseNames, CutNames, StateNames, FileNames}
+use Rattle.core_facts.specs.InFlight.{of_phase, of_reading, of_file}
+use Rattle.core_facts.proofs.AllAwaited.{PutAwaits, FileAwaits}
+use Rattle.core_answers.proofs.asks.FilesAwaited.{CutNames}
 use Rattle.core_answers.proofs.asks.ReadsAwaited.{PhaseNames, ReadNames}
-use Rattle.core_answers.proofs.asks.SavedCalls.{Saves}
-use Rattle.core_answers.proofs.answers.PieceSteps.{IsPiece}
-use Rattle.core_answers.proofs.answers.SaveFaults.{CallFaults, FitsSave}
+use Rattle.core_answers.proofs.answers.SaveFaults.{FitsSave}
 use Rattle.core_answers.proofs.answers.WriteFaults.{FitsWrite}
-use Rattle.core_answers.proofs.writes.AllFits.{CallFits, commits_path}
+use Rattle.core_answers.proofs.writes.AllFits.{commits_path}
 use Rattle.core_answers.proofs.writes.CallFits.{Fits, commits_save, commits_write, commits_sync, commits_close, commits_put, commits_file}
 use Rattle.core_answers.proofs.refusals.FitAll.{FitsFile, FitsPath, FitsMachine}
 use Rattle.core_answers.proofs.refusals.FitFiles.{FitsSync, FitsClose, FitsCut, FitsPut}
-use Rattle.core_answers.proofs.refusals.FitNames.{FitsWalk}
-use Rattle.core_answers.proofs.refusals.FitReads.{FineLed, FitsOpening, FitsPhase, FitsRead, FineSaid}
+use Rattle.core_answers.proofs.refusals.FitReads.{FitsPhase, FitsRead, FineSaid}
 use Rattle.core_session.proofs.delays.Rests.{Same, same, writes-same, close-follows, put-follows, writes-on, adds-bytes, follows-path}
 use Rattle.core_session.proofs.delays.SaveSteps.{Gives}
 use Rattle.core_session.proofs.delays.Took.{Took, took-as, fault-busy, result-busy, result-calm, again-busy, again-no}

@@ -1,28 +1,13 @@
 -- Which faults a step of a write gives, as of a save, where a call isn't made again.
-use Rattle.std.proofs.Common.{ℕ, Bool, true, false, List, Result, Ok, Err, inl, inr, sym, subst}
+use Rattle.core_session.proofs.Prelude.{ℕ, Bool, true, false, List, Result, Ok, Err, inl, inr, sym, subst, Fault, Reply, left, is_first, Next, Shelf, Turn, Pending, Saving, WriteFile, Writing, joined, by-step, ends_as, Repeat, FineNext, fine-as, CallFaults}
 use Rattle.world_model.specs.declared.answer.Answer.TheVariants as answers
-use Rattle.world_model.specs.declared.answer.Fault.{Fault}
 use Rattle.world_model.specs.declared.answer.Fault.TheVariants as faults
 use Rattle.world_model.specs.declared.answer.Value.TheVariants as values
-use Rattle.world_model.specs.declared.message.Reply.{Reply}
-use Rattle.client_shelf.specs.LaneFiles.{left, is_first}
-use Rattle.client_shelf.specs.declared.next.Next.{Next}
 use Rattle.client_shelf.specs.declared.next.Next.TheVariants as nexts
-use Rattle.client_shelf.specs.declared.shelf.Shelf.{Shelf}
-use Rattle.client_shelf.specs.declared.turn.Turn.{Turn}
-use Rattle.write_back.specs.Files.{Pending}
-use Rattle.file_ops.specs.declared.saving.Saving.{Saving}
-use Rattle.file_ops.specs.declared.write_file.WriteFile.{WriteFile}
-use Rattle.file_ops.specs.declared.write_file.Writing.{Writing}
 use Rattle.file_ops.specs.declared.write_file.Writing.TheVariants as writing
 use Rattle.file_ops.specs.Saves as saves
-use Rattle.file_ops.specs.SlotFiles.{joined}
 use Rattle.file_ops.specs.Syncs as syncs
 use Rattle.file_ops.specs.WriteFile as writes
-use Rattle.file_ops.proofs.SaveCounts.{by-step, ends_as}
-use Rattle.client_shelf.specs.declared.repeats.Repeat.{Repeat}
-use Rattle.core_facts.proofs.Faults.{FineNext, fine-as}
-use Rattle.core_answers.proofs.answers.SaveFaults.{CallFaults}
 use Rattle.core_session.proofs.delays.SaveSteps.{FineSave, SaveFine, FitsSave, begun-save, goes-fine, takes-fine}
 
 module _ (P : Fault → Type 0) (own : CallFaults P) where

@@ -1,29 +1,7 @@
 -- What is known of closes, their ranks, and what was given up, along the histories that the core goes with.
-use Rattle.std.proofs.Common.{◌≡◌, ◌≤◌, ℕ, List, [], ◌∷◌, ◌++◌, false, Some, None, slice_get, sym, ap, subst, ◌∙◌}
-use Rattle.world_model.specs.declared.answer.Answer.{Answer}
-use Rattle.world_model.specs.declared.entry.Entry.{Entry}
-use Rattle.world_model.specs.declared.entry.Entry.TheVariants.{Began, Answered}
-use Rattle.claims.specs.Modes.{Modes}
-use Rattle.claims.specs.Terms.{Terms}
-use Rattle.client_shelf.specs.declared.shelf.Shelf.{Shelf}
-use Rattle.file_ops.specs.declared.close_file.CloseFile.{CloseFile}
-use Rattle.op_machines.specs.declared.begun.Mounted.{Mounted}
+use Rattle.core_session.proofs.Prelude.{◌≡◌, ◌≤◌, ℕ, List, [], ◌∷◌, ◌++◌, false, Some, None, slice_get, sym, ap, subst, ◌∙◌, Answer, Entry, Began, Answered, Modes, Terms, Shelf, CloseFile, Mounted, machine_of, Lane, Busy, Setup, IsFresh, Stirs, AnswersAt, View, Reaches, StepsTo, begins-unbegun, Known, lanes-under-way, get-remove, skip, IsDropped, IsClose, IsSaving}
 use Rattle.op_machines.specs.declared.file_machine.FileMachine.TheVariants as files
 use Rattle.op_machines.specs.declared.machine.Machine.TheVariants as machines
-use Rattle.op_machines.specs.Begun.{machine_of}
-use Rattle.client_core.specs.declared.lane.Lane.{Lane}
-use Rattle.client_core.specs.declared.lane.State.TheVariants.{Busy}
-use Rattle.client_core.specs.declared.setup.Setup.{Setup}
-use Rattle.client_core.specs.Fresh.{IsFresh}
-use Rattle.client_core.specs.Steps.{Stirs, AnswersAt}
-use Rattle.client_core.specs.View.{View}
-use Rattle.core_facts.specs.Reaches.{Reaches, StepsTo}
-use Rattle.core_facts.proofs.AllCounts.{begins-unbegun}
-use Rattle.core_facts.proofs.Keeping.{Known}
-use Rattle.core_facts.proofs.LaneMarks.{lanes-under-way}
-use Rattle.core_facts.proofs.Lists.{get-remove, skip}
-use Rattle.core_session.specs.drops.Dropped.{IsDropped}
-use Rattle.core_session.specs.drops.Guarded.{IsClose, IsSaving}
 use Rattle.core_session.proofs.drops.BeginSteps.{starts-step}
 use Rattle.core_session.proofs.drops.DropLaws.{dropped-stirs, dropped-starts, dropped-takes, dropped-same}
 use Rattle.core_session.proofs.drops.GuardLaws.{stirs-step, takes-step, ranked-step}

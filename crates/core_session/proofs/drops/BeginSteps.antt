@@ -1,56 +1,15 @@
 -- What guards a written byte, as an operation begins, as an answer is noted, and as a lone byte comes in.
-use Rattle.std.proofs.Common.{◌≡◌, ◌≢◌, ◌⊎◌, ◌≤◌, ◌<◌, inl, inr, ℕ, zero, suc, List, [], ◌∷◌, ◌++◌, length, remove, Bool, true, false, nat_eq, Option, Some, None, option_map, position, slice_get, refl, sym, ap, subst, ◌∙◌, arith}
-use Rattle.std.specs.Prelude.{nat_lt, if◌then◌else◌}
-use Rattle.std.specs.Option.{option_map_or}
-use Rattle.std.proofs.lemmas.Bool.{eqb-true, eqb-false}
+use Rattle.core_session.proofs.Prelude.{◌≡◌, ◌≢◌, ◌⊎◌, ◌≤◌, ◌<◌, inl, inr, ℕ, zero, suc, List, [], ◌∷◌, ◌++◌, length, remove, Bool, true, false, nat_eq, Option, Some, None, option_map, position, slice_get, refl, sym, ap, subst, ◌∙◌, arith, nat_lt, if◌then◌else◌, option_map_or, eqb-true, eqb-false, Opened, Opens, Entry, Op, Modes, LaneFile, Next, Shelf, is_lane, added, left, CloseFile, Closing, Saving, file_at, joined, Mounted, Machine, machine_of, Starts, Lane, State, Busy, Over, Setup, IsIdle, numbers_of, counted, StartsLane, View, turn_at, AreApart, Reaches, begins-unbegun, seat_close, idle-numbers, number_of, get-push, before-push, at-push, get-remove, skip, to-map, look-at, look-idle, Sits, same-sits, seat_with, seat-own, seat-other, joins, seat_state, seat_in, Kind, plainly, kind_of, BeginsAs, Agrees, reached-slots, IsFirst, Turned, file_in, save_in, IsClose, IsSaving, IsGuarded, slot, past}
 use Rattle.std.specs.FinMap as finite
-use Rattle.open_files.specs.declared.opened.Opened.{Opened}
-use Rattle.open_files.specs.Slots.{Opens}
 use Rattle.world_model.specs.declared.answer.Answer.TheVariants as answers
 use Rattle.world_model.specs.declared.answer.Fault.TheVariants as faults
-use Rattle.world_model.specs.declared.entry.Entry.{Entry}
-use Rattle.world_model.specs.declared.op.Op.{Op}
 use Rattle.world_model.specs.declared.op.Op.TheVariants as ops
-use Rattle.claims.specs.Modes.{Modes}
-use Rattle.client_shelf.specs.declared.lane_files.LaneFile.{LaneFile}
-use Rattle.client_shelf.specs.declared.next.Next.{Next}
-use Rattle.client_shelf.specs.declared.shelf.Shelf.{Shelf}
-use Rattle.client_shelf.specs.LaneFiles.{is_lane, added, left}
-use Rattle.file_ops.specs.declared.close_file.CloseFile.{CloseFile}
-use Rattle.file_ops.specs.declared.close_file.Closing.{Closing}
 use Rattle.file_ops.specs.declared.close_file.Closing.TheVariants as closings
-use Rattle.file_ops.specs.declared.saving.Saving.{Saving}
 use Rattle.file_ops.specs.Saves as saves
-use Rattle.file_ops.specs.SlotFiles.{file_at, joined}
-use Rattle.op_machines.specs.declared.begun.Mounted.{Mounted}
 use Rattle.op_machines.specs.declared.file_machine.FileMachine.TheVariants as files
-use Rattle.op_machines.specs.declared.machine.Machine.{Machine}
 use Rattle.op_machines.specs.declared.machine.Machine.TheVariants as machines
-use Rattle.op_machines.specs.Begun.{machine_of}
-use Rattle.op_machines.specs.Steps.{Starts}
-use Rattle.client_core.specs.declared.lane.Lane.{Lane}
-use Rattle.client_core.specs.declared.lane.State.{State}
-use Rattle.client_core.specs.declared.lane.State.TheVariants.{Busy, Over}
-use Rattle.client_core.specs.declared.setup.Setup.{Setup}
-use Rattle.client_core.specs.Numbers.{IsIdle, numbers_of}
-use Rattle.client_core.specs.Steps.{counted, StartsLane}
-use Rattle.client_core.specs.View.{View, turn_at}
-use Rattle.core_facts.specs.Lanes.{AreApart}
-use Rattle.core_facts.specs.Reaches.{Reaches}
-use Rattle.core_facts.proofs.AllCounts.{begins-unbegun}
 use Rattle.core_facts.proofs.AllSeats.{begins-fresh}
-use Rattle.core_facts.proofs.FileSeats.{seat_close}
-use Rattle.core_facts.proofs.LaneMarks.{idle-numbers, number_of}
-use Rattle.core_facts.proofs.Lists.{get-push, before-push, at-push, get-remove, skip, to-map}
-use Rattle.core_facts.proofs.Looks.{look-at, look-idle}
-use Rattle.core_facts.proofs.Orders.{Sits, same-sits, seat_with, seat-own, seat-other, joins}
-use Rattle.core_facts.proofs.Placing.{seat_state, seat_in}
-use Rattle.core_facts.proofs.Slots.{Kind, opening, closing, plainly, kind_of, BeginsAs}
-use Rattle.core_facts.proofs.SlotGrowth.{Agrees}
-use Rattle.core_facts.proofs.SlotsAlong.{reached-slots}
-use Rattle.core_answers.proofs.writes.Turns.{IsFirst}
-use Rattle.core_answers.proofs.writes.AllTurns.{Turned}
-use Rattle.core_session.specs.drops.Guarded.{file_in, save_in, IsClose, IsSaving, IsGuarded, slot, past}
+use Rattle.core_facts.proofs.Slots.{opening, closing}
 use Rattle.core_session.proofs.drops.AllCounted.{up-starts}
 use Rattle.core_session.proofs.drops.Drops.{closer-kind, ended-slot}
 use Rattle.core_session.proofs.drops.CloseGoes.{goes-starts}

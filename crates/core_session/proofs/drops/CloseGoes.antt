@@ -1,31 +1,11 @@
 -- How a close goes on: it saves, or its save was refused and it removes its file, which no slot holds then; and what a refusal at its end tells.
-use Rattle.std.proofs.Common.{◌≡◌, ◌⊎◌, ℕ, Bool, true, false, List, Option, Some, None, Result, inl, inr, refl, sym, ap, subst, ◌∙◌}
-use Rattle.std.specs.Prelude.{if◌then◌else◌}
+use Rattle.core_session.proofs.Prelude.{◌≡◌, ◌⊎◌, ℕ, Bool, true, false, List, Option, Some, None, Result, inl, inr, refl, sym, ap, subst, ◌∙◌, if◌then◌else◌, Opens, IsOpen, of_file, last_end, Answer, Fault, Reply, is_first, goes_again, Next, Shelf, Turn, CloseFile, Closing, Removal, Saving, TellsOpen, GivesUpBy, closed_answer, refusal_of, remove_of, remove_busy, file_at, joined, by-step, save_in, removal_in}
 use Rattle.std.specs.FinMap as finite
-use Rattle.open_files.specs.Slots.{Opens, IsOpen}
-use Rattle.write_back.specs.Files.{of_file}
-use Rattle.write_back.specs.Segments.{last_end}
-use Rattle.world_model.specs.declared.answer.Answer.{Answer}
 use Rattle.world_model.specs.declared.answer.Answer.TheVariants as answers
-use Rattle.world_model.specs.declared.answer.Fault.{Fault}
-use Rattle.world_model.specs.declared.message.Reply.{Reply}
-use Rattle.client_shelf.specs.LaneFiles.{is_first}
-use Rattle.client_shelf.specs.Busy.{goes_again}
-use Rattle.client_shelf.specs.declared.next.Next.{Next}
 use Rattle.client_shelf.specs.declared.next.Next.TheVariants as nexts
-use Rattle.client_shelf.specs.declared.shelf.Shelf.{Shelf}
-use Rattle.client_shelf.specs.declared.turn.Turn.{Turn}
-use Rattle.file_ops.specs.declared.close_file.CloseFile.{CloseFile}
-use Rattle.file_ops.specs.declared.close_file.Closing.{Closing}
 use Rattle.file_ops.specs.declared.close_file.Closing.TheVariants as closing
-use Rattle.file_ops.specs.declared.closing.Removal.{Removal}
-use Rattle.file_ops.specs.declared.saving.Saving.{Saving}
 use Rattle.file_ops.specs.Closes as closes
-use Rattle.file_ops.specs.Closings.{TellsOpen, GivesUpBy, closed_answer, refusal_of, remove_of, remove_busy}
 use Rattle.file_ops.specs.Saves as saves
-use Rattle.file_ops.specs.SlotFiles.{file_at, joined}
-use Rattle.file_ops.proofs.SaveCounts.{by-step}
-use Rattle.core_session.specs.drops.Guarded.{save_in, removal_in}
 use Rattle.core_session.proofs.drops.SaveFiles.{IsSave, goes-save, takes-save}
 
 -- from the state `at`, with the table of opens before and after

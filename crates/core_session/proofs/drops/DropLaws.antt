@@ -1,36 +1,8 @@
 -- What a close gave up stays so known, through each step of a lane and each entry; and a step of a lane in which a close gives up.
-use Rattle.std.proofs.Common.{◌≡◌, ◌⊎◌, inl, inr, ℕ, List, [], ◌∷◌, ◌++◌, length, false, Some, slice_get, refl, sym, ap, subst, ◌∙◌}
-use Rattle.open_files.specs.Slots.{IsOpen}
-use Rattle.world_model.specs.declared.answer.Answer.TheVariants.{Refused}
-use Rattle.world_model.specs.declared.answer.Fault.{Fault}
-use Rattle.world_model.specs.declared.entry.Entry.{Entry}
-use Rattle.world_model.specs.declared.entry.Entry.TheVariants.{Began, Answered, Dialed, Sent, Executed, Foreign, Flushed, Reboot, Delivered, Failed, Clock}
-use Rattle.world_model.specs.declared.op.Op.{Op}
+use Rattle.core_session.proofs.Prelude.{◌≡◌, ◌⊎◌, inl, inr, ℕ, List, [], ◌∷◌, ◌++◌, length, false, Some, slice_get, refl, sym, ap, subst, ◌∙◌, IsOpen, Refused, Fault, Entry, Began, Answered, Dialed, Sent, Executed, Foreign, Flushed, Reboot, Delivered, Failed, Clock, Op, Modes, IsOf, Shelf, CloseFile, file_at, joined, Mounted, machine_of, Lane, State, Busy, Over, Setup, IsIdle, Stirs, counted, StartsLane, View, AreApart, MayHear, HearsRecord, Reaches, seat_close, before-push, get-push, kind_of, IsFirst, Turned, IsPast, NonePast, IsOwed, IsDropped}
 use Rattle.world_model.specs.declared.op.Op.TheVariants as ops
-use Rattle.claims.specs.Modes.{Modes}
-use Rattle.claims.specs.Slots.{IsOf}
-use Rattle.client_shelf.specs.declared.shelf.Shelf.{Shelf}
-use Rattle.file_ops.specs.declared.close_file.CloseFile.{CloseFile}
-use Rattle.file_ops.specs.SlotFiles.{file_at, joined}
-use Rattle.op_machines.specs.declared.begun.Mounted.{Mounted}
 use Rattle.op_machines.specs.declared.file_machine.FileMachine.TheVariants as files
 use Rattle.op_machines.specs.declared.machine.Machine.TheVariants as machines
-use Rattle.op_machines.specs.Begun.{machine_of}
-use Rattle.client_core.specs.declared.lane.Lane.{Lane}
-use Rattle.client_core.specs.declared.lane.State.{State}
-use Rattle.client_core.specs.declared.lane.State.TheVariants.{Busy, Over}
-use Rattle.client_core.specs.declared.setup.Setup.{Setup}
-use Rattle.client_core.specs.Numbers.{IsIdle}
-use Rattle.client_core.specs.Steps.{Stirs, counted, StartsLane}
-use Rattle.client_core.specs.View.{View}
-use Rattle.core_facts.specs.Lanes.{AreApart}
-use Rattle.core_facts.specs.Reaches.{MayHear, HearsRecord, Reaches}
-use Rattle.core_facts.proofs.FileSeats.{seat_close}
-use Rattle.core_facts.proofs.Lists.{before-push, get-push}
-use Rattle.core_facts.proofs.Slots.{kind_of}
-use Rattle.core_answers.proofs.writes.Turns.{IsFirst}
-use Rattle.core_answers.proofs.writes.AllTurns.{Turned}
-use Rattle.core_session.specs.drops.Dropped.{IsPast, NonePast, IsOwed, IsDropped}
 use Rattle.core_session.proofs.drops.Drops.{OwnLed, closer, other, WasCloser, WasNone, HadFile, HadNone}
 use Rattle.core_session.proofs.drops.Dropping.{file-open, less-open, past-file, past-led, owed-stays, owed-grows, dropped-map, dropped-heard, dropped-left}
 use Rattle.core_session.proofs.drops.Giving.{closing-seat, owed-given, owed-begun}

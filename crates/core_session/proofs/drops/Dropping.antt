@@ -1,32 +1,12 @@
 -- After a close gave up what was pending of its file: what is owed until a record comes, as lanes make their steps and operations begin.
-use Rattle.std.proofs.Common.{◌≡◌, ◌≢◌, ◌⊎◌, inl, inr, ℕ, List, [], ◌∷◌, ◌++◌, Bool, true, false, nat_eq, Option, Some, None, option_map, slice_get, refl, sym, ap, subst, ◌∙◌, arith}
-use Rattle.std.proofs.lemmas.Bool.{eqb-true, eqb-false}
+use Rattle.core_session.proofs.Prelude.{◌≡◌, ◌≢◌, ◌⊎◌, inl, inr, ℕ, List, [], ◌∷◌, ◌++◌, Bool, true, false, nat_eq, Option, Some, None, option_map, slice_get, refl, sym, ap, subst, ◌∙◌, arith, eqb-true, eqb-false, Opened, Opens, IsOpen, Answer, Refused, Entry, Answered, Delivered, Modes, length_last, CloseFile, Closing, file_at, Machine, Lane, Busy, Over, View, MayHear, at-set, Kind, plainly, kind_of, set-other, ended-grow, IsFirst, IsPast, NonePast, IsOwed, WasLeft, IsDropped}
 use Rattle.std.specs.FinMap as finite
-use Rattle.open_files.specs.declared.opened.Opened.{Opened}
-use Rattle.open_files.specs.Slots.{Opens, IsOpen}
-use Rattle.world_model.specs.declared.answer.Answer.{Answer}
-use Rattle.world_model.specs.declared.answer.Answer.TheVariants.{Refused}
-use Rattle.world_model.specs.declared.entry.Entry.{Entry}
-use Rattle.world_model.specs.declared.entry.Entry.TheVariants.{Answered, Delivered}
 use Rattle.world_model.specs.declared.op.Op.TheVariants as ops
-use Rattle.claims.specs.Modes.{Modes}
-use Rattle.world_model.proofs.Places.{length_last}
-use Rattle.file_ops.specs.declared.close_file.CloseFile.{CloseFile}
-use Rattle.file_ops.specs.declared.close_file.Closing.{Closing}
 use Rattle.file_ops.specs.declared.close_file.Closing.TheVariants as closings
-use Rattle.file_ops.specs.SlotFiles.{file_at}
 use Rattle.op_machines.specs.declared.file_machine.FileMachine.TheVariants as files
-use Rattle.op_machines.specs.declared.machine.Machine.{Machine}
 use Rattle.op_machines.specs.declared.machine.Machine.TheVariants as machines
-use Rattle.client_core.specs.declared.lane.Lane.{Lane}
-use Rattle.client_core.specs.declared.lane.State.TheVariants.{Busy, Over}
-use Rattle.client_core.specs.View.{View}
-use Rattle.core_facts.specs.Reaches.{MayHear}
-use Rattle.core_facts.proofs.Lists.{at-set}
-use Rattle.core_facts.proofs.Slots.{Kind, opening, closing, plainly, kind_of}
-use Rattle.core_facts.proofs.Stories.{set-other, ended-grow}
-use Rattle.core_answers.proofs.writes.Turns.{IsFirst}
-use Rattle.core_session.specs.drops.Dropped.{IsPast, NonePast, IsReady, IsRefused, ready, noted, IsOwed, WasLeft, IsDropped}
+use Rattle.core_facts.proofs.Slots.{opening, closing}
+use Rattle.core_session.specs.drops.Dropped.{IsReady, IsRefused, ready, noted}
 use Rattle.core_session.proofs.drops.Closers.{ClosingAt}
 use Rattle.core_session.proofs.drops.Drops.{OwnLed, closer, other, WasCloser, WasNone}
 use Rattle.core_session.proofs.drops.Growing.{of-grow, under-grow, still-on}

@@ -1,45 +1,15 @@
 -- What is known of the operations under way as to slots, along a history; and what a step of a lane makes of it.
-use Rattle.std.proofs.Common.{◌≡◌, ◌≢◌, ℕ, List, [], ◌∷◌, ◌++◌, length, Option, Some, None, option_map, slice_get, slice_set, Result, refl, sym, ap, subst, ◌∙◌, arith}
+use Rattle.core_session.proofs.Prelude.{◌≡◌, ◌≢◌, ℕ, List, [], ◌∷◌, ◌++◌, length, Option, Some, None, option_map, slice_get, slice_set, Result, refl, sym, ap, subst, ◌∙◌, arith, Opened, Opens, Answer, Entry, Began, Answered, Fault, Reply, Op, At, Modes, UnderWay, IsOf, At-last, Next, Send, Wait, Done, Shelf, Turn, CloseFile, Closing, file_at, joined, Machine, Starts, Resumes, Takes, Lane, State, Busy, Over, AreApart, at-set, Agrees, IsPlain, Kind, plainly, kind_of, BeginsAs, set-other, by-place, CloseTurn, IsFirst}
 use Rattle.std.specs.FinMap as finite
-use Rattle.open_files.specs.declared.opened.Opened.{Opened}
-use Rattle.open_files.specs.Slots.{Opens}
-use Rattle.world_model.specs.declared.answer.Answer.{Answer}
 use Rattle.world_model.specs.declared.answer.Answer.TheVariants as answers
 use Rattle.world_model.specs.declared.answer.Fault.TheVariants as faults
-use Rattle.world_model.specs.declared.entry.Entry.{Entry}
-use Rattle.world_model.specs.declared.entry.Entry.TheVariants.{Began, Answered}
-use Rattle.world_model.specs.declared.answer.Fault.{Fault}
-use Rattle.world_model.specs.declared.message.Reply.{Reply}
-use Rattle.world_model.specs.declared.op.Op.{Op}
 use Rattle.world_model.specs.declared.op.Op.TheVariants as ops
-use Rattle.world_model.specs.Entries.{At}
-use Rattle.claims.specs.Modes.{Modes}
-use Rattle.world_model.specs.Operations.{UnderWay}
-use Rattle.claims.specs.Slots.{IsOf}
-use Rattle.world_model.proofs.Places.{At-last}
-use Rattle.client_shelf.specs.declared.next.Next.{Next}
-use Rattle.client_shelf.specs.declared.next.Next.TheVariants.{Send, Wait, Done}
-use Rattle.client_shelf.specs.declared.shelf.Shelf.{Shelf}
-use Rattle.client_shelf.specs.declared.turn.Turn.{Turn}
-use Rattle.file_ops.specs.declared.close_file.CloseFile.{CloseFile}
-use Rattle.file_ops.specs.declared.close_file.Closing.{Closing}
 use Rattle.file_ops.specs.declared.close_file.Closing.TheVariants as closings
 use Rattle.file_ops.specs.Closes as closes
-use Rattle.file_ops.specs.SlotFiles.{file_at, joined}
 use Rattle.op_machines.specs.declared.file_machine.FileMachine.TheVariants as files
-use Rattle.op_machines.specs.declared.machine.Machine.{Machine}
 use Rattle.op_machines.specs.declared.machine.Machine.TheVariants as machines
-use Rattle.op_machines.specs.Steps.{Starts, Resumes, Takes}
-use Rattle.client_core.specs.declared.lane.Lane.{Lane}
-use Rattle.client_core.specs.declared.lane.State.{State}
-use Rattle.client_core.specs.declared.lane.State.TheVariants.{Busy, Over}
-use Rattle.core_facts.specs.Lanes.{AreApart}
-use Rattle.core_facts.proofs.Lists.{at-set}
-use Rattle.core_facts.proofs.SlotGrowth.{Agrees, IsShown}
-use Rattle.core_facts.proofs.OpenSlots.{IsPlain}
-use Rattle.core_facts.proofs.Slots.{Kind, opening, closing, plainly, kind_of, BeginsAs}
-use Rattle.core_facts.proofs.Stories.{set-other, by-place}
-use Rattle.core_answers.proofs.writes.Turns.{CloseTurn, IsFirst}
+use Rattle.core_facts.proofs.SlotGrowth.{IsShown}
+use Rattle.core_facts.proofs.Slots.{opening, closing}
 use Rattle.core_session.proofs.drops.Closers.{ClosingAt}
 use Rattle.core_session.proofs.drops.Growing.{slot-grow, of-grow, under-grow}
 use Rattle.core_session.proofs.drops.SlotKinds.{IsCloserOf, KindTold, StateTold, OthersSame, OnlyLess, quiet-same, CloserState, CloserLed, closer-led, close-begins, close-goes, close-hears, OtherTold, OtherState, other-led, other-begins, other-goes, other-hears}

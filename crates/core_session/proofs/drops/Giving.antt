@@ -1,41 +1,10 @@
 -- A close that is refused, whose file no slot holds then: its answer is owed, and it alone is past its sync.
-use Rattle.std.proofs.Common.{◌≡◌, ◌≢◌, ◌⊎◌, inl, inr, ℕ, List, [], ◌∷◌, ◌++◌, length, Bool, true, false, nat_eq, Some, None, slice_get, refl, sym, ap, subst, ◌∙◌, arith}
-use Rattle.std.proofs.lemmas.Bool.{eqb-true, eqb-false}
-use Rattle.open_files.specs.Slots.{Opens, IsOpen}
-use Rattle.world_model.specs.declared.answer.Answer.TheVariants.{Refused}
-use Rattle.world_model.specs.declared.answer.Fault.{Fault}
-use Rattle.world_model.specs.declared.entry.Entry.{Entry}
-use Rattle.world_model.specs.declared.entry.Entry.TheVariants.{Began}
-use Rattle.world_model.specs.declared.op.Op.{Op}
+use Rattle.core_session.proofs.Prelude.{◌≡◌, ◌≢◌, ◌⊎◌, inl, inr, ℕ, List, [], ◌∷◌, ◌++◌, length, Bool, true, false, nat_eq, Some, None, slice_get, refl, sym, ap, subst, ◌∙◌, arith, eqb-true, eqb-false, Opens, IsOpen, Refused, Fault, Entry, Began, Op, Modes, UnderWay, IsOf, At-last, length_last, left, CloseFile, Closing, joined, Lane, State, Busy, Over, IsIdle, numbers_of, View, AreApart, seat_of, seat_close, idle-numbers, number_of, get-push, at-push, to-map, look-at, look-idle, Sits, same-sits, seat_with, seat-own, seat-other, joins, seat_state, seat_in, first-left, first-added, same-first, CloseTurn, IsFirst, Turned, IsPast, NonePast, IsOwed}
 use Rattle.world_model.specs.declared.op.Op.TheVariants as ops
-use Rattle.claims.specs.Modes.{Modes}
-use Rattle.world_model.specs.Operations.{UnderWay}
-use Rattle.claims.specs.Slots.{IsOf}
-use Rattle.world_model.proofs.Places.{At-last, length_last}
-use Rattle.client_shelf.specs.LaneFiles.{left}
-use Rattle.file_ops.specs.declared.close_file.CloseFile.{CloseFile}
-use Rattle.file_ops.specs.declared.close_file.Closing.{Closing}
 use Rattle.file_ops.specs.declared.close_file.Closing.TheVariants as closings
-use Rattle.file_ops.specs.SlotFiles.{joined}
 use Rattle.op_machines.specs.declared.file_machine.FileMachine.TheVariants as files
 use Rattle.op_machines.specs.declared.machine.Machine.TheVariants as machines
-use Rattle.client_core.specs.declared.lane.Lane.{Lane}
-use Rattle.client_core.specs.declared.lane.State.{State}
-use Rattle.client_core.specs.declared.lane.State.TheVariants.{Busy, Over}
-use Rattle.client_core.specs.Numbers.{IsIdle, numbers_of}
-use Rattle.client_core.specs.View.{View}
-use Rattle.core_facts.specs.Lanes.{AreApart}
-use Rattle.core_facts.proofs.AllSeats.{seat_of}
-use Rattle.core_facts.proofs.FileSeats.{seat_close}
-use Rattle.core_facts.proofs.LaneMarks.{idle-numbers, number_of}
-use Rattle.core_facts.proofs.Lists.{get-push, at-push, to-map}
-use Rattle.core_facts.proofs.Looks.{look-at, look-idle}
-use Rattle.core_facts.proofs.Orders.{Sits, same-sits, seat_with, seat-own, seat-other, joins}
-use Rattle.core_facts.proofs.Placing.{seat_state, seat_in}
-use Rattle.core_answers.proofs.writes.Firsts.{first-left, first-added, same-first}
-use Rattle.core_answers.proofs.writes.Turns.{CloseTurn, IsFirst}
-use Rattle.core_answers.proofs.writes.AllTurns.{Turned}
-use Rattle.core_session.specs.drops.Dropped.{IsPast, NonePast, IsReady, ready, StillBetween, IsOwed}
+use Rattle.core_session.specs.drops.Dropped.{IsReady, ready, StillBetween}
 use Rattle.core_session.proofs.drops.Closers.{ClosingAt, ClosedAt}
 use Rattle.core_session.proofs.drops.Drops.{WasCloser}
 use Rattle.core_session.proofs.drops.Dropping.{was-at, now-at}

@@ -1,50 +1,13 @@
 -- What guards a written byte, along the steps of lanes: of a close, of another operation, and of one that begins.
-use Rattle.std.proofs.Common.{◌≡◌, ◌⊎◌, ◌≤◌, ◌+◌, ◌-◌, inl, inr, ℕ, List, Some, None, position, slice_get, slice_set, Result, Err, refl, sym, ap, subst, ◌∙◌, arith}
+use Rattle.core_session.proofs.Prelude.{◌≡◌, ◌⊎◌, ◌≤◌, ◌+◌, ◌-◌, inl, inr, ℕ, List, Some, None, position, slice_get, slice_set, Result, Err, refl, sym, ap, subst, ◌∙◌, arith, Opened, Place, Opens, IsOpen, Waiting, waiting_at, Answer, Fault, Entry, Reply, Op, Modes, said_of, Next, Send, Wait, Done, Shelf, Turn, CloseFile, Closing, Removal, Saving, Machine, Resumes, Takes, Lane, Purpose, State, Busy, Setup, is_busy, IsRefused, Stirs, TakesAt, View, turn_at, in_flight, AreApart, IsLive, taken_one, Known, taker-one, lanes-under-way, Kind, plainly, kind_of, IsFirst, save_in, IsSaving, IsGuarded}
 use Rattle.std.specs.FinMap as finite
-use Rattle.open_files.specs.declared.opened.Opened.{Opened}
-use Rattle.open_files.specs.Slots.{Place, Opens, IsOpen}
 use Rattle.open_files.proofs.Laws.{get-put_other}
-use Rattle.rpc_retry.specs.declared.waiting.Waiting.{Waiting}
-use Rattle.rpc_retry.specs.Waiting.{waiting_at}
-use Rattle.world_model.specs.declared.answer.Answer.{Answer}
 use Rattle.world_model.specs.declared.answer.Answer.TheVariants as answers
-use Rattle.world_model.specs.declared.answer.Fault.{Fault}
-use Rattle.world_model.specs.declared.entry.Entry.{Entry}
-use Rattle.world_model.specs.declared.message.Reply.{Reply}
-use Rattle.world_model.specs.declared.op.Op.{Op}
-use Rattle.claims.specs.Modes.{Modes}
-use Rattle.call_replies.specs.Says.{said_of}
-use Rattle.client_shelf.specs.declared.next.Next.{Next}
-use Rattle.client_shelf.specs.declared.next.Next.TheVariants.{Send, Wait, Done}
-use Rattle.client_shelf.specs.declared.shelf.Shelf.{Shelf}
-use Rattle.client_shelf.specs.declared.turn.Turn.{Turn}
-use Rattle.file_ops.specs.declared.close_file.CloseFile.{CloseFile}
-use Rattle.file_ops.specs.declared.close_file.Closing.{Closing}
 use Rattle.file_ops.specs.declared.close_file.Closing.TheVariants as closings
-use Rattle.file_ops.specs.declared.closing.Removal.{Removal}
-use Rattle.file_ops.specs.declared.saving.Saving.{Saving}
 use Rattle.op_machines.specs.declared.file_machine.FileMachine.TheVariants as files
-use Rattle.op_machines.specs.declared.machine.Machine.{Machine}
 use Rattle.op_machines.specs.declared.machine.Machine.TheVariants as machines
-use Rattle.op_machines.specs.Steps.{Resumes, Takes}
-use Rattle.client_core.specs.declared.lane.Lane.{Lane}
-use Rattle.client_core.specs.declared.lane.Purpose.{Purpose}
-use Rattle.client_core.specs.declared.lane.State.{State}
-use Rattle.client_core.specs.declared.lane.State.TheVariants.{Busy}
-use Rattle.client_core.specs.declared.setup.Setup.{Setup}
-use Rattle.client_core.specs.Lanes.{is_busy}
-use Rattle.client_core.specs.Steps.{IsRefused, Stirs, TakesAt}
-use Rattle.client_core.specs.View.{View, turn_at}
-use Rattle.core_facts.specs.InFlight.{in_flight}
-use Rattle.core_facts.specs.Lanes.{AreApart}
-use Rattle.core_facts.proofs.AllSeats.{IsLive}
-use Rattle.core_facts.proofs.Cases.{taken_one}
-use Rattle.core_facts.proofs.Keeping.{Known, taker-one}
-use Rattle.core_facts.proofs.LaneMarks.{lanes-under-way}
 use Rattle.core_facts.proofs.OpenSlots.{OpenTook, table_stays, puts_open, opener-takes, plain-takes}
-use Rattle.core_facts.proofs.Slots.{Kind, opening, closing, plainly, kind_of}
-use Rattle.core_answers.proofs.writes.Turns.{IsFirst}
-use Rattle.core_session.specs.drops.Guarded.{save_in, IsSaving, IsGuarded}
+use Rattle.core_facts.proofs.Slots.{opening, closing}
 use Rattle.core_session.proofs.drops.AllCounted.{up-resumes, up-takes}
 use Rattle.core_session.proofs.drops.Closers.{ClosingAt}
 use Rattle.core_session.proofs.drops.CloseGoes.{GoesAs, saves_on, freed, removes, OnItsWay, EndsAs, CloserGoes, both-in, StateOf, goes-resumes, goes-takes}

@@ -1,10 +1,5 @@
 -- What two equal lanes have in common.
-use Rattle.std.proofs.Common.{◌≡◌, ℕ, Option, Some, option_map, ap}
-use Rattle.world_model.specs.declared.answer.Answer.{Answer}
-use Rattle.op_machines.specs.declared.machine.Machine.{Machine}
-use Rattle.client_core.specs.declared.lane.Lane.{Lane}
-use Rattle.client_core.specs.declared.lane.State.{State}
-use Rattle.client_core.specs.declared.lane.State.TheVariants.{Busy, Over}
+use Rattle.core_session.proofs.Prelude.{◌≡◌, ℕ, Option, Some, option_map, ap, Answer, Machine, Lane, State, Busy, Over}
 
 some-state : (a b : State) → Some a ≡ Some b → a ≡ b
 some-state a b e = cc

@@ -1,48 +1,10 @@
 -- What is known of the operations under way as to slots: each step of a lane and each entry keeps it.
-use Rattle.std.proofs.Common.{◌≡◌, ◌≢◌, ◌⊎◌, ◌+◌, ◌-◌, inl, inr, ℕ, List, [], ◌∷◌, ◌++◌, length, remove, false, Some, None, position, slice_get, slice_set, sym, ap, subst, ◌∙◌, arith}
-use Rattle.open_files.specs.Slots.{Opens}
-use Rattle.rpc_retry.specs.declared.waiting.Waiting.{Waiting}
-use Rattle.rpc_retry.specs.Waiting.{waiting_at}
-use Rattle.world_model.specs.declared.answer.Answer.{Answer}
-use Rattle.world_model.specs.declared.entry.Entry.{Entry}
-use Rattle.world_model.specs.declared.entry.Entry.TheVariants.{Began, Answered, Delivered}
-use Rattle.world_model.specs.declared.op.Op.{Op}
-use Rattle.claims.specs.Modes.{Modes}
-use Rattle.world_model.specs.Operations.{UnderWay}
-use Rattle.world_model.proofs.Places.{At-last, length_last}
-use Rattle.call_replies.specs.Says.{said_of}
-use Rattle.client_shelf.specs.declared.lane_files.LaneFile.{LaneFile}
-use Rattle.client_shelf.specs.declared.shelf.Shelf.{Shelf}
-use Rattle.file_ops.specs.declared.close_file.CloseFile.{CloseFile}
-use Rattle.file_ops.specs.declared.close_file.Closing.{Closing}
+use Rattle.core_session.proofs.Prelude.{◌≡◌, ◌≢◌, ◌⊎◌, ◌+◌, ◌-◌, inl, inr, ℕ, List, [], ◌∷◌, ◌++◌, length, remove, false, Some, None, position, slice_get, slice_set, sym, ap, subst, ◌∙◌, arith, Opens, Waiting, waiting_at, Answer, Entry, Began, Answered, Delivered, Op, Modes, UnderWay, At-last, length_last, said_of, LaneFile, Shelf, CloseFile, Closing, joined, Mounted, Machine, machine_of, Lane, Purpose, State, Busy, Over, Setup, IsFresh, is_busy, IsIdle, numbers_of, Stirs, counted, StartsLane, TakesAt, AnswersAt, View, turn_at, in_flight, of_closing, AreApart, Reaches, taken_one, Known, taker-one, lanes-under-way, idle-numbers, number_of, get-push, get-remove, skip, to-map, reached-slots, SameCalls, CloseTurn, IsFirst, Turned}
 use Rattle.file_ops.specs.declared.close_file.Closing.TheVariants as closings
-use Rattle.file_ops.specs.SlotFiles.{joined}
-use Rattle.op_machines.specs.declared.begun.Mounted.{Mounted}
 use Rattle.op_machines.specs.declared.file_machine.FileMachine.TheVariants as files
-use Rattle.op_machines.specs.declared.machine.Machine.{Machine}
 use Rattle.op_machines.specs.declared.machine.Machine.TheVariants as machines
-use Rattle.op_machines.specs.Begun.{machine_of}
-use Rattle.client_core.specs.declared.lane.Lane.{Lane}
-use Rattle.client_core.specs.declared.lane.Purpose.{Purpose}
-use Rattle.client_core.specs.declared.lane.State.{State}
-use Rattle.client_core.specs.declared.lane.State.TheVariants.{Busy, Over}
-use Rattle.client_core.specs.declared.setup.Setup.{Setup}
-use Rattle.client_core.specs.Fresh.{IsFresh}
-use Rattle.client_core.specs.Lanes.{is_busy}
-use Rattle.client_core.specs.Numbers.{IsIdle, numbers_of}
-use Rattle.client_core.specs.Steps.{Stirs, counted, StartsLane, TakesAt, AnswersAt}
-use Rattle.client_core.specs.View.{View, turn_at}
-use Rattle.core_facts.specs.InFlight.{in_flight, of_closing}
-use Rattle.core_facts.specs.Lanes.{AreApart}
-use Rattle.core_facts.specs.Reaches.{Reaches}
-use Rattle.core_facts.proofs.Cases.{taken_one}
-use Rattle.core_facts.proofs.Keeping.{Known, taker-one}
-use Rattle.core_facts.proofs.LaneMarks.{lanes-under-way, idle-numbers, number_of}
-use Rattle.core_facts.proofs.Lists.{get-push, get-remove, skip, skip-other, to-map}
-use Rattle.core_facts.proofs.SlotsAlong.{reached-slots}
-use Rattle.core_answers.proofs.writes.Along.{SameCalls}
-use Rattle.core_answers.proofs.writes.Turns.{CloseTurn, IsFirst}
-use Rattle.core_answers.proofs.writes.AllTurns.{Turned, TurnOf, keeps-turned}
+use Rattle.core_facts.proofs.Lists.{skip-other}
+use Rattle.core_answers.proofs.writes.AllTurns.{TurnOf, keeps-turned}
 use Rattle.core_session.proofs.drops.Drops.{LaneTold, LanesTold, lane-moved, lane-grows, lanes-set, OwnLed, WasCloser, HadFile, WasNone, HadNone, own-told, own-others, own-goes, own-hears, own-begins}
 use Rattle.core_session.proofs.drops.SlotKinds.{begins-as, OnlyLess}
 use Rattle.core_session.proofs.drops.KnowingAlong.{IsPlain}

@@ -1,19 +1,5 @@
 -- A step of a lane: a step of its operation, and one more where the call that it asks for isn't made.
-use Rattle.std.proofs.Common.{◌≡◌, ℕ, zero, suc, List, [], ◌∷◌, ◌++◌, length, slice_set, Result, Err, inl, inr, refl, sym, ap, ◌∙◌}
-use Rattle.world_model.specs.declared.answer.Fault.{Fault}
-use Rattle.world_model.specs.declared.message.Call.{Call}
-use Rattle.world_model.specs.declared.message.Reply.{Reply}
-use Rattle.client_shelf.specs.declared.next.Next.{Next}
-use Rattle.client_shelf.specs.declared.next.Next.TheVariants.{Send, Wait, Done}
-use Rattle.client_shelf.specs.declared.shelf.Shelf.{Shelf}
-use Rattle.client_shelf.specs.declared.turn.Turn.{Turn}
-use Rattle.op_machines.specs.declared.machine.Machine.{Machine}
-use Rattle.op_machines.specs.Steps.{Starts, Resumes, Takes}
-use Rattle.client_core.specs.declared.lane.Lane.{Lane}
-use Rattle.client_core.specs.declared.lane.State.{State}
-use Rattle.client_core.specs.declared.lane.State.TheVariants.{Busy, Over}
-use Rattle.client_core.specs.Steps.{with_state, IsRefused, Leads, Stirs, StartsLane, TakesAt}
-use Rattle.client_core.specs.View.{View, turn_at, unmade_turn}
+use Rattle.core_session.proofs.Prelude.{◌≡◌, ℕ, zero, suc, List, [], ◌∷◌, ◌++◌, length, slice_set, Result, Err, inl, inr, refl, sym, ap, ◌∙◌, Fault, Call, Reply, Next, Send, Wait, Done, Shelf, Turn, Machine, Starts, Resumes, Takes, Lane, State, Busy, Over, with_state, IsRefused, Leads, Stirs, StartsLane, TakesAt, View, turn_at, unmade_turn}
 
 -- what a step leads to, where its call is made
 abbrev pub Settles : Next → Machine → State → Type 0

@@ -1,45 +1,14 @@
 -- An answer is noted while a close's answer is owed: it was the last one of the file's closes, or another one is owed still.
-use Rattle.std.proofs.Common.{◌≡◌, ◌≢◌, ◌⊎◌, ◌≤◌, ◌<◌, inl, inr, ℕ, suc, zero, List, [], ◌∷◌, ◌++◌, length, Bool, true, false, nat_eq, Option, Some, None, slice_get, refl, sym, ap, subst, ◌∙◌, arith}
-use Rattle.std.proofs.lemmas.Bool.{eqb-true, eqb-false, cases_lt}
+use Rattle.core_session.proofs.Prelude.{◌≡◌, ◌≢◌, ◌⊎◌, ◌≤◌, ◌<◌, inl, inr, ℕ, suc, zero, List, [], ◌∷◌, ◌++◌, length, Bool, true, false, nat_eq, Option, Some, None, slice_get, refl, sym, ap, subst, ◌∙◌, arith, eqb-true, eqb-false, cases_lt, Mode, Opened, Opens, IsOpen, Answer, Entry, Began, Answered, Op, At, Ended, AnsweredBefore, UnderWay, InSlot, IsOf, Terms, GivesUp, itself, beside, At-grow, At-last, At-below, At-one, At-cases, length_last, Mounted, machine_of, Lane, State, Busy, Over, Setup, IsOther, numbers_of, AnswersAt, View, AreApart, IsOpenLine, GoesWith, Known, Runs, lanes-under-way, number_of, get-remove, still-there, skip, to-map, Agrees, SlotsAgree, Kind, plainly, kind_of, StoryOf, Slots, reached-slots, ended-grow, some-answer, IsPast, NonePast, IsOwed, WasLeft, IsDropped}
 use Rattle.std.specs.FinMap as finite
-use Rattle.nfs_types.specs.declared.mode.Mode.{Mode}
-use Rattle.open_files.specs.declared.opened.Opened.{Opened}
-use Rattle.open_files.specs.Slots.{Opens, IsOpen}
-use Rattle.world_model.specs.declared.answer.Answer.{Answer}
 use Rattle.world_model.specs.declared.answer.Answer.TheVariants as answers
-use Rattle.world_model.specs.declared.entry.Entry.{Entry}
-use Rattle.world_model.specs.declared.entry.Entry.TheVariants.{Began, Answered}
-use Rattle.world_model.specs.declared.op.Op.{Op}
 use Rattle.world_model.specs.declared.op.Op.TheVariants as ops
-use Rattle.world_model.specs.Entries.{At}
-use Rattle.world_model.specs.Operations.{Ended, AnsweredBefore, UnderWay}
-use Rattle.claims.specs.Slots.{InSlot, IsOf}
-use Rattle.claims.specs.Terms.{Terms}
-use Rattle.claims.specs.Touched.{Left, GivesUp, itself, beside}
-use Rattle.world_model.proofs.Places.{At-grow, At-last, At-below, At-one, At-cases, length_last}
-use Rattle.op_machines.specs.declared.begun.Mounted.{Mounted}
+use Rattle.claims.specs.Touched.{Left}
 use Rattle.op_machines.specs.declared.file_machine.FileMachine.TheVariants as files
 use Rattle.op_machines.specs.declared.machine.Machine.TheVariants as machines
-use Rattle.op_machines.specs.Begun.{machine_of}
-use Rattle.client_core.specs.declared.lane.Lane.{Lane}
-use Rattle.client_core.specs.declared.lane.State.{State}
-use Rattle.client_core.specs.declared.lane.State.TheVariants.{Busy, Over}
-use Rattle.client_core.specs.declared.setup.Setup.{Setup}
-use Rattle.client_core.specs.Numbers.{IsOther, numbers_of}
-use Rattle.client_core.specs.Steps.{AnswersAt}
-use Rattle.client_core.specs.View.{View}
-use Rattle.core_facts.specs.Lanes.{AreApart}
-use Rattle.core_facts.specs.Reaches.{IsOpenLine}
-use Rattle.core_facts.specs.SlotAnswers.{GoesWith}
-use Rattle.core_facts.proofs.Keeping.{Known}
-use Rattle.core_facts.proofs.LaneMarks.{Runs, lanes-under-way, number_of}
-use Rattle.core_facts.proofs.Lists.{get-remove, still-there, skip, to-map}
 use Rattle.core_facts.proofs.Marks.{last-same}
-use Rattle.core_facts.proofs.SlotGrowth.{Agrees}
-use Rattle.core_facts.proofs.Slots.{SlotsAgree, Kind, opening, closing, plainly, kind_of, StoryOf}
-use Rattle.core_facts.proofs.SlotsAlong.{Slots, reached-slots}
-use Rattle.core_facts.proofs.Stories.{ended-grow, some-answer}
-use Rattle.core_session.specs.drops.Dropped.{IsPast, NonePast, IsReady, IsRefused, ready, noted, IsOwed, WasLeft, IsDropped}
+use Rattle.core_facts.proofs.Slots.{opening, closing}
+use Rattle.core_session.specs.drops.Dropped.{IsReady, IsRefused, ready, noted}
 use Rattle.core_session.proofs.drops.Drops.{closer-kind}
 use Rattle.core_session.proofs.drops.Dropping.{past-or-open}
 use Rattle.core_session.proofs.drops.Growing.{of-grow, under-grow, still-on, was-left-grow}

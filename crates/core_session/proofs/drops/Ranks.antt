@@ -1,26 +1,10 @@
 -- Which lane stands before which in the order of files, after another lane left its place or took one; who is the first stands before all others of its file.
-use Rattle.std.proofs.Common.{◌≡◌, ◌≢◌, ◌<◌, ◌≤◌, ◌+◌, ℕ, zero, suc, Bool, true, false, cond, nat_eq, List, [], ◌∷◌, ◌++◌, length, remove, Option, Some, None, option_map, position, slice_get, Result, refl, sym, ap, ◌∙◌, arith}
-use Rattle.std.specs.Prelude.{nat_lt, if◌then◌else◌}
-use Rattle.std.specs.Option.{option_map_or, option_and_then}
-use Rattle.std.proofs.lemmas.Bool.{eqb-true}
+use Rattle.core_session.proofs.Prelude.{◌≡◌, ◌≢◌, ◌<◌, ◌≤◌, ◌+◌, ℕ, zero, suc, Bool, true, false, cond, nat_eq, List, [], ◌∷◌, ◌++◌, length, remove, Option, Some, None, option_map, position, slice_get, Result, refl, sym, ap, ◌∙◌, arith, nat_lt, if◌then◌else◌, option_map_or, eqb-true, Fault, Reply, LaneFile, Next, Send, Wait, Done, Shelf, Turn, is_lane, added, left, is_first, Machine, Starts, Resumes, Takes, in_flight, Counts, IsCounted, IsUnbegun, counts-calls, IsLive, IsFreshFor, still-there, before-push, Sits}
+use Rattle.std.specs.Option.{option_and_then}
 use Rattle.std.specs.Cmp.Lexicographic.{bytes_decides}
-use Rattle.world_model.specs.declared.answer.Fault.{Fault}
-use Rattle.world_model.specs.declared.message.Reply.{Reply}
-use Rattle.client_shelf.specs.declared.lane_files.LaneFile.{LaneFile}
-use Rattle.client_shelf.specs.declared.next.Next.{Next}
-use Rattle.client_shelf.specs.declared.next.Next.TheVariants.{Send, Wait, Done}
-use Rattle.client_shelf.specs.declared.shelf.Shelf.{Shelf}
-use Rattle.client_shelf.specs.declared.turn.Turn.{Turn}
-use Rattle.client_shelf.specs.LaneFiles.{is_lane, is_file, added, left, leads, is_first}
-use Rattle.op_machines.specs.declared.machine.Machine.{Machine}
-use Rattle.op_machines.specs.Steps.{Starts, Resumes, Takes}
-use Rattle.core_facts.specs.InFlight.{in_flight, Counts, IsCounted, IsUnbegun}
-use Rattle.core_facts.proofs.AllCounts.{counts-calls}
-use Rattle.core_facts.proofs.AllSeats.{IsLive, IsFreshFor}
+use Rattle.client_shelf.specs.LaneFiles.{is_file, leads}
 use Rattle.core_facts.proofs.AllSeats as seats
 use Rattle.core_facts.proofs.FileSeats.{Seats}
-use Rattle.core_facts.proofs.Lists.{still-there, before-push}
-use Rattle.core_facts.proofs.Orders.{Sits}
 use Rattle.core_answers.proofs.writes.Firsts.{position-cons}
 
 -- ---- lists

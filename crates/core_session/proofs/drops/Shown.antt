@@ -1,56 +1,15 @@
 -- The theorems, as they are stated.
-use Rattle.std.proofs.Common.{Option, None, ◌≡◌, ◌⊎◌, inl, inr, ℕ, Bool, List, [], ◌∷◌, ◌++◌, length, nat_eq, true, false, Some, slice_get, refl, sym, ap, ◌∙◌, option_map, ◌≢◌, ◌≤◌, remove, subst}
-use Rattle.std.proofs.lemmas.Bool.{eqb-true, eqb-false}
+use Rattle.core_session.proofs.Prelude.{Option, None, ◌≡◌, ◌⊎◌, inl, inr, ℕ, Bool, List, [], ◌∷◌, ◌++◌, length, nat_eq, true, false, Some, slice_get, refl, sym, ap, ◌∙◌, option_map, ◌≢◌, ◌≤◌, remove, subst, eqb-true, eqb-false, Opened, IsOpen, Answer, Fault, Entry, Began, Delivered, Op, Modes, Terms, is_first, CloseFile, Closing, Removal, PutFile, Putting, Saving, WriteFile, file_at, Mounted, Machine, machine_of, Lane, State, Busy, Over, Setup, IsIdle, counted, StartsLane, AnswersAt, View, AreApart, GoesWith, begins-unbegun, seat_close, seat_put, Known, reached-all, lanes-under-way, at-push, get-remove, skip, still-there, look-at, seat_state, seat_in, same-first, IsPast, IsOwed, file_in, save_in, removal_in, IsClose, IsSaving, IsGuarded, slot, past, LetsGo}
 use Rattle.std.specs.FinMap as finite
-use Rattle.open_files.specs.declared.opened.Opened.{Opened}
-use Rattle.open_files.specs.Slots.{IsOpen}
-use Rattle.world_model.specs.declared.answer.Answer.{Answer}
 use Rattle.world_model.specs.declared.answer.Answer.TheVariants as answers
-use Rattle.world_model.specs.declared.answer.Fault.{Fault}
-use Rattle.world_model.specs.declared.entry.Entry.{Entry}
-use Rattle.world_model.specs.declared.entry.Entry.TheVariants.{Began, Delivered}
-use Rattle.world_model.specs.declared.op.Op.{Op}
 use Rattle.world_model.specs.declared.op.Op.TheVariants as ops
-use Rattle.claims.specs.Modes.{Modes}
-use Rattle.claims.specs.Terms.{Terms}
-use Rattle.client_shelf.specs.LaneFiles.{is_first}
-use Rattle.file_ops.specs.declared.close_file.CloseFile.{CloseFile}
-use Rattle.file_ops.specs.declared.close_file.Closing.{Closing}
 use Rattle.file_ops.specs.declared.close_file.Closing.TheVariants as closings
-use Rattle.file_ops.specs.declared.closing.Removal.{Removal}
-use Rattle.file_ops.specs.declared.put_file.PutFile.{PutFile}
-use Rattle.file_ops.specs.declared.put_file.Putting.{Putting}
 use Rattle.file_ops.specs.declared.put_file.Putting.TheVariants as puttings
-use Rattle.file_ops.specs.declared.saving.Saving.{Saving}
-use Rattle.file_ops.specs.declared.write_file.WriteFile.{WriteFile}
-use Rattle.file_ops.specs.SlotFiles.{file_at}
-use Rattle.op_machines.specs.declared.begun.Mounted.{Mounted}
 use Rattle.op_machines.specs.declared.file_machine.FileMachine.TheVariants as files
-use Rattle.op_machines.specs.declared.machine.Machine.{Machine}
 use Rattle.op_machines.specs.declared.machine.Machine.TheVariants as machines
-use Rattle.op_machines.specs.Begun.{machine_of}
-use Rattle.client_core.specs.declared.lane.Lane.{Lane}
-use Rattle.client_core.specs.declared.lane.State.{State}
-use Rattle.client_core.specs.declared.lane.State.TheVariants.{Busy, Over}
-use Rattle.client_core.specs.declared.setup.Setup.{Setup}
-use Rattle.client_core.specs.Numbers.{IsIdle}
-use Rattle.client_core.specs.Steps.{counted, StartsLane, AnswersAt}
-use Rattle.client_core.specs.View.{View}
-use Rattle.core_facts.specs.Lanes.{AreApart}
-use Rattle.core_facts.specs.SlotAnswers.{GoesWith}
-use Rattle.core_facts.proofs.AllCounts.{begins-unbegun}
-use Rattle.core_facts.proofs.FileSeats.{seat_close, seat_put}
-use Rattle.core_facts.proofs.Keeping.{Known, reached-all}
-use Rattle.core_facts.proofs.LaneMarks.{lanes-under-way}
-use Rattle.core_facts.proofs.Lists.{at-push, get-remove, skip, still-there}
-use Rattle.core_facts.proofs.Looks.{look-at}
-use Rattle.core_facts.proofs.Placing.{seat_state, seat_in}
-use Rattle.core_answers.proofs.writes.Firsts.{same-first}
-use Rattle.core_session.specs.drops.Dropped.{IsPast, IsOwed}
-use Rattle.core_session.specs.drops.Guarded.{file_in, save_in, removal_in, IsClose, IsSaving, IsGuarded, slot, past}
 use Rattle.core_session.specs.drops.LaneSteps.{LaneStep, stirs, takes}
 use Rattle.core_session.specs.drops.Told as told
-use Rattle.core_session.specs.drops.Told.{BeginsWell, Turned, RefusedOwes, KeepsGuards, LetsGo, SlotsHoldOneFile, RefusedClosesAreOwed, OwedClosesLeave, GuardsAreKept}
+use Rattle.core_session.specs.drops.Told.{BeginsWell, Turned, RefusedOwes, KeepsGuards, SlotsHoldOneFile, RefusedClosesAreOwed, OwedClosesLeave, GuardsAreKept}
 use Rattle.core_session.proofs.drops.BeginSteps.{StartOf, starts-step}
 use Rattle.core_session.proofs.drops.Along.{GuardsKnown, known-guards, dropped-entry}
 use Rattle.core_session.proofs.drops.DropLaws.{given-step, given-begun}

@@ -1,39 +1,13 @@
 -- What is known of each operation under way as to slots: an open opens its slot, a close knows the file that its slot held, and others touch none.
-use Rattle.std.proofs.Common.{◌≡◌, ◌≢◌, ◌⊎◌, inl, inr, ℕ, List, Bool, true, false, nat_eq, Some, None, Result, Err, refl, sym, ap, subst, ◌∙◌}
-use Rattle.std.proofs.lemmas.Bool.{eqb-true, eqb-false}
+use Rattle.core_session.proofs.Prelude.{◌≡◌, ◌≢◌, ◌⊎◌, inl, inr, ℕ, List, Bool, true, false, nat_eq, Some, None, Result, Err, refl, sym, ap, subst, ◌∙◌, eqb-true, eqb-false, Place, Opens, Answer, Fault, Entry, Call, Reply, Op, Modes, IsOf, Next, Send, Wait, Done, Shelf, Turn, CloseFile, Closing, file_at, joined, Mounted, Machine, machine_of, Starts, Resumes, Takes, State, Busy, Over, IsPlain, Kind, plainly, kind_of, BeginsAs, ThenOf, CloseTurn, IsFirst, IsRefused}
 use Rattle.std.specs.FinMap as finite
-use Rattle.open_files.specs.Slots.{Place, Opens}
 use Rattle.open_files.proofs.Laws.{get-put_other}
-use Rattle.world_model.specs.declared.answer.Answer.{Answer}
-use Rattle.world_model.specs.declared.answer.Fault.{Fault}
-use Rattle.world_model.specs.declared.entry.Entry.{Entry}
-use Rattle.world_model.specs.declared.message.Call.{Call}
-use Rattle.world_model.specs.declared.message.Reply.{Reply}
-use Rattle.world_model.specs.declared.op.Op.{Op}
 use Rattle.world_model.specs.declared.op.Op.TheVariants as ops
-use Rattle.claims.specs.Modes.{Modes}
-use Rattle.claims.specs.Slots.{IsOf}
-use Rattle.client_shelf.specs.declared.next.Next.{Next}
-use Rattle.client_shelf.specs.declared.next.Next.TheVariants.{Send, Wait, Done}
-use Rattle.client_shelf.specs.declared.shelf.Shelf.{Shelf}
-use Rattle.client_shelf.specs.declared.turn.Turn.{Turn}
-use Rattle.file_ops.specs.declared.close_file.CloseFile.{CloseFile}
-use Rattle.file_ops.specs.declared.close_file.Closing.{Closing}
-use Rattle.file_ops.specs.SlotFiles.{file_at, joined}
-use Rattle.op_machines.specs.declared.begun.Mounted.{Mounted}
 use Rattle.op_machines.specs.declared.file_machine.FileMachine.TheVariants as files
-use Rattle.op_machines.specs.declared.machine.Machine.{Machine}
 use Rattle.op_machines.specs.declared.machine.Machine.TheVariants as machines
-use Rattle.op_machines.specs.Begun.{machine_of}
-use Rattle.op_machines.specs.Steps.{Starts, Resumes, Takes}
-use Rattle.client_core.specs.declared.lane.State.{State}
-use Rattle.client_core.specs.declared.lane.State.TheVariants.{Busy, Over}
-use Rattle.core_facts.proofs.OpenSlots.{IsPlain, plain-starts, plain-resumes, plain-takes, IsOpener, opener-starts, opener-resumes, opener-takes, OpenTook, table_stays, puts_open, FindsBy, by_attrs, by_lookup, by_create}
-use Rattle.core_facts.proofs.Slots.{Kind, opening, closing, plainly, kind_of, BeginsAs}
-use Rattle.core_facts.proofs.Steps.{ThenOf}
-use Rattle.core_answers.proofs.writes.Turns.{CloseTurn, IsFirst}
+use Rattle.core_facts.proofs.OpenSlots.{plain-starts, plain-resumes, plain-takes, IsOpener, opener-starts, opener-resumes, opener-takes, OpenTook, table_stays, puts_open, FindsBy, by_attrs, by_lookup, by_create}
+use Rattle.core_facts.proofs.Slots.{opening, closing}
 use Rattle.core_session.proofs.drops.Closers.{ClosingAt, ClosedAt, CloserThen, CloserSteps, closer-starts, closer-resumes, closer-takes}
-use Rattle.client_core.specs.Steps.{IsRefused}
 use Rattle.core_session.proofs.drops.Leading.{Leading, settles, unmade, Settles}
 
 -- ---- how operations begin

@@ -1,18 +1,8 @@
 -- A core that went with a history passed through views from which it went on to the last one; and where a record was sent next, no answer was ready.
-use Rattle.std.proofs.Common.{◌≡◌, ℕ, List, [], ◌∷◌, ◌++◌, length, refl, sym, ap, subst, ◌∙◌, append_assoc}
-use Rattle.world_model.specs.declared.entry.Entry.{Entry}
-use Rattle.world_model.specs.declared.entry.Entry.TheVariants.{Sent}
-use Rattle.world_model.specs.declared.op.Op.{Op}
-use Rattle.world_model.specs.Entries.{At}
-use Rattle.world_model.proofs.Places.{At-grow, At-last, At-one}
-use Rattle.op_machines.specs.declared.machine.Machine.{Machine}
-use Rattle.client_core.specs.declared.setup.Setup.{Setup}
+use Rattle.core_session.proofs.Prelude.{◌≡◌, ℕ, List, [], ◌∷◌, ◌++◌, length, refl, sym, ap, subst, ◌∙◌, append_assoc, Entry, Sent, Op, At, At-grow, At-last, At-one, Machine, Setup, View, StepsTo, Reaches, Notes, NoneReady, notes-reach}
 use Rattle.client_core.specs.Steps.{lost}
-use Rattle.client_core.specs.View.{View}
-use Rattle.core_facts.specs.Reaches.{StepsTo, Reaches}
 use Rattle.core_session.proofs.asked.Onwards.{onward-then, onward-rest}
-use Rattle.core_facts.specs.Notes.{Notes, notes_fresh, notes_step, notes_lost, NoneReady, ComesAfter}
-use Rattle.core_facts.proofs.Noting.{notes-reach}
+use Rattle.core_facts.specs.Notes.{notes_fresh, notes_step, notes_lost, ComesAfter}
 use Rattle.core_answers.proofs.refusals.Passing.{Passes, passes_fresh, passes_step, passes_lost}
 use Rattle.core_session.proofs.room.Onward.{Onward, stays, steps, drops}
 

@@ -1,26 +1,6 @@
 -- Each record that was sent for an operation is a call for which this very operation asked.
-use Rattle.std.proofs.Common.{◌≡◌, ◌≤◌, ◌<◌, ◌+◌, ℕ, List, length, Some, slice_get, sym, subst}
-use Rattle.world_model.specs.declared.entry.Entry.{Entry}
-use Rattle.world_model.specs.declared.entry.Entry.TheVariants.{Sent}
-use Rattle.world_model.specs.declared.message.Call.{Call}
-use Rattle.world_model.specs.declared.op.Op.{Op}
-use Rattle.claims.specs.Asks.{Asks}
-use Rattle.world_model.specs.Entries.{At}
-use Rattle.world_model.specs.Messages.{SpellsCall}
-use Rattle.world_model.specs.Operations.{UnderWay}
-use Rattle.claims.specs.Terms.{Terms}
-use Rattle.op_machines.specs.declared.begun.Mounted.{Mounted}
-use Rattle.op_machines.specs.Begun.{machine_of}
-use Rattle.client_core.specs.declared.lane.Lane.{Lane}
-use Rattle.client_core.specs.declared.lane.State.TheVariants.{Busy}
-use Rattle.client_core.specs.declared.setup.Setup.{Setup}
-use Rattle.client_core.specs.View.{View}
-use Rattle.core_facts.proofs.AllCounts.{begins-unbegun}
-use Rattle.core_facts.specs.InFlight.{in_flight}
+use Rattle.core_session.proofs.Prelude.{◌≡◌, ◌≤◌, ◌<◌, ◌+◌, ℕ, List, length, Some, slice_get, sym, subst, Entry, Sent, Call, Op, Asks, At, SpellsCall, UnderWay, Terms, Mounted, machine_of, Lane, Busy, Setup, View, begins-unbegun, in_flight, one-call, IsSession, Expects, expects-laws}
 use Rattle.core_session.proofs.asked.Whole.{out-asked}
-use Rattle.core_answers.proofs.bonds.OneCall.{one-call}
-use Rattle.core_session.specs.calls.Sessions.{IsSession}
-use Rattle.core_answers.proofs.asks.CallsAwaited.{Expects, expects-laws}
 use Rattle.core_session.proofs.calls.Causes.{Spelt}
 use Rattle.core_session.proofs.calls.Outgoing.{Outgoing, sent-nfs, sent-spells}
 use Rattle.core_answers.proofs.refusals.SentCalls.{SentBy, as-sent}

@@ -1,21 +1,8 @@
 -- All rows of refusals, and that sessions complete: by those of NFS3ERR_JUKEBOX and those of any other fault.
-use Rattle.std.proofs.Common.{◌≡◌, ◌==◌, ◌++◌, inl, inr, ℕ, Bool, true, false, List, length, refl, sym, subst, arith}
-use Rattle.std.proofs.lemmas.Bool.{eqb-true, eqb-false}
+use Rattle.core_session.proofs.Prelude.{◌≡◌, ◌==◌, ◌++◌, inl, inr, ℕ, Bool, true, false, List, length, refl, sym, subst, arith, eqb-true, eqb-false, Fault, Entry, Op, Asks, IsWriter, Ended, RefusedBy, Terms, jukebox, Mounted, IsAsked, machine_of, Setup, View, IsSession, GoesFrom, Notes, GoesSo}
 use Rattle.world_model.specs.declared.answer.Answer.TheVariants as answers
-use Rattle.world_model.specs.declared.answer.Fault.{Fault}
 use Rattle.world_model.specs.declared.answer.Fault.TheVariants as faults
-use Rattle.world_model.specs.declared.entry.Entry.{Entry}
-use Rattle.world_model.specs.declared.op.Op.{Op}
-use Rattle.claims.specs.Asks.{Asks, IsWriter}
-use Rattle.world_model.specs.Operations.{Ended}
-use Rattle.claims.specs.RefusalRows.{RefusalRow, RefusedBy}
-use Rattle.claims.specs.Terms.{Terms, jukebox}
-use Rattle.op_machines.specs.declared.begun.Mounted.{Mounted}
-use Rattle.op_machines.specs.Begun.{IsAsked, machine_of}
-use Rattle.client_core.specs.declared.setup.Setup.{Setup}
-use Rattle.client_core.specs.View.{View}
-use Rattle.core_session.specs.calls.Sessions.{IsSession}
-use Rattle.core_session.specs.calls.Whole.{GoesFrom}
+use Rattle.claims.specs.RefusalRows.{RefusalRow}
 use Rattle.core_session.proofs.calls.Whole.{session}
 use Rattle.core_session.proofs.calls.WritesSome.{writes-some}
 use Rattle.core_session.proofs.delays.Rows.{asks-row}
@@ -23,14 +10,12 @@ use Rattle.core_session.proofs.delays.Story.{OffRefusal, off-refused}
 use Rattle.core_session.specs.endings.Endings.{RefusalsAllRowed, SessionsComplete}
 use Rattle.core_session.proofs.endings.Along.{Here, passes-on}
 use Rattle.core_session.proofs.endings.Asked.{sent-asks}
-use Rattle.core_facts.specs.Notes.{Notes}
 use Rattle.core_session.specs.outcomes.Rooms.{IsNoJukebox}
 use Rattle.core_session.proofs.outcomes.AllRows.{refusals-roomed}
 use Rattle.core_session.proofs.outcomes.Complete.{own-unless}
 use Rattle.core_session.proofs.outcomes.OwnAsks.{own-last}
 use Rattle.core_session.proofs.outcomes.Refusals.{refusal-rows}
 use Rattle.core_session.proofs.outcomes.RoomRows.{writer-ends}
-use Rattle.core_answers.specs.refusals.Rowed.{GoesSo}
 use Rattle.core_answers.proofs.refusals.Passing.{Passes}
 use Rattle.core_answers.proofs.refusals.Refused.{OwnRefusalBy, ShownBy, own-later-by, own-refused-by}
 use Rattle.core_session.proofs.room.Onward.{stays}

@@ -1,44 +1,14 @@
 -- Where each answer that is ready was noted, and the table has no slot that holds the file of a close past its sync, that close's slot alone holds the file by
 -- the history.
-use Rattle.std.proofs.Common.{◌≡◌, ◌⊎◌, ◌≤◌, ◌<◌, inl, inr, ℕ, List, length, Bool, true, false, nat_eq, Option, Some, None, slice_get, refl, sym, ap, subst, ◌∙◌, arith}
-use Rattle.std.proofs.lemmas.Bool.{eqb-true, eqb-false, cases_lt}
+use Rattle.core_session.proofs.Prelude.{◌≡◌, ◌⊎◌, ◌≤◌, ◌<◌, inl, inr, ℕ, List, length, Bool, true, false, nat_eq, Option, Some, None, slice_get, refl, sym, ap, subst, ◌∙◌, arith, eqb-true, eqb-false, cases_lt, Mode, Opened, IsOpen, Answer, Entry, Began, Answered, Op, At, Ended, AnsweredBefore, UnderWay, InSlot, IsOf, Terms, At-below, At-one, CloseFile, Mounted, Machine, machine_of, State, Busy, Over, Setup, IsOther, numbers_of, View, AreApart, GoesWith, lanes-under-way, reached-lanes, seat_in, Agrees, SlotsAgree, Kind, plainly, kind_of, StoryOf, Slots, reached-slots, same-first, IsPast}
 use Rattle.std.specs.FinMap as finite
-use Rattle.nfs_types.specs.declared.mode.Mode.{Mode}
-use Rattle.open_files.specs.declared.opened.Opened.{Opened}
-use Rattle.open_files.specs.Slots.{IsOpen}
-use Rattle.world_model.specs.declared.answer.Answer.{Answer}
 use Rattle.world_model.specs.declared.answer.Answer.TheVariants as answers
-use Rattle.world_model.specs.declared.entry.Entry.{Entry}
-use Rattle.world_model.specs.declared.entry.Entry.TheVariants.{Began, Answered}
-use Rattle.world_model.specs.declared.op.Op.{Op}
 use Rattle.world_model.specs.declared.op.Op.TheVariants as ops
 use Rattle.claims.specs.Asks.{HeldAlone}
-use Rattle.world_model.specs.Entries.{At}
-use Rattle.world_model.specs.Operations.{Ended, AnsweredBefore, UnderWay}
-use Rattle.claims.specs.Slots.{InSlot, IsOf}
-use Rattle.claims.specs.Terms.{Terms}
-use Rattle.world_model.proofs.Places.{At-below, At-one}
-use Rattle.file_ops.specs.declared.close_file.CloseFile.{CloseFile}
-use Rattle.op_machines.specs.declared.begun.Mounted.{Mounted}
 use Rattle.op_machines.specs.declared.file_machine.FileMachine.TheVariants as files
-use Rattle.op_machines.specs.declared.machine.Machine.{Machine}
 use Rattle.op_machines.specs.declared.machine.Machine.TheVariants as machines
-use Rattle.op_machines.specs.Begun.{machine_of}
-use Rattle.client_core.specs.declared.lane.State.{State}
-use Rattle.client_core.specs.declared.lane.State.TheVariants.{Busy, Over}
-use Rattle.client_core.specs.declared.setup.Setup.{Setup}
-use Rattle.client_core.specs.Numbers.{IsOther, numbers_of}
-use Rattle.client_core.specs.View.{View}
-use Rattle.core_facts.specs.Lanes.{AreApart}
-use Rattle.core_facts.specs.SlotAnswers.{GoesWith}
-use Rattle.core_facts.proofs.LaneMarks.{lanes-under-way, reached-lanes}
-use Rattle.core_facts.proofs.Placing.{seat_in}
-use Rattle.core_facts.proofs.SlotGrowth.{Agrees}
-use Rattle.core_facts.proofs.Slots.{SlotsAgree, Kind, opening, closing, plainly, kind_of, StoryOf}
-use Rattle.core_facts.proofs.SlotsAlong.{Slots, reached-slots}
-use Rattle.core_answers.proofs.writes.Firsts.{same-first}
+use Rattle.core_facts.proofs.Slots.{opening, closing}
 use Rattle.core_session.proofs.calls.TableHeld.{AllNoted, IsLane, lane-or}
-use Rattle.core_session.specs.drops.Dropped.{IsPast}
 use Rattle.core_session.proofs.drops.Drops.{closer-kind}
 use Rattle.core_session.proofs.drops.Dropping.{past-or-open}
 use Rattle.core_session.proofs.drops.Giving.{past-at}

@@ -1,37 +1,8 @@
 -- Of each close past its sync: its slot held its file alone at a moment since it began, or the table has no slot that holds the file.
-use Rattle.std.proofs.Common.{◌≡◌, ◌≢◌, ◌⊎◌, inl, inr, ℕ, List, [], ◌∷◌, ◌++◌, length, false, Some, None, slice_get, slice_set, sym, ap, subst, ◌∙◌, arith}
-use Rattle.open_files.specs.Slots.{Opens}
-use Rattle.rpc_retry.specs.declared.waiting.Waiting.{Waiting}
-use Rattle.world_model.specs.declared.answer.Answer.{Answer}
-use Rattle.world_model.specs.declared.entry.Entry.{Entry}
-use Rattle.world_model.specs.declared.entry.Entry.TheVariants.{Began, Answered, Delivered}
-use Rattle.world_model.specs.declared.op.Op.{Op}
+use Rattle.core_session.proofs.Prelude.{◌≡◌, ◌≢◌, ◌⊎◌, inl, inr, ℕ, List, [], ◌∷◌, ◌++◌, length, false, Some, None, slice_get, slice_set, sym, ap, subst, ◌∙◌, arith, Opens, Waiting, Answer, Entry, Began, Answered, Delivered, Op, UnderWay, Terms, length_last, said_of, Shelf, Mounted, machine_of, Starts, Resumes, Takes, Lane, Purpose, State, Busy, Over, Setup, IsFresh, IsIdle, numbers_of, Stirs, counted, StartsLane, TakesAt, AnswersAt, View, turn_at, Reaches, HearsRecord, begins-unbegun, taken_one, idle-numbers, number_of, at-set, get-push, get-remove, skip, to-map, by-place, set-other, under-back}
 use Rattle.claims.specs.Asks.{HeldAlone}
-use Rattle.world_model.specs.Operations.{UnderWay}
-use Rattle.claims.specs.Terms.{Terms}
-use Rattle.world_model.proofs.Places.{length_last}
-use Rattle.call_replies.specs.Says.{said_of}
-use Rattle.client_shelf.specs.declared.shelf.Shelf.{Shelf}
-use Rattle.op_machines.specs.declared.begun.Mounted.{Mounted}
 use Rattle.op_machines.specs.declared.file_machine.FileMachine.TheVariants as files
 use Rattle.op_machines.specs.declared.machine.Machine.TheVariants as machines
-use Rattle.op_machines.specs.Begun.{machine_of}
-use Rattle.op_machines.specs.Steps.{Starts, Resumes, Takes}
-use Rattle.client_core.specs.declared.lane.Lane.{Lane}
-use Rattle.client_core.specs.declared.lane.Purpose.{Purpose}
-use Rattle.client_core.specs.declared.lane.State.{State}
-use Rattle.client_core.specs.declared.lane.State.TheVariants.{Busy, Over}
-use Rattle.client_core.specs.declared.setup.Setup.{Setup}
-use Rattle.client_core.specs.Fresh.{IsFresh}
-use Rattle.client_core.specs.Numbers.{IsIdle, numbers_of}
-use Rattle.client_core.specs.Steps.{Stirs, counted, StartsLane, TakesAt, AnswersAt}
-use Rattle.client_core.specs.View.{View, turn_at}
-use Rattle.core_facts.specs.Reaches.{Reaches, HearsRecord}
-use Rattle.core_facts.proofs.AllCounts.{begins-unbegun}
-use Rattle.core_facts.proofs.Cases.{taken_one}
-use Rattle.core_facts.proofs.LaneMarks.{idle-numbers, number_of}
-use Rattle.core_facts.proofs.Lists.{at-set, get-push, get-remove, skip, to-map}
-use Rattle.core_facts.proofs.Stories.{by-place, set-other, under-back}
 use Rattle.core_session.proofs.calls.TableHeld.{AllNoted}
 use Rattle.core_session.proofs.drops.Dropping.{less-open}
 use Rattle.core_session.proofs.drops.Growing.{slot-back}

@@ -1,49 +1,17 @@
 -- A record that was sent for a close: this asks for its call, or the call is the REMOVE of the place where the file of its slot was hidden.
-use Rattle.std.proofs.Common.{◌≡◌, ◌≤◌, ◌⊎◌, inl, inr, ℕ, List, [], ◌∷◌, ◌++◌, length, Some, refl, sym, subst, ◌∙◌, arith}
-use Rattle.world_model.specs.declared.entry.Entry.{Entry}
-use Rattle.world_model.specs.declared.entry.Entry.TheVariants.{Began}
-use Rattle.world_model.specs.declared.message.Call.{Call}
-use Rattle.world_model.specs.declared.op.Op.{Op}
+use Rattle.core_session.proofs.Prelude.{◌≡◌, ◌≤◌, ◌⊎◌, inl, inr, ℕ, List, [], ◌∷◌, ◌++◌, length, Some, refl, sym, subst, ◌∙◌, arith, Entry, Began, Call, Op, Asks, At, Rooted, UnderWay, IsOf, Terms, Rooted-wide, At-grow, At-below, At-one, length_last, Closing, Removal, remove_of, Mounted, FileMachine, Machine, machine_of, Busy, Setup, View, of_closing, in_flight, begins-unbegun, Held, held-later, always-later, Given, is-given, reached-slots, good-over, Expects, CloseNames, Saves, of-slot, WorksAt, SlotRuns, SlotStory, slot-laws, IsSession, IsPast}
 use Rattle.world_model.specs.declared.op.Op.TheVariants as ops
-use Rattle.claims.specs.Asks.{Asks, Stabilizes, HeldAlone, RemovesHidden}
+use Rattle.claims.specs.Asks.{Stabilizes, HeldAlone, RemovesHidden}
 use Rattle.claims.specs.Asks as asks
-use Rattle.world_model.specs.Entries.{At}
 use Rattle.claims.specs.Hidden.{HiddenAt}
-use Rattle.world_model.specs.Mounts.{Rooted}
-use Rattle.world_model.specs.Operations.{UnderWay}
-use Rattle.claims.specs.Slots.{IsOf}
-use Rattle.claims.specs.Terms.{Terms}
-use Rattle.world_model.proofs.Growth.{Rooted-wide}
-use Rattle.world_model.proofs.Places.{At-grow, At-below, At-one, length_last}
-use Rattle.file_ops.specs.declared.close_file.Closing.{Closing}
 use Rattle.file_ops.specs.declared.close_file.Closing.TheVariants as closing_states
-use Rattle.file_ops.specs.declared.closing.Removal.{Removal}
-use Rattle.file_ops.specs.Closings.{remove_of}
-use Rattle.op_machines.specs.declared.begun.Mounted.{Mounted}
-use Rattle.op_machines.specs.declared.file_machine.FileMachine.{FileMachine}
 use Rattle.op_machines.specs.declared.file_machine.FileMachine.TheVariants as files
-use Rattle.op_machines.specs.declared.machine.Machine.{Machine}
 use Rattle.op_machines.specs.declared.machine.Machine.TheVariants as machines
-use Rattle.op_machines.specs.Begun.{machine_of}
-use Rattle.client_core.specs.declared.lane.State.TheVariants.{Busy}
-use Rattle.client_core.specs.declared.setup.Setup.{Setup}
-use Rattle.client_core.specs.View.{View}
-use Rattle.core_facts.specs.InFlight.{of_closing, in_flight}
-use Rattle.core_facts.proofs.AllCounts.{begins-unbegun}
-use Rattle.core_facts.proofs.HeldSlots.{Held, held-later, always-later, Given, is-given}
 use Rattle.core_facts.proofs.Slots.{ClosingNow}
-use Rattle.core_facts.proofs.SlotsAlong.{reached-slots}
-use Rattle.core_facts.proofs.Stories.{good-over}
-use Rattle.core_answers.proofs.asks.CallsAwaited.{Expects}
-use Rattle.core_answers.proofs.asks.FilesAwaited.{CloseNames}
-use Rattle.core_answers.proofs.asks.SavedCalls.{Saves}
-use Rattle.core_answers.proofs.asks.SlotAsks.{of-slot}
-use Rattle.core_answers.proofs.asks.SlotFiles.{CloseAt, WorksAt, SlotRuns, SlotStory, slot-laws}
-use Rattle.core_session.specs.calls.Sessions.{IsSession}
+use Rattle.core_answers.proofs.asks.SlotFiles.{CloseAt}
 use Rattle.core_session.proofs.calls.Causes.{Now, Spelt, under-now}
 use Rattle.core_session.proofs.calls.Outgoing.{Outgoing}
 use Rattle.core_session.proofs.calls.TableHeld.{AllNoted}
-use Rattle.core_session.specs.drops.Dropped.{IsPast}
 use Rattle.core_session.proofs.drops.Growing.{slot-back}
 use Rattle.core_session.specs.hidden.Hidden.{RemovesPlace}
 use Rattle.core_session.proofs.hidden.AloneTales.{WasAlone, alone-where-noted}

@@ -1,67 +1,25 @@
 -- Each place of the table of hidden files is one where a remove has hidden its file, and so is each of which a close removes it.
-use Rattle.std.proofs.Common.{◌≡◌, ◌⊎◌, inl, inr, ℕ, Bool, true, false, List, [], ◌∷◌, ◌++◌, length, Option, Some, None, slice_get, Result, Ok, Err, refl, sym, ap, subst, ◌∙◌, arith}
+use Rattle.core_session.proofs.Prelude.{◌≡◌, ◌⊎◌, inl, inr, ℕ, Bool, true, false, List, [], ◌∷◌, ◌++◌, length, Option, Some, None, slice_get, Result, Ok, Err, refl, sym, ap, subst, ◌∙◌, arith, DirKept, Wcc, Waiting, waiting_at, Fault, Entry, Began, Delivered, Call, Reply, Op, At, Asked, SpellsCall, SpellsReply, UnderWay, Asked-grow, Asked-wide, At-grow, Says, Next, Shelf, Turn, Closing, Deed, Move, RemoveFile, moved_told, Mounted, FileMachine, Machine, NameMachine, front_of, last_of, machine_of, Purpose, State, Busy, Over, Setup, View, Reaches, IsOutstanding, Awaits, awaits-laws, begins-unbegun, LeadsTo, end-leads, leads-later, RemoveAwaits, Did, Expects, expects-laws, RemoveRuns, NoCall, CameOf, heard_of, unmade, SlotLaws}
 use Rattle.std.specs.FinMap as finite
 use Rattle.std.specs.Ordering.{nat_cmp}
 use Rattle.std.specs.Cmp.Lexicographic.{slice_cmp}
-use Rattle.nfs_dir_calls.specs.declared.keeping.DirKept.{DirKept}
 use Rattle.nfs_dir_calls.specs.declared.keeping.DirKept.TheVariants as kept
-use Rattle.nfs_types.specs.declared.wcc.Wcc.{Wcc}
-use Rattle.rpc_retry.specs.declared.waiting.Waiting.{Waiting}
-use Rattle.rpc_retry.specs.Waiting.{waiting_at}
-use Rattle.world_model.specs.declared.answer.Fault.{Fault}
-use Rattle.world_model.specs.declared.entry.Entry.{Entry}
-use Rattle.world_model.specs.declared.entry.Entry.TheVariants.{Began, Delivered}
-use Rattle.world_model.specs.declared.message.Call.{Call}
-use Rattle.world_model.specs.declared.message.Reply.{Reply}
 use Rattle.world_model.specs.declared.message.Reply.TheVariants as replies
-use Rattle.world_model.specs.declared.op.Op.{Op}
 use Rattle.world_model.specs.declared.op.Op.TheVariants as ops
-use Rattle.world_model.specs.Entries.{At}
-use Rattle.world_model.specs.Heard.{Asked}
 use Rattle.claims.specs.Hidden.{IsHidden}
-use Rattle.world_model.specs.Messages.{SpellsCall, SpellsReply}
-use Rattle.world_model.specs.Operations.{UnderWay}
-use Rattle.world_model.proofs.Growth.{Asked-grow, Asked-wide}
-use Rattle.world_model.proofs.Places.{At-grow}
-use Rattle.call_replies.specs.Says.{Says}
-use Rattle.client_shelf.specs.declared.next.Next.{Next}
 use Rattle.client_shelf.specs.declared.next.Next.TheVariants as nexts
-use Rattle.client_shelf.specs.declared.shelf.Shelf.{Shelf}
-use Rattle.client_shelf.specs.declared.turn.Turn.{Turn}
-use Rattle.file_ops.specs.declared.close_file.Closing.{Closing}
 use Rattle.file_ops.specs.declared.close_file.Closing.TheVariants as closing
 use Rattle.file_ops.specs.Closings.{Places}
-use Rattle.name_ops.specs.declared.remove_file.Deed.{Deed}
-use Rattle.name_ops.specs.declared.remove_file.Deed.TheVariants.{Move}
-use Rattle.name_ops.specs.declared.remove_file.RemoveFile.{RemoveFile}
 use Rattle.name_ops.specs.Looking.{look_up}
-use Rattle.name_ops.specs.Moving.{move_call, moved_told}
+use Rattle.name_ops.specs.Moving.{move_call}
 use Rattle.name_ops.specs.RemoveFile as removals
-use Rattle.op_machines.specs.declared.begun.Mounted.{Mounted}
-use Rattle.op_machines.specs.declared.file_machine.FileMachine.{FileMachine}
 use Rattle.op_machines.specs.declared.file_machine.FileMachine.TheVariants as files
-use Rattle.op_machines.specs.declared.machine.Machine.{Machine}
 use Rattle.op_machines.specs.declared.machine.Machine.TheVariants as machines
-use Rattle.op_machines.specs.declared.name_machine.NameMachine.{NameMachine}
 use Rattle.op_machines.specs.declared.name_machine.NameMachine.TheVariants as names
-use Rattle.op_machines.specs.Begun.{front_of, last_of, machine_of}
-use Rattle.client_core.specs.declared.lane.Purpose.{Purpose}
-use Rattle.client_core.specs.declared.lane.State.{State}
-use Rattle.client_core.specs.declared.lane.State.TheVariants.{Busy, Over}
-use Rattle.client_core.specs.declared.setup.Setup.{Setup}
-use Rattle.client_core.specs.View.{View}
-use Rattle.core_facts.specs.Reaches.{Reaches}
-use Rattle.core_facts.specs.Tries.{IsOutstanding}
-use Rattle.core_facts.proofs.AllAwaited.{Awaits, awaits-laws}
-use Rattle.core_facts.proofs.AllCounts.{begins-unbegun}
-use Rattle.core_facts.proofs.Leading.{LeadsTo, end-leads, leads-later}
-use Rattle.core_facts.proofs.NamesAwaited.{RemoveAwaits}
-use Rattle.core_facts.proofs.Tales.{Did, reached-good as tales-good}
-use Rattle.core_answers.proofs.asks.CallsAwaited.{Expects, expects-laws}
+use Rattle.core_facts.proofs.Tales.{reached-good as tales-good}
 use Rattle.core_answers.proofs.asks.RemoveAsks as removes
-use Rattle.core_answers.proofs.asks.RemoveSteps.{HasDeed, RemoveRuns}
-use Rattle.core_answers.proofs.asks.Sendings.{NoCall}
-use Rattle.core_answers.proofs.refusals.Answering.{IsSeen, CameOf, heard_of, unmade, IsToldOf, SlotLaws, AllGood, reached-good}
+use Rattle.core_answers.proofs.asks.RemoveSteps.{HasDeed}
+use Rattle.core_answers.proofs.refusals.Answering.{IsSeen, IsToldOf, AllGood, reached-good}
 use Rattle.core_session.proofs.hidden.MoveTales.{Gave, SomeGave, GaveBefore, reached-gave}
 use Rattle.core_session.proofs.hidden.Places.{WasHidden, hidden-later}
 use Rattle.core_session.proofs.hidden.SillyNames.{Moved}

@@ -1,31 +1,16 @@
 -- Each call of a session was asked for, but those that make room.
-use Rattle.std.proofs.Common.{◌≡◌, ◌⊎◌, inl, inr, ℕ, List, refl, sym, subst}
-use Rattle.world_model.specs.declared.entry.Entry.{Entry}
-use Rattle.world_model.specs.declared.entry.Entry.TheVariants.{Sent}
-use Rattle.world_model.specs.declared.message.Call.{Call}
-use Rattle.world_model.specs.declared.op.Op.{Op}
+use Rattle.core_session.proofs.Prelude.{◌≡◌, ◌⊎◌, inl, inr, ℕ, List, refl, sym, subst, Entry, Sent, Call, Op, Asks, NoneBegan, IsCaused, KeepsTo, At, SpellsCallBy, UnderWay, Terms, Mounted, IsAsked, machine_of, Setup, View, begins-unbegun, GoesFrom, CallsAskedBut, Notes}
 use Rattle.world_model.specs.declared.op.Op.TheVariants as ops
-use Rattle.claims.specs.Asks.{Asks}
 use Rattle.claims.specs.Asks as asks
-use Rattle.claims.specs.CallsAsked.{NoneBegan, IsCaused, asked, KeepsTo}
-use Rattle.world_model.specs.Entries.{At}
-use Rattle.world_model.specs.Messages.{SpellsCallBy}
-use Rattle.world_model.specs.Operations.{UnderWay}
-use Rattle.claims.specs.Terms.{Terms}
-use Rattle.op_machines.specs.declared.begun.Mounted.{Mounted}
-use Rattle.op_machines.specs.Begun.{IsAsked, machine_of}
-use Rattle.client_core.specs.declared.setup.Setup.{Setup}
-use Rattle.client_core.specs.View.{View}
-use Rattle.core_facts.proofs.AllCounts.{begins-unbegun}
+use Rattle.claims.specs.CallsAsked.{asked}
 use Rattle.core_session.specs.calls.Made as before_made
-use Rattle.core_session.specs.calls.Whole.{GoesFrom, IsCausedBeside, CallsAskedBut}
+use Rattle.core_session.specs.calls.Whole.{IsCausedBeside}
 use Rattle.core_session.proofs.calls.Causes.{Now, Spelt, under-now, cause, reads-keep}
 use Rattle.core_session.proofs.calls.Outgoing.{Outgoing}
 use Rattle.core_session.proofs.calls.OwnBytes.{own-bytes}
 use Rattle.core_session.proofs.calls.TableHeld.{AllNoted}
 use Rattle.core_session.proofs.calls.Whole.{session, calls-asked-but}
 use Rattle.core_session.proofs.calls.WriteKeeps.{writes-keep}
-use Rattle.core_facts.specs.Notes.{Notes}
 use Rattle.core_session.specs.hidden.Removed.{IsCausedForRoom, ClosesRemoveWhatWasHidden}
 use Rattle.core_session.proofs.hidden.CloseCause.{close-or, removes-hidden}
 use Rattle.core_session.proofs.asked.Passed.{Passed, sends-passed}

@@ -1,54 +1,20 @@
 -- While a remove takes a hidden name, each call of it that waits was first sent after the LOOKUP of its name gave the file.
-use Rattle.std.proofs.Common.{◌≡◌, ◌≤◌, ◌+◌, inl, inr, ℕ, Bool, true, false, List, [], ◌∷◌, ◌++◌, length, Option, Some, None, slice_get, Result, Ok, Err, refl, sym, ap, subst, ◌∙◌, arith}
-use Rattle.nfs_types.specs.declared.attr.Attr.{Attr}
-use Rattle.nfs_dir_calls.specs.declared.keeping.DirKept.{DirKept}
+use Rattle.core_session.proofs.Prelude.{◌≡◌, ◌≤◌, ◌+◌, inl, inr, ℕ, Bool, true, false, List, [], ◌∷◌, ◌++◌, length, Option, Some, None, slice_get, Result, Ok, Err, refl, sym, ap, subst, ◌∙◌, arith, Attr, DirKept, Opens, Waiting, waiting_at, Answer, Fault, Entry, Began, Call, Reply, Op, Asked, UnderWay, EndsWith, Asked-grow, Asked-wide, length_last, Next, Shelf, Turn, Deed, Look, Seek, Move, RemoveFile, WalkNext, found_by, look_again, Mounted, Machine, NameMachine, machine_of, Starts, Resumes, Takes, Purpose, Busy, Setup, View, in_flight, Reaches, Awaits, RemoveAwaits, ThenOf}
 use Rattle.nfs_dir_calls.specs.declared.keeping.DirKept.TheVariants as kept
-use Rattle.open_files.specs.Slots.{Opens}
-use Rattle.rpc_retry.specs.declared.waiting.Waiting.{Waiting}
-use Rattle.rpc_retry.specs.Waiting.{waiting_at}
 use Rattle.silly_rename.specs.Plans.{plan_of}
-use Rattle.world_model.specs.declared.answer.Answer.{Answer}
-use Rattle.world_model.specs.declared.answer.Fault.{Fault}
-use Rattle.world_model.specs.declared.entry.Entry.{Entry}
-use Rattle.world_model.specs.declared.entry.Entry.TheVariants.{Began}
-use Rattle.world_model.specs.declared.message.Call.{Call}
-use Rattle.world_model.specs.declared.message.Reply.{Reply}
 use Rattle.world_model.specs.declared.message.Reply.TheVariants as replies
-use Rattle.world_model.specs.declared.op.Op.{Op}
 use Rattle.world_model.specs.declared.op.Op.TheVariants as ops
-use Rattle.world_model.specs.Heard.{Asked}
-use Rattle.world_model.specs.Operations.{UnderWay, EndsWith}
-use Rattle.world_model.proofs.Growth.{Asked-grow, Asked-wide}
-use Rattle.world_model.proofs.Places.{length_last}
-use Rattle.client_shelf.specs.declared.next.Next.{Next}
 use Rattle.client_shelf.specs.declared.next.Next.TheVariants as nexts
-use Rattle.client_shelf.specs.declared.shelf.Shelf.{Shelf}
-use Rattle.client_shelf.specs.declared.turn.Turn.{Turn}
-use Rattle.name_ops.specs.declared.remove_file.Deed.{Deed}
-use Rattle.name_ops.specs.declared.remove_file.Deed.TheVariants.{Look, Seek, Move, Remove}
-use Rattle.name_ops.specs.declared.remove_file.RemoveFile.{RemoveFile}
-use Rattle.name_ops.specs.declared.walk.WalkNext.{WalkNext}
+use Rattle.name_ops.specs.declared.remove_file.Deed.TheVariants.{Remove}
 use Rattle.name_ops.specs.declared.walk.WalkNext.TheVariants as walks
-use Rattle.name_ops.specs.Looking.{look_up, found_by, look_again}
+use Rattle.name_ops.specs.Looking.{look_up}
 use Rattle.name_ops.specs.RemoveFile as removals
 use Rattle.name_ops.specs.Walking as walking
-use Rattle.op_machines.specs.declared.begun.Mounted.{Mounted}
-use Rattle.op_machines.specs.declared.machine.Machine.{Machine}
 use Rattle.op_machines.specs.declared.machine.Machine.TheVariants as machines
-use Rattle.op_machines.specs.declared.name_machine.NameMachine.{NameMachine}
 use Rattle.op_machines.specs.declared.name_machine.NameMachine.TheVariants as names
-use Rattle.op_machines.specs.Begun.{machine_of}
 use Rattle.op_machines.specs.NameSteps as steps
-use Rattle.op_machines.specs.Steps.{Starts, Resumes, Takes}
-use Rattle.client_core.specs.declared.lane.Purpose.{Purpose}
-use Rattle.client_core.specs.declared.lane.State.TheVariants.{Busy}
-use Rattle.client_core.specs.declared.setup.Setup.{Setup}
-use Rattle.client_core.specs.View.{View}
-use Rattle.core_facts.specs.InFlight.{one_if, in_flight}
-use Rattle.core_facts.specs.Reaches.{Reaches}
-use Rattle.core_facts.proofs.AllAwaited.{Awaits}
-use Rattle.core_facts.proofs.NamesAwaited.{RemoveAwaits, NameAwaits}
-use Rattle.core_facts.proofs.Steps.{ThenOf}
+use Rattle.core_facts.specs.InFlight.{one_if}
+use Rattle.core_facts.proofs.NamesAwaited.{NameAwaits}
 use Rattle.core_answers.proofs.bonds.Keeping.{ShelfLaws}
 use Rattle.core_answers.proofs.bonds.NamesShown.{awaits-asks}
 use Rattle.core_answers.proofs.paths.Following.{IsAfter, FromPlace, FollowLaws, IsHeld, reached-known}

@@ -1,25 +1,11 @@
 -- Where a file was hidden, as far as a history shows; and in a longer one.
-use Rattle.std.proofs.Common.{◌≤◌, ℕ, List, [], ◌∷◌, ◌++◌, length, Option, arith}
-use Rattle.nfs_types.specs.declared.attr.Attr.{Attr}
-use Rattle.nfs_types.specs.declared.wcc.Wcc.{Wcc}
+use Rattle.core_session.proofs.Prelude.{◌≤◌, ℕ, List, [], ◌∷◌, ◌++◌, length, Option, arith, Attr, Wcc, Entry, Began, Call, Reply, At, Asked, Origin, Rooted, FirstSent-grow, Answers-grow, Asked-grow, At-grow, length_last, IsNamed, front_of, last_of, LeadsTo, leads-from, leads-later, front-last}
 use Rattle.nfs_dir_calls.specs.declared.keeping.DirKept.TheVariants as kept
-use Rattle.world_model.specs.declared.entry.Entry.{Entry}
-use Rattle.world_model.specs.declared.entry.Entry.TheVariants.{Began}
-use Rattle.world_model.specs.declared.message.Call.{Call}
-use Rattle.world_model.specs.declared.message.Reply.{Reply}
 use Rattle.world_model.specs.declared.message.Reply.TheVariants as replies
 use Rattle.world_model.specs.declared.op.Op.TheVariants as ops
-use Rattle.world_model.specs.Entries.{At}
-use Rattle.world_model.specs.Heard.{Asked}
 use Rattle.claims.specs.Hidden.{IsHidden, HiddenAt}
-use Rattle.world_model.specs.Mounts.{Origin, Rooted}
-use Rattle.world_model.proofs.Growth.{FirstSent-grow, Answers-grow, Asked-grow}
-use Rattle.world_model.proofs.Places.{At-grow, length_last}
 use Rattle.name_ops.specs.Looking.{look_up}
 use Rattle.name_ops.specs.Moving.{move_call}
-use Rattle.op_machines.specs.Begun.{IsNamed, front_of, last_of}
-use Rattle.core_facts.proofs.Leading.{LeadsTo, leads-from, leads-later}
-use Rattle.core_facts.proofs.OneCallStory.{front-last}
 
 -- A remove moved the file there, as `HiddenAt` of world_model has it: the root is known.
 pub record WasHidden (top : List ℕ) (h : List Entry) (f d name : List ℕ) : Type 0 where

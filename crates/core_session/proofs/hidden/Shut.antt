@@ -1,42 +1,14 @@
 -- As a close comes past its sync no slot holds its file.
-use Rattle.std.proofs.Common.{◌≡◌, ◌⊎◌, inl, inr, ℕ, Bool, true, false, List, Option, Some, None, Result, Err, refl, sym, ap, subst, ◌∙◌}
+use Rattle.core_session.proofs.Prelude.{◌≡◌, ◌⊎◌, inl, inr, ℕ, Bool, true, false, List, Option, Some, None, Result, Err, refl, sym, ap, subst, ◌∙◌, if◌then◌else◌, Opens, IsOpen, Fault, Reply, Op, of_file, last_end, is_first, goes_again, Next, Shelf, Turn, CloseFile, Closing, Removal, Saving, TellsOpen, refusal_of, remove_busy, file_at, joined, by-step, Mounted, FileMachine, Machine, machine_of, Starts, Resumes, Takes, State, Busy, Over, IsRefused, IsPast}
 use Rattle.std.specs.FinMap as finite
-use Rattle.std.specs.Prelude.{if◌then◌else◌}
-use Rattle.open_files.specs.Slots.{Opens, IsOpen}
-use Rattle.world_model.specs.declared.answer.Fault.{Fault}
-use Rattle.world_model.specs.declared.message.Reply.{Reply}
-use Rattle.world_model.specs.declared.op.Op.{Op}
 use Rattle.world_model.specs.declared.op.Op.TheVariants as ops
-use Rattle.write_back.specs.Files.{of_file}
-use Rattle.write_back.specs.Segments.{last_end}
-use Rattle.client_shelf.specs.LaneFiles.{is_first}
-use Rattle.client_shelf.specs.Busy.{goes_again}
-use Rattle.client_shelf.specs.declared.next.Next.{Next}
 use Rattle.client_shelf.specs.declared.next.Next.TheVariants as nexts
-use Rattle.client_shelf.specs.declared.shelf.Shelf.{Shelf}
-use Rattle.client_shelf.specs.declared.turn.Turn.{Turn}
-use Rattle.file_ops.specs.declared.close_file.CloseFile.{CloseFile}
-use Rattle.file_ops.specs.declared.close_file.Closing.{Closing}
 use Rattle.file_ops.specs.declared.close_file.Closing.TheVariants as closing
-use Rattle.file_ops.specs.declared.closing.Removal.{Removal}
-use Rattle.file_ops.specs.declared.saving.Saving.{Saving}
 use Rattle.file_ops.specs.Closes as closes
-use Rattle.file_ops.specs.Closings.{TellsOpen, refusal_of, remove_busy}
 use Rattle.file_ops.specs.Saves as saves
-use Rattle.file_ops.specs.SlotFiles.{file_at, joined}
-use Rattle.file_ops.proofs.SaveCounts.{by-step}
-use Rattle.op_machines.specs.declared.begun.Mounted.{Mounted}
-use Rattle.op_machines.specs.declared.file_machine.FileMachine.{FileMachine}
 use Rattle.op_machines.specs.declared.file_machine.FileMachine.TheVariants as files
-use Rattle.op_machines.specs.declared.machine.Machine.{Machine}
 use Rattle.op_machines.specs.declared.machine.Machine.TheVariants as machines
-use Rattle.op_machines.specs.Begun.{machine_of}
 use Rattle.op_machines.specs.FileSteps as steps
-use Rattle.op_machines.specs.Steps.{Starts, Resumes, Takes}
-use Rattle.client_core.specs.declared.lane.State.{State}
-use Rattle.client_core.specs.declared.lane.State.TheVariants.{Busy, Over}
-use Rattle.client_core.specs.Steps.{IsRefused}
-use Rattle.core_session.specs.drops.Dropped.{IsPast}
 use Rattle.core_session.proofs.drops.Leading.{Leading, settles, unmade, Settles}
 
 -- the file of a close past its sync, by the place where it is hidden

@@ -1,25 +1,10 @@
 -- What a step of an operation on names leaves of the places of hidden files: all, but where a remove has hidden one.
-use Rattle.std.proofs.Common.{◌≡◌, ◌⊎◌, ℕ, Bool, true, false, List, Option, Some, None, Result, Ok, Err, inl, inr, refl, ap, ◌∙◌}
-use Rattle.std.specs.Prelude.{if◌then◌else◌}
-use Rattle.nfs_types.specs.declared.attr.Attr.{Attr}
-use Rattle.world_model.specs.declared.answer.Fault.{Fault}
-use Rattle.world_model.specs.declared.answer.Value.{Value}
-use Rattle.world_model.specs.declared.message.Call.{Call}
-use Rattle.world_model.specs.declared.message.Reply.{Reply}
-use Rattle.client_shelf.specs.declared.next.Next.{Next}
-use Rattle.client_shelf.specs.declared.shelf.Shelf.{Shelf}
-use Rattle.client_shelf.specs.declared.turn.Turn.{Turn}
-use Rattle.name_ops.specs.declared.list_dir.ListDir.{ListDir}
-use Rattle.name_ops.specs.declared.stat.Stat.{Stat}
+use Rattle.core_session.proofs.Prelude.{◌≡◌, ◌⊎◌, ℕ, Bool, true, false, List, Option, Some, None, Result, Ok, Err, inl, inr, refl, ap, ◌∙◌, if◌then◌else◌, Attr, Fault, Value, Call, Reply, Next, Shelf, Turn, ListDir, Stat, Visit, Walk, WalkNext, found_by, look_again, Pair, Deed, Look, Seek, Move, RemoveFile, deed_call, moved_told, NameMachine}
 use Rattle.name_ops.specs.declared.sym_link.SymLink.{SymLink}
 use Rattle.name_ops.specs.declared.told.Told.{Told}
-use Rattle.name_ops.specs.declared.visit.Visit.{Visit}
-use Rattle.name_ops.specs.declared.walk.Walk.{Walk}
-use Rattle.name_ops.specs.declared.walk.WalkNext.{WalkNext}
 use Rattle.name_ops.specs.declared.walk.WalkNext.TheVariants as walks
 use Rattle.name_ops.specs.Changing as changing
 use Rattle.name_ops.specs.ListDir as listing
-use Rattle.name_ops.specs.Looking.{found_by, look_again}
 use Rattle.name_ops.specs.ReadLink.{text_call, TakesText}
 use Rattle.name_ops.specs.Showing.{TakesShow}
 use Rattle.name_ops.specs.Stat as stats
@@ -27,20 +12,15 @@ use Rattle.name_ops.specs.SymLink.{sym_link_call, sym_linked_told, ChangesByCopy
 use Rattle.name_ops.specs.Visiting as visiting
 use Rattle.name_ops.specs.Walking as walking
 use Rattle.name_ops.specs.declared.link.Link.{Link}
-use Rattle.name_ops.specs.declared.pair.Pair.{Pair}
 use Rattle.name_ops.specs.declared.pair.PairNext.{PairNext}
-use Rattle.name_ops.specs.declared.remove_file.Deed.{Deed}
-use Rattle.name_ops.specs.declared.remove_file.Deed.TheVariants.{Look, Seek, Move, Remove}
-use Rattle.name_ops.specs.declared.remove_file.RemoveFile.{RemoveFile}
+use Rattle.name_ops.specs.declared.remove_file.Deed.TheVariants.{Remove}
 use Rattle.name_ops.specs.declared.rename.Rename.{Rename}
 use Rattle.name_ops.specs.Access.{access_call, access_attr, access_told}
-use Rattle.name_ops.specs.DirChange.{deed_call, deed_told}
+use Rattle.name_ops.specs.DirChange.{deed_told}
 use Rattle.name_ops.specs.Link.{TakesLink}
 use Rattle.name_ops.specs.Pairs as pairs
-use Rattle.name_ops.specs.Moving.{moved_told}
 use Rattle.name_ops.specs.RemoveFile as removals
 use Rattle.name_ops.specs.Rename.{TakesRename}
-use Rattle.op_machines.specs.declared.name_machine.NameMachine.{NameMachine}
 use Rattle.op_machines.specs.declared.name_machine.NameMachine.TheVariants as machines
 use Rattle.op_machines.specs.NameSteps as steps
 

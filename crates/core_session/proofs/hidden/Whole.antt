@@ -1,24 +1,9 @@
 -- The places that are kept of hidden files, and for what each call is made.
-use Rattle.std.proofs.Common.{◌≡◌, ◌⊎◌, inl, inr, ℕ, List, [], length, refl, sym, subst, arith}
+use Rattle.core_session.proofs.Prelude.{◌≡◌, ◌⊎◌, inl, inr, ℕ, List, [], length, refl, sym, subst, arith, Entry, Began, Op, Asks, SpellsCallBy, Rooted, Terms, Rooted-wide, At-below, Mounted, IsAsked, machine_of, Setup, View, begins-unbegun, IsSession}
 use Rattle.std.proofs.lemmas.List.{append-nil}
-use Rattle.world_model.specs.declared.entry.Entry.{Entry}
-use Rattle.world_model.specs.declared.entry.Entry.TheVariants.{Began}
-use Rattle.world_model.specs.declared.op.Op.{Op}
 use Rattle.world_model.specs.declared.op.Op.TheVariants as ops
-use Rattle.claims.specs.Asks.{Asks}
 use Rattle.claims.specs.Hidden.{HiddenAt}
-use Rattle.world_model.specs.Messages.{SpellsCallBy}
-use Rattle.world_model.specs.Mounts.{Rooted}
-use Rattle.claims.specs.Terms.{Terms}
-use Rattle.world_model.proofs.Growth.{Rooted-wide}
-use Rattle.world_model.proofs.Places.{At-below}
-use Rattle.op_machines.specs.declared.begun.Mounted.{Mounted}
-use Rattle.op_machines.specs.Begun.{IsAsked, machine_of}
-use Rattle.client_core.specs.declared.setup.Setup.{Setup}
-use Rattle.client_core.specs.View.{View}
-use Rattle.core_facts.proofs.AllCounts.{begins-unbegun}
 use Rattle.core_session.specs.calls.Made as before
-use Rattle.core_session.specs.calls.Sessions.{IsSession}
 use Rattle.core_session.proofs.calls.Causes.{Now, Spelt, under-now, cause}
 use Rattle.core_session.proofs.calls.Outgoing.{Outgoing, reached-out}
 use Rattle.core_session.specs.hidden.Hidden.{HiddenFilesWereHidden, IsMadeFor, asked_for, makes_room, removes_place, IsMadeSo, RemovalsAreOfHiddenFiles}

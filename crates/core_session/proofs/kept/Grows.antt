@@ -1,23 +1,7 @@
 -- What is known goes on being known as an entry comes that sends nothing.
-use Rattle.std.proofs.Common.{true, ◌-◌, ◌≡◌, ◌≤◌, ◌<◌, ◌⊎◌, inl, inr, ℕ, Bool, List, [], ◌∷◌, ◌++◌, length, refl, subst, arith}
-use Rattle.std.proofs.lemmas.Bool.{cases_lt}
-use Rattle.rpc_retry.specs.declared.waiting.Waiting.{Waiting}
+use Rattle.core_session.proofs.Prelude.{true, ◌-◌, ◌≡◌, ◌≤◌, ◌<◌, ◌⊎◌, inl, inr, ℕ, Bool, List, [], ◌∷◌, ◌++◌, length, refl, subst, arith, cases_lt, Waiting, SpellsCall, covers, slice_index, Entry, Sent, At, Terms, At-one, At-last, length_last, Pending, Mounted, Purpose, Setup, View, GoesWith}
 use Rattle.world_model.specs.declared.message.Call.TheVariants as calls
 use Rattle.nfs_file_calls.specs.declared.call.FileCall.TheVariants as files
-use Rattle.world_model.specs.Messages.{SpellsCall}
-use Rattle.write_back.specs.Segments.{covers}
-use Rattle.std.specs.Prelude.{slice_index}
-use Rattle.world_model.specs.declared.entry.Entry.{Entry}
-use Rattle.world_model.specs.declared.entry.Entry.TheVariants.{Sent}
-use Rattle.world_model.specs.Entries.{At}
-use Rattle.claims.specs.Terms.{Terms}
-use Rattle.world_model.proofs.Places.{At-one, At-last, length_last}
-use Rattle.write_back.specs.Files.{Pending}
-use Rattle.op_machines.specs.declared.begun.Mounted.{Mounted}
-use Rattle.client_core.specs.declared.lane.Purpose.{Purpose}
-use Rattle.client_core.specs.declared.setup.Setup.{Setup}
-use Rattle.client_core.specs.View.{View}
-use Rattle.core_facts.specs.SlotAnswers.{GoesWith}
 use Rattle.core_session.proofs.syncs.Carrying.{fresh-grow, wrote-grow, made-grow, calls-same}
 use Rattle.core_session.proofs.syncs.Grows.{SendsNone, split-on, longer-by}
 use Rattle.core_session.proofs.syncs.Nexts.{at-on}

@@ -1,29 +1,5 @@
 -- The invariant of one written byte is kept by each step and entry.
-use Rattle.std.proofs.Common.{false, Some, position, ◌≡◌, ◌≤◌, ◌<◌, inl, inr, ℕ, Bool, List, [], ◌∷◌, ◌++◌, length, append_assoc, refl, sym, subst, ◌∙◌, arith}
-use Rattle.std.proofs.lemmas.Bool.{cases_lt}
-use Rattle.world_model.specs.declared.entry.Entry.{Entry}
-use Rattle.world_model.specs.declared.entry.Entry.TheVariants.{Delivered}
-use Rattle.claims.specs.Terms.{Terms}
-use Rattle.world_model.proofs.Places.{length_last}
-use Rattle.op_machines.specs.declared.begun.Mounted.{Mounted}
-use Rattle.op_machines.specs.Begun.{machine_of}
-use Rattle.rpc_message.specs.Call.{xid_at}
-use Rattle.rpc_retry.specs.declared.waiting.Waiting.{Waiting}
-use Rattle.rpc_retry.specs.Waiting.{waiting_at}
-use Rattle.call_replies.specs.Says.{said_of}
-use Rattle.client_core.specs.declared.lane.Purpose.{Purpose}
-use Rattle.client_core.specs.declared.setup.Setup.{Setup}
-use Rattle.client_core.specs.Lanes.{is_busy}
-use Rattle.client_core.specs.Steps.{Stirs, TakesAt}
-use Rattle.client_core.specs.View.{View}
-use Rattle.core_facts.specs.Naming.{KnowsRoot}
-use Rattle.core_facts.specs.Reaches.{Reaches, HearsRecord}
-use Rattle.core_facts.specs.SlotAnswers.{GoesWith}
-use Rattle.core_facts.proofs.Cases.{taken_one}
-use Rattle.core_facts.proofs.Keeping.{Known}
-use Rattle.core_facts.proofs.Placing.{keeps-placed}
-use Rattle.core_facts.proofs.Walks.{stirs-stay, steps-stay, Stays}
-use Rattle.core_session.specs.syncs.Synced.{PutsNamed}
+use Rattle.core_session.proofs.Prelude.{false, Some, position, ◌≡◌, ◌≤◌, ◌<◌, inl, inr, ℕ, Bool, List, [], ◌∷◌, ◌++◌, length, append_assoc, refl, sym, subst, ◌∙◌, arith, cases_lt, Entry, Delivered, Terms, length_last, Mounted, machine_of, xid_at, Waiting, waiting_at, said_of, Purpose, Setup, is_busy, Stirs, TakesAt, View, KnowsRoot, Reaches, HearsRecord, GoesWith, taken_one, Known, keeps-placed, stirs-stay, steps-stay, Stays, PutsNamed}
 use Rattle.core_session.proofs.drops.Along.{guards-steps}
 use Rattle.core_session.proofs.drops.GuardLaws.{stirs-step, takes-step}
 use Rattle.core_session.proofs.saves.WholeSteps.{keeps-wholly}

@@ -1,19 +1,8 @@
 -- What a refused close gave up: it is owed, or the history shows it, through each step and entry.
-use Rattle.std.proofs.Common.{◌≡◌, ◌≤◌, ◌<◌, ◌⊎◌, inl, inr, ℕ, suc, Bool, List, [], ◌∷◌, ◌++◌, length, refl, sym, ap, subst, arith, append-nil, append_assoc, length-append}
+use Rattle.core_session.proofs.Prelude.{◌≡◌, ◌≤◌, ◌<◌, ◌⊎◌, inl, inr, ℕ, suc, Bool, List, [], ◌∷◌, ◌++◌, length, refl, sym, ap, subst, arith, append-nil, append_assoc, length-append, Entry, Answered, Modes, Terms, GivesUp, itself, beside, At-grow, length_last, Mounted, Setup, View, MayHear, ended-grow, IsOwed, IsDropped, WasLeft}
 use Rattle.world_model.specs.declared.answer.Answer.TheVariants as answers
-use Rattle.world_model.specs.declared.entry.Entry.{Entry}
-use Rattle.world_model.specs.declared.entry.Entry.TheVariants.{Answered}
 use Rattle.world_model.specs.declared.op.Op.TheVariants as ops
-use Rattle.claims.specs.Modes.{Modes}
-use Rattle.claims.specs.Terms.{Terms}
-use Rattle.claims.specs.Touched.{Left, GivesUp, itself, beside}
-use Rattle.world_model.proofs.Places.{At-grow, length_last}
-use Rattle.op_machines.specs.declared.begun.Mounted.{Mounted}
-use Rattle.client_core.specs.declared.setup.Setup.{Setup}
-use Rattle.client_core.specs.View.{View}
-use Rattle.core_facts.specs.Reaches.{MayHear}
-use Rattle.core_facts.proofs.Stories.{ended-grow}
-use Rattle.core_session.specs.drops.Dropped.{IsOwed, IsDropped, WasLeft}
+use Rattle.claims.specs.Touched.{Left}
 use Rattle.core_session.proofs.drops.Dropping.{dropped-heard}
 use Rattle.core_session.proofs.drops.Growing.{slot-back, of-grow, none-came-grow}
 use Rattle.core_session.proofs.syncs.Fate.{later, busy, refused, well}

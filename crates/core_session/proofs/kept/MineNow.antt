@@ -1,27 +1,8 @@
 -- The call that a record answers, and the machine that waits for it, as in `current.Good` of core_session.
-use Rattle.std.proofs.Common.{◌≡◌, false, ℕ, List, Some, option_map, slice_get, sym, ap}
-use Rattle.rpc_retry.specs.declared.waiting.Waiting.{Waiting}
-use Rattle.rpc_retry.specs.Waiting.{waiting_at}
-use Rattle.write_back.specs.Files.{Pending}
-use Rattle.world_model.specs.declared.entry.Entry.{Entry}
-use Rattle.client_shelf.specs.declared.next.Next.{Next}
+use Rattle.core_session.proofs.Prelude.{◌≡◌, false, ℕ, List, Some, option_map, slice_get, sym, ap, Waiting, waiting_at, Pending, Entry, Next, Mounted, Machine, machine_of, Purpose, Busy, Setup, View, Reaches, IsMade, begins-unbegun, reached-kept, ThenOf, IsSentAs, Both, both-asks}
 use Rattle.client_shelf.specs.declared.next.Next.TheVariants as nexts
-use Rattle.op_machines.specs.declared.begun.Mounted.{Mounted}
-use Rattle.op_machines.specs.declared.machine.Machine.{Machine}
-use Rattle.op_machines.specs.Begun.{machine_of}
-use Rattle.client_core.specs.declared.lane.Purpose.{Purpose}
-use Rattle.client_core.specs.declared.lane.State.TheVariants.{Busy}
-use Rattle.client_core.specs.declared.setup.Setup.{Setup}
-use Rattle.client_core.specs.View.{View}
-use Rattle.core_facts.specs.Reaches.{Reaches}
-use Rattle.core_facts.specs.Tries.{IsMade}
-use Rattle.core_facts.proofs.AllCounts.{begins-unbegun}
 use Rattle.core_facts.proofs.Flown.{Flown, keeps-flown}
-use Rattle.core_facts.proofs.Keeping.{reached-kept}
-use Rattle.core_facts.proofs.Steps.{ThenOf}
-use Rattle.core_answers.proofs.pages.FilePages.{IsSentAs}
 use Rattle.core_answers.proofs.pages.Keeping as keeping
-use Rattle.core_answers.proofs.pages.PageCalls.{Both, both-asks}
 use Rattle.core_answers.proofs.pages.PiecesCalled.{called-sent}
 
 no-story : (next : Next) (new : Machine) → ThenOf (λ k. Unit {0}) (λ a. Unit {0}) next new

@@ -1,38 +1,8 @@
 -- What a step of a lane makes of what holds of the byte.
-use Rattle.std.proofs.Common.{length-append, ◌≡◌, ◌≢◌, ◌≤◌, ◌<◌, ◌+◌, ◌⊎◌, inl, inr, ℕ, Bool, true, false, nat_eq, List, ◌++◌, length, Option, Some, None, slice_get, refl, sym, ap, subst, ◌∙◌, arith}
-use Rattle.std.proofs.lemmas.Bool.{eqb-true, eqb-false}
-use Rattle.client_shelf.specs.declared.shelf.Shelf.{Shelf}
-use Rattle.open_files.specs.Slots.{IsOpen}
-use Rattle.rpc_retry.specs.declared.waiting.Waiting.{Waiting}
-use Rattle.world_model.specs.declared.answer.Answer.{Answer}
+use Rattle.core_session.proofs.Prelude.{length-append, ◌≡◌, ◌≢◌, ◌≤◌, ◌<◌, ◌+◌, ◌⊎◌, inl, inr, ℕ, Bool, true, false, nat_eq, List, ◌++◌, length, Option, Some, None, slice_get, refl, sym, ap, subst, ◌∙◌, arith, eqb-true, eqb-false, Shelf, IsOpen, Waiting, Answer, Fault, Value, Entry, Began, Op, At, UnderWay, AnsweredBefore, IsOf, InSlot, Cuts, Terms, At-one, Pending, of_file, same-or, Saving, LaneFile, Mounted, Machine, machine_of, Purpose, State, Busy, Over, Setup, View, GoesWith, Runs, Lane, CloseFile, Closing, Removal, save_in, removal_in, IsGuarded, list_any, is_other}
 use Rattle.world_model.specs.declared.answer.Answer.TheVariants as answers
-use Rattle.world_model.specs.declared.answer.Fault.{Fault}
-use Rattle.world_model.specs.declared.answer.Value.{Value}
-use Rattle.world_model.specs.declared.entry.Entry.{Entry}
-use Rattle.world_model.specs.declared.entry.Entry.TheVariants.{Began}
-use Rattle.world_model.specs.declared.op.Op.{Op}
 use Rattle.world_model.specs.declared.op.Op.TheVariants as ops
-use Rattle.world_model.specs.Entries.{At}
-use Rattle.world_model.specs.Operations.{UnderWay, AnsweredBefore}
-use Rattle.claims.specs.Slots.{IsOf, InSlot}
-use Rattle.claims.specs.Touched.{Cuts}
-use Rattle.claims.specs.Terms.{Terms}
-use Rattle.world_model.proofs.Places.{At-one}
-use Rattle.write_back.specs.Files.{Pending, of_file}
-use Rattle.write_back.proofs.WritesByFile.{same-or}
-use Rattle.file_ops.specs.declared.saving.Saving.{Saving}
-use Rattle.client_shelf.specs.declared.lane_files.LaneFile.{LaneFile}
-use Rattle.op_machines.specs.declared.begun.Mounted.{Mounted}
-use Rattle.op_machines.specs.declared.machine.Machine.{Machine}
-use Rattle.op_machines.specs.Begun.{machine_of}
-use Rattle.client_core.specs.declared.lane.Purpose.{Purpose}
-use Rattle.client_core.specs.declared.lane.State.{State}
-use Rattle.client_core.specs.declared.lane.State.TheVariants.{Busy, Over}
-use Rattle.client_core.specs.declared.setup.Setup.{Setup}
-use Rattle.client_core.specs.View.{View}
 use Rattle.core_session.proofs.drops.OneFile.{slot-file}
-use Rattle.core_facts.specs.SlotAnswers.{GoesWith}
-use Rattle.core_facts.proofs.LaneMarks.{Runs}
 use Rattle.core_session.proofs.syncs.AllJobs.{JobHas}
 use Rattle.core_session.proofs.syncs.Aims.{aimed, JobAims, aimed-has, aims-own, put-has, write-has}
 use Rattle.core_session.proofs.syncs.Aparts.{Apart}
@@ -56,18 +26,10 @@ use Rattle.core_session.proofs.syncs.Turning.{Turns, IsFixed}
 use Rattle.core_session.proofs.syncs.LaneSteps.{Landed}
 use Rattle.core_session.proofs.syncs.Pasts.{IsAhead}
 use Rattle.core_session.proofs.syncs.Levels.{Owner}
-use Rattle.client_core.specs.declared.lane.Lane.{Lane}
-use Rattle.file_ops.specs.declared.close_file.CloseFile.{CloseFile}
-use Rattle.file_ops.specs.declared.close_file.Closing.{Closing}
 use Rattle.file_ops.specs.declared.close_file.Closing.TheVariants as closings
-use Rattle.file_ops.specs.declared.closing.Removal.{Removal}
 use Rattle.op_machines.specs.declared.file_machine.FileMachine.TheVariants as files
 use Rattle.op_machines.specs.declared.machine.Machine.TheVariants as machines
-use Rattle.core_session.specs.drops.Guarded.{save_in, removal_in}
 use Rattle.core_session.proofs.syncs.Jobs.{CloseHas}
-use Rattle.std.specs.List.{list_any}
-use Rattle.client_shelf.specs.LaneFiles.{is_other}
-use Rattle.core_session.specs.drops.Guarded.{IsGuarded}
 
 began-same : (a b c d : ℕ) (o p : Op) → Began a b o ≡ Began c d p → (a ≡ c) × (b ≡ d) × (o ≡ p)
 began-same a b c d o p e = (cc, cc, cc)

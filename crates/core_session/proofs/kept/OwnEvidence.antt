@@ -1,43 +1,13 @@
 -- What a read's first view tells of a byte that was written before: where nothing is pending there, the byte was made stable before the read began, and what is
 -- sent for its place carries it until the read's answer.
-use Rattle.std.proofs.Common.{◌≡◌, ◌<◌, ◌≤◌, ◌⊎◌, inl, inr, ℕ, true, false, List, ◌++◌, length, Some, None, slice_get, refl, sym, ap, subst, ◌∙◌, arith}
-use Rattle.std.proofs.lemmas.Bool.{cases_lt}
-use Rattle.write_back.specs.Files.{of_file}
-use Rattle.write_back.specs.Segments.{newest_at}
-use Rattle.open_files.specs.Slots.{IsOpen}
-use Rattle.world_model.specs.declared.answer.Answer.{Answer}
+use Rattle.core_session.proofs.Prelude.{◌≡◌, ◌<◌, ◌≤◌, ◌⊎◌, inl, inr, ℕ, true, false, List, ◌++◌, length, Some, None, slice_get, refl, sym, ap, subst, ◌∙◌, arith, cases_lt, of_file, newest_at, IsOpen, Answer, Fault, Value, Entry, Began, Answered, Op, At, History, AnsweredBefore, Ended, ReadsBytes, SettledBy, Terms, Wrote, Touched, GivesUp, RefusedWrite, At-below, At-one, Mounted, machine_of, Over, Setup, View, KnowsRoot, GoesWith, begins-unbegun, set-other, Passes, MadeAndKept, PutsNamed, WritesCarry, TouchedUntil, MadeStable}
 use Rattle.world_model.specs.declared.answer.Answer.TheVariants as answers
-use Rattle.world_model.specs.declared.answer.Fault.{Fault}
-use Rattle.world_model.specs.declared.answer.Value.{Value}
 use Rattle.world_model.specs.declared.answer.Value.TheVariants as values
-use Rattle.world_model.specs.declared.entry.Entry.{Entry}
-use Rattle.world_model.specs.declared.entry.Entry.TheVariants.{Began, Answered}
-use Rattle.world_model.specs.declared.op.Op.{Op}
 use Rattle.world_model.specs.declared.op.Op.TheVariants as ops
-use Rattle.world_model.specs.Entries.{At}
-use Rattle.world_model.specs.History.{History}
-use Rattle.world_model.specs.Operations.{AnsweredBefore, Ended}
-use Rattle.claims.specs.ReadTrue.{ReadsBytes}
-use Rattle.claims.specs.Settled.{SettledBy}
 use Rattle.claims.specs.Settled as settled
-use Rattle.claims.specs.Terms.{Terms}
-use Rattle.claims.specs.Touched.{Wrote, Touched, Left, GivesUp, IsAnsweredPut, RefusedWrite}
+use Rattle.claims.specs.Touched.{Left, IsAnsweredPut}
 use Rattle.claims.specs.Touched as touched_by
-use Rattle.world_model.proofs.Places.{At-below, At-one}
-use Rattle.op_machines.specs.declared.begun.Mounted.{Mounted}
-use Rattle.op_machines.specs.Begun.{machine_of}
-use Rattle.client_core.specs.declared.lane.State.TheVariants.{Over}
-use Rattle.client_core.specs.declared.setup.Setup.{Setup}
-use Rattle.client_core.specs.View.{View}
-use Rattle.core_facts.specs.Naming.{KnowsRoot}
-use Rattle.core_facts.specs.SlotAnswers.{GoesWith}
-use Rattle.core_facts.proofs.AllCounts.{begins-unbegun}
-use Rattle.core_facts.proofs.Stories.{set-other}
-use Rattle.core_answers.specs.pages.Passing.{Passes}
-use Rattle.core_session.specs.syncs.Synced.{MadeAndKept, PutsNamed, WritesCarry}
-use Rattle.core_session.specs.syncs.Until.{TouchedUntil}
 use Rattle.core_session.specs.syncs.Until as until
-use Rattle.core_session.specs.saves.Evidence.{MadeStable}
 use Rattle.core_session.proofs.drops.LaneIs.{state-is, busy-over}
 use Rattle.core_session.proofs.drops.OneFile.{one-by-one}
 use Rattle.core_session.proofs.pending.Onwards.{never-refused}

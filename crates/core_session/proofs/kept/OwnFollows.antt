@@ -1,43 +1,12 @@
 -- What a step makes of the pages of its file, at the reply to an own change.
-use Rattle.std.proofs.Common.{◌≡◌, ◌-◌, ℕ, true, false, List, [], Some, slice_get, Result, Ok, refl, sym, subst, ◌∙◌}
-use Rattle.nfs_types.specs.declared.verf.Verf.{Verf}
-use Rattle.nfs_types.specs.declared.wcc.Wcc.{Wcc}
-use Rattle.nfs_file_calls.specs.declared.call.FileCall.{FileCall}
+use Rattle.core_session.proofs.Prelude.{◌≡◌, ◌-◌, ℕ, true, false, List, [], Some, slice_get, Result, Ok, refl, sym, subst, ◌∙◌, Verf, Wcc, FileCall, FileKept, Waiting, waiting_at, Pages, cut, Fault, Entry, Call, Reply, SpellsCall, one_file_call, Next, Shelf, Turn, Mounted, Machine, machine_of, Takes, Purpose, Busy, Setup, View, Reaches, IsMade, begins-unbegun, flies_of, Known, reached-good, NoCall, NoShelf, NoStory, no-laws, CallFits, fits-laws}
 use Rattle.nfs_file_calls.specs.declared.call.FileCall.TheVariants as files
-use Rattle.nfs_file_calls.specs.declared.owned.FileKept.{FileKept}
 use Rattle.nfs_file_calls.specs.declared.owned.FileKept.TheVariants as kept
-use Rattle.rpc_retry.specs.declared.waiting.Waiting.{Waiting}
-use Rattle.rpc_retry.specs.Waiting.{waiting_at}
-use Rattle.page_cache.specs.Pages.{Pages, wrote, cut}
-use Rattle.world_model.specs.declared.answer.Fault.{Fault}
-use Rattle.world_model.specs.declared.entry.Entry.{Entry}
-use Rattle.world_model.specs.declared.message.Call.{Call}
+use Rattle.page_cache.specs.Pages.{wrote}
 use Rattle.world_model.specs.declared.message.Call.TheVariants as calls
-use Rattle.world_model.specs.declared.message.Reply.{Reply}
 use Rattle.world_model.specs.declared.message.Reply.TheVariants as replies
-use Rattle.world_model.specs.Messages.{SpellsCall}
-use Rattle.law_stable.proofs.OneFileCall.{one_file_call}
 use Rattle.client_shelf.specs.Unmade.{came_unmade}
-use Rattle.client_shelf.specs.declared.next.Next.{Next}
-use Rattle.client_shelf.specs.declared.shelf.Shelf.{Shelf}
-use Rattle.client_shelf.specs.declared.turn.Turn.{Turn}
 use Rattle.file_ops.specs.Saves as saves
-use Rattle.op_machines.specs.declared.begun.Mounted.{Mounted}
-use Rattle.op_machines.specs.declared.machine.Machine.{Machine}
-use Rattle.op_machines.specs.Begun.{machine_of}
-use Rattle.op_machines.specs.Steps.{Takes}
-use Rattle.client_core.specs.declared.lane.Purpose.{Purpose}
-use Rattle.client_core.specs.declared.lane.State.TheVariants.{Busy}
-use Rattle.client_core.specs.declared.setup.Setup.{Setup}
-use Rattle.client_core.specs.View.{View}
-use Rattle.core_facts.specs.Reaches.{Reaches}
-use Rattle.core_facts.specs.Tries.{IsMade}
-use Rattle.core_facts.proofs.AllCounts.{begins-unbegun}
-use Rattle.core_facts.proofs.Flights.{flies_of}
-use Rattle.core_facts.proofs.Keeping.{Known}
-use Rattle.core_facts.proofs.Tales.{reached-good}
-use Rattle.core_answers.proofs.asks.Sendings.{NoCall, NoShelf, NoStory, no-laws}
-use Rattle.core_answers.proofs.writes.AllFits.{CallFits, fits-laws}
 use Rattle.core_session.proofs.kept.OwnTold.{takes-wrote}
 
 -- They are dropped, or follow what the reply tells, where the call that waits is the change, and a record gives this reply or none. The call was made then.

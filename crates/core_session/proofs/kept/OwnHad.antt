@@ -1,38 +1,18 @@
 -- On an honest server a stamp that was shown since the reply to an own WRITE is one that the file had at a moment since that was executed; and so are the bytes
 -- that a read found under such stamps.
-use Rattle.std.proofs.Common.{◌≡◌, ◌<◌, ◌≤◌, inl, inr, ℕ, suc, List, ◌++◌, length, length-append, drop, slice_get, Option, Some, true, refl, sym, ap, subst, ◌∙◌, arith}
-use Rattle.std.proofs.lemmas.Bool.{cases_lt}
-use Rattle.std.proofs.lemmas.List.{length-take, length-drop}
-use Rattle.nfs_types.specs.declared.attr.Attr.{Attr}
-use Rattle.nfs_types.specs.declared.set_attr.SetAttr.{SetAttr}
-use Rattle.nfs_types.specs.declared.time.Time.{Time}
-use Rattle.nfs_types.specs.declared.verf.Verf.{Verf}
-use Rattle.nfs_types.specs.declared.wcc.Stamp.{Stamp}
-use Rattle.nfs_types.specs.declared.wcc.Wcc.{Wcc}
-use Rattle.nfs_types.specs.Stamps.{stamp_of}
+use Rattle.core_session.proofs.Prelude.{◌≡◌, ◌<◌, ◌≤◌, inl, inr, ℕ, suc, List, ◌++◌, length, length-append, drop, slice_get, Option, Some, true, refl, sym, ap, subst, ◌∙◌, arith, cases_lt, length-take, length-drop, Attr, SetAttr, Time, Verf, Stamp, Wcc, stamp_of, start_of, Entry, Call, Reply, resized, Fresh, HoldsSized, SetsAttr, History, Lawful, HeldSize, Server, Object, Holds, Bytes, Entries, Text, Numbered, HasStamp, serves, IsAnswered}
 use Rattle.nfs_file_calls.specs.declared.call.FileCall.TheVariants as files
 use Rattle.nfs_file_calls.specs.declared.owned.FileKept.TheVariants as kept
-use Rattle.page_cache.specs.Bytes.{start_of}
-use Rattle.world_model.specs.declared.entry.Entry.{Entry}
-use Rattle.world_model.specs.declared.message.Call.{Call}
 use Rattle.world_model.specs.declared.message.Call.TheVariants as calls
-use Rattle.world_model.specs.declared.message.Reply.{Reply}
 use Rattle.world_model.specs.declared.message.Reply.TheVariants as answers
-use Rattle.world_model.specs.Bytes.{resized}
-use Rattle.world_model.specs.Fresh.{Fresh}
-use Rattle.world_model.specs.FileService.{HoldsSized, SetsAttr}
-use Rattle.world_model.specs.History.{History}
-use Rattle.world_model.specs.Lawful.{Lawful}
-use Rattle.claims.specs.ReadTrue.{HeldByte, HeldSize}
-use Rattle.world_model.specs.Server.{Server, Object, Holds, Listed, Bytes, Entries, Text, IsSound}
+use Rattle.claims.specs.ReadTrue.{HeldByte}
+use Rattle.world_model.specs.Server.{Listed, IsSound}
 use Rattle.world_model.specs.Server as sound
 use Rattle.world_model.specs.Service.{Serves, refused, broken_off, done}
 use Rattle.world_model.specs.Steps.{TrueOf, TrueStamp, TrueWcc}
-use Rattle.law_calls.specs.Calls.{Numbered}
-use Rattle.law_reads.specs.Kept.{Done, HasStamp, Leads}
+use Rattle.law_reads.specs.Kept.{Done, Leads}
 use Rattle.law_reads.proofs.Bytes.{part_stands}
-use Rattle.law_reads.proofs.KeptBytes.{reads, writes, serves, later, put_before, put_after, stamp_there}
-use Rattle.core_answers.specs.bonds.Kept.{IsAnswered}
+use Rattle.law_reads.proofs.KeptBytes.{reads, writes, later, put_before, put_after, stamp_there}
 use Rattle.core_answers.proofs.bonds.AttrsShown.{answered-grow}
 use Rattle.core_answers.proofs.bonds.Executions.{shown-had}
 use Rattle.core_session.proofs.current.ReadsRecent.{page-is, done-by, bytes-same}

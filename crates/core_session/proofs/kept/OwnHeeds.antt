@@ -1,26 +1,6 @@
 -- A record that was sent since an operation began was answered since it was sent, or its call waits.
-use Rattle.std.proofs.Common.{◌≡◌, ◌<◌, ◌⊎◌, inl, inr, ℕ, Bool, true, false, nat_eq, List, [], ◌∷◌, ◌++◌, length, Option, Some, option_map, refl, sym, ap, subst, ◌∙◌, arith}
-use Rattle.std.proofs.lemmas.Bool.{eqb-true}
-use Rattle.rpc_retry.specs.declared.waiting.Waiting.{Waiting}
-use Rattle.rpc_retry.specs.Held.{next_xid}
-use Rattle.rpc_retry.specs.Waiting.{made_call}
-use Rattle.rpc_retry.proofs.Lookups.{at_made, others_made, others_taken}
-use Rattle.world_model.specs.declared.entry.Entry.{Entry}
-use Rattle.world_model.specs.declared.entry.Entry.TheVariants.{Began, Answered, Delivered, Sent}
-use Rattle.world_model.specs.declared.message.Call.{Call}
-use Rattle.world_model.specs.declared.op.Op.{Op}
-use Rattle.world_model.specs.Entries.{At}
-use Rattle.world_model.specs.Messages.{HasXid, proc_of}
-use Rattle.world_model.proofs.Places.{At-back, At-below, At-cases, At-grow, At-last}
-use Rattle.op_machines.specs.declared.machine.Machine.{Machine}
-use Rattle.client_core.specs.declared.lane.Purpose.{Purpose}
-use Rattle.client_core.specs.declared.setup.Setup.{Setup}
-use Rattle.client_core.specs.Steps.{record_of, counted}
-use Rattle.client_core.specs.View.{View, turn_at}
-use Rattle.core_facts.proofs.Cases.{taken_one}
-use Rattle.core_facts.proofs.Keeping.{purpose_at}
-use Rattle.core_facts.proofs.Rows.{Rows, rows-stay, same-rows, silent-grow, rows-grow, taken-quiet, not-sent, taken-rows, under}
-use Rattle.core_facts.proofs.Walks.{Stays, stirs-stay, starts-stay, steps-stay}
+use Rattle.core_session.proofs.Prelude.{◌≡◌, ◌<◌, ◌⊎◌, inl, inr, ℕ, Bool, true, false, nat_eq, List, [], ◌∷◌, ◌++◌, length, Option, Some, option_map, refl, sym, ap, subst, ◌∙◌, arith, eqb-true, Waiting, next_xid, made_call, at_made, others_made, others_taken, Entry, Began, Answered, Delivered, Sent, Call, Op, At, HasXid, proc_of, At-back, At-below, At-cases, At-grow, At-last, Machine, Purpose, Setup, record_of, counted, View, turn_at, taken_one, purpose_at, Rows, rows-stay, same-rows, silent-grow, rows-grow, taken-quiet, not-sent, taken-rows, Stays, stirs-stay, starts-stay, steps-stay}
+use Rattle.core_facts.proofs.Rows.{under}
 use Rattle.core_session.proofs.syncs.WatchingAlong.{KeepsWatching, SentWaits}
 
 abbrev pub Awaits : ℕ → View → Type 0

@@ -1,67 +1,18 @@
 -- Since the reply to an own change came, the file's known stamp is one that the server showed since.
-use Rattle.std.proofs.Common.{◌≡◌, ◌<◌, ◌≤◌, ◌+◌, ◌-◌, ◌⊎◌, inl, inr, ℕ, Bool, true, false, if◌then◌else◌, nat_eq, List, [], ◌∷◌, ◌++◌, length, Option, Some, None, option_map, position, Result, Ok, Err, refl, sym, ap, subst, ◌∙◌, arith, append_assoc}
-use Rattle.std.proofs.lemmas.Bool.{eqb-true, cases_lt}
-use Rattle.nfs_types.specs.declared.attr.Attr.{Attr}
-use Rattle.nfs_types.specs.declared.wcc.Stamp.{Stamp}
-use Rattle.nfs_types.specs.declared.wcc.Wcc.{Wcc}
-use Rattle.nfs_types.specs.Stamps.{stamp_of}
-use Rattle.nfs_file_calls.specs.declared.call.FileCall.{FileCall}
-use Rattle.nfs_file_calls.specs.declared.owned.FileKept.{FileKept}
-use Rattle.rpc_message.specs.Call.{xid_at}
-use Rattle.rpc_retry.specs.declared.waiting.Waiting.{Waiting}
-use Rattle.rpc_retry.specs.Held.{next_xid}
+use Rattle.core_session.proofs.Prelude.{◌≡◌, ◌<◌, ◌≤◌, ◌+◌, ◌-◌, ◌⊎◌, inl, inr, ℕ, Bool, true, false, nat_eq, List, [], ◌∷◌, ◌++◌, length, Option, Some, None, option_map, position, Result, Ok, Err, refl, sym, ap, subst, ◌∙◌, arith, append_assoc, eqb-true, cases_lt, Attr, Stamp, Wcc, stamp_of, FileCall, FileKept, xid_at, Waiting, next_xid, made_call, waiting_at, without, at_made, others_made, others_taken, gone, FileState, state_of, cut, Answer, Fault, Entry, Began, Answered, Delivered, Sent, Call, Reply, Op, At, Asked, HasXid, SpellsCall, SpellsReply, proc_of, Modes, At-back, At-below, At-grow, At-last, At-one, length_last, Numbered, one_file_call, said_of, Next, Shelf, Mounted, Machine, machine_of, Purpose, State, Busy, Over, Setup, is_busy, with_state, record_of, Makes, Leads, Stirs, counted, StartsLane, TakesAt, AnswersAt, View, turn_at, unmade_turn, HearsRecord, Reaches, IsMade, IsUnsent, Tried, begins-unbegun, taken_one, was-sent, Known, at-position, Rows, rows-stay, same-rows, silent-grow, rows-grow, taken-quiet, not-sent, taken-rows, LastAtMost, SameCalls}
+use Rattle.std.proofs.Common.{if◌then◌else◌}
 use Rattle.rpc_retry.specs.Take.{awaited}
-use Rattle.rpc_retry.specs.Waiting.{made_call, waiting_at, without}
-use Rattle.rpc_retry.proofs.Lookups.{at_made, others_made, others_taken}
-use Rattle.rpc_retry.proofs.Records.{gone}
-use Rattle.page_cache.specs.declared.state.FileState.{FileState}
-use Rattle.page_cache.specs.Pages.{state_of, wrote, cut, both_same, led_to}
+use Rattle.page_cache.specs.Pages.{wrote, both_same, led_to}
 use Rattle.page_cache.proofs.Inserts.{same-self}
 use Rattle.page_cache.proofs.States.{state_changed, state-cut, state-wrote}
-use Rattle.world_model.specs.declared.answer.Answer.{Answer}
-use Rattle.world_model.specs.declared.answer.Fault.{Fault}
-use Rattle.world_model.specs.declared.entry.Entry.{Entry}
-use Rattle.world_model.specs.declared.entry.Entry.TheVariants.{Began, Answered, Delivered, Sent}
-use Rattle.world_model.specs.declared.message.Call.{Call}
 use Rattle.world_model.specs.declared.message.Call.TheVariants as calls
-use Rattle.world_model.specs.declared.message.Reply.{Reply}
 use Rattle.world_model.specs.declared.message.Reply.TheVariants as replies
-use Rattle.world_model.specs.declared.op.Op.{Op}
-use Rattle.world_model.specs.Entries.{At}
-use Rattle.world_model.specs.Heard.{Asked}
-use Rattle.world_model.specs.Messages.{HasXid, SpellsCall, SpellsReply, proc_of}
-use Rattle.claims.specs.Modes.{Modes}
 use Rattle.world_model.specs.Waiting.{Waits}
-use Rattle.world_model.proofs.Places.{At-back, At-below, At-grow, At-last, At-one, length_last}
-use Rattle.law_calls.specs.Calls.{Numbered}
-use Rattle.law_stable.proofs.OneFileCall.{one_file_call, one_file_reply}
-use Rattle.call_replies.specs.Says.{said_of}
-use Rattle.client_shelf.specs.declared.next.Next.{Next}
+use Rattle.law_stable.proofs.OneFileCall.{one_file_reply}
 use Rattle.client_shelf.specs.declared.next.Next.TheVariants as nexts
-use Rattle.client_shelf.specs.declared.shelf.Shelf.{Shelf}
 use Rattle.file_ops.specs.Saves as saves
-use Rattle.op_machines.specs.declared.begun.Mounted.{Mounted}
-use Rattle.op_machines.specs.declared.machine.Machine.{Machine}
-use Rattle.op_machines.specs.Begun.{machine_of}
-use Rattle.client_core.specs.declared.lane.Purpose.{Purpose}
-use Rattle.client_core.specs.declared.lane.State.{State}
-use Rattle.client_core.specs.declared.lane.State.TheVariants.{Busy, Over}
-use Rattle.client_core.specs.declared.setup.Setup.{Setup}
-use Rattle.client_core.specs.Lanes.{is_busy}
-use Rattle.client_core.specs.Steps.{with_state, record_of, Makes, Leads, Stirs, counted, StartsLane, TakesAt, AnswersAt}
-use Rattle.client_core.specs.View.{View, turn_at, unmade_turn}
-use Rattle.core_facts.specs.Reaches.{HearsRecord, Reaches}
-use Rattle.core_facts.specs.Tries.{IsMade, IsUnsent, Tried}
 use Rattle.core_facts.specs.Tries as tries
-use Rattle.core_facts.proofs.AllCounts.{begins-unbegun}
-use Rattle.core_facts.proofs.Cases.{taken_one}
-use Rattle.core_facts.proofs.Hearing.{was-sent}
-use Rattle.core_facts.proofs.Keeping.{Known}
-use Rattle.core_facts.proofs.Lists.{at-position}
-use Rattle.core_facts.proofs.Rows.{Rows, rows-stay, same-rows, silent-grow, rows-grow, taken-quiet, not-sent, taken-rows}
-use Rattle.core_answers.specs.bonds.Kept.{LastAtMost}
 use Rattle.core_answers.proofs.refusals.SaidNone.{said-made}
-use Rattle.core_answers.proofs.writes.Along.{SameCalls}
 use Rattle.core_session.proofs.current.Along.{IsPlain, KeepsHeard}
 use Rattle.core_session.proofs.kept.OwnHeeds.{Awaits, AllHeard, HeardFrom, WasSent, keeps-heard}
 use Rattle.core_session.proofs.current.FedMachines.{pages-starts, pages-resumes, pages-takes}

@@ -1,46 +1,11 @@
 -- What the steps of lanes and the entries keep, as `syncs.WatchingAlong` of core_session, from any view of a session on.
-use Rattle.std.proofs.Common.{◌≡◌, inl, inr, ℕ, List, [], ◌∷◌, ◌++◌, length, length-append, append_assoc, append-nil, ◌<◌, ◌≤◌, ◌⊎◌, arith, Bool, true, false, Option, Some, None, MatchOption, position, refl, sym, ap, subst, ◌∙◌}
-use Rattle.std.proofs.lemmas.Bool.{cases_lt}
-use Rattle.rpc_message.specs.Call.{xid_at}
-use Rattle.rpc_retry.specs.declared.waiting.Waiting.{Waiting}
-use Rattle.rpc_retry.specs.Fail.{failed_after}
-use Rattle.rpc_retry.specs.Waiting.{waiting_at}
-use Rattle.rpc_retry.specs.Held.{next_xid}
-use Rattle.rpc_retry.proofs.Lookups.{at_sent}
-use Rattle.rpc_retry.proofs.Records.{before_sent, before_failed}
-use Rattle.world_model.specs.declared.answer.Answer.{Answer}
-use Rattle.world_model.specs.declared.entry.Entry.{Entry}
-use Rattle.world_model.specs.declared.entry.Entry.TheVariants.{Began, Answered, Dialed, Sent, Executed, Foreign, Flushed, Reboot, Delivered, Failed, Clock}
-use Rattle.world_model.specs.declared.op.Op.{Op}
-use Rattle.call_replies.specs.Says.{said_of}
-use Rattle.client_shelf.specs.declared.shelf.Shelf.{Shelf}
-use Rattle.op_machines.specs.declared.machine.Machine.{Machine}
-use Rattle.op_machines.specs.Fits.{Fits}
-use Rattle.client_core.specs.declared.lane.Purpose.{Purpose}
-use Rattle.client_core.specs.declared.lane.State.{State}
-use Rattle.client_core.specs.declared.setup.Setup.{Setup}
-use Rattle.client_core.specs.Lanes.{is_busy}
-use Rattle.client_core.specs.Numbers.{IsIdle, numbers_of}
-use Rattle.client_core.specs.Steps.{Stirs, Moves, moves_none, moves_more, counted, StartsLane, BeginsIf, TakesAt, AnswersAt}
-use Rattle.client_core.specs.View.{View}
-use Rattle.core_facts.specs.InFlight.{IsUnbegun}
-use Rattle.core_facts.specs.Reaches.{StepsTo, HearsRecord, IsOpenLine, Reaches, goes, last_reading}
-use Rattle.core_facts.proofs.Cases.{Heard, dropped, replied, heard, sent_now, FailedNow, goes_on, gives_up, failed_now, answered_now, taken_one}
-use Rattle.core_facts.proofs.Counting.{stirs-count, starts-count, hears-count, none-busy, heard-lost}
-use Rattle.core_facts.proofs.Keeping.{Known, purpose_at, reached-all}
-use Rattle.core_facts.proofs.LaneMarks.{LanesKnown, quiet-facts, lanes-stay, lanes-begin, lanes-under-way}
-use Rattle.core_facts.proofs.Rows.{Rows, rows-stay, same-rows, rows-grow, silent-grow, taken-quiet, not-sent, taken-rows}
-use Rattle.core_answers.proofs.writes.Along.{SameCalls, sent-purposes, failed-purposes}
-use Rattle.core_facts.proofs.Walks.{Stays, stirs-stay, starts-stay, steps-stay}
+use Rattle.core_session.proofs.Prelude.{◌≡◌, inl, inr, ℕ, List, [], ◌∷◌, ◌++◌, length, length-append, append_assoc, append-nil, ◌<◌, ◌≤◌, ◌⊎◌, arith, Bool, true, false, Option, Some, None, MatchOption, position, refl, sym, ap, subst, ◌∙◌, cases_lt, xid_at, Waiting, failed_after, waiting_at, next_xid, at_sent, before_sent, before_failed, Answer, Entry, Began, Answered, Dialed, Sent, Executed, Foreign, Flushed, Reboot, Delivered, Failed, Clock, Op, said_of, Shelf, Machine, Fits, Purpose, State, Setup, is_busy, IsIdle, numbers_of, Stirs, Moves, moves_none, moves_more, counted, StartsLane, BeginsIf, TakesAt, AnswersAt, SendsIf, View, IsUnbegun, StepsTo, HearsRecord, IsOpenLine, Reaches, goes, last_reading, Heard, dropped, replied, sent_now, FailedNow, goes_on, gives_up, failed_now, answered_now, taken_one, stirs-count, starts-count, hears-count, none-busy, heard-lost, Known, purpose_at, reached-all, LanesKnown, quiet-facts, lanes-stay, lanes-begin, lanes-under-way, Rows, rows-stay, same-rows, rows-grow, silent-grow, taken-quiet, not-sent, taken-rows, SameCalls, sent-purposes, failed-purposes, Stays, stirs-stay, starts-stay, steps-stay, At, At-below, At-cases, length_last, Passes}
+use Rattle.core_facts.proofs.Cases.{heard}
 use Rattle.core_session.proofs.drops.KnowingAlong.{IsPlain, NotedBefore}
-use Rattle.client_core.specs.Steps.{SendsIf}
-use Rattle.world_model.specs.Entries.{At}
-use Rattle.world_model.proofs.Places.{At-below, At-cases, length_last}
 use Rattle.core_session.proofs.room.Onward.{Onward}
 use Rattle.core_session.proofs.room.Onward as onward
 use Rattle.core_session.proofs.shown.Following.{Moved, rests, moves}
 use Rattle.core_session.proofs.syncs.WatchingAlong.{SentWaits}
-use Rattle.core_answers.specs.pages.Passing.{Passes}
 use Rattle.core_answers.specs.pages.Passing as passing
 
 -- what is kept from any view on, as `KeepsWatching` has it from the beginning

@@ -1,43 +1,15 @@
 -- A read shows a byte that was made stable before it began, unless it was touched, and doesn't end before it.
-use Rattle.std.proofs.Common.{◌≡◌, ◌≢◌, ◌<◌, ◌≤◌, ◌+◌, ◌⊎◌, inl, inr, ℕ, suc, true, List, ◌++◌, length, length-append, Option, Some, None, slice_get, refl, sym, ap, subst, ◌∙◌, append_assoc, arith}
-use Rattle.std.proofs.lemmas.Bool.{cases_lt}
-use Rattle.std.proofs.lemmas.Option.{slice_get_within}
-use Rattle.nfs_types.specs.declared.wcc.Stamp.{Stamp}
-use Rattle.nfs_types.specs.Stamps.{stamp_of}
+use Rattle.core_session.proofs.Prelude.{◌≡◌, ◌≢◌, ◌<◌, ◌≤◌, ◌+◌, ◌⊎◌, inl, inr, ℕ, suc, true, List, ◌++◌, length, length-append, Option, Some, None, slice_get, refl, sym, ap, subst, ◌∙◌, append_assoc, arith, cases_lt, slice_get_within, Stamp, stamp_of, of_file, newest_at, Entry, Fresh, History, Lawful, Once, PendingWithin, ReadsBytes, Bytes, Object, Server, HasBytes, IsOf, Terms, Wrote, Touched, written, At-below, Numbered, writes-byte, HasStamp, Evidence, WroteAt, Mounted, machine_of, Setup, View, KnowsRoot, GoesWith, always-later, reached-rows, KeepsBriefly, IsSaved, OnlySetsUp, PutsNamed}
 use Rattle.nfs_file_calls.specs.declared.call.FileCall.TheVariants as files
 use Rattle.nfs_file_calls.specs.declared.owned.FileKept.TheVariants as kept
-use Rattle.write_back.specs.Files.{of_file}
-use Rattle.write_back.specs.Segments.{newest_at}
-use Rattle.world_model.specs.declared.entry.Entry.{Entry}
 use Rattle.world_model.specs.declared.op.Op.TheVariants as ops
-use Rattle.world_model.specs.Fresh.{Fresh}
-use Rattle.world_model.specs.History.{History}
-use Rattle.world_model.specs.Lawful.{Lawful}
-use Rattle.world_model.specs.Once.{Once}
 use Rattle.claims.specs.Pending.{Pending}
-use Rattle.claims.specs.ReadTrue.{PendingWithin, ReadsBytes}
-use Rattle.world_model.specs.Server.{Bytes, Object, Server, HasBytes}
-use Rattle.claims.specs.Slots.{IsOf}
-use Rattle.claims.specs.Terms.{Terms}
-use Rattle.claims.specs.Touched.{Wrote, Touched, foreign, written, cut}
-use Rattle.world_model.proofs.Places.{At-below}
-use Rattle.law_calls.specs.Calls.{Numbered}
-use Rattle.law_own.proofs.OneByte.{HasByte, wrote-byte, writes-byte, one-byte, touched-later}
-use Rattle.law_reads.specs.Kept.{Done, HasStamp}
+use Rattle.claims.specs.Touched.{foreign, cut}
+use Rattle.law_own.proofs.OneByte.{HasByte, wrote-byte, one-byte, touched-later}
+use Rattle.law_reads.specs.Kept.{Done}
 use Rattle.law_stable.proofs.Bytes.{some_or_past}
-use Rattle.claims.specs.Settled.{Evidence, WroteAt, written_at}
+use Rattle.claims.specs.Settled.{written_at}
 use Rattle.law_stable.specs.Stable.{HoldsNow}
-use Rattle.op_machines.specs.declared.begun.Mounted.{Mounted}
-use Rattle.op_machines.specs.Begun.{machine_of}
-use Rattle.client_core.specs.declared.setup.Setup.{Setup}
-use Rattle.client_core.specs.View.{View}
-use Rattle.core_facts.specs.Naming.{KnowsRoot}
-use Rattle.core_facts.specs.SlotAnswers.{GoesWith}
-use Rattle.core_facts.proofs.HeldSlots.{always-later}
-use Rattle.core_facts.proofs.Rows.{reached-rows}
-use Rattle.core_session.specs.current.Recent.{KeepsBriefly}
-use Rattle.core_session.specs.settled.Settling.{IsSaved, OnlySetsUp}
-use Rattle.core_session.specs.syncs.Synced.{PutsNamed}
 use Rattle.core_session.proofs.current.ReadsRecent.{file-of}
 use Rattle.core_session.proofs.current.ReadsTaken.{of-grows}
 use Rattle.core_session.proofs.current.SeenTrue.{HadSince}

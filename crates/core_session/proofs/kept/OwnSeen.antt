@@ -1,36 +1,19 @@
 -- Which stamps of a file the server showed since an own change of it was answered: that to which the reply leads, and what came after.
-use Rattle.std.proofs.Common.{◌≡◌, ◌<◌, ◌≤◌, ◌-◌, ℕ, Bool, true, false, nat_le, List, [], ◌∷◌, ◌++◌, length, take, Option, Some, None, option_map, Result, Ok, refl, sym, ap, subst, ◌∙◌, arith}
-use Rattle.std.specs.Prelude.{if◌then◌else◌}
-use Rattle.std.specs.Option.{option_map_or}
-use Rattle.std.proofs.lemmas.Bool.Decides.{nat_tests}
-use Rattle.nfs_types.specs.declared.attr.Attr.{Attr}
-use Rattle.nfs_types.specs.declared.wcc.Stamp.{Stamp}
-use Rattle.nfs_types.specs.Stamps.{stamp_of}
+use Rattle.core_session.proofs.Prelude.{◌≡◌, ◌<◌, ◌≤◌, ◌-◌, ℕ, Bool, true, false, nat_le, List, [], ◌∷◌, ◌++◌, length, take, Option, Some, None, option_map, Result, Ok, refl, sym, ap, subst, ◌∙◌, arith, if◌then◌else◌, option_map_or, nat_tests, Attr, Stamp, stamp_of, FileState, Pages, state_of, known_of, saw, after_page, Fault, Entry, Call, Reply, of_object, Turn, offered, opened_pages, IsAnswered, answered-last, IsOn, from-start, Wcc}
 use Rattle.nfs_file_calls.specs.declared.call.FileCall.TheVariants as files
 use Rattle.nfs_file_calls.specs.declared.owned.FileKept.TheVariants as kept
-use Rattle.page_cache.specs.declared.state.FileState.{FileState}
-use Rattle.page_cache.specs.Pages.{Pages, state_of, known_of, opened, wrote, saw, after_page}
-use Rattle.world_model.specs.declared.answer.Fault.{Fault}
-use Rattle.world_model.specs.declared.entry.Entry.{Entry}
-use Rattle.world_model.specs.declared.message.Call.{Call}
+use Rattle.page_cache.specs.Pages.{opened, wrote}
 use Rattle.world_model.specs.declared.message.Call.TheVariants as calls
-use Rattle.world_model.specs.declared.message.Reply.{Reply}
 use Rattle.world_model.specs.declared.message.Reply.TheVariants as replies
-use Rattle.claims.specs.Shown.{ShowsAttr, object_of, object_attr, of_object}
-use Rattle.client_shelf.specs.declared.turn.Turn.{Turn}
-use Rattle.file_ops.specs.Kept.{told_of, is_given, kept_page, offered_told, offered}
-use Rattle.file_ops.specs.PagesOpened.{is_late, opened_pages, no_wcc}
+use Rattle.claims.specs.Shown.{ShowsAttr, object_of, object_attr}
+use Rattle.file_ops.specs.Kept.{told_of, is_given, kept_page, offered_told}
+use Rattle.file_ops.specs.PagesOpened.{is_late, no_wcc}
 use Rattle.file_ops.specs.Saves.{untold}
 use Rattle.file_ops.specs.TruncateFile.{size_call}
-use Rattle.core_answers.specs.bonds.Kept.{IsAnswered}
-use Rattle.core_answers.proofs.bonds.AttrsShown.{answered-last}
-use Rattle.core_answers.proofs.bonds.Learnt.{IsOn}
-use Rattle.core_answers.proofs.pages.PagesShown.{from-start}
 use Rattle.core_answers.specs.pages.Kept.{WasWritten, WasCut}
 use Rattle.core_session.proofs.current.Moments.{IsToldSince}
 use Rattle.core_session.proofs.current.FedPages.{FedLaws}
 use Rattle.core_session.proofs.current.Marks.{IsMarked, marked-shown, marked-opened, marked-saw, marked-kept, marked-wrote, marked-cut}
-use Rattle.nfs_types.specs.declared.wcc.Wcc.{Wcc}
 
 -- A stamp of the file was shown since the reply with this wcc came at the place d: the reply leads to it; or the reply to a call that was first sent after it
 -- shows it; or a WRITE or SETATTR of this client leads to it from such a one.

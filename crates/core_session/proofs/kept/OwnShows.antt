@@ -1,36 +1,9 @@
 -- A read shows the bytes that this client wrote before: they are pending as it begins or ends, or were made stable before it began.
-use Rattle.std.proofs.Common.{◌≡◌, ◌<◌, ◌≤◌, ◌+◌, ◌⊎◌, inl, inr, ℕ, suc, Bool, true, false, nat_eq, List, ◌++◌, length, length-append, Option, Some, None, slice_get, refl, sym, ap, subst, ◌∙◌, append_assoc, arith}
-use Rattle.std.proofs.lemmas.Bool.{eqb-true, eqb-false}
-use Rattle.nfs_types.specs.declared.verf.Verf.{Verf}
+use Rattle.core_session.proofs.Prelude.{◌≡◌, ◌<◌, ◌≤◌, ◌+◌, ◌⊎◌, inl, inr, ℕ, suc, Bool, true, false, nat_eq, List, ◌++◌, length, length-append, Option, Some, None, slice_get, refl, sym, ap, subst, ◌∙◌, append_assoc, arith, eqb-true, eqb-false, Verf, IsOpen, Entry, Op, Fresh, History, Lawful, Once, ReadsBytes, SettledBy, MadeFirm, at_once, by_commit, IsOf, Terms, Wrote, Touched, written, At-below, writes-byte, Mounted, Machine, machine_of, Setup, View, KnowsRoot, GoesWith, always-later, pending_in, KeepsBriefly, IsSaved, OnlySetsUp, PutsNamed}
 use Rattle.nfs_file_calls.specs.declared.call.FileCall.TheVariants as files
-use Rattle.open_files.specs.Slots.{IsOpen}
-use Rattle.world_model.specs.declared.entry.Entry.{Entry}
-use Rattle.world_model.specs.declared.op.Op.{Op}
 use Rattle.world_model.specs.declared.op.Op.TheVariants as ops
-use Rattle.world_model.specs.Fresh.{Fresh}
-use Rattle.world_model.specs.History.{History}
-use Rattle.world_model.specs.Lawful.{Lawful}
-use Rattle.world_model.specs.Once.{Once}
 use Rattle.claims.specs.Pending.{Pending}
-use Rattle.claims.specs.ReadTrue.{ReadsBytes}
-use Rattle.claims.specs.Settled.{SettledBy, MadeFirm, at_once, by_commit}
-use Rattle.claims.specs.Slots.{IsOf}
-use Rattle.claims.specs.Terms.{Terms}
-use Rattle.claims.specs.Touched.{Wrote, Touched, written}
-use Rattle.world_model.proofs.Places.{At-below}
-use Rattle.law_own.proofs.OneByte.{HasByte, wrote-byte, writes-byte, one-byte}
-use Rattle.op_machines.specs.declared.begun.Mounted.{Mounted}
-use Rattle.op_machines.specs.declared.machine.Machine.{Machine}
-use Rattle.op_machines.specs.Begun.{machine_of}
-use Rattle.client_core.specs.declared.setup.Setup.{Setup}
-use Rattle.client_core.specs.View.{View}
-use Rattle.core_facts.specs.Naming.{KnowsRoot}
-use Rattle.core_facts.specs.SlotAnswers.{GoesWith}
-use Rattle.core_facts.proofs.HeldSlots.{always-later}
-use Rattle.core_session.specs.current.Read.{pending_in}
-use Rattle.core_session.specs.current.Recent.{KeepsBriefly}
-use Rattle.core_session.specs.settled.Settling.{IsSaved, OnlySetsUp}
-use Rattle.core_session.specs.syncs.Synced.{PutsNamed}
+use Rattle.law_own.proofs.OneByte.{HasByte, wrote-byte, one-byte}
 use Rattle.core_session.proofs.current.ReadsRecent.{file-of, reads-recent}
 use Rattle.core_session.proofs.current.ReadsTaken.{of-grows}
 use Rattle.core_session.proofs.settled.Leaving.{are-saved}

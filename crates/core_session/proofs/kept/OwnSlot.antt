@@ -1,39 +1,10 @@
 -- While a read is under way, or about to begin, the table of opens has its file.
-use Rattle.std.proofs.Common.{suc, ◌≡◌, ◌<◌, ◌≤◌, ◌⊎◌, inl, inr, ℕ, Bool, true, false, nat_eq, List, [], ◌∷◌, ◌++◌, length, Option, Some, None, option_map, slice_get, refl, sym, ap, subst, ◌∙◌, arith}
-use Rattle.std.proofs.lemmas.Bool.{eqb-true, eqb-false, cases_lt}
+use Rattle.core_session.proofs.Prelude.{suc, ◌≡◌, ◌<◌, ◌≤◌, ◌⊎◌, inl, inr, ℕ, Bool, true, false, nat_eq, List, [], ◌∷◌, ◌++◌, length, Option, Some, None, option_map, slice_get, refl, sym, ap, subst, ◌∙◌, arith, eqb-true, eqb-false, cases_lt, Opened, Opens, IsOpen, Answer, Entry, Began, Answered, Op, At, Ended, AnsweredBefore, UnderWay, IsOf, InSlot, slot_of, Terms, At-grow, At-one, At-back, file_at, Mounted, machine_of, State, Busy, Over, Setup, View, Reaches, GoesWith, IsHeld, Agrees, plainly, kind_of, SlotsAgree, StoryOf, reached-slots, ReadsBytes, Lane, IsOther, numbers_of, reached-lanes, lanes-under-way}
 use Rattle.std.specs.FinMap as finite
-use Rattle.open_files.specs.declared.opened.Opened.{Opened}
-use Rattle.open_files.specs.Slots.{Opens}
-use Rattle.world_model.specs.declared.answer.Answer.{Answer}
-use Rattle.world_model.specs.declared.entry.Entry.{Entry}
-use Rattle.world_model.specs.declared.entry.Entry.TheVariants.{Began, Answered}
-use Rattle.world_model.specs.declared.op.Op.{Op}
 use Rattle.world_model.specs.declared.op.Op.TheVariants as ops
-use Rattle.world_model.specs.Entries.{At}
-use Rattle.world_model.specs.Operations.{Ended, AnsweredBefore, UnderWay}
-use Rattle.claims.specs.Slots.{IsOf, InSlot, slot_of}
-use Rattle.claims.specs.Terms.{Terms}
-use Rattle.world_model.proofs.Places.{At-grow, At-one, At-back}
-use Rattle.file_ops.specs.SlotFiles.{file_at}
-use Rattle.op_machines.specs.declared.begun.Mounted.{Mounted}
-use Rattle.op_machines.specs.Begun.{machine_of}
-use Rattle.client_core.specs.declared.lane.State.{State}
-use Rattle.client_core.specs.declared.lane.State.TheVariants.{Busy}
-use Rattle.client_core.specs.declared.setup.Setup.{Setup}
-use Rattle.client_core.specs.View.{View}
-use Rattle.core_facts.specs.Reaches.{Reaches}
-use Rattle.core_facts.specs.SlotAnswers.{GoesWith}
-use Rattle.core_facts.proofs.SlotGrowth.{IsHeld, Agrees, IsShown}
-use Rattle.core_facts.proofs.Slots.{closing, plainly, kind_of, SlotsAgree}
-use Rattle.core_facts.proofs.SlotsAlong.{reached-slots}
+use Rattle.core_facts.proofs.SlotGrowth.{IsShown}
+use Rattle.core_facts.proofs.Slots.{closing}
 use Rattle.core_session.proofs.drops.OneFile.{slot-file, one-by-one}
-use Rattle.open_files.specs.Slots.{IsOpen}
-use Rattle.claims.specs.ReadTrue.{ReadsBytes}
-use Rattle.client_core.specs.declared.lane.Lane.{Lane}
-use Rattle.client_core.specs.declared.lane.State.TheVariants.{Over}
-use Rattle.client_core.specs.Numbers.{IsOther, numbers_of}
-use Rattle.core_facts.proofs.LaneMarks.{reached-lanes, lanes-under-way}
-use Rattle.core_facts.proofs.Slots.{StoryOf}
 use Rattle.core_session.proofs.syncs.SlotHeld.{held-shorter, answered-back}
 
 began-parts : (a b c d : ℕ) (o p : Op) → Began a b o ≡ Began c d p → (a ≡ c) × (b ≡ d) × (o ≡ p)

@@ -1,29 +1,7 @@
 -- What a read knows of the stamps under which it looks at pages: each was shown since the reply to an own change.
-use Rattle.std.proofs.Common.{◌≡◌, ◌<◌, ◌≤◌, ◌-◌, ℕ, true, List, [], ◌∷◌, ◌++◌, length, Some, Result, Ok, sym, ap, subst, ◌∙◌, append_assoc, append-nil, arith}
-use Rattle.nfs_types.specs.declared.wcc.Stamp.{Stamp}
-use Rattle.nfs_types.specs.declared.wcc.Wcc.{Wcc}
-use Rattle.nfs_file_calls.specs.declared.call.FileCall.{FileCall}
-use Rattle.nfs_file_calls.specs.declared.owned.FileKept.{FileKept}
-use Rattle.page_cache.specs.Pages.{Pages, known_of, after_page}
-use Rattle.world_model.specs.declared.answer.Fault.{Fault}
-use Rattle.world_model.specs.declared.entry.Entry.{Entry}
-use Rattle.world_model.specs.declared.entry.Entry.TheVariants.{Began}
-use Rattle.world_model.specs.declared.message.Call.{Call}
+use Rattle.core_session.proofs.Prelude.{◌≡◌, ◌<◌, ◌≤◌, ◌-◌, ℕ, true, List, [], ◌∷◌, ◌++◌, length, Some, Result, Ok, sym, ap, subst, ◌∙◌, append_assoc, append-nil, arith, Stamp, Wcc, FileCall, FileKept, Pages, known_of, after_page, Fault, Entry, Began, Call, Reply, Op, At, Asked, Modes, Numbered, Shelf, Turn, Mounted, machine_of, Setup, View, LastAtMost}
 use Rattle.world_model.specs.declared.message.Call.TheVariants as calls
-use Rattle.world_model.specs.declared.message.Reply.{Reply}
 use Rattle.world_model.specs.declared.message.Reply.TheVariants as replies
-use Rattle.world_model.specs.declared.op.Op.{Op}
-use Rattle.world_model.specs.Entries.{At}
-use Rattle.world_model.specs.Heard.{Asked}
-use Rattle.claims.specs.Modes.{Modes}
-use Rattle.law_calls.specs.Calls.{Numbered}
-use Rattle.client_shelf.specs.declared.shelf.Shelf.{Shelf}
-use Rattle.client_shelf.specs.declared.turn.Turn.{Turn}
-use Rattle.op_machines.specs.declared.begun.Mounted.{Mounted}
-use Rattle.op_machines.specs.Begun.{machine_of}
-use Rattle.client_core.specs.declared.setup.Setup.{Setup}
-use Rattle.client_core.specs.View.{View}
-use Rattle.core_answers.specs.bonds.Kept.{LastAtMost}
 use Rattle.core_session.proofs.current.FedPages.{FedLaws}
 use Rattle.core_session.proofs.current.Moments.{IsMoment, IsToldSince}
 use Rattle.core_session.proofs.kept.OwnFollows.{Follows}

@@ -1,25 +1,7 @@
 -- As the reply to an own change comes, the page cache knows the file already.
-use Rattle.std.proofs.Common.{◌≡◌, ◌<◌, ℕ, true, false, List, ◌∷◌, ◌++◌, length, Some, slice_get, sym, subst, arith}
-use Rattle.nfs_file_calls.specs.declared.call.FileCall.{FileCall}
-use Rattle.rpc_retry.specs.declared.waiting.Waiting.{Waiting}
-use Rattle.rpc_retry.specs.Waiting.{waiting_at}
-use Rattle.page_cache.specs.declared.state.FileState.{FileState}
-use Rattle.page_cache.specs.Pages.{state_of}
-use Rattle.world_model.specs.declared.entry.Entry.{Entry}
-use Rattle.world_model.specs.declared.entry.Entry.TheVariants.{Delivered}
+use Rattle.core_session.proofs.Prelude.{◌≡◌, ◌<◌, ℕ, true, false, List, ◌∷◌, ◌++◌, length, Some, slice_get, sym, subst, arith, FileCall, Waiting, waiting_at, FileState, state_of, Entry, Delivered, Modes, Mounted, Machine, machine_of, Purpose, Busy, Setup, View, Reaches, IsMade, LastAtMost}
 use Rattle.world_model.specs.declared.message.Call.TheVariants as calls
-use Rattle.claims.specs.Modes.{Modes}
 use Rattle.claims.specs.Slots.{Opens}
-use Rattle.op_machines.specs.declared.begun.Mounted.{Mounted}
-use Rattle.op_machines.specs.declared.machine.Machine.{Machine}
-use Rattle.op_machines.specs.Begun.{machine_of}
-use Rattle.client_core.specs.declared.lane.Purpose.{Purpose}
-use Rattle.client_core.specs.declared.lane.State.TheVariants.{Busy}
-use Rattle.client_core.specs.declared.setup.Setup.{Setup}
-use Rattle.client_core.specs.View.{View}
-use Rattle.core_facts.specs.Reaches.{Reaches}
-use Rattle.core_facts.specs.Tries.{IsMade}
-use Rattle.core_answers.specs.bonds.Kept.{LastAtMost}
 use Rattle.core_session.proofs.current.Good.{reached-good}
 use Rattle.core_session.proofs.current.ReadsRecent.{opens-front}
 

@@ -1,55 +1,26 @@
 -- Where the WRITE of a byte that was made stable was executed, it is in the file from then on: by the law of stable bytes, also before it is stable.
-use Rattle.std.proofs.Common.{sym, ap, take, slice_get, ◌==◌, ◌≡◌, ◌≢◌, ◌<◌, ◌≤◌, ◌⊎◌, inl, inr, ◌+◌, ℕ, suc, List, length, Option, Some, refl, subst, ◌∙◌, arith}
-use Rattle.std.proofs.lemmas.Option.{slice_get_within}
-use Rattle.nfs_types.specs.declared.set_attr.SetAttr.{SetAttr}
-use Rattle.nfs_types.specs.declared.time.Time.{Time}
-use Rattle.nfs_dir_calls.specs.declared.call.DirCall.{DirCall}
+use Rattle.core_session.proofs.Prelude.{sym, ap, take, slice_get, ◌==◌, ◌≡◌, ◌≢◌, ◌<◌, ◌≤◌, ◌⊎◌, inl, inr, ◌+◌, ℕ, suc, List, length, Option, Some, refl, subst, ◌∙◌, arith, slice_get_within, SetAttr, Time, DirCall, FileCall, Entry, Began, Call, NoneBegan, At, History, Lawful, SpellsCall, Once, AnsweredBefore, Evidence, MadeFirm, at_once, by_commit, Terms, Cuts, FirstSent, NoForeign, info_call, one_file_call, one-call, Mounted, Setup, View, GoesWith, OnlySetsUp, IsSaved, cases_lt, eqb-true, Verf, Bytes, Object, Server, HasBytes, At-below, Numbered}
 use Rattle.nfs_dir_calls.specs.declared.call.DirCall.TheVariants as dirs
 use Rattle.nfs_dir_calls.specs.declared.create.Making.TheVariants as makings
-use Rattle.nfs_file_calls.specs.declared.call.FileCall.{FileCall}
 use Rattle.nfs_file_calls.specs.declared.call.FileCall.TheVariants as files
-use Rattle.world_model.specs.declared.entry.Entry.{Entry}
-use Rattle.world_model.specs.declared.entry.Entry.TheVariants.{Began}
-use Rattle.world_model.specs.declared.message.Call.{Call}
 use Rattle.world_model.specs.declared.message.Call.TheVariants as calls
 use Rattle.world_model.specs.declared.op.Op.TheVariants as ops
-use Rattle.claims.specs.CallsAsked.{NoneBegan}
-use Rattle.world_model.specs.Entries.{At}
-use Rattle.world_model.specs.History.{History}
-use Rattle.world_model.specs.Lawful.{Lawful}
-use Rattle.world_model.specs.Messages.{SpellsCall}
-use Rattle.world_model.specs.Once.{Once}
-use Rattle.world_model.specs.Operations.{AnsweredBefore}
-use Rattle.claims.specs.Settled.{HoldsStable, written_at, Evidence, MadeFirm, at_once, by_commit}
-use Rattle.claims.specs.Terms.{Terms}
-use Rattle.claims.specs.Touched.{Cuts}
-use Rattle.world_model.specs.Waiting.{FirstSent}
-use Rattle.law_stable.specs.OwnCalls.{Alters, writes, sizes, HeardBefore, OwnCalls, NoForeign}
-use Rattle.world_model.specs.Mounts.{info_call}
-use Rattle.law_stable.proofs.OneFileCall.{one_file_call}
-use Rattle.core_answers.proofs.bonds.OneCall.{one-call}
-use Rattle.op_machines.specs.declared.begun.Mounted.{Mounted}
-use Rattle.client_core.specs.declared.setup.Setup.{Setup}
-use Rattle.client_core.specs.View.{View}
-use Rattle.core_facts.specs.SlotAnswers.{GoesWith}
-use Rattle.core_session.specs.settled.Settling.{IsSetUpCall, mounts, informs, IsSetUpRecord, OnlySetsUp, IsSaved}
+use Rattle.claims.specs.Settled.{HoldsStable, written_at}
+use Rattle.claims.specs.Touched.{Covers}
+use Rattle.law_stable.specs.OwnCalls.{Alters, writes, sizes, HeardBefore, OwnCalls}
+use Rattle.core_session.specs.settled.Settling.{IsSetUpCall, mounts, informs, IsSetUpRecord}
 use Rattle.core_session.specs.order.Altering as order
 use Rattle.core_session.specs.order.Sizes.{IsTruncate}
 use Rattle.core_session.proofs.order.Earliers.{earlier-heard}
 use Rattle.core_session.proofs.order.Cuts.{sizes-asked, no-sizes-made}
-use Rattle.std.proofs.lemmas.Bool.{cases_lt, cases_Bool, eqb-true}
-use Rattle.nfs_types.specs.declared.verf.Verf.{Verf}
+use Rattle.std.proofs.lemmas.Bool.{cases_Bool}
 use Rattle.nfs_file_calls.specs.declared.owned.FileKept.TheVariants as kept
 use Rattle.world_model.specs.declared.entry.Entry.TheVariants as entries
 use Rattle.world_model.specs.declared.message.Reply.TheVariants as replies
 use Rattle.world_model.specs.Bytes.{put_at}
 use Rattle.world_model.specs.FileService.{Puts, steady_after}
-use Rattle.world_model.specs.Server.{Bytes, Object, Server, HasBytes}
-use Rattle.claims.specs.Touched.{Covers}
 use Rattle.world_model.proofs.Doing.{write_done, commit_done}
-use Rattle.world_model.proofs.Places.{At-below}
 use Rattle.world_model.proofs.Verifiers.{never_again}
-use Rattle.law_calls.specs.Calls.{Numbered}
 use Rattle.law_reads.specs.Kept.{Done}
 use Rattle.law_stable.proofs.Bytes.{get_take, put_here}
 use Rattle.law_stable.specs.Stable.{HoldsNow}

@@ -1,31 +1,9 @@
 -- What a read has found and what it answers, with any fact of the stamps under which it took pages, and of the views in which its own bytes were pending.
-use Rattle.std.proofs.Common.{◌≡◌, ◌<◌, ◌≤◌, ◌+◌, ◌-◌, ◌⊎◌, ℕ, Bool, true, List, [], ◌∷◌, ◌++◌, length, Option, Some, None, slice_get}
-use Rattle.nfs_types.specs.declared.attr.Attr.{Attr}
-use Rattle.nfs_types.specs.declared.wcc.Stamp.{Stamp}
+use Rattle.core_session.proofs.Prelude.{◌≡◌, ◌<◌, ◌≤◌, ◌+◌, ◌-◌, ◌⊎◌, ℕ, Bool, true, List, [], ◌∷◌, ◌++◌, length, Option, Some, None, slice_get, Result, Ok, Attr, Stamp, IsOpen, start_of, Pages, known_of, after_page, Fault, Entry, Call, Reply, Op, Modes, IsOf, Shelf, Turn, Machine, Setup, View, IsAnswered, IsPage, Passes, RecentThen, pending_in}
 use Rattle.nfs_file_calls.specs.declared.call.FileCall.TheVariants as files
 use Rattle.nfs_file_calls.specs.declared.owned.FileKept.TheVariants as kept
-use Rattle.open_files.specs.Slots.{IsOpen}
-use Rattle.page_cache.specs.Bytes.{start_of}
-use Rattle.page_cache.specs.Pages.{Pages, known_of, after_page}
-use Rattle.world_model.specs.declared.answer.Fault.{Fault}
-use Rattle.world_model.specs.declared.entry.Entry.{Entry}
-use Rattle.world_model.specs.declared.message.Call.{Call}
 use Rattle.world_model.specs.declared.message.Call.TheVariants as calls
-use Rattle.world_model.specs.declared.message.Reply.{Reply}
 use Rattle.world_model.specs.declared.message.Reply.TheVariants as answers
-use Rattle.world_model.specs.declared.op.Op.{Op}
-use Rattle.claims.specs.Modes.{Modes}
-use Rattle.claims.specs.Slots.{IsOf}
-use Rattle.std.proofs.Common.{Result, Ok}
-use Rattle.client_shelf.specs.declared.shelf.Shelf.{Shelf}
-use Rattle.client_shelf.specs.declared.turn.Turn.{Turn}
-use Rattle.op_machines.specs.declared.machine.Machine.{Machine}
-use Rattle.client_core.specs.declared.setup.Setup.{Setup}
-use Rattle.client_core.specs.View.{View}
-use Rattle.core_answers.specs.bonds.Kept.{IsAnswered}
-use Rattle.core_answers.specs.pages.Kept.{IsPage}
-use Rattle.core_answers.specs.pages.Passing.{Passes}
-use Rattle.core_session.specs.current.Read.{RecentThen, pending_in}
 use Rattle.core_session.proofs.current.Along.{KeepsHeard}
 use Rattle.core_session.proofs.current.FedPages.{FedLaws}
 use Rattle.core_session.proofs.current.Moments.{IsMoment, IsToldSince}

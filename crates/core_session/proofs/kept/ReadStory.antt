@@ -1,77 +1,35 @@
 -- What a read has found at each step and what it answers, as `shown.Story` of core_session; with any fact of the stamps under which it takes pages.
-use Rattle.std.proofs.Common.{◌≡◌, ◌<◌, ◌≤◌, ◌+◌, ◌-◌, ◌*◌, ◌/◌, ◌%◌, ◌||◌, ◌==◌, ◌⊎◌, inl, inr, ℕ, zero, suc, not, Bool, true, false, min, nat_lt, nat_le, List, ◌++◌, length, take, slice_get, Option, Some, None, IsSome, Result, Ok, Err, refl, sym, ap, subst, ◌∙◌, arith}
-use Rattle.std.specs.Prelude.{if◌then◌else◌}
+use Rattle.core_session.proofs.Prelude.{◌≡◌, ◌<◌, ◌≤◌, ◌+◌, ◌-◌, ◌/◌, ◌||◌, ◌==◌, ◌⊎◌, inl, inr, ℕ, zero, suc, not, Bool, true, false, nat_le, List, ◌++◌, length, take, slice_get, Option, Some, None, Result, Ok, Err, refl, sym, ap, subst, ◌∙◌, arith, if◌then◌else◌, cases_lt, eqb-true, nat_tests, length-take, length-drop, slice_get-get_or, slice_get_within, Attr, Stamp, FileKept, IsOpen, start_of, Pages, page_of, known_of, after_page, Pending, of_file, newest_at, last_end, end-some, EachSound, Answer, Fault, Entry, Call, Reply, Op, Modes, IsOf, Next, Repeat, Shelf, Turn, Found, Phase, Reading, place_after, is_whole, nothing_of, Gathered, was_pending, shown_over, part, refusal, said_to, said_by, breaks_rule, PagesOpened, opened_pages, got_by, Machine, Setup, View, ThenOf, IsAnswered, IsPage, pending_in, PhaseAwaits, Good, quiet-good, HasOr, IsSound}
+use Rattle.std.proofs.Common.{◌*◌, ◌%◌, min, nat_lt, IsSome}
 use Rattle.std.specs.Int.{div_ceil}
-use Rattle.std.proofs.lemmas.Bool.{cases_lt, eqb-true}
-use Rattle.std.proofs.lemmas.Bool.Decides.{nat_tests}
-use Rattle.std.proofs.lemmas.List.{length-append, length-take, length-drop}
+use Rattle.std.proofs.lemmas.List.{length-append}
 use Rattle.std.proofs.lemmas.Grind.{div_ceil_times}
 use Rattle.std.proofs.lemmas.Nat.{div-add-mod'}
-use Rattle.std.proofs.lemmas.Option.{slice_get-get_or, slice_get_within}
 use Rattle.xdr_codec.specs.declared.blob.Memory as memory
-use Rattle.nfs_types.specs.declared.attr.Attr.{Attr}
-use Rattle.nfs_types.specs.declared.wcc.Stamp.{Stamp}
 use Rattle.nfs_file_calls.specs.declared.call.FileCall.TheVariants as file_calls
-use Rattle.nfs_file_calls.specs.declared.owned.FileKept.{FileKept}
 use Rattle.nfs_file_calls.specs.declared.owned.FileKept.TheVariants as kept
-use Rattle.open_files.specs.Slots.{IsOpen}
-use Rattle.page_cache.specs.Bytes.{start_of}
-use Rattle.page_cache.specs.Pages.{Pages, page_of, known_of, after_page}
-use Rattle.write_back.specs.Files.{Pending, of_file}
-use Rattle.write_back.specs.Segments.{newest_at, last_end}
-use Rattle.write_back.proofs.EndAndBytes.{end-some}
-use Rattle.step_pending.specs.Cells.{EachSound}
-use Rattle.world_model.specs.declared.answer.Answer.{Answer}
 use Rattle.world_model.specs.declared.answer.Answer.TheVariants as answers
-use Rattle.world_model.specs.declared.answer.Fault.{Fault}
 use Rattle.world_model.specs.declared.answer.Fault.TheVariants as faults
 use Rattle.world_model.specs.declared.answer.Value.TheVariants as values
-use Rattle.world_model.specs.declared.entry.Entry.{Entry}
-use Rattle.world_model.specs.declared.message.Call.{Call}
 use Rattle.world_model.specs.declared.message.Call.TheVariants as calls
-use Rattle.world_model.specs.declared.message.Reply.{Reply}
 use Rattle.world_model.specs.declared.message.Reply.TheVariants as replies
-use Rattle.world_model.specs.declared.op.Op.{Op}
-use Rattle.claims.specs.Modes.{Modes}
-use Rattle.claims.specs.Slots.{IsOf}
-use Rattle.client_shelf.specs.declared.next.Next.{Next}
 use Rattle.client_shelf.specs.declared.next.Next.TheVariants as nexts
-use Rattle.client_shelf.specs.declared.repeats.Repeat.{Repeat}
-use Rattle.client_shelf.specs.declared.shelf.Shelf.{Shelf}
-use Rattle.client_shelf.specs.declared.turn.Turn.{Turn}
-use Rattle.file_ops.specs.declared.gather.Found.{Found}
 use Rattle.file_ops.specs.declared.gather.Found.TheVariants as founds
-use Rattle.file_ops.specs.declared.reading.Phase.{Phase}
 use Rattle.file_ops.specs.declared.reading.Phase.TheVariants as phases
-use Rattle.file_ops.specs.declared.reading.Reading.{Reading}
-use Rattle.file_ops.specs.Base.{Bytes, place_after, is_whole, with_more, nothing_of}
+use Rattle.file_ops.specs.Base.{Bytes, with_more}
 use Rattle.file_ops.specs.Gather as gather
-use Rattle.file_ops.specs.Gather.{Gathered}
-use Rattle.file_ops.specs.Overlaid.{PendingThen, was_pending, bytes_from, shown_over}
+use Rattle.file_ops.specs.Overlaid.{PendingThen, bytes_from}
 use Rattle.file_ops.specs.Reading as reading
-use Rattle.file_ops.specs.ReadReply.{part, refusal, said_to, said_by, breaks_rule}
-use Rattle.file_ops.specs.PagesOpened.{PagesOpened, opened_pages}
-use Rattle.file_ops.specs.Told.{got_by}
-use Rattle.op_machines.specs.declared.machine.Machine.{Machine}
-use Rattle.client_core.specs.declared.setup.Setup.{Setup}
-use Rattle.client_core.specs.View.{View}
-use Rattle.core_facts.proofs.Steps.{ThenOf}
-use Rattle.core_answers.specs.bonds.Kept.{IsAnswered}
-use Rattle.core_answers.specs.pages.Kept.{IsPage}
-use Rattle.core_session.specs.current.Read.{pending_in}
 use Rattle.core_session.proofs.kept.OverEnds.{beyond-now, beyond-then}
 use Rattle.core_session.proofs.kept.ReadFound.{IsFound, in_page, in_reply, IsEnd, by_known, by_page, by_reply, OwnShown, ReadShown}
 use Rattle.core_session.proofs.shown.Answer.{OwnByte, OwnPast, IsShown, own, served, empty}
 use Rattle.core_session.proofs.current.FedPages.{got-is, gathered-pages as gathered-shown}
 use Rattle.core_session.proofs.current.Keeping.{HasPassed, WasTaken}
-use Rattle.core_answers.proofs.pages.PageCalls.{PhaseAwaits}
-use Rattle.core_answers.proofs.pages.PageLaws.{Good, quiet-good}
 use Rattle.core_answers.proofs.pages.PagesShown.{kept-of}
-use Rattle.core_answers.proofs.pages.ReadBytes.{get-drop, get-taken, InPart, get-joined, HasOr}
+use Rattle.core_answers.proofs.pages.ReadBytes.{get-drop, get-taken, InPart, get-joined}
 use Rattle.core_answers.proofs.pages.ReadStory.{page-fits}
 use Rattle.core_session.proofs.current.ReadMarks.{past}
 use Rattle.core_session.proofs.current.ReadOver.{IsOver, pending_now, pending_then, below, over-all, over-long, over-most, over-now, over-past, over-then}
-use Rattle.write_back.specs.Sound.{IsSound}
 
 or-left : (a b : Bool) → (a || b) ≡ false → a ≡ false
 or-left true b e = absurd cc

@@ -1,30 +1,10 @@
 -- What holds, at each moment of a history, of a byte that a write, fill or put wrote, as long as nothing settles it or touches it.
-use Rattle.std.proofs.Common.{◌≡◌, ◌≢◌, ◌≤◌, ◌<◌, ◌⊎◌, ℕ, Bool, false, List, ◌++◌, length, Some}
-use Rattle.rpc_retry.specs.declared.waiting.Waiting.{Waiting}
+use Rattle.core_session.proofs.Prelude.{◌≡◌, ◌≢◌, ◌≤◌, ◌<◌, ◌⊎◌, ℕ, Bool, false, List, ◌++◌, length, Some, slice_get, Waiting, Value, Entry, Op, Ended, UnderWay, Terms, Pending, of_file, rest_at, LaneFile, Mounted, Machine, machine_of, Purpose, Setup, View, Placed, MadeStable, byte_by, IsGuarded, WritesCarry, Busy}
 use Rattle.world_model.specs.declared.answer.Answer.TheVariants as answers
-use Rattle.world_model.specs.declared.answer.Value.{Value}
-use Rattle.world_model.specs.declared.entry.Entry.{Entry}
-use Rattle.world_model.specs.declared.op.Op.{Op}
-use Rattle.world_model.specs.Operations.{Ended}
-use Rattle.claims.specs.Terms.{Terms}
 use Rattle.write_back.specs.declared.state.State.TheVariants.{Waiting as Waits}
 use Rattle.write_back.specs.declared.state.Ready.{Ready}
-use Rattle.write_back.specs.Files.{Pending, of_file}
-use Rattle.write_back.specs.Pieces.{rest_at}
-use Rattle.client_shelf.specs.declared.lane_files.LaneFile.{LaneFile}
-use Rattle.op_machines.specs.declared.begun.Mounted.{Mounted}
-use Rattle.op_machines.specs.declared.machine.Machine.{Machine}
-use Rattle.op_machines.specs.Begun.{machine_of}
-use Rattle.client_core.specs.declared.lane.Purpose.{Purpose}
-use Rattle.client_core.specs.declared.setup.Setup.{Setup}
-use Rattle.client_core.specs.View.{View}
-use Rattle.core_facts.proofs.Placing.{Placed}
-use Rattle.core_session.specs.saves.Evidence.{MadeStable}
 use Rattle.core_session.proofs.saves.WholeSteps.{Wholly}
-use Rattle.core_answers.specs.writes.Written.{byte_by}
-use Rattle.core_session.specs.drops.Guarded.{IsGuarded}
 use Rattle.core_session.proofs.drops.Along.{GuardsKnown}
-use Rattle.core_session.specs.syncs.Synced.{WritesCarry}
 use Rattle.core_session.proofs.syncs.AllJobs.{JobHas}
 use Rattle.core_session.proofs.syncs.Aparts.{Apart}
 use Rattle.core_session.proofs.syncs.Causes.{IsPut, OfOp, Adding, Saving_, Cutting}
@@ -39,9 +19,6 @@ use Rattle.core_session.proofs.syncs.Seen.{Owned}
 use Rattle.core_session.proofs.syncs.Showings.{Fresh, Wrote, Made}
 use Rattle.core_session.proofs.syncs.SlotHeld.{HoldsSlot}
 use Rattle.core_session.proofs.syncs.Stands.{WritesIt}
-use Rattle.std.proofs.Common.{slice_get}
-use Rattle.client_core.specs.declared.lane.State.TheVariants.{Busy}
-use Rattle.world_model.specs.Operations.{UnderWay}
 use Rattle.core_session.proofs.syncs.PutPlaced.{PutPlaced}
 
 -- the write, fill or put at w, which went well at y; and a moment p up to which it is followed

@@ -1,36 +1,6 @@
 -- An operation begins: what holds of the byte goes on holding.
-use Rattle.std.proofs.Common.{◌≡◌, ◌≢◌, ◌≤◌, ◌<◌, ◌+◌, ◌⊎◌, inl, inr, ℕ, Bool, true, false, nat_eq, List, [], ◌∷◌, ◌++◌, length, Option, Some, slice_get, refl, sym, ap, subst, ◌∙◌, append_assoc, arith}
-use Rattle.std.proofs.lemmas.Bool.{eqb-true, eqb-false, cases_lt}
-use Rattle.rpc_retry.specs.Held.{next_xid}
-use Rattle.world_model.specs.declared.answer.Answer.{Answer}
+use Rattle.core_session.proofs.Prelude.{◌≡◌, ◌≢◌, ◌≤◌, ◌<◌, ◌+◌, ◌⊎◌, inl, inr, ℕ, Bool, true, false, nat_eq, List, [], ◌∷◌, ◌++◌, length, Option, Some, slice_get, refl, sym, ap, subst, ◌∙◌, append_assoc, arith, eqb-true, eqb-false, cases_lt, next_xid, Answer, Entry, Began, Sent, Op, At, UnderWay, AnsweredBefore, Terms, IsDelivered, Opens, IsOpen, At-one, At-grow, At-last, At-cases, length_last, Mounted, Machine, machine_of, Fits, Shelf, Lane, Busy, Over, Setup, IsIdle, numbers_of, counted, StartsLane, View, turn_at, Reaches, GoesWith, Known, Runs, lanes-begin, number_of, lanes-under-way, idle-numbers, to-map, at-push, Placed, keeps-placed, Stays, starts-stay, Fault, IsOf, slot_of, CloseFile, file_at, State, AreApart, Kind, plainly, kind_of, BeginsAs, IsOwed, IsGuarded, IsClose, list_any, is_other}
 use Rattle.world_model.specs.declared.answer.Answer.TheVariants as answers
-use Rattle.world_model.specs.declared.entry.Entry.{Entry}
-use Rattle.world_model.specs.declared.entry.Entry.TheVariants.{Began, Sent}
-use Rattle.world_model.specs.declared.op.Op.{Op}
-use Rattle.world_model.specs.Entries.{At}
-use Rattle.world_model.specs.Operations.{UnderWay, AnsweredBefore}
-use Rattle.claims.specs.Terms.{Terms}
-use Rattle.world_model.specs.Waiting.{IsDelivered}
-use Rattle.open_files.specs.Slots.{Opens}
-use Rattle.world_model.proofs.Places.{At-one, At-grow, At-last, At-cases, length_last}
-use Rattle.op_machines.specs.declared.begun.Mounted.{Mounted}
-use Rattle.op_machines.specs.declared.machine.Machine.{Machine}
-use Rattle.op_machines.specs.Begun.{machine_of}
-use Rattle.op_machines.specs.Fits.{Fits}
-use Rattle.client_shelf.specs.declared.shelf.Shelf.{Shelf}
-use Rattle.client_core.specs.declared.lane.Lane.{Lane}
-use Rattle.client_core.specs.declared.lane.State.TheVariants.{Busy, Over}
-use Rattle.client_core.specs.declared.setup.Setup.{Setup}
-use Rattle.client_core.specs.Numbers.{IsIdle}
-use Rattle.client_core.specs.Steps.{counted, StartsLane}
-use Rattle.client_core.specs.View.{View, turn_at}
-use Rattle.core_facts.specs.Reaches.{Reaches}
-use Rattle.core_facts.specs.SlotAnswers.{GoesWith}
-use Rattle.core_facts.proofs.Keeping.{Known}
-use Rattle.core_facts.proofs.LaneMarks.{Runs, lanes-begin, number_of, lanes-under-way, idle-numbers}
-use Rattle.core_facts.proofs.Lists.{to-map, at-push}
-use Rattle.core_facts.proofs.Placing.{Placed, keeps-placed}
-use Rattle.core_facts.proofs.Walks.{Stays, starts-stay}
 use Rattle.core_session.proofs.saves.WholeSteps.{Wholly, starts-wholly}
 use Rattle.core_session.proofs.drops.DropLaws.{dropped-starts}
 use Rattle.core_session.proofs.drops.Laws.{DropsKnown, drops-starts, Begun, starts-begun}
@@ -41,88 +11,44 @@ use Rattle.core_session.proofs.syncs.AllJobs.{JobBegins}
 use Rattle.core_session.proofs.syncs.Aparts.{apart-turns, names-next}
 use Rattle.core_session.proofs.syncs.Causes.{IsWriter, OfOp, IsPut, put-is}
 use Rattle.core_session.proofs.syncs.Contents.{Common}
-use Rattle.core_session.proofs.syncs.Fate.{Story}
+use Rattle.core_session.proofs.syncs.Fate.{Story, fate-turns, ready-is, busy}
 use Rattle.core_session.proofs.syncs.Fates.{job_kind}
 use Rattle.core_session.proofs.syncs.LaneButs.{starts-but}
-use Rattle.core_session.proofs.syncs.Looks.{Touching, touching-on}
+use Rattle.core_session.proofs.syncs.Looks.{Touching, touching-on, ClosesIt, IsLeft, owed, was_left, left_}
 use Rattle.core_session.proofs.syncs.Nexts.{common-from}
-use Rattle.core_session.proofs.kept.Nexts.{PlanBefore, PlanAfter, before-next, after-story, landed-unsent, landed-since, write-op, writer-kind, One, Two, put-kind}
+use Rattle.core_session.proofs.kept.Nexts.{PlanBefore, PlanAfter, before-next, after-story, landed-unsent, landed-since, write-op, writer-kind, One, Two, put-kind, Guarding, evident_, open_, ahead_, loose_, Unmade, Dropped, closes-by, puts-by, closes-none, puts-none, Outcome_, ahead-known, kept-known, PlanOwn, own-tale, saved-ends, saved-goes}
 use Rattle.core_session.proofs.syncs.Jobs.{Job}
 use Rattle.core_session.proofs.syncs.Levels.{Owner}
 use Rattle.core_session.proofs.syncs.Passing.{job-in}
 use Rattle.core_session.proofs.syncs.PutGoes.{OwnAt, Names, own_save, starts-not}
-use Rattle.core_session.proofs.syncs.Phases.{Across, Family, KnownBy}
+use Rattle.core_session.proofs.syncs.Phases.{Across, Family, KnownBy, Evident}
 use Rattle.core_session.proofs.syncs.Plans.{Plan, Came_, starts-came}
 use Rattle.core_session.proofs.syncs.Seen.{Owned, bases}
 use Rattle.core_session.proofs.syncs.Showings.{Fresh}
 use Rattle.core_session.proofs.syncs.Stages.{unsent}
-use Rattle.core_session.proofs.syncs.Stands.{slot-of}
-use Rattle.core_session.proofs.kept.Stands.{Case, Fated, fated-map, StableTwo, SinceTwo, Early, IsUnsent, Since_, Phase, Stands, ToldAfter}
+use Rattle.core_session.proofs.syncs.Stands.{slot-of, WritesIt, of_slot, of_last}
+use Rattle.core_session.proofs.kept.Stands.{Case, Fated, fated-map, StableTwo, SinceTwo, Early, IsUnsent, Since_, Phase, Stands, ToldAfter, ToldBefore, after, Has, before, GuardBy, PutRuns, LiveBy}
 use Rattle.core_session.proofs.kept.Stands as stands
 use Rattle.core_session.proofs.syncs.StirsOn.{over-known, both-or}
 use Rattle.core_session.proofs.kept.StirsOn.{two-map}
-use Rattle.core_session.proofs.syncs.Turning.{IsFixed, Turns, fixed-turns, turns-starts}
-use Rattle.client_core.specs.View.{View}
-use Rattle.core_facts.proofs.LaneMarks.{Runs, lanes-under-way, number_of}
-use Rattle.core_facts.proofs.Lists.{to-map}
-use Rattle.core_facts.proofs.Placing.{Placed}
-use Rattle.core_session.proofs.saves.WholeSteps.{Wholly}
-use Rattle.core_session.proofs.drops.Laws.{DropsKnown}
-use Rattle.core_session.proofs.syncs.Aparts.{apart-turns}
-use Rattle.core_session.proofs.syncs.Carrying.{unused-fresh, wrote-kept}
-use Rattle.core_session.proofs.syncs.Fate.{Story}
-use Rattle.core_session.proofs.syncs.Fates.{job_kind}
+use Rattle.core_session.proofs.syncs.Turning.{IsFixed, Turns, fixed-turns, turns-starts, turns-apart}
 use Rattle.core_session.proofs.kept.Nexts as nexts
-use Rattle.core_session.proofs.syncs.Phases.{Across, Family, KnownBy}
-use Rattle.core_session.proofs.syncs.Plans.{Plan, Came_}
-use Rattle.core_session.proofs.syncs.Seen.{bases, Owned}
-use Rattle.core_session.proofs.syncs.Showings.{Fresh}
-use Rattle.core_session.proofs.syncs.Stands.{WritesIt, of_slot, of_last}
-use Rattle.core_session.proofs.kept.Stands.{Case, ToldBefore, ToldAfter, after, SinceTwo, Has, Early, IsUnsent, Since_, Phase, before}
-use Rattle.open_files.specs.Slots.{Opens, IsOpen}
-use Rattle.world_model.specs.declared.answer.Fault.{Fault}
 use Rattle.world_model.specs.declared.op.Op.TheVariants as ops
-use Rattle.world_model.specs.declared.entry.Entry.TheVariants.{Began}
-use Rattle.claims.specs.Slots.{IsOf, slot_of}
-use Rattle.file_ops.specs.declared.close_file.CloseFile.{CloseFile}
-use Rattle.file_ops.specs.SlotFiles.{file_at}
 use Rattle.op_machines.specs.declared.file_machine.FileMachine.TheVariants as files
 use Rattle.op_machines.specs.declared.machine.Machine.TheVariants as machines
-use Rattle.client_core.specs.declared.lane.State.{State}
-use Rattle.core_facts.specs.Lanes.{AreApart}
-use Rattle.core_facts.proofs.Slots.{Kind, plainly, kind_of}
-use Rattle.core_session.specs.drops.Dropped.{IsOwed}
-use Rattle.core_session.specs.drops.Guarded.{IsGuarded}
-use Rattle.core_session.proofs.drops.Along.{GuardsKnown}
+use Rattle.core_session.proofs.drops.Along.{GuardsKnown, guards-steps}
 use Rattle.core_session.proofs.drops.LaneIs.{state-is}
-use Rattle.core_session.proofs.syncs.Causes.{IsWriter, IsPut, OfOp, put-is}
-use Rattle.core_session.proofs.syncs.Fate.{fate-turns, ready-is}
 use Rattle.core_session.proofs.syncs.Guard.{GuardView, by_slot, by_close, guard-view, slot-guard, starts-plain, starts-kind}
-use Rattle.core_session.proofs.kept.Lefts.{left-now, owed-at}
-use Rattle.core_session.proofs.syncs.Looks.{ClosesIt, IsLeft, owed, was_left, left_}
-use Rattle.core_session.proofs.kept.Nexts.{Guarding, evident_, open_, ahead_, loose_, Unmade, Dropped, closes-by, puts-by, closes-none, puts-none, Outcome_, ahead-known, kept-known, PlanOwn, own-tale, saved-ends, saved-goes}
+use Rattle.core_session.proofs.kept.Lefts.{left-now, owed-at, live-or}
 use Rattle.core_session.proofs.syncs.Pasts.{IsAhead, AheadOf, starts-ahead}
-use Rattle.core_session.proofs.syncs.Phases.{Evident}
 use Rattle.core_session.proofs.syncs.SlotHeld.{HoldsSlot, holds-starts, slot-begins}
-use Rattle.core_session.proofs.kept.Stands.{GuardBy}
-use Rattle.core_session.proofs.drops.Along.{guards-steps}
 use Rattle.core_session.proofs.drops.Drops.{own-others}
 use Rattle.core_session.proofs.drops.Dropping.{file-open}
 use Rattle.core_session.proofs.drops.Shown.{guards-kept}
 use Rattle.core_session.proofs.drops.SlotKinds.{OthersSame, begins-as}
-use Rattle.core_session.specs.drops.Guarded.{IsClose}
 use Rattle.core_session.specs.drops.Told.{BeginsWell, begun_saved, begun_removes, begun_gave}
-use Rattle.core_facts.proofs.Slots.{BeginsAs}
 use Rattle.core_session.proofs.syncs.LaneSteps.{Landed}
-use Rattle.client_core.specs.Numbers.{numbers_of}
-use Rattle.core_session.proofs.kept.Stands.{PutRuns}
-use Rattle.core_session.proofs.kept.Stands.{LiveBy}
-use Rattle.std.specs.List.{list_any}
-use Rattle.client_shelf.specs.LaneFiles.{is_other}
-use Rattle.core_session.proofs.kept.Lefts.{live-or}
 use Rattle.core_session.proofs.syncs.PutPlaced.{PutPlaced, starts-put, crowded, own-at}
-use Rattle.core_session.proofs.syncs.Fate.{busy}
-use Rattle.core_session.proofs.syncs.Turning.{turns-apart}
 
 one-entry : (lane line : ℕ) (op : Op) (b : List ℕ) → Sent b ≡ Began lane line op → ⊥
 one-entry lane line op b e = cc

@@ -1,30 +1,14 @@
 -- Each file with pending bytes has a state in the page cache.
-use Rattle.std.proofs.Common.{◌≡◌, ◌⊎◌, inl, inr, ℕ, List, [], ◌∷◌, ◌++◌, length, Bool, true, false, Option, Some, None, slice_get, slice_set, position, Result, Ok, Err, refl, sym, ap, subst, ◌∙◌, arith}
-use Rattle.file_ops.specs.declared.put_file.Putting.{Putting}
+use Rattle.core_session.proofs.Prelude.{◌≡◌, ◌⊎◌, inl, inr, ℕ, List, [], ◌∷◌, ◌++◌, length, Bool, true, false, Option, Some, None, slice_get, slice_set, position, Result, Ok, Err, refl, sym, ap, subst, ◌∙◌, arith, Putting, Writing, FileMachine, Opener, file_of, Pages, Flown, fly_at, nothing, Cell, cell_at, covers, IsSound, IsOver, fly-some, IsMade, LastAtMost, written_file, IsInFlight, writes-whole, After, CarriesReply, RoomIs, any-saves, eqb-true, Waiting, waiting_at, Pending, of_file, Fault, Entry, Began, Reply, Op, Modes, IsOf, said_of, Next, Shelf, Turn, Mounted, Machine, machine_of, Starts, Resumes, Takes, Lane, Purpose, State, Busy, Over, Setup, is_busy, IsOther, numbers_of, IsIdle, with_state, IsRefused, Leads, Stirs, counted, StartsLane, TakesAt, View, turn_at, unmade_turn, Reaches, begins-unbegun, taken_one, Given, is-given, at-set, at-push, at-position, get-push, get-remove, skip, by-place, set-other}
 use Rattle.file_ops.specs.declared.put_file.Putting.TheVariants as putting
-use Rattle.file_ops.specs.declared.write_file.Writing.{Writing}
 use Rattle.file_ops.specs.declared.write_file.Writing.TheVariants as writing
-use Rattle.op_machines.specs.declared.file_machine.FileMachine.{FileMachine}
 use Rattle.op_machines.specs.declared.file_machine.FileMachine.TheVariants as files
 use Rattle.op_machines.specs.declared.machine.Machine.TheVariants as machines
-use Rattle.op_machines.specs.declared.opener.Opener.{Opener}
-use Rattle.op_machines.specs.Openers.{file_of}
-use Rattle.page_cache.specs.Pages.{Pages}
-use Rattle.write_back.specs.Pieces.{Flown, fly_at}
-use Rattle.write_back.specs.Segments.{Cell, cell_at}
-use Rattle.write_back.specs.Sound.{IsSound, IsOver}
-use Rattle.write_back.proofs.Flying.{fly-some}
 use Rattle.nfs_file_calls.specs.declared.call.FileCall.TheVariants as file_calls
 use Rattle.world_model.specs.declared.message.Call.TheVariants as calls
 use Rattle.claims.specs.Touched.{Covers}
-use Rattle.core_facts.specs.Tries.{IsMade}
-use Rattle.core_answers.specs.bonds.Kept.{LastAtMost}
-use Rattle.core_answers.specs.writes.Alone.{written_file}
-use Rattle.core_answers.specs.writes.Flights.{IsInFlight}
-use Rattle.core_answers.proofs.writes.WholeWrites.{writes-whole}
-use Rattle.core_answers.proofs.writes.Backs.{After, CarriesReply, RoomIs}
 use Rattle.core_answers.proofs.writes.Given.{OfBack, cell-given, on-file-given, none-given, landed-given, landed-part-given, decided-given, cut-file-given, xid-given, bytes-given, sent-given}
-use Rattle.core_answers.proofs.writes.Mapped.{back-map, any-saves}
+use Rattle.core_answers.proofs.writes.Mapped.{back-map}
 use Rattle.core_session.proofs.calls.GivenBytes.{begun-with}
 use Rattle.core_session.proofs.current.Along.{KeepsMoments, reached-moments}
 use Rattle.core_session.proofs.current.FedMachines.{pages-starts, pages-resumes, pages-takes}
@@ -36,45 +20,9 @@ use Rattle.core_session.proofs.settled.Given.{covers-true}
 use Rattle.core_session.proofs.kept.MineNow.{Mine, mine-of}
 use Rattle.core_session.proofs.kept.StateBrings.{PutOf, FileOf, PathOf, MachineOf, MachineBegins, MachineFound, found-stated, takes-has, starts-has, starts-brings, resumes-brings, takes-brings}
 use Rattle.core_session.proofs.kept.StateOpened.{St, stated-shown, fed-stated}
-use Rattle.std.proofs.lemmas.Bool.{eqb-true}
-use Rattle.rpc_retry.specs.declared.waiting.Waiting.{Waiting}
-use Rattle.rpc_retry.specs.Waiting.{waiting_at}
-use Rattle.write_back.specs.Segments.{covers}
-use Rattle.write_back.specs.Files.{Pending, of_file}
-use Rattle.write_back.specs.Pieces.{nothing}
-use Rattle.world_model.specs.declared.answer.Fault.{Fault}
-use Rattle.world_model.specs.declared.entry.Entry.{Entry}
-use Rattle.world_model.specs.declared.entry.Entry.TheVariants.{Began}
-use Rattle.world_model.specs.declared.message.Reply.{Reply}
-use Rattle.world_model.specs.declared.op.Op.{Op}
 use Rattle.world_model.specs.declared.op.Op.TheVariants as ops
-use Rattle.claims.specs.Modes.{Modes}
-use Rattle.claims.specs.Slots.{IsOf}
-use Rattle.call_replies.specs.Says.{said_of}
-use Rattle.client_shelf.specs.declared.next.Next.{Next}
 use Rattle.client_shelf.specs.declared.next.Next.TheVariants as nexts
-use Rattle.client_shelf.specs.declared.shelf.Shelf.{Shelf}
-use Rattle.client_shelf.specs.declared.turn.Turn.{Turn}
 use Rattle.file_ops.specs.Syncs as syncs
-use Rattle.op_machines.specs.declared.begun.Mounted.{Mounted}
-use Rattle.op_machines.specs.declared.machine.Machine.{Machine}
-use Rattle.op_machines.specs.Begun.{machine_of}
-use Rattle.op_machines.specs.Steps.{Starts, Resumes, Takes}
-use Rattle.client_core.specs.declared.lane.Lane.{Lane}
-use Rattle.client_core.specs.declared.lane.Purpose.{Purpose}
-use Rattle.client_core.specs.declared.lane.State.{State}
-use Rattle.client_core.specs.declared.lane.State.TheVariants.{Busy, Over}
-use Rattle.client_core.specs.declared.setup.Setup.{Setup}
-use Rattle.client_core.specs.Lanes.{is_busy}
-use Rattle.client_core.specs.Numbers.{IsOther, numbers_of, IsIdle}
-use Rattle.client_core.specs.Steps.{with_state, IsRefused, Leads, Stirs, counted, StartsLane, TakesAt}
-use Rattle.client_core.specs.View.{View, turn_at, unmade_turn}
-use Rattle.core_facts.specs.Reaches.{Reaches}
-use Rattle.core_facts.proofs.AllCounts.{begins-unbegun}
-use Rattle.core_facts.proofs.Cases.{taken_one}
-use Rattle.core_facts.proofs.HeldSlots.{Given, is-given}
-use Rattle.core_facts.proofs.Lists.{at-set, at-push, at-position, get-push, get-remove, skip}
-use Rattle.core_facts.proofs.Stories.{by-place, set-other}
 use Rattle.core_answers.proofs.writes.SaveChanges.{IsKept, goes-kept, takes-kept}
 
 -- of the file alone

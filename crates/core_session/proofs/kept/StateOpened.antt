@@ -1,26 +1,14 @@
 -- A file whose state the page cache has keeps one, and an opening that goes well gives it one.
-use Rattle.std.proofs.Common.{◌≡◌, ◌-◌, ℕ, Bool, true, false, List, [], take, Option, Some, None, option_map, Result, Ok, Err, refl, sym, ap, subst, ◌∙◌, arith}
-use Rattle.std.specs.Prelude.{if◌then◌else◌, nat_le}
-use Rattle.std.specs.Option.{option_map_or}
-use Rattle.nfs_types.specs.declared.attr.Attr.{Attr}
-use Rattle.nfs_types.specs.declared.wcc.Stamp.{Stamp}
-use Rattle.nfs_types.specs.Stamps.{stamp_of}
-use Rattle.page_cache.specs.declared.state.FileState.{FileState}
-use Rattle.page_cache.specs.Pages.{Pages, state_of, opened, wrote, after_page}
+use Rattle.core_session.proofs.Prelude.{◌≡◌, ◌-◌, ℕ, Bool, true, false, List, [], take, Option, Some, None, option_map, Result, Ok, Err, refl, sym, ap, subst, ◌∙◌, arith, if◌then◌else◌, option_map_or, Attr, Stamp, stamp_of, FileState, Pages, state_of, after_page, Fault, Call, Reply, Turn, Led, Opening, OpeningNext, offered, opened_pages}
+use Rattle.std.specs.Prelude.{nat_le}
+use Rattle.page_cache.specs.Pages.{opened, wrote}
 use Rattle.page_cache.proofs.Inserts.{same-self}
 use Rattle.page_cache.proofs.States.{state_opened, state-opened}
-use Rattle.world_model.specs.declared.answer.Fault.{Fault}
-use Rattle.world_model.specs.declared.message.Call.{Call}
-use Rattle.world_model.specs.declared.message.Reply.{Reply}
-use Rattle.client_shelf.specs.declared.turn.Turn.{Turn}
-use Rattle.file_ops.specs.declared.opening.Led.{Led}
 use Rattle.file_ops.specs.declared.opening.Led.TheVariants as leads
-use Rattle.file_ops.specs.declared.opening.Opening.{Opening}
-use Rattle.file_ops.specs.declared.opening.OpeningNext.{OpeningNext}
 use Rattle.file_ops.specs.declared.opening.OpeningNext.TheVariants as openings
-use Rattle.file_ops.specs.Kept.{told_of, is_given, kept_page, offered_told, offered}
+use Rattle.file_ops.specs.Kept.{told_of, is_given, kept_page, offered_told}
 use Rattle.file_ops.specs.Opening as opening
-use Rattle.file_ops.specs.PagesOpened.{is_late, opened_pages, no_wcc}
+use Rattle.file_ops.specs.PagesOpened.{is_late, no_wcc}
 use Rattle.file_ops.specs.Saves.{untold}
 use Rattle.core_session.proofs.current.FedPages.{FedLaws}
 use Rattle.core_session.proofs.current.Marks.{IsMarked, marked-shown, marked-opened, marked-saw, marked-kept, marked-wrote, marked-cut}

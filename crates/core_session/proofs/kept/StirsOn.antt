@@ -1,103 +1,48 @@
 -- A lane goes on: what holds of the byte goes on holding.
-use Rattle.std.proofs.Common.{◌≡◌, ◌≢◌, ◌≤◌, ◌<◌, ◌⊎◌, ◌+◌, inl, inr, ℕ, Bool, true, false, nat_eq, List, ◌++◌, length, Some, slice_get, refl, sym, ap, subst, ◌∙◌, arith}
-use Rattle.std.proofs.lemmas.Bool.{eqb-true, eqb-false}
-use Rattle.rpc_retry.specs.declared.waiting.Waiting.{Waiting}
-use Rattle.rpc_retry.specs.Held.{next_xid}
+use Rattle.core_session.proofs.Prelude.{◌≡◌, ◌≢◌, ◌≤◌, ◌<◌, ◌⊎◌, ◌+◌, inl, inr, ℕ, Bool, true, false, nat_eq, List, ◌++◌, length, Some, slice_get, refl, sym, ap, subst, ◌∙◌, arith, eqb-true, eqb-false, Waiting, next_xid, Value, Entry, Op, IsBusy, UnderWay, AnsweredBefore, Terms, Pending, of_file, Mounted, Machine, machine_of, Purpose, Busy, Over, Setup, Stirs, View, GoesWith, Known, Runs, lanes-under-way, number_of, to-map, Placed, Opens, IsOpen, Fault, Began, At, IsOf, slot_of, CloseFile, Saving, file_at, Lane, AreApart, IsPlain, Kind, plainly, kind_of, IsOwed, IsGuarded, save_in, LetsGo, list_any, is_other}
 use Rattle.world_model.specs.declared.answer.Answer.TheVariants as answers
-use Rattle.world_model.specs.declared.answer.Value.{Value}
-use Rattle.world_model.specs.declared.entry.Entry.{Entry}
-use Rattle.world_model.specs.declared.op.Op.{Op}
-use Rattle.world_model.specs.LanesTogether.{IsBusy}
-use Rattle.world_model.specs.Operations.{UnderWay, AnsweredBefore}
-use Rattle.claims.specs.Terms.{Terms}
-use Rattle.write_back.specs.Files.{Pending, of_file}
-use Rattle.op_machines.specs.declared.begun.Mounted.{Mounted}
-use Rattle.op_machines.specs.declared.machine.Machine.{Machine}
-use Rattle.op_machines.specs.Begun.{machine_of}
-use Rattle.client_core.specs.declared.lane.Purpose.{Purpose}
-use Rattle.client_core.specs.declared.lane.State.TheVariants.{Busy, Over}
-use Rattle.client_core.specs.declared.setup.Setup.{Setup}
-use Rattle.client_core.specs.Steps.{Stirs}
-use Rattle.client_core.specs.View.{View}
-use Rattle.core_facts.specs.SlotAnswers.{GoesWith}
-use Rattle.core_facts.proofs.Keeping.{Known}
-use Rattle.core_facts.proofs.LaneMarks.{Runs, lanes-under-way, number_of}
-use Rattle.core_facts.proofs.Lists.{to-map}
-use Rattle.core_facts.proofs.Placing.{Placed}
 use Rattle.core_session.proofs.saves.WholeSteps.{Wholly}
-use Rattle.core_session.proofs.drops.LaneIs.{number-is}
+use Rattle.core_session.proofs.drops.LaneIs.{number-is, state-is}
 use Rattle.core_session.proofs.drops.DropLaws.{dropped-stirs}
-use Rattle.core_session.proofs.drops.Laws.{DropsKnown, stirs-stepped}
-use Rattle.core_session.proofs.syncs.Leftovers.{left-step}
+use Rattle.core_session.proofs.drops.Laws.{DropsKnown, stirs-stepped, OneStepped, drops-stirs}
+use Rattle.core_session.proofs.syncs.Leftovers.{left-step, closer-it}
 use Rattle.core_session.proofs.syncs.Aims.{JobAims, some-aim}
 use Rattle.core_session.proofs.syncs.AllJobs.{JobHas}
 use Rattle.core_session.proofs.syncs.Aparts.{apart-turns}
 use Rattle.core_session.proofs.syncs.Carrying.{unused-fresh, calls-stirs, wrote-kept}
 use Rattle.core_session.proofs.syncs.Contents.{Common}
-use Rattle.core_session.proofs.syncs.Fate.{Story, one-under}
+use Rattle.core_session.proofs.syncs.Fate.{Story, one-under, fate-turns, ready-is, busy}
 use Rattle.core_session.proofs.syncs.Fates.{job_kind}
 use Rattle.core_session.proofs.syncs.LaneButs.{stirs-but}
-use Rattle.core_session.proofs.syncs.Looks.{Touching, touching-on}
+use Rattle.core_session.proofs.syncs.Looks.{Touching, touching-on, ClosesIt, IsLeft, owed, was_left, left_}
 use Rattle.core_session.proofs.syncs.Nexts.{at-on, not-before, common-from, known-from}
-use Rattle.core_session.proofs.kept.Nexts.{landed-unsent, landed-since, PlanBefore, PlanAfter, before-next, flown-on, after-story, One, Two, MineIs, before-other, before-write, before-put, to-plan}
+use Rattle.core_session.proofs.kept.Nexts.{landed-unsent, landed-since, PlanBefore, PlanAfter, before-next, flown-on, after-story, One, Two, MineIs, before-other, before-write, before-put, to-plan, Guarding, evident_, open_, ahead_, loose_, Unmade, Dropped, closes-by, puts-by, closes-none, puts-none, Outcome_, ahead-known, kept-known, PlanOwn, own-tale, saved-ends, saved-goes}
 use Rattle.core_session.proofs.kept.Nexts as nexts
 use Rattle.core_session.proofs.syncs.StirsOn.{over-known, busy-one, both-or}
 use Rattle.core_session.proofs.syncs.Passing.{told}
-use Rattle.core_session.proofs.syncs.Phases.{Across, Family, KnownBy}
+use Rattle.core_session.proofs.syncs.Phases.{Across, Family, KnownBy, Evident}
 use Rattle.core_session.proofs.syncs.Plans.{Plan, Came_, stirs-came}
 use Rattle.core_session.proofs.syncs.PutGoes.{OwnAt, Names, names-keep, own_save, stirs-not, stirs-at-save}
 use Rattle.core_session.proofs.syncs.Seen.{bases, Owned}
 use Rattle.core_session.proofs.syncs.Showings.{Fresh, Wrote, Made}
 use Rattle.core_session.proofs.syncs.Stages.{Stage, unsent, flies, again, held, stable, over}
 use Rattle.core_session.proofs.syncs.Stands.{WritesIt, of_slot, of_last}
-use Rattle.core_session.proofs.kept.Stands.{Case, Fated, fated-map, StableTwo, ToldBefore, ToldAfter, after, SinceTwo, Has, Early, IsUnsent, Since_, Phase, before}
+use Rattle.core_session.proofs.kept.Stands.{Case, Fated, fated-map, StableTwo, ToldBefore, ToldAfter, after, SinceTwo, Has, Early, IsUnsent, Since_, Phase, before, GuardBy, PutRuns, LiveBy}
 use Rattle.core_session.proofs.kept.Stands as stands
-use Rattle.core_session.proofs.syncs.Turning.{Turns, fixed-turns, turns-stir}
-use Rattle.open_files.specs.Slots.{Opens, IsOpen}
-use Rattle.world_model.specs.declared.answer.Fault.{Fault}
+use Rattle.core_session.proofs.syncs.Turning.{Turns, fixed-turns, turns-stir, turns-apart}
 use Rattle.world_model.specs.declared.op.Op.TheVariants as ops
-use Rattle.world_model.specs.declared.entry.Entry.TheVariants.{Began}
-use Rattle.world_model.specs.Entries.{At}
-use Rattle.claims.specs.Slots.{IsOf, slot_of}
-use Rattle.file_ops.specs.declared.close_file.CloseFile.{CloseFile}
-use Rattle.file_ops.specs.declared.saving.Saving.{Saving}
-use Rattle.file_ops.specs.SlotFiles.{file_at}
 use Rattle.op_machines.specs.declared.file_machine.FileMachine.TheVariants as files
 use Rattle.op_machines.specs.declared.machine.Machine.TheVariants as machines
-use Rattle.client_core.specs.declared.lane.Lane.{Lane}
-use Rattle.core_facts.specs.Lanes.{AreApart}
-use Rattle.core_facts.proofs.OpenSlots.{IsPlain}
-use Rattle.core_facts.proofs.Slots.{Kind, plainly, kind_of}
-use Rattle.core_session.specs.drops.Dropped.{IsOwed}
-use Rattle.core_session.specs.drops.Guarded.{IsGuarded, save_in}
-use Rattle.core_session.specs.drops.Told.{LetsGo}
 use Rattle.core_session.proofs.drops.Along.{GuardsKnown}
 use Rattle.core_session.proofs.drops.Drops.{LaneTold}
 use Rattle.core_session.proofs.drops.GuardLaws.{StepOf, stirs-step}
-use Rattle.core_session.proofs.drops.LaneIs.{state-is}
-use Rattle.core_session.proofs.drops.Laws.{OneStepped, drops-stirs}
 use Rattle.core_session.proofs.drops.SlotKinds.{KindTold}
-use Rattle.core_session.proofs.syncs.AllJobs.{JobHas}
 use Rattle.core_session.proofs.syncs.Causes.{IsWriter, put-is}
-use Rattle.core_session.proofs.syncs.Fate.{fate-turns, ready-is}
 use Rattle.core_session.proofs.syncs.Guard.{GuardView, by_slot, by_close, guard-view, guard-step, SavesWell, ends, goes_on, GaveIt, loosed, still-guarded, owed-gave, slot-guard, stirs-plain}
-use Rattle.core_session.proofs.syncs.Leftovers.{closer-it}
-use Rattle.core_session.proofs.kept.Lefts.{left-now, owed-at}
-use Rattle.core_session.proofs.syncs.Looks.{ClosesIt, IsLeft, owed, was_left, left_}
-use Rattle.core_session.proofs.kept.Nexts.{Guarding, evident_, open_, ahead_, loose_, Unmade, Dropped, closes-by, puts-by, closes-none, puts-none, Outcome_, ahead-known, kept-known, PlanOwn, own-tale, saved-ends, saved-goes}
-use Rattle.core_session.proofs.syncs.Passing.{told}
+use Rattle.core_session.proofs.kept.Lefts.{left-now, owed-at, live-or}
 use Rattle.core_session.proofs.syncs.Pasts.{IsAhead, AheadOf, stirs-ahead}
-use Rattle.core_session.proofs.syncs.Phases.{Evident}
 use Rattle.core_session.proofs.syncs.SlotHeld.{HoldsSlot}
-use Rattle.core_session.proofs.kept.Stands.{GuardBy}
-use Rattle.core_session.proofs.kept.Stands.{PutRuns}
-use Rattle.core_session.proofs.kept.Stands.{LiveBy}
-use Rattle.std.specs.List.{list_any}
-use Rattle.client_shelf.specs.LaneFiles.{is_other}
-use Rattle.core_session.proofs.kept.Lefts.{live-or}
 use Rattle.core_session.proofs.syncs.PutPlaced.{PutPlaced, stirs-put, crowded, own-at}
-use Rattle.core_session.proofs.syncs.Fate.{busy}
-use Rattle.core_session.proofs.syncs.Turning.{turns-apart}
 
 module _ (mt : Mounted) (terms : Terms) (setup : Setup) (H : List Entry) (V : View) (g : GoesWith mt terms setup H V) (w y : ℕ) (sure : Bool) (due p : ℕ) (f : List ℕ) (i byte : ℕ) (c : Case terms H w y p f i byte) where
   abbrev pub PhaseOf : List Entry → View → Type 0

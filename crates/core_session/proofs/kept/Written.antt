@@ -1,32 +1,12 @@
 -- A byte that a write, fill or put wrote is pending, or was made stable, unless it was touched.
-use Rattle.std.proofs.Common.{false, ◌≡◌, ◌<◌, ◌≤◌, ◌-◌, inl, inr, ℕ, zero, suc, Bool, List, [], ◌++◌, length, replicate, Option, Some, None, slice_get, refl, sym, ap, subst, ◌∙◌, arith, append-nil}
-use Rattle.std.specs.Prelude.{if◌then◌else◌}
-use Rattle.std.proofs.lemmas.Bool.{le-ltb}
-use Rattle.write_back.specs.Files.{of_file}
-use Rattle.write_back.specs.Pieces.{Flown, rest_at, fly_at}
-use Rattle.write_back.specs.Segments.{Cell, newest_at}
+use Rattle.core_session.proofs.Prelude.{false, ◌≡◌, ◌<◌, ◌≤◌, ◌-◌, inl, inr, ℕ, zero, suc, Bool, List, [], ◌++◌, length, replicate, Option, Some, None, slice_get, refl, sym, ap, subst, ◌∙◌, arith, append-nil, if◌then◌else◌, le-ltb, of_file, Flown, rest_at, fly_at, Cell, newest_at, EachSound, Fault, Value, Entry, Began, Ended, Terms, Wrote, At-below, Mounted, machine_of, Setup, View, NoneReady, begins-unbegun, byte_from, TouchedUntil}
 use Rattle.write_back.specs.Waits.{byte_pending}
 use Rattle.write_back.proofs.EndAndBytes.{newest-is}
-use Rattle.step_pending.specs.Cells.{EachSound}
 use Rattle.world_model.specs.declared.answer.Answer.TheVariants as answers
-use Rattle.world_model.specs.declared.answer.Fault.{Fault}
-use Rattle.world_model.specs.declared.answer.Value.{Value}
-use Rattle.world_model.specs.declared.entry.Entry.{Entry}
-use Rattle.world_model.specs.declared.entry.Entry.TheVariants.{Began}
 use Rattle.world_model.specs.declared.op.Op.TheVariants as ops
-use Rattle.world_model.specs.Operations.{Ended}
-use Rattle.claims.specs.Terms.{Terms}
-use Rattle.claims.specs.Touched.{Covers, Wrote}
+use Rattle.claims.specs.Touched.{Covers}
 use Rattle.claims.specs.Touched as touched_by
-use Rattle.world_model.proofs.Places.{At-below}
-use Rattle.op_machines.specs.declared.begun.Mounted.{Mounted}
-use Rattle.op_machines.specs.Begun.{machine_of}
-use Rattle.client_core.specs.declared.setup.Setup.{Setup}
-use Rattle.client_core.specs.View.{View}
-use Rattle.core_facts.specs.Notes.{NoneReady}
-use Rattle.core_facts.proofs.AllCounts.{begins-unbegun}
-use Rattle.core_answers.specs.writes.Written.{byte_from}
-use Rattle.core_session.specs.syncs.Until.{TouchedUntil, written, given_up}
+use Rattle.core_session.specs.syncs.Until.{written, given_up}
 use Rattle.core_session.proofs.pending.Onwards.{refused-not}
 use Rattle.core_session.proofs.syncs.Aparts.{Apart, apart-done}
 use Rattle.core_session.proofs.syncs.Ends.{ended-back, fate-ends}

@@ -1,28 +1,9 @@
 -- Each record of the core that was sent was answered, or its call waits.
-use Rattle.std.proofs.Common.{◌≡◌, ◌<◌, ◌≤◌, ◌⊎◌, inl, inr, nat_eq, ℕ, Bool, true, false, List, [], ◌∷◌, ◌++◌, length, cond, Option, Some, None, refl, sym, ap, subst, ◌∙◌, arith, append_assoc}
-use Rattle.std.proofs.lemmas.Bool.{eqb-true}
-use Rattle.rpc_retry.specs.declared.waiting.Waiting.{Waiting}
-use Rattle.rpc_retry.specs.Fail.{failed_after}
-use Rattle.rpc_retry.specs.Held.{next_xid}
-use Rattle.rpc_retry.specs.Waiting.{made_call, waiting_at, without, sent, sent_call, failed, failed_call}
-use Rattle.rpc_retry.proofs.Lookups.{at_made, at_sent, others_made, others_taken}
-use Rattle.world_model.specs.declared.entry.Entry.{Entry}
-use Rattle.world_model.specs.declared.entry.Entry.TheVariants.{Began, Answered, Dialed, Sent, Executed, Foreign, Flushed, Reboot, Delivered, Failed, Clock}
-use Rattle.world_model.specs.declared.message.Call.{Call}
-use Rattle.world_model.specs.declared.op.Op.{Op}
-use Rattle.world_model.specs.Entries.{At}
-use Rattle.world_model.specs.Messages.{HasXid, proc_of}
-use Rattle.world_model.proofs.Places.{At-grow, At-below, At-back, At-cases, At-last, length_last}
-use Rattle.op_machines.specs.declared.machine.Machine.{Machine}
-use Rattle.client_core.specs.declared.lane.Purpose.{Purpose}
-use Rattle.client_core.specs.declared.setup.Setup.{Setup}
-use Rattle.client_core.specs.Steps.{SendsIf, record_of, counted}
-use Rattle.client_core.specs.View.{View, turn_at}
-use Rattle.core_facts.specs.Reaches.{StepsTo, Reaches, begins, goes, loses, last_reading}
-use Rattle.core_facts.proofs.Cases.{Heard, dropped, replied, heard, SentNow, sent_now, FailedNow, goes_on, gives_up, failed_now, answered_now, taken_one}
-use Rattle.core_facts.proofs.Rows.{Rows, rows-stay, same-rows, taken-rows, rows-grow, silent-grow, taken-quiet, not-sent, under, reached-rows}
-use Rattle.core_facts.proofs.Walks.{Stays, begins-stay, hears-for-stay}
-use Rattle.core_session.specs.order.Altering.{HeardBefore}
+use Rattle.core_session.proofs.Prelude.{◌≡◌, ◌<◌, ◌≤◌, ◌⊎◌, inl, inr, nat_eq, ℕ, Bool, true, false, List, [], ◌∷◌, ◌++◌, length, cond, Option, Some, None, refl, sym, ap, subst, ◌∙◌, arith, append_assoc, eqb-true, Waiting, failed_after, next_xid, made_call, waiting_at, without, at_made, at_sent, others_made, others_taken, Entry, Began, Answered, Dialed, Sent, Executed, Foreign, Flushed, Reboot, Delivered, Failed, Clock, Call, Op, At, HasXid, proc_of, At-grow, At-below, At-back, At-cases, At-last, length_last, Machine, Purpose, Setup, SendsIf, record_of, counted, View, turn_at, StepsTo, Reaches, begins, goes, loses, last_reading, Heard, dropped, replied, SentNow, sent_now, FailedNow, goes_on, gives_up, failed_now, answered_now, taken_one, Rows, rows-stay, same-rows, taken-rows, rows-grow, silent-grow, taken-quiet, not-sent, reached-rows, Stays, HeardBefore}
+use Rattle.rpc_retry.specs.Waiting.{sent, sent_call, failed, failed_call}
+use Rattle.core_facts.proofs.Cases.{heard}
+use Rattle.core_facts.proofs.Rows.{under}
+use Rattle.core_facts.proofs.Walks.{begins-stay, hears-for-stay}
 
 -- ---- sendings and failures leave the calls that wait
 

@@ -1,48 +1,15 @@
 -- Along a history what is pending of each file is sound, and numbered below the next write.
-use Rattle.std.proofs.Common.{◌≡◌, ◌≤◌, ◌+◌, ◌⊎◌, inl, inr, ℕ, List, [], ◌∷◌, ◌++◌, length, false, Option, Some, None, option_map, position, slice_get, Err, refl, sym, ap, subst, ◌∙◌, arith}
-use Rattle.rpc_retry.specs.declared.waiting.Waiting.{Waiting}
-use Rattle.rpc_retry.specs.Held.{next_xid}
-use Rattle.rpc_retry.specs.Waiting.{waiting_at}
-use Rattle.rpc_retry.proofs.Lookups.{waits_early}
-use Rattle.world_model.specs.declared.entry.Entry.{Entry}
-use Rattle.world_model.specs.declared.entry.Entry.TheVariants.{Began, Delivered}
-use Rattle.world_model.specs.declared.message.Call.{Call}
-use Rattle.world_model.specs.declared.op.Op.{Op}
-use Rattle.call_replies.specs.Says.{said_of}
+use Rattle.core_session.proofs.Prelude.{◌≡◌, ◌≤◌, ◌+◌, ◌⊎◌, inl, inr, ℕ, List, [], ◌∷◌, ◌++◌, length, false, Option, Some, None, option_map, position, slice_get, Err, refl, sym, ap, subst, ◌∙◌, arith, Waiting, next_xid, waiting_at, waits_early, Entry, Began, Delivered, Call, Op, said_of, Next, Shelf, IsUnused, Mounted, Machine, machine_of, Fits, Starts, Resumes, Takes, EachSound, nothing-sound, Lane, Purpose, Busy, Over, Setup, is_busy, IsIdle, with_state, IsRefused, Leads, Stirs, counted, StartsLane, TakesAt, View, turn_at, unmade_turn, Reaches, begins-unbegun, taken_one, Known, purpose_at, at-push, at-set, Rows, waits-late}
 use Rattle.write_back.specs.Files.{IsNewest}
-use Rattle.client_shelf.specs.declared.next.Next.{Next}
 use Rattle.client_shelf.specs.declared.next.Next.TheVariants as nexts
-use Rattle.client_shelf.specs.declared.shelf.Shelf.{Shelf}
 use Rattle.file_ops.specs.Ready.{IsReady}
-use Rattle.file_ops.specs.SlotFiles.{IsUnused}
 use Rattle.file_ops.proofs.Nothing.{none_newest}
-use Rattle.op_machines.specs.declared.begun.Mounted.{Mounted}
-use Rattle.op_machines.specs.declared.machine.Machine.{Machine}
-use Rattle.op_machines.specs.Begun.{machine_of}
-use Rattle.op_machines.specs.Fits.{Fits}
 use Rattle.op_machines.specs.Laws.{LeavesNothing}
-use Rattle.op_machines.specs.Steps.{Starts, Resumes, Takes}
 use Rattle.op_machines.proofs.AllLaws as laws
-use Rattle.step_pending.specs.Cells.{EachSound}
-use Rattle.step_pending.proofs.Cutting.{nothing-sound}
-use Rattle.client_core.specs.declared.lane.Lane.{Lane}
-use Rattle.client_core.specs.declared.lane.Purpose.{Purpose}
-use Rattle.client_core.specs.declared.lane.State.TheVariants.{Busy, Over}
-use Rattle.client_core.specs.declared.setup.Setup.{Setup}
-use Rattle.client_core.specs.Lanes.{is_busy}
-use Rattle.client_core.specs.Numbers.{IsIdle}
-use Rattle.client_core.specs.Steps.{with_state, IsRefused, Leads, Stirs, counted, StartsLane, TakesAt}
-use Rattle.client_core.specs.View.{View, turn_at, unmade_turn}
-use Rattle.core_facts.specs.Reaches.{Reaches}
-use Rattle.core_facts.proofs.AllCounts.{begins-unbegun}
-use Rattle.core_facts.proofs.Cases.{taken_one}
 use Rattle.core_facts.proofs.Flights.{Flies}
 use Rattle.core_facts.proofs.Flown.{Flown, sender, look_at}
-use Rattle.core_facts.proofs.Keeping.{Known, purpose_at}
-use Rattle.core_facts.proofs.Lists.{at-push, at-set}
-use Rattle.core_facts.proofs.Rows.{Rows}
 use Rattle.core_answers.proofs.writes.Holding.{LanesHave, StateHas, lanes-without, lanes-push, lanes-set}
-use Rattle.core_answers.proofs.writes.PiecesCarried.{Flying, keeps-flying, waits-late}
+use Rattle.core_answers.proofs.writes.PiecesCarried.{Flying, keeps-flying}
 use Rattle.core_session.proofs.saves.HearingAlong.{KeepsHearing, reached-hearing}
 use Rattle.core_session.proofs.order.Sounds.{starts-sound, resumes-sound, takes-sounds}
 

@@ -1,76 +1,28 @@
 -- In the view before a WRITE of a file is sent no other call waits that may change one of its places.
-use Rattle.std.proofs.Common.{◌≡◌, ◌≤◌, ◌<◌, ◌+◌, ◌⊎◌, inl, inr, ℕ, Bool, true, false, List, length, Option, Some, None, slice_get, refl, sym, ap, subst, ◌∙◌, arith}
+use Rattle.core_session.proofs.Prelude.{◌≡◌, ◌≤◌, ◌<◌, ◌+◌, ◌⊎◌, inl, inr, ℕ, Bool, true, false, List, length, Option, Some, None, slice_get, refl, sym, ap, subst, ◌∙◌, arith, Waiting, waiting_at, covers, Pending, of_file, Flown, flown_in, piece_under, covered, flown-some, fly-under, SetAttr, Time, Entry, Call, LaneFile, Closing, Opening, Putting, Saving, Syncing, Truncating, Writing, EachSound, some-of, flown-from, Mounted, FileMachine, Machine, Opener, PathMachine, machine_of, file_of, Lane, Purpose, Busy, Setup, View, of_writing, of_syncing, of_closing, of_truncating, of_putting, in_flight, AreApart, Reaches, begins-unbegun, seat_of, IsLive, calls-some, seat_close, seat_put, flies_if, flies_save, flies_write, flies_sync, flies_close, flies_put, flies_file, flies_path, flies_of, Known, reached-all, reached-kept, lanes-under-way, look-at, reached-owned, seat_state, seat_in, IsExpected, reached-good, one-call, written_file, IsWaiting, IsInFlight, CallFits, fits-laws, Turned, same-first, IsFirst, CloseTurn, writes-whole, Expects, expects-laws, NoCall, NoShelf, NoStory, no-laws}
 use Rattle.nfs_file_calls.specs.declared.call.FileCall.TheVariants as file_calls
-use Rattle.rpc_retry.specs.declared.waiting.Waiting.{Waiting}
-use Rattle.rpc_retry.specs.Waiting.{waiting_at}
-use Rattle.write_back.specs.Segments.{covers}
-use Rattle.write_back.specs.Files.{Pending, of_file}
-use Rattle.write_back.specs.Pieces.{Sent, Flown, flown_in, piece_under}
-use Rattle.write_back.proofs.ByPlace.{covered}
-use Rattle.write_back.proofs.Flying.{flown-some, under-whole}
-use Rattle.write_back.proofs.Xids.{fly-under}
-use Rattle.nfs_types.specs.declared.set_attr.SetAttr.{SetAttr}
-use Rattle.nfs_types.specs.declared.time.Time.{Time}
-use Rattle.world_model.specs.declared.entry.Entry.{Entry}
-use Rattle.world_model.specs.declared.message.Call.{Call}
+use Rattle.write_back.specs.Pieces.{Sent}
+use Rattle.write_back.proofs.Flying.{under-whole}
 use Rattle.world_model.specs.declared.message.Call.TheVariants as calls
-use Rattle.client_shelf.specs.declared.lane_files.LaneFile.{LaneFile}
-use Rattle.file_ops.specs.declared.close_file.Closing.{Closing}
 use Rattle.file_ops.specs.declared.close_file.Closing.TheVariants as closing
-use Rattle.file_ops.specs.declared.opening.Opening.{Opening}
-use Rattle.file_ops.specs.declared.put_file.Putting.{Putting}
 use Rattle.file_ops.specs.declared.put_file.Putting.TheVariants as putting
-use Rattle.file_ops.specs.declared.saving.Saving.{Saving}
-use Rattle.file_ops.specs.declared.sync_file.Syncing.{Syncing}
 use Rattle.file_ops.specs.declared.sync_file.Syncing.TheVariants as syncing
-use Rattle.file_ops.specs.declared.truncate_file.Truncating.{Truncating}
 use Rattle.file_ops.specs.declared.truncate_file.Truncating.TheVariants as truncating
-use Rattle.file_ops.specs.declared.write_file.Writing.{Writing}
 use Rattle.file_ops.specs.declared.write_file.Writing.TheVariants as writing
 use Rattle.file_ops.specs.Saves as saves
-use Rattle.step_pending.specs.Cells.{EachSound}
-use Rattle.step_pending.proofs.Shown.{some-of, flown-from}
-use Rattle.op_machines.specs.declared.begun.Mounted.{Mounted}
-use Rattle.op_machines.specs.declared.file_machine.FileMachine.{FileMachine}
 use Rattle.op_machines.specs.declared.file_machine.FileMachine.TheVariants as files
-use Rattle.op_machines.specs.declared.machine.Machine.{Machine}
 use Rattle.op_machines.specs.declared.machine.Machine.TheVariants as machines
-use Rattle.op_machines.specs.declared.opener.Opener.{Opener}
-use Rattle.op_machines.specs.declared.path_machine.PathMachine.{PathMachine}
-use Rattle.op_machines.specs.Begun.{machine_of}
-use Rattle.op_machines.specs.Openers.{file_of}
-use Rattle.client_core.specs.declared.lane.Lane.{Lane}
-use Rattle.client_core.specs.declared.lane.Purpose.{Purpose}
-use Rattle.client_core.specs.declared.lane.State.TheVariants.{Busy}
-use Rattle.client_core.specs.declared.setup.Setup.{Setup}
-use Rattle.client_core.specs.View.{View}
 use Rattle.core_facts.specs.Counted.{AreOwned}
-use Rattle.core_facts.specs.InFlight.{of_writing, of_syncing, of_closing, of_truncating, of_putting, of_file as calls_of, in_flight}
-use Rattle.core_facts.specs.Lanes.{AreApart}
-use Rattle.core_facts.specs.Reaches.{Reaches}
-use Rattle.core_facts.proofs.AllCounts.{begins-unbegun, of_path, path-file}
-use Rattle.core_facts.proofs.AllSeats.{path_seat, seat_of, IsLive, OnPath}
-use Rattle.core_facts.proofs.Counting.{calls-some}
-use Rattle.core_facts.proofs.FileSeats.{seat_write, seat_sync, seat_close, seat_put, seat_file, FileLive}
-use Rattle.core_facts.proofs.Flights.{flies_if, flies_save, flies_write, flies_sync, flies_close, flies_put, flies_file, flies_path, flies_of}
-use Rattle.core_facts.proofs.Keeping.{Known, lane-count, reached-all, reached-kept}
-use Rattle.core_facts.proofs.LaneMarks.{lanes-under-way}
-use Rattle.core_facts.proofs.Looks.{look-at}
-use Rattle.core_facts.proofs.Owning.{reached-owned}
-use Rattle.core_facts.proofs.Placing.{seat_state, seat_in}
-use Rattle.core_facts.proofs.Tales.{AllGood, IsExpected, reached-good}
-use Rattle.core_answers.proofs.bonds.OneCall.{one-call}
-use Rattle.core_answers.specs.writes.Alone.{written_file, IsWaiting}
-use Rattle.core_answers.specs.writes.Flights.{IsInFlight}
-use Rattle.core_answers.proofs.writes.AllFits.{CallFits, fits-laws}
-use Rattle.core_answers.proofs.writes.AllTurns.{PathTurn, TurnOf, Turned, keeps-turned}
+use Rattle.core_facts.specs.InFlight.{of_file as calls_of}
+use Rattle.core_facts.proofs.AllCounts.{of_path, path-file}
+use Rattle.core_facts.proofs.AllSeats.{path_seat, OnPath}
+use Rattle.core_facts.proofs.FileSeats.{seat_write, seat_sync, seat_file, FileLive}
+use Rattle.core_facts.proofs.Keeping.{lane-count}
+use Rattle.core_facts.proofs.Tales.{AllGood}
+use Rattle.core_answers.proofs.writes.AllTurns.{PathTurn, TurnOf, keeps-turned}
 use Rattle.core_answers.proofs.writes.CommitsAlone.{tales}
-use Rattle.core_answers.proofs.writes.Firsts.{same-first}
-use Rattle.core_answers.proofs.writes.Turns.{IsFirst, SyncTurn, CloseTurn, WriteTurn, TruncateTurn, PutTurn, FileTurn}
+use Rattle.core_answers.proofs.writes.Turns.{SyncTurn, WriteTurn, TruncateTurn, PutTurn, FileTurn}
 use Rattle.core_answers.proofs.writes.Under.{under-xid}
-use Rattle.core_answers.proofs.writes.WholeWrites.{writes-whole}
-use Rattle.core_answers.proofs.asks.CallsAwaited.{Expects, expects-laws}
-use Rattle.core_answers.proofs.asks.Sendings.{NoCall, NoShelf, NoStory, no-laws}
 use Rattle.core_session.specs.order.Altering.{Alters, writes, sizes}
 use Rattle.core_session.proofs.order.Basis.{reached-basis}
 use Rattle.core_session.proofs.order.Tame.{IsCut, Tame, expects-tame}

@@ -1,31 +1,11 @@
 -- Each call that may change a place of a file was answered before a WRITE that covers the place is sent.
-use Rattle.std.proofs.Common.{◌≡◌, ◌<◌, ◌≤◌, ◌+◌, ◌⊎◌, inl, inr, ℕ, List, length, Some, sym, subst, arith}
+use Rattle.core_session.proofs.Prelude.{◌≡◌, ◌<◌, ◌≤◌, ◌+◌, ◌⊎◌, inl, inr, ℕ, List, length, Some, sym, subst, arith, Waiting, waiting_at, Entry, Sent, Delivered, Call, NoneBegan, At, HasXid, SpellsCall, SpellsCallBy, FirstSent, At-grow, At-back, Mounted, machine_of, Purpose, Setup, View, Reaches, Tried, unsent, one-xid, reached-rows, IsNfs, one-call, IsWaiting, HeardBefore}
 use Rattle.nfs_file_calls.specs.declared.call.FileCall.TheVariants as file_calls
-use Rattle.rpc_retry.specs.declared.waiting.Waiting.{Waiting}
-use Rattle.rpc_retry.specs.Waiting.{waiting_at}
-use Rattle.world_model.specs.declared.entry.Entry.{Entry}
-use Rattle.world_model.specs.declared.entry.Entry.TheVariants.{Sent, Delivered}
-use Rattle.world_model.specs.declared.message.Call.{Call}
 use Rattle.world_model.specs.declared.message.Call.TheVariants as calls
-use Rattle.claims.specs.CallsAsked.{NoneBegan}
-use Rattle.world_model.specs.Entries.{At}
-use Rattle.world_model.specs.Messages.{HasXid, SpellsCall, SpellsCallBy}
-use Rattle.world_model.specs.Waiting.{FirstSent}
-use Rattle.world_model.proofs.Places.{At-grow, At-back}
-use Rattle.op_machines.specs.declared.begun.Mounted.{Mounted}
-use Rattle.op_machines.specs.Begun.{machine_of}
-use Rattle.client_core.specs.declared.lane.Purpose.{Purpose}
-use Rattle.client_core.specs.declared.setup.Setup.{Setup}
-use Rattle.client_core.specs.View.{View}
-use Rattle.core_facts.specs.Reaches.{Reaches}
-use Rattle.core_facts.specs.Tries.{Tried, unsent, runs, ended}
-use Rattle.core_facts.proofs.Grown.{one-xid}
-use Rattle.core_facts.proofs.Rows.{reached-rows}
-use Rattle.core_answers.proofs.bonds.OneCall.{IsNfs, one-call}
-use Rattle.core_answers.specs.writes.Alone.{IsWaiting}
+use Rattle.core_facts.specs.Tries.{runs, ended}
 use Rattle.core_answers.specs.asks.Xids.{IsAmong}
 use Rattle.core_answers.proofs.asks.XidAsks.{xids-kept}
-use Rattle.core_session.specs.order.Altering.{Alters, writes, sizes, HeardBefore}
+use Rattle.core_session.specs.order.Altering.{Alters, writes, sizes}
 use Rattle.core_session.specs.order.Earlier.{EarlierHeard}
 use Rattle.core_session.proofs.order.Answered.{Waits, SentOf, reached-heeds, reached-sending}
 use Rattle.core_session.proofs.order.Beside.{beside}

@@ -1,53 +1,14 @@
 -- Along a history: at the step with a reply in which a put adds its bytes, its path leads to the file that they are added to.
-use Rattle.std.proofs.Common.{◌≡◌, ◌+◌, ℕ, Bool, true, false, List, [], ◌∷◌, ◌++◌, length, Some, slice_get, Result, refl, sym, subst, arith}
-use Rattle.std.proofs.lemmas.List.Elements.{All-nil}
-use Rattle.rpc_message.specs.Call.{xid_at}
-use Rattle.rpc_retry.specs.declared.waiting.Waiting.{Waiting}
-use Rattle.rpc_retry.specs.Waiting.{waiting_at}
-use Rattle.world_model.specs.declared.answer.Fault.{Fault}
-use Rattle.world_model.specs.declared.entry.Entry.{Entry}
-use Rattle.world_model.specs.declared.entry.Entry.TheVariants.{Began, Delivered}
-use Rattle.world_model.specs.declared.message.Call.{Call}
-use Rattle.world_model.specs.declared.message.Reply.{Reply}
-use Rattle.world_model.specs.declared.op.Op.{Op}
+use Rattle.core_session.proofs.Prelude.{◌≡◌, ◌+◌, ℕ, Bool, true, false, List, [], ◌∷◌, ◌++◌, length, Some, slice_get, Result, refl, sym, subst, arith, All-nil, xid_at, Waiting, waiting_at, Fault, Entry, Began, Delivered, Call, Reply, Op, UnderWay, Asked-wide, said_of, Says, Next, Shelf, Turn, PutFile, Walk, walk_of, Mounted, Machine, PathMachine, IsNamed, front_of, machine_of, Starts, Resumes, Takes, Purpose, State, Busy, Over, Setup, View, HearsRecord, Reaches, IsOutstanding, Tried, unsent, PathOr, begins-unbegun, all-starts, all-resumes, all-takes, was-sent, says-of, IsNameTold, NamesTold, names-later, LeadsTo, IsHeard, heard-tells, reached-since, reached-rows, Did, IsTold, TaleLaws, IsExpected, reached-good, Expects, expects-laws, NoCall}
 use Rattle.world_model.specs.declared.op.Op.TheVariants as ops
 use Rattle.world_model.specs.Heard.{Heard}
-use Rattle.world_model.specs.Operations.{UnderWay}
-use Rattle.world_model.proofs.Growth.{Asked-wide}
-use Rattle.call_replies.specs.Says.{said_of, Says}
-use Rattle.client_shelf.specs.declared.next.Next.{Next}
 use Rattle.client_shelf.specs.declared.next.Next.TheVariants as nexts
-use Rattle.client_shelf.specs.declared.shelf.Shelf.{Shelf}
-use Rattle.client_shelf.specs.declared.turn.Turn.{Turn}
-use Rattle.file_ops.specs.declared.put_file.PutFile.{PutFile}
-use Rattle.name_ops.specs.declared.walk.Walk.{Walk}
-use Rattle.name_ops.specs.Pairs.{walk_of}
-use Rattle.op_machines.specs.declared.begun.Mounted.{Mounted}
-use Rattle.op_machines.specs.declared.machine.Machine.{Machine}
 use Rattle.op_machines.specs.declared.machine.Machine.TheVariants as machines
 use Rattle.op_machines.specs.declared.opener.Opener.TheVariants as openers
-use Rattle.op_machines.specs.declared.path_machine.PathMachine.{PathMachine}
-use Rattle.op_machines.specs.Begun.{IsNamed, front_of, machine_of}
 use Rattle.op_machines.specs.PathSteps as paths
-use Rattle.op_machines.specs.Steps.{Starts, Resumes, Takes}
-use Rattle.client_core.specs.declared.lane.Purpose.{Purpose}
-use Rattle.client_core.specs.declared.lane.State.{State}
-use Rattle.client_core.specs.declared.lane.State.TheVariants.{Busy, Over}
-use Rattle.client_core.specs.declared.setup.Setup.{Setup}
-use Rattle.client_core.specs.View.{View}
-use Rattle.core_facts.specs.Reaches.{HearsRecord, Reaches}
-use Rattle.core_facts.specs.Tries.{IsOutstanding, Tried, unsent, runs, ended}
-use Rattle.core_facts.proofs.AllAwaited.{PathOr}
-use Rattle.core_facts.proofs.AllCounts.{begins-unbegun}
-use Rattle.core_facts.proofs.FilesKept.{all-starts, all-resumes, all-takes}
-use Rattle.core_facts.proofs.Hearing.{was-sent, says-of, heard-of}
-use Rattle.core_facts.proofs.Leading.{IsNameTold, NamesTold, names-later, LeadsTo, IsHeard, heard-tells}
-use Rattle.core_facts.proofs.Owning.{reached-since}
-use Rattle.core_facts.proofs.Rows.{reached-rows}
-use Rattle.core_facts.proofs.Tales.{Did, IsTold, TaleLaws, IsExpected, reached-good}
-use Rattle.core_answers.proofs.asks.CallsAwaited.{Expects, expects-laws}
+use Rattle.core_facts.specs.Tries.{runs, ended}
+use Rattle.core_facts.proofs.Hearing.{heard-of}
 use Rattle.core_answers.proofs.asks.PutSteps.{begun-put}
-use Rattle.core_answers.proofs.asks.Sendings.{NoCall}
 use Rattle.core_session.proofs.order.Adds.{PathHas, TakesHas}
 use Rattle.core_session.proofs.order.PutFinds.{PutStands, PutRuns, put-resumes, put-takes, put-has, awaited, walk-begins, runs-later}
 

@@ -1,22 +1,10 @@
 -- A put whose path leads to a file before it is answered writes its bytes there, as a whole history sees it.
-use Rattle.std.proofs.Common.{◌≡◌, ◌<◌, ◌≤◌, ◌⊎◌, inl, inr, ℕ, zero, suc, Bool, true, false, nat_eq, List, [], ◌∷◌, ◌++◌, length, Option, Some, None, slice_get, refl, sym, ap, subst, ◌∙◌, arith}
-use Rattle.std.proofs.lemmas.Bool.{eqb-true, eqb-false, cases_lt}
-use Rattle.world_model.specs.declared.answer.Answer.{Answer}
-use Rattle.world_model.specs.declared.entry.Entry.{Entry}
-use Rattle.world_model.specs.declared.entry.Entry.TheVariants.{Began, Answered, Dialed, Sent, Executed, Foreign, Flushed, Reboot, Delivered, Failed, Clock}
-use Rattle.world_model.specs.declared.op.Op.{Op}
+use Rattle.core_session.proofs.Prelude.{◌≡◌, ◌<◌, ◌≤◌, ◌⊎◌, inl, inr, ℕ, zero, suc, Bool, true, false, nat_eq, List, [], ◌∷◌, ◌++◌, length, Option, Some, None, slice_get, refl, sym, ap, subst, ◌∙◌, arith, eqb-true, eqb-false, cases_lt, Answer, Entry, Began, Answered, Dialed, Sent, Executed, Foreign, Flushed, Reboot, Delivered, Failed, Clock, Op, At, Modes, Origin, Rooted, AnsweredBefore, WritesByte, Rooted-wide, At-one, KnowsRoot, LeadsTo, leads-from}
 use Rattle.world_model.specs.declared.op.Op.TheVariants as ops
-use Rattle.world_model.specs.Entries.{At}
 use Rattle.world_model.specs.Leads.{Leads}
-use Rattle.claims.specs.Modes.{Modes}
-use Rattle.world_model.specs.Mounts.{Origin, Rooted}
-use Rattle.world_model.specs.Operations.{AnsweredBefore, EndsAt, answered, unanswered}
-use Rattle.claims.specs.Touched.{Covers, WritesByte}
+use Rattle.world_model.specs.Operations.{EndsAt, answered, unanswered}
+use Rattle.claims.specs.Touched.{Covers}
 use Rattle.claims.specs.Touched as touched
-use Rattle.world_model.proofs.Growth.{Rooted-wide}
-use Rattle.world_model.proofs.Places.{At-one}
-use Rattle.core_facts.specs.Naming.{KnowsRoot}
-use Rattle.core_facts.proofs.Leading.{LeadsTo, leads-from}
 
 -- ---- when an operation ends
 

@@ -1,21 +1,8 @@
 -- The file of a write that makes room stays the same.
-use Rattle.std.proofs.Common.{◌≡◌, ℕ, Bool, true, false, List, Result, Ok, Err, sym, subst, inl, inr}
-use Rattle.world_model.specs.declared.answer.Fault.{Fault}
-use Rattle.world_model.specs.declared.message.Reply.{Reply}
-use Rattle.client_shelf.specs.declared.next.Next.{Next}
-use Rattle.client_shelf.specs.declared.shelf.Shelf.{Shelf}
-use Rattle.client_shelf.specs.declared.turn.Turn.{Turn}
-use Rattle.client_shelf.specs.LaneFiles.{left, is_first}
-use Rattle.file_ops.specs.declared.saving.Saving.{Saving}
-use Rattle.file_ops.specs.declared.write_file.WriteFile.{WriteFile}
-use Rattle.file_ops.specs.declared.write_file.Writing.{Writing}
+use Rattle.core_session.proofs.Prelude.{◌≡◌, ℕ, Bool, true, false, List, Result, Ok, Err, sym, subst, inl, inr, Fault, Reply, Next, Shelf, Turn, left, is_first, Saving, WriteFile, Writing, is_full, joined, by-step, ends_as, RoomIs}
 use Rattle.file_ops.specs.declared.write_file.Writing.TheVariants as writing
-use Rattle.file_ops.specs.Adding.{is_full}
-use Rattle.file_ops.specs.SlotFiles.{joined}
 use Rattle.file_ops.specs.Saves as saves
 use Rattle.file_ops.specs.WriteFile as writes
-use Rattle.file_ops.proofs.SaveCounts.{by-step, ends_as}
-use Rattle.core_answers.proofs.writes.Backs.{RoomIs}
 
 module _ (B : List ℕ → Type 0) where
   -- ---- writes and fills

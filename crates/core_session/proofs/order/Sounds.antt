@@ -1,62 +1,34 @@
 -- Each step of any operation leaves what is pending of each file sound, as long as it began so.
-use Rattle.std.proofs.Common.{◌≡◌, ◌≢◌, ◌≤◌, ◌<◌, ◌+◌, ◌-◌, ◌^◌, ◌||◌, ◌⊎◌, inl, inr, ℕ, Bool, true, false, List, [], ◌∷◌, length, Result, refl, sym, subst, ◌∙◌, arith}
-use Rattle.std.specs.Prelude.{nat_le, nat_lt, if◌then◌else◌, Contains}
-use Rattle.std.proofs.lemmas.Bool.{ltb-false}
+use Rattle.core_session.proofs.Prelude.{◌≡◌, ◌≢◌, ◌≤◌, ◌<◌, ◌+◌, ◌-◌, ◌^◌, ◌||◌, ◌⊎◌, inl, inr, ℕ, Bool, true, false, List, [], ◌∷◌, length, Result, refl, sym, subst, ◌∙◌, arith, nat_lt, if◌then◌else◌, ltb-false, Fault, Call, Reply, Segments, Pending, of_file, all_pending, OnFile, with_cut, FilePending, nothing, same-or, Next, Repeat, Shelf, Turn, Opens, PutFile, Putting, Saving, WriteFile, Writing, is_full, is_quiet, IsUnused, by-step, FileMachine, Machine, PathMachine, Fits, file_of, Starts, Resumes, Takes, EachSound, After, CarriesReply, any-saves}
+use Rattle.std.specs.Prelude.{nat_le, Contains}
 use Rattle.std.proofs.lemmas.List.Elements.{Contains-append_cases, Contains-append_left, Contains-append_right}
-use Rattle.world_model.specs.declared.answer.Fault.{Fault}
-use Rattle.world_model.specs.declared.message.Call.{Call}
-use Rattle.world_model.specs.declared.message.Reply.{Reply}
-use Rattle.write_back.specs.Segments.{Segments, cut_from, head_of, end_of}
-use Rattle.write_back.specs.Files.{Pending, of_file, all_pending, numbers_of, OnFile, IsNewest}
-use Rattle.write_back.specs.Landing.{with_cut}
-use Rattle.write_back.specs.Pieces.{Sent, FilePending, nothing}
+use Rattle.write_back.specs.Segments.{cut_from, head_of, end_of}
+use Rattle.write_back.specs.Files.{numbers_of, IsNewest}
+use Rattle.write_back.specs.Pieces.{Sent}
 use Rattle.write_back.specs.Sound.{most_pending}
 use Rattle.write_back.proofs.Adding.{sound-cut}
-use Rattle.write_back.proofs.WritesByFile.{same-or}
-use Rattle.client_shelf.specs.declared.next.Next.{Next}
 use Rattle.client_shelf.specs.declared.next.Next.TheVariants as nexts
-use Rattle.client_shelf.specs.declared.repeats.Repeat.{Repeat}
-use Rattle.client_shelf.specs.declared.shelf.Shelf.{Shelf}
-use Rattle.client_shelf.specs.declared.turn.Turn.{Turn}
-use Rattle.open_files.specs.Slots.{Opens}
-use Rattle.file_ops.specs.declared.put_file.PutFile.{PutFile}
-use Rattle.file_ops.specs.declared.put_file.Putting.{Putting}
 use Rattle.file_ops.specs.declared.put_file.Putting.TheVariants as putting
-use Rattle.file_ops.specs.declared.saving.Saving.{Saving}
 use Rattle.file_ops.specs.declared.write_file.Text.{Text}
 use Rattle.file_ops.specs.declared.write_file.Text.TheVariants as texts
-use Rattle.file_ops.specs.declared.write_file.WriteFile.{WriteFile}
-use Rattle.file_ops.specs.declared.write_file.Writing.{Writing}
 use Rattle.file_ops.specs.declared.write_file.Writing.TheVariants as writing
-use Rattle.file_ops.specs.Adding.{is_full}
 use Rattle.file_ops.specs.PutFile as puts
-use Rattle.file_ops.specs.Quiet.{is_quiet, are_none}
+use Rattle.file_ops.specs.Quiet.{are_none}
 use Rattle.file_ops.specs.Saves as saves
-use Rattle.file_ops.specs.SlotFiles.{IsUnused}
 use Rattle.file_ops.specs.Syncs as syncs
 use Rattle.file_ops.specs.WriteFile as writes
 use Rattle.file_ops.proofs.Fewer.{IsIn, numbers_written, numbers_flying, both-in, later-in, none-in, fewer-newest, fewer-unused}
-use Rattle.file_ops.proofs.SaveCounts.{by-step}
 use Rattle.file_ops.proofs.Unsent.{NoCall, goes-same, takes-fewer}
-use Rattle.op_machines.specs.declared.file_machine.FileMachine.{FileMachine}
 use Rattle.op_machines.specs.declared.file_machine.FileMachine.TheVariants as files
-use Rattle.op_machines.specs.declared.machine.Machine.{Machine}
 use Rattle.op_machines.specs.declared.machine.Machine.TheVariants as machines
-use Rattle.op_machines.specs.declared.path_machine.PathMachine.{PathMachine}
 use Rattle.op_machines.specs.FileFits.{FileFits}
 use Rattle.op_machines.specs.FileSteps as steps
-use Rattle.op_machines.specs.Fits.{Fits}
-use Rattle.op_machines.specs.Openers.{file_of}
 use Rattle.op_machines.specs.PathSteps as paths
-use Rattle.op_machines.specs.Steps.{Starts, Resumes, Takes}
-use Rattle.step_pending.specs.Cells.{EachSound}
 use Rattle.step_pending.proofs.ComingIn.{sound-in}
 use Rattle.step_pending.proofs.Cutting.{sound-given}
 use Rattle.step_pending.proofs.Leading.{sound-on}
 use Rattle.step_saves.proofs.Going.{goes-sound}
 use Rattle.step_saves.proofs.Taking.{takes-sound}
-use Rattle.core_answers.proofs.writes.Backs.{After, CarriesReply}
-use Rattle.core_answers.proofs.writes.Mapped.{any-saves}
 use Rattle.core_answers.proofs.writes.Under.{same-under, bytes-under, gives-under}
 use Rattle.core_session.proofs.order.Adds.{Moves, Bears, RoomHas, PutHas, FileHas, PathHas, TakesHas, StartsHas, all-starts, all-resumes, all-takes}
 

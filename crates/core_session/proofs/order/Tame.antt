@@ -1,60 +1,34 @@
 -- Which calls set a size: the SETATTR of a truncate alone.
-use Rattle.std.proofs.Common.{◌≡◌, ◌≤◌, ◌⊎◌, inl, inr, ℕ, Bool, true, false, List, Option, Some, None, refl, sym, ap, subst, arith}
-use Rattle.nfs_types.specs.declared.mode.Mode.{Mode}
+use Rattle.core_session.proofs.Prelude.{◌≡◌, ◌≤◌, ◌⊎◌, inl, inr, ℕ, Bool, true, false, List, Option, Some, None, refl, sym, ap, subst, arith, Mode, Call, look_up, Closing, Opening, OpeningStep, Putting, Phase, Reading, Syncing, TruncateFile, Truncating, Writing, Pair, Deed, RemoveFile, Visit, Walk, deed_call, Machine, NameMachine, Opener, PathMachine, file_of, of_name, of_walk, removal_by, of_writing, of_putting, of_syncing, of_closing, of_truncating, path_by, in_flight, PathOr, WalkAwaits, OwnOr, RemoveAwaits, Expects, PathNames, SyncNames, WriteNames, CloseNames, StateNames, Saves}
 use Rattle.nfs_types.specs.declared.mode.Mode.TheVariants as modes
 use Rattle.nfs_dir_calls.specs.declared.call.DirCall.TheVariants as dirs
 use Rattle.nfs_dir_calls.specs.declared.create.Making.TheVariants as makings
 use Rattle.nfs_file_calls.specs.declared.call.FileCall.TheVariants as file_calls
-use Rattle.world_model.specs.declared.message.Call.{Call}
 use Rattle.world_model.specs.declared.message.Call.TheVariants as calls
-use Rattle.claims.specs.Asks.{look_up}
-use Rattle.file_ops.specs.declared.close_file.Closing.{Closing}
 use Rattle.file_ops.specs.declared.close_file.Closing.TheVariants as closing
-use Rattle.file_ops.specs.declared.opening.Opening.{Opening}
-use Rattle.file_ops.specs.declared.opening.OpeningStep.{OpeningStep}
 use Rattle.file_ops.specs.declared.opening.OpeningStep.TheVariants as opening_steps
-use Rattle.file_ops.specs.declared.put_file.Putting.{Putting}
 use Rattle.file_ops.specs.declared.put_file.Putting.TheVariants as putting
-use Rattle.file_ops.specs.declared.reading.Phase.{Phase}
 use Rattle.file_ops.specs.declared.reading.Phase.TheVariants as phases
-use Rattle.file_ops.specs.declared.reading.Reading.{Reading}
-use Rattle.file_ops.specs.declared.sync_file.Syncing.{Syncing}
 use Rattle.file_ops.specs.declared.sync_file.Syncing.TheVariants as syncing
-use Rattle.file_ops.specs.declared.truncate_file.TruncateFile.{TruncateFile}
-use Rattle.file_ops.specs.declared.truncate_file.Truncating.{Truncating}
 use Rattle.file_ops.specs.declared.truncate_file.Truncating.TheVariants as truncating
-use Rattle.file_ops.specs.declared.write_file.Writing.{Writing}
 use Rattle.file_ops.specs.declared.write_file.Writing.TheVariants as writing
 use Rattle.file_ops.specs.Opening as opening
 use Rattle.file_ops.specs.TruncateFile as truncates
 use Rattle.name_ops.specs.declared.dir_change.DirDeed.{DirDeed}
 use Rattle.name_ops.specs.declared.dir_change.DirDeed.TheVariants as deeds
-use Rattle.name_ops.specs.declared.pair.Pair.{Pair}
-use Rattle.name_ops.specs.declared.remove_file.Deed.{Deed}
 use Rattle.name_ops.specs.declared.remove_file.Deed.TheVariants as removing
-use Rattle.name_ops.specs.declared.remove_file.RemoveFile.{RemoveFile}
-use Rattle.name_ops.specs.declared.visit.Visit.{Visit}
-use Rattle.name_ops.specs.declared.walk.Walk.{Walk}
-use Rattle.name_ops.specs.DirChange.{deed_call}
 use Rattle.name_ops.specs.RemoveFile as removals
 use Rattle.name_ops.specs.Walking as walking
 use Rattle.op_machines.specs.declared.file_machine.FileMachine.TheVariants as files
-use Rattle.op_machines.specs.declared.machine.Machine.{Machine}
 use Rattle.op_machines.specs.declared.machine.Machine.TheVariants as machines
-use Rattle.op_machines.specs.declared.name_machine.NameMachine.{NameMachine}
 use Rattle.op_machines.specs.declared.name_machine.NameMachine.TheVariants as names
-use Rattle.op_machines.specs.declared.opener.Opener.{Opener}
 use Rattle.op_machines.specs.declared.opener.Opener.TheVariants as openers
-use Rattle.op_machines.specs.declared.path_machine.PathMachine.{PathMachine}
-use Rattle.op_machines.specs.Openers.{file_of}
-use Rattle.core_facts.specs.InFlight.{of_name, of_walk, of_visit, visit_by, of_pair, pair_by, own_or, removal_by, of_writing, of_putting, of_reading, of_phase, of_syncing, of_closing, of_truncating, of_file, of_names, path_by, in_flight}
-use Rattle.core_facts.proofs.AllAwaited.{OpeningAwaits, PutAwaits, PathOr}
-use Rattle.core_facts.proofs.Awaited.{WalkAwaits, OwnOr, VisitAwaits, PairOr, PairAwaits}
-use Rattle.core_facts.proofs.NamesAwaited.{RemoveAwaits, NameAwaits}
-use Rattle.core_answers.proofs.asks.CallsAwaited.{Expects, PathNames}
-use Rattle.core_answers.proofs.asks.FilesAwaited.{SyncNames, WriteNames, CloseNames, CutNames, StateNames}
+use Rattle.core_facts.specs.InFlight.{of_visit, visit_by, of_pair, pair_by, own_or, of_reading, of_phase, of_file, of_names}
+use Rattle.core_facts.proofs.AllAwaited.{OpeningAwaits, PutAwaits}
+use Rattle.core_facts.proofs.Awaited.{VisitAwaits, PairOr, PairAwaits}
+use Rattle.core_facts.proofs.NamesAwaited.{NameAwaits}
+use Rattle.core_answers.proofs.asks.FilesAwaited.{CutNames}
 use Rattle.core_answers.proofs.asks.ReadsAwaited.{PhaseNames, ReadNames}
-use Rattle.core_answers.proofs.asks.SavedCalls.{Saves}
 
 -- it sets no size
 abbrev pub Tame : Call → Type 0

@@ -1,24 +1,9 @@
 -- All rows of refusals but those of NFS3ERR_JUKEBOX; of an operation that makes room, that it was refused so, or its row where it asked for the calls by which it does.
-use Rattle.std.proofs.Common.{◌≡◌, ◌≢◌, ◌⊎◌, inl, inr, ℕ, List, ◌++◌, length, refl, sym, subst, arith}
-use Rattle.world_model.specs.declared.answer.Answer.TheVariants.{Refused}
-use Rattle.world_model.specs.declared.answer.Fault.{Fault}
+use Rattle.core_session.proofs.Prelude.{◌≡◌, ◌≢◌, ◌⊎◌, inl, inr, ℕ, List, ◌++◌, length, refl, sym, subst, arith, Refused, Fault, Entry, Call, Op, Asks, IsWriter, Ended, RefusedBy, Terms, jukebox, Mounted, IsAsked, machine_of, Setup, View, begins-unbegun, IsForRoom, GoesSo}
 use Rattle.world_model.specs.declared.answer.Fault.TheVariants as faults
-use Rattle.world_model.specs.declared.entry.Entry.{Entry}
-use Rattle.world_model.specs.declared.message.Call.{Call}
-use Rattle.world_model.specs.declared.op.Op.{Op}
 use Rattle.world_model.specs.declared.op.Op.TheVariants as ops
-use Rattle.claims.specs.Asks.{Asks, IsWriter}
 use Rattle.claims.specs.Asks as asks
-use Rattle.world_model.specs.Operations.{Ended}
-use Rattle.claims.specs.RefusalRows.{RefusalRow, RefusedBy}
-use Rattle.claims.specs.Terms.{Terms, jukebox}
-use Rattle.op_machines.specs.declared.begun.Mounted.{Mounted}
-use Rattle.op_machines.specs.Begun.{IsAsked, machine_of}
-use Rattle.client_core.specs.declared.setup.Setup.{Setup}
-use Rattle.client_core.specs.View.{View}
-use Rattle.core_facts.proofs.AllCounts.{begins-unbegun}
-use Rattle.core_answers.specs.asks.PutCalls.{IsForRoom}
-use Rattle.core_answers.specs.refusals.Rowed.{GoesSo}
+use Rattle.claims.specs.RefusalRows.{RefusalRow}
 use Rattle.core_answers.proofs.refusals.Passing.{Passes}
 use Rattle.core_answers.proofs.refusals.Refused.{OwnRefusalBy, ShownBy, own-later-by, own-refused-by}
 use Rattle.core_answers.proofs.refusals.SentCalls.{SentBy}

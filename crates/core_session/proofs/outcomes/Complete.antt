@@ -1,45 +1,20 @@
 -- Where nothing goes wrong, each operation goes well, or has a reason of its own why not.
-use Rattle.std.proofs.Common.{◌≡◌, ◌≢◌, ◌≤◌, ◌⊎◌, inl, inr, ℕ, List, ◌++◌, length, refl, sym, ap, subst, ◌∙◌, arith}
+use Rattle.core_session.proofs.Prelude.{◌≡◌, ◌≢◌, ◌≤◌, ◌⊎◌, inl, inr, ℕ, List, ◌++◌, length, refl, sym, ap, subst, ◌∙◌, arith, Answer, Fault, Entry, Delivered, Call, Op, Asks, At, GoesOn, status_of, History, Lawful, IsLost, SpellsCall, info_call, Ended, RefusesSo, RefusedBy, Terms, Mounted, machine_of, Setup, View, Notes, KnowsRoot, IsForRoom, IsNfs, one-call, GoesFrom, CallsAskedBut}
 use Rattle.rpc_message.specs.Reply.{SpellsRefusal}
 use Rattle.nfs_file_calls.specs.declared.call.FileCall.TheVariants as files
-use Rattle.world_model.specs.declared.answer.Answer.{Answer}
 use Rattle.world_model.specs.declared.answer.Answer.TheVariants as answers
-use Rattle.world_model.specs.declared.answer.Fault.{Fault}
 use Rattle.world_model.specs.declared.answer.Fault.TheVariants as faults
-use Rattle.world_model.specs.declared.entry.Entry.{Entry}
-use Rattle.world_model.specs.declared.entry.Entry.TheVariants.{Delivered}
-use Rattle.world_model.specs.declared.message.Call.{Call}
 use Rattle.world_model.specs.declared.message.Call.TheVariants as calls
-use Rattle.world_model.specs.declared.op.Op.{Op}
-use Rattle.claims.specs.Asks.{Asks}
 use Rattle.claims.specs.CallsAsked.{IsCause, mounts, informs, asked}
 use Rattle.claims.specs.Complete as complete
 use Rattle.claims.specs.Complete.{Undisturbed, AllGoOn, IsOwn}
-use Rattle.world_model.specs.Entries.{At}
-use Rattle.claims.specs.GoesOn.{GoesOn}
-use Rattle.world_model.specs.Heard.{Heard, status_of}
-use Rattle.world_model.specs.History.{History}
-use Rattle.world_model.specs.Lawful.{Lawful}
-use Rattle.world_model.specs.Lost.{IsLost}
-use Rattle.world_model.specs.Messages.{SpellsCall}
-use Rattle.world_model.specs.Mounts.{mount_call, info_call}
-use Rattle.world_model.specs.Operations.{Ended}
+use Rattle.world_model.specs.Heard.{Heard}
+use Rattle.world_model.specs.Mounts.{mount_call}
 use Rattle.claims.specs.PageRules as pages
-use Rattle.claims.specs.PageRules.{RefusedSo, RefusesSo}
-use Rattle.claims.specs.RefusalRows.{RefusedBy}
-use Rattle.claims.specs.Terms.{Terms}
-use Rattle.op_machines.specs.declared.begun.Mounted.{Mounted}
-use Rattle.op_machines.specs.Begun.{machine_of}
-use Rattle.client_core.specs.declared.setup.Setup.{Setup}
-use Rattle.client_core.specs.View.{View}
-use Rattle.core_facts.specs.Notes.{Notes}
-use Rattle.core_facts.specs.Naming.{KnowsRoot}
+use Rattle.claims.specs.PageRules.{RefusedSo}
 use Rattle.core_facts.proofs.LostAnswers.{lost-answers}
 use Rattle.core_answers.specs.asks.PutCalls as rooms
-use Rattle.core_answers.specs.asks.PutCalls.{IsForRoom}
-use Rattle.core_answers.proofs.bonds.OneCall.{IsNfs, one-call}
 use Rattle.core_session.specs.calls.Made.{IsBeside, makes_room, removes}
-use Rattle.core_session.specs.calls.Whole.{GoesFrom, CallsAskedBut}
 use Rattle.core_session.proofs.calls.Whole.{calls-asked-but, session}
 use Rattle.core_answers.proofs.refusals.Refused.{OwnRefusal, own-later, own-refused}
 use Rattle.core_session.specs.outcomes.Complete.{CarriesBytes, ServedComplete, UndisturbedComplete}

@@ -1,33 +1,17 @@
 -- The rows of NFS3ERR_NOENT, of an open that may make its file and of a remove: the record refused a call for which the operation asked, and from which it
 -- doesn't go on.
-use Rattle.std.proofs.Common.{◌≡◌, ◌≢◌, ℕ, suc, List, [], ◌∷◌, ◌++◌, length, take, drop, refl, sym, ap, subst, ◌∙◌, arith, append_assoc}
+use Rattle.core_session.proofs.Prelude.{◌≡◌, ◌≢◌, ℕ, suc, List, [], ◌∷◌, ◌++◌, length, take, drop, refl, sym, ap, subst, ◌∙◌, arith, append_assoc, Entry, Call, Op, Asks, IsWriter, look_up, create_unchecked, GoesOn, Rooted, Ended, PlaceOf, IsLastRemove, RefusedBy, Terms, jukebox, FirstSent-grow, Rooted-wide, Mounted, IsNamed, front_of, last_of, Setup, View, front-last, leads-on, GoesSo}
 use Rattle.std.proofs.lemmas.List.{length-append}
 use Rattle.nfs_types.specs.declared.mode.Mode.TheVariants as modes
 use Rattle.world_model.specs.declared.answer.Answer.TheVariants as answers
 use Rattle.world_model.specs.declared.answer.Fault.TheVariants as faults
-use Rattle.world_model.specs.declared.entry.Entry.{Entry}
-use Rattle.world_model.specs.declared.message.Call.{Call}
-use Rattle.world_model.specs.declared.op.Op.{Op}
 use Rattle.world_model.specs.declared.op.Op.TheVariants as ops
-use Rattle.claims.specs.Asks.{Asks, IsWriter, look_up, create_unchecked}
 use Rattle.claims.specs.Asks as acts
-use Rattle.claims.specs.GoesOn.{GoesOn, IsNotOnTheWay, MadeWithin}
+use Rattle.claims.specs.GoesOn.{IsNotOnTheWay, MadeWithin}
 use Rattle.claims.specs.GoesOn as on
 use Rattle.world_model.specs.Leads.{Leads}
-use Rattle.world_model.specs.Mounts.{Rooted}
-use Rattle.world_model.specs.Operations.{Ended}
-use Rattle.claims.specs.Paths.{PlaceOf}
-use Rattle.claims.specs.RefusalRows.{IsLastRemove, RefusedBy}
-use Rattle.claims.specs.Terms.{Terms, jukebox}
-use Rattle.world_model.proofs.Growth.{FirstSent-grow, Rooted-wide}
-use Rattle.op_machines.specs.declared.begun.Mounted.{Mounted}
-use Rattle.op_machines.specs.Begun.{IsNamed, front_of, last_of}
-use Rattle.client_core.specs.declared.setup.Setup.{Setup}
-use Rattle.client_core.specs.View.{View}
-use Rattle.core_facts.proofs.OneCallStory.{front-last}
-use Rattle.core_answers.proofs.asks.WalkAsks.{Looks, leads-on, split-at}
+use Rattle.core_answers.proofs.asks.WalkAsks.{Looks, split-at}
 use Rattle.core_answers.specs.refusals.Asked.{AskedOr, asked, rooms, hides, removes as takes_away}
-use Rattle.core_answers.specs.refusals.Rowed.{GoesSo}
 use Rattle.core_answers.proofs.refusals.Asking.{row-of}
 use Rattle.core_session.proofs.outcomes.Missing.{MayMissAt, opens, removes, Missed, on_way, own, made, other, MissedRefusal, missed-refused}
 use Rattle.core_session.proofs.outcomes.RemoveRefusals.{asks-for, no-close}

@@ -1,86 +1,39 @@
 -- An open that may make its file, and a remove, are refused with NFS3ERR_NOENT only where a record refused so a call from which they don't go on: the LOOKUP of
 -- a name on their way, a call that is no LOOKUP, or that of the last name, by an open that made it before and by a remove.
-use Rattle.std.proofs.Common.{◌≡◌, ◌≤◌, ◌+◌, inl, inr, ℕ, Bool, true, false, List, [], ◌∷◌, ◌++◌, length, Option, Some, None, Result, Ok, Err, refl, sym, ap, subst, ◌∙◌, arith, append_assoc}
-use Rattle.std.specs.Prelude.{if◌then◌else◌}
-use Rattle.std.proofs.lemmas.Bool.{eqb-false, cases_lt}
-use Rattle.nfs_types.specs.declared.mode.Mode.{Mode}
+use Rattle.core_session.proofs.Prelude.{◌≡◌, ◌≤◌, ◌+◌, inl, inr, ℕ, Bool, true, false, List, [], ◌∷◌, ◌++◌, length, Option, Some, None, Result, Ok, Err, refl, sym, ap, subst, ◌∙◌, arith, append_assoc, if◌then◌else◌, eqb-false, cases_lt, Mode, DirKept, Answer, Fault, Entry, Began, Delivered, Call, Reply, Op, look_up, create_unchecked, Modes, Ended, RefusesSo, FirstSent-grow, Answers-grow, length_last, Says, Next, Shelf, Turn, OpeningStep, Deed, Look, Seek, Move, Mounted, Machine, PathMachine, IsNamed, front_of, last_of, machine_of, file_of, Takes, State, Busy, Over, Setup, View, of_walk, path_by, removal_by, in_flight, Reaches, Awaits, PathOr, awaits-laws, begins-unbegun, FineAnswer, RemoveAwaits, ThenOf, AsksFor, Did, reached-good, Expects, expects-laws, RemoveRuns, NoCall, walk-looks, IsPiece, CallFaults, CallFits, fits-laws, IsHeardNow, CameOf, heard_of, unmade, IsUnmadeFault, SlotLaws, reached-answered, FineLed, FitsOpening, machine-fits, SentCall}
 use Rattle.nfs_types.specs.declared.mode.Mode.TheVariants as modes
 use Rattle.nfs_dir_calls.specs.declared.call.DirCall.TheVariants as dirs
 use Rattle.nfs_dir_calls.specs.declared.create.Making.{Making}
-use Rattle.nfs_dir_calls.specs.declared.keeping.DirKept.{DirKept}
 use Rattle.nfs_dir_calls.specs.declared.keeping.DirKept.TheVariants as kept
 use Rattle.nfs_file_calls.specs.declared.call.FileCall.TheVariants as file_calls
-use Rattle.world_model.specs.declared.answer.Answer.{Answer}
 use Rattle.world_model.specs.declared.answer.Answer.TheVariants as answers
-use Rattle.world_model.specs.declared.answer.Fault.{Fault}
 use Rattle.world_model.specs.declared.answer.Fault.TheVariants as faults
-use Rattle.world_model.specs.declared.entry.Entry.{Entry}
-use Rattle.world_model.specs.declared.entry.Entry.TheVariants.{Began, Delivered}
-use Rattle.world_model.specs.declared.message.Call.{Call}
 use Rattle.world_model.specs.declared.message.Call.TheVariants as calls
-use Rattle.world_model.specs.declared.message.Reply.{Reply}
 use Rattle.world_model.specs.declared.message.Reply.TheVariants as replies
-use Rattle.world_model.specs.declared.op.Op.{Op}
 use Rattle.world_model.specs.declared.op.Op.TheVariants as ops
-use Rattle.claims.specs.Asks.{look_up, create_unchecked}
 use Rattle.claims.specs.GoesOn.{MadeWithin}
-use Rattle.claims.specs.Modes.{Modes}
-use Rattle.world_model.specs.Operations.{Ended}
-use Rattle.claims.specs.PageRules.{RefusedSo, RefusesSo}
-use Rattle.world_model.proofs.Growth.{FirstSent-grow, Answers-grow}
-use Rattle.world_model.proofs.Places.{length_last}
-use Rattle.call_replies.specs.Says.{Says}
-use Rattle.client_shelf.specs.declared.next.Next.{Next}
+use Rattle.claims.specs.PageRules.{RefusedSo}
 use Rattle.client_shelf.specs.declared.next.Next.TheVariants as nexts
-use Rattle.client_shelf.specs.declared.shelf.Shelf.{Shelf}
-use Rattle.client_shelf.specs.declared.turn.Turn.{Turn}
 use Rattle.file_ops.specs.declared.opening.Led.TheVariants as leads
-use Rattle.file_ops.specs.declared.opening.OpeningStep.{OpeningStep}
 use Rattle.file_ops.specs.declared.opening.OpeningStep.TheVariants as opening_steps
 use Rattle.file_ops.specs.Opening as opening
 use Rattle.file_ops.specs.Told as told
-use Rattle.name_ops.specs.declared.remove_file.Deed.{Deed}
-use Rattle.name_ops.specs.declared.remove_file.Deed.TheVariants.{Look, Seek, Move, Remove}
+use Rattle.name_ops.specs.declared.remove_file.Deed.TheVariants.{Remove}
 use Rattle.name_ops.specs.RemoveFile as removals
-use Rattle.op_machines.specs.declared.begun.Mounted.{Mounted}
-use Rattle.op_machines.specs.declared.machine.Machine.{Machine}
 use Rattle.op_machines.specs.declared.opener.Opener.TheVariants as openers
-use Rattle.op_machines.specs.declared.path_machine.PathMachine.{PathMachine}
-use Rattle.op_machines.specs.Begun.{IsNamed, front_of, last_of, machine_of}
-use Rattle.op_machines.specs.Openers.{file_of}
-use Rattle.op_machines.specs.Steps.{Takes}
-use Rattle.client_core.specs.declared.lane.State.{State}
-use Rattle.client_core.specs.declared.lane.State.TheVariants.{Busy, Over}
-use Rattle.client_core.specs.declared.setup.Setup.{Setup}
-use Rattle.client_core.specs.View.{View}
-use Rattle.core_facts.specs.InFlight.{of_walk, of_file, path_by, removal_by, in_flight}
-use Rattle.core_facts.specs.Reaches.{Reaches}
-use Rattle.core_facts.proofs.AllAwaited.{Awaits, PathOr, awaits-laws}
-use Rattle.core_facts.proofs.AllCounts.{begins-unbegun}
-use Rattle.core_facts.proofs.Faults.{FineAnswer}
-use Rattle.core_facts.proofs.NamesAwaited.{RemoveAwaits}
+use Rattle.core_facts.specs.InFlight.{of_file}
 use Rattle.core_facts.proofs.OpenPath.{OpenRuns}
-use Rattle.core_facts.proofs.Steps.{ThenOf}
-use Rattle.core_facts.proofs.Tales.{AsksFor, Did, reached-good}
-use Rattle.core_answers.proofs.asks.CallsAwaited.{Expects, expects-laws}
 use Rattle.core_answers.proofs.asks.RemoveAsks as removing
-use Rattle.core_answers.proofs.asks.RemoveSteps.{RemoveRuns}
-use Rattle.core_answers.proofs.asks.Sendings.{NoCall}
 use Rattle.core_answers.proofs.asks.Sendings as plain
-use Rattle.core_answers.proofs.asks.WalkAsks.{Looks, walk-looks}
+use Rattle.core_answers.proofs.asks.WalkAsks.{Looks}
 use Rattle.core_answers.proofs.answers.Both.{both-laws}
-use Rattle.core_answers.proofs.answers.PieceSteps.{IsPiece}
-use Rattle.core_answers.proofs.answers.SaveFaults.{CallFaults}
-use Rattle.core_answers.proofs.writes.AllFits.{CallFits, fits-laws}
-use Rattle.core_answers.proofs.refusals.Answering.{IsSeen, IsHeardNow, IsToldOf, CameOf, heard_of, unmade, IsUnmadeFault, SlotLaws, reached-answered}
+use Rattle.core_answers.proofs.refusals.Answering.{IsSeen, IsToldOf}
 use Rattle.core_answers.proofs.refusals.FitAll as steps
 use Rattle.core_answers.proofs.refusals.FitNames.{FitsRemoval}
-use Rattle.core_answers.proofs.refusals.FitReads.{FineLed, FitsOpening}
-use Rattle.core_answers.proofs.refusals.Fitting.{machine-fits}
 use Rattle.core_answers.proofs.refusals.OpenAsking as asking
 use Rattle.core_answers.proofs.refusals.Refused as refusals
 use Rattle.core_answers.proofs.refusals.Replied.{Given}
-use Rattle.core_answers.proofs.refusals.SentCalls.{SentCall, sent-later}
+use Rattle.core_answers.proofs.refusals.SentCalls.{sent-later}
 use Rattle.core_session.proofs.outcomes.MadeFirst.{FoundMade, PathMade, MadeStory, made-laws}
 
 -- ---- which operation it is

@@ -1,36 +1,22 @@
 -- The LOOKUP or CREATE of an open that gave its file, and kept attributes that a reply showed.
-use Rattle.std.proofs.Common.{◌≡◌, ℕ, Bool, true, false, List, [], ◌∷◌, ◌++◌, length, Option, Some, None, Result, Ok, Err, refl, ap, subst, arith}
-use Rattle.std.specs.Prelude.{if◌then◌else◌}
+use Rattle.core_session.proofs.Prelude.{◌≡◌, ℕ, Bool, true, false, List, [], ◌∷◌, ◌++◌, length, Option, Some, None, Result, Ok, Err, refl, ap, subst, arith, if◌then◌else◌, Attr, Mode, DirKept, Fault, Entry, Call, Reply, look_up, Asked, status_of, EndsWith, Asked-grow, Asked-wide, length_last, Opening, OpeningStep, made_by, got_by, last_of, IsAnswered}
 use Rattle.attr_cache.specs.Attrs as attrs
 use Rattle.attr_cache.specs.declared.kept.KeptAttr.{KeptAttr}
 use Rattle.attr_cache.proofs.Entries.{Believed, looked-kept}
-use Rattle.nfs_types.specs.declared.attr.Attr.{Attr}
-use Rattle.nfs_types.specs.declared.mode.Mode.{Mode}
 use Rattle.nfs_dir_calls.specs.declared.call.DirCall.TheVariants as dirs
-use Rattle.nfs_dir_calls.specs.declared.keeping.DirKept.{DirKept}
 use Rattle.nfs_dir_calls.specs.declared.keeping.DirKept.TheVariants as dir_kept
-use Rattle.world_model.specs.declared.answer.Fault.{Fault}
 use Rattle.world_model.specs.declared.answer.Fault.TheVariants as faults
-use Rattle.world_model.specs.declared.entry.Entry.{Entry}
-use Rattle.world_model.specs.declared.message.Call.{Call}
 use Rattle.world_model.specs.declared.message.Call.TheVariants as calls
-use Rattle.world_model.specs.declared.message.Reply.{Reply}
 use Rattle.world_model.specs.declared.message.Reply.TheVariants as replies
-use Rattle.claims.specs.Asks.{MakesFile, look_up}
-use Rattle.world_model.specs.Heard.{Asked, status_of}
-use Rattle.world_model.specs.Operations.{EndsWith}
+use Rattle.claims.specs.Asks.{MakesFile}
 use Rattle.claims.specs.Shown.{ShownWithin, given_object}
-use Rattle.world_model.proofs.Growth.{Asked-grow, Asked-wide, Heard-wide}
-use Rattle.world_model.proofs.Places.{length_last}
+use Rattle.world_model.proofs.Growth.{Heard-wide}
 use Rattle.file_ops.specs.declared.opening.Led.TheVariants as leads
-use Rattle.file_ops.specs.declared.opening.Opening.{Opening}
-use Rattle.file_ops.specs.declared.opening.OpeningStep.{OpeningStep}
 use Rattle.file_ops.specs.declared.opening.OpeningStep.TheVariants as opening_steps
 use Rattle.file_ops.specs.Opening as opening
-use Rattle.file_ops.specs.Told.{found_by, made_by, got_by}
-use Rattle.op_machines.specs.Begun.{last_of}
+use Rattle.file_ops.specs.Told.{found_by}
 use Rattle.core_facts.proofs.OpenStory.{OpeningStory, OpeningTold, StepStory, makes-file}
-use Rattle.core_answers.specs.bonds.Kept.{IsAnswered, WasShown}
+use Rattle.core_answers.specs.bonds.Kept.{WasShown}
 use Rattle.core_answers.proofs.bonds.AttrsShown.{ShownIn}
 use Rattle.core_answers.proofs.bonds.Learnt.{Good, Tells}
 

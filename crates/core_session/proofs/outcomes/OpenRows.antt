@@ -1,33 +1,14 @@
 -- The row of an open that goes well.
-use Rattle.std.proofs.Common.{◌≡◌, ◌+◌, ◌⊎◌, inl, inr, ℕ, true, List, ◌++◌, length, refl, sym, subst, ◌∙◌, arith}
-use Rattle.nfs_types.specs.declared.mode.Mode.{Mode}
+use Rattle.core_session.proofs.Prelude.{◌≡◌, ◌+◌, ◌⊎◌, inl, inr, ℕ, true, List, ◌++◌, length, refl, sym, subst, ◌∙◌, arith, Mode, Entry, Call, Reply, Asks, Asked, Rooted, PlaceOf, Terms, Asked-grow, Rooted-wide, Mounted, IsNamed, front_of, last_of, machine_of, Setup, Awaits, awaits-laws, begins-unbegun, LeadsTo, front-last, leads-on, LastAtMost, reached-answered}
 use Rattle.nfs_file_calls.specs.declared.call.FileCall.TheVariants as file_calls
 use Rattle.world_model.specs.declared.answer.Answer.TheVariants as answers
-use Rattle.world_model.specs.declared.entry.Entry.{Entry}
-use Rattle.world_model.specs.declared.message.Call.{Call}
 use Rattle.world_model.specs.declared.message.Call.TheVariants as calls
-use Rattle.world_model.specs.declared.message.Reply.{Reply}
 use Rattle.world_model.specs.declared.op.Op.TheVariants as ops
-use Rattle.claims.specs.Asks.{Asks}
 use Rattle.claims.specs.Asks as asks
-use Rattle.world_model.specs.Heard.{Asked}
-use Rattle.world_model.specs.Mounts.{Rooted}
 use Rattle.claims.specs.OkRows.{OpenOk, asked, known, FindsFile, looked_up, made, OkRow}
-use Rattle.claims.specs.Paths.{PlaceOf}
-use Rattle.claims.specs.Terms.{Terms}
-use Rattle.world_model.proofs.Growth.{Asked-grow, Rooted-wide}
-use Rattle.op_machines.specs.declared.begun.Mounted.{Mounted}
-use Rattle.op_machines.specs.Begun.{IsNamed, front_of, last_of, machine_of}
-use Rattle.client_core.specs.declared.setup.Setup.{Setup}
-use Rattle.core_facts.proofs.AllAwaited.{Awaits, awaits-laws}
-use Rattle.core_facts.proofs.AllCounts.{begins-unbegun}
-use Rattle.core_facts.proofs.Leading.{LeadsTo}
-use Rattle.core_facts.proofs.OneCallStory.{front-last, ends-until}
+use Rattle.core_facts.proofs.OneCallStory.{ends-until}
 use Rattle.core_facts.proofs.OpenStory.{OpenShown, IsFileOf}
 use Rattle.core_facts.proofs.OpenStory as story
-use Rattle.core_answers.proofs.asks.WalkAsks.{leads-on}
-use Rattle.core_answers.specs.bonds.Kept.{LastAtMost}
-use Rattle.core_answers.proofs.refusals.Answering.{reached-answered}
 use Rattle.core_answers.proofs.refusals.OpenAsking as asking
 use Rattle.core_session.specs.outcomes.Opened.{OpensWell}
 use Rattle.core_session.proofs.outcomes.OpenGiven.{Finds, looks, makes}

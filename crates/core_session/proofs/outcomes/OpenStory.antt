@@ -1,56 +1,22 @@
 -- How an open goes well: with the reply to its GETATTR, or with the one that gave its file, of which attributes are kept.
-use Rattle.std.proofs.Common.{◌≡◌, ◌≤◌, ◌+◌, ◌⊎◌, inl, inr, ℕ, Bool, true, false, List, [], ◌∷◌, ◌++◌, length, Result, refl, sym, subst, ◌∙◌, arith}
-use Rattle.nfs_types.specs.declared.attr.Attr.{Attr}
-use Rattle.nfs_types.specs.declared.mode.Mode.{Mode}
-use Rattle.world_model.specs.declared.answer.Answer.{Answer}
+use Rattle.core_session.proofs.Prelude.{◌≡◌, ◌≤◌, ◌+◌, ◌⊎◌, inl, inr, ℕ, Bool, true, false, List, [], ◌∷◌, ◌++◌, length, Result, refl, sym, subst, ◌∙◌, arith, Attr, Mode, Answer, Fault, Value, Entry, Began, Delivered, Call, Reply, Op, IsDelivered, Asked-grow, Asked-wide, length_last, Next, Shelf, Turn, OpenFile, Opening, walk_of, Mounted, Machine, PathMachine, IsNamed, front_of, last_of, machine_of, file_of, slot_taken, Starts, Resumes, Takes, State, Busy, Setup, of_walk, path_by, in_flight, Awaits, PathOr, LeadsTo, leads-later, ends-later, IsQuiet, Did, TaleLaws, walk-looks, LastAtMost, one-call, CameOf, heard_of, unmade, SlotLaws}
 use Rattle.world_model.specs.declared.answer.Answer.TheVariants as answers
-use Rattle.world_model.specs.declared.answer.Fault.{Fault}
-use Rattle.world_model.specs.declared.answer.Value.{Value}
 use Rattle.world_model.specs.declared.answer.Value.TheVariants as values
-use Rattle.world_model.specs.declared.entry.Entry.{Entry}
-use Rattle.world_model.specs.declared.entry.Entry.TheVariants.{Began, Delivered}
-use Rattle.world_model.specs.declared.message.Call.{Call}
-use Rattle.world_model.specs.declared.message.Reply.{Reply}
-use Rattle.world_model.specs.declared.op.Op.{Op}
 use Rattle.world_model.specs.declared.op.Op.TheVariants as ops
 use Rattle.claims.specs.Shown.{ShownWithin}
-use Rattle.world_model.specs.Waiting.{IsDelivered}
-use Rattle.world_model.proofs.Growth.{Asked-grow, Asked-wide}
-use Rattle.world_model.proofs.Places.{length_last}
-use Rattle.client_shelf.specs.declared.next.Next.{Next}
 use Rattle.client_shelf.specs.declared.next.Next.TheVariants as nexts
-use Rattle.client_shelf.specs.declared.shelf.Shelf.{Shelf}
-use Rattle.client_shelf.specs.declared.turn.Turn.{Turn}
-use Rattle.file_ops.specs.declared.open_file.OpenFile.{OpenFile}
-use Rattle.file_ops.specs.declared.opening.Opening.{Opening}
 use Rattle.file_ops.specs.Opening as opening
-use Rattle.name_ops.specs.Pairs.{walk_of}
-use Rattle.op_machines.specs.declared.begun.Mounted.{Mounted}
-use Rattle.op_machines.specs.declared.machine.Machine.{Machine}
 use Rattle.op_machines.specs.declared.opener.Opener.TheVariants as openers
-use Rattle.op_machines.specs.declared.path_machine.PathMachine.{PathMachine}
-use Rattle.op_machines.specs.Begun.{IsNamed, front_of, last_of, machine_of}
-use Rattle.op_machines.specs.Openers.{file_of, slot_taken}
-use Rattle.op_machines.specs.Steps.{Starts, Resumes, Takes}
-use Rattle.client_core.specs.declared.lane.State.{State}
-use Rattle.client_core.specs.declared.lane.State.TheVariants.{Busy, Over as Ends}
-use Rattle.client_core.specs.declared.setup.Setup.{Setup}
-use Rattle.core_facts.specs.InFlight.{of_walk, of_file, path_by, in_flight}
-use Rattle.core_facts.proofs.AllAwaited.{Awaits, PathOr}
-use Rattle.core_facts.proofs.Leading.{LeadsTo, leads-later}
-use Rattle.core_facts.proofs.OneCallStory.{ends-later}
+use Rattle.client_core.specs.declared.lane.State.TheVariants.{Over as Ends}
+use Rattle.core_facts.specs.InFlight.{of_file}
 use Rattle.core_facts.proofs.OpenPath.{OpenRuns}
 use Rattle.core_facts.proofs.OpenStory.{IsFileOf, found, made, OpenShown, OpeningTold, LedStory, led-on}
-use Rattle.core_facts.proofs.Tales.{IsQuiet, Did, TaleLaws}
-use Rattle.core_answers.proofs.asks.WalkAsks.{walk-looks}
-use Rattle.core_answers.specs.bonds.Kept.{LastAtMost}
 use Rattle.core_answers.proofs.bonds.AttrsShown.{ShownIn, attr-laws, fresh-attrs, no-story}
 use Rattle.core_answers.proofs.bonds.Keeping.{Known, IsAsked, reached-known}
 use Rattle.core_answers.proofs.bonds.Learnt.{Good}
 use Rattle.core_answers.proofs.bonds.MachineAttrs.{attrs-takes}
 use Rattle.core_answers.proofs.bonds.MachineCalls.{Asks, asks-laws}
-use Rattle.core_answers.proofs.bonds.OneCall.{one-call}
-use Rattle.core_answers.proofs.refusals.Answering.{IsSeen, CameOf, heard_of, unmade, SlotLaws}
+use Rattle.core_answers.proofs.refusals.Answering.{IsSeen}
 use Rattle.core_answers.proofs.refusals.OpenAsking as asking
 use Rattle.core_answers.proofs.refusals.SentCalls.{nfs-of}
 use Rattle.core_session.proofs.outcomes.OpenEnds.{IsUnwell, resumes-unwell, starts-unwell, KnownAt, known-at, WellLed, opened, knew, err-unwell, EndsWell, takes-well}

@@ -1,24 +1,11 @@
 -- An operation asked for the call of its own that a record refused, whichever it is; or it is a write, fill or put, which made room by it.
-use Rattle.std.proofs.Common.{◌⊎◌, inl, inr, ℕ, List, refl, subst}
-use Rattle.world_model.specs.declared.entry.Entry.{Entry}
-use Rattle.world_model.specs.declared.message.Call.{Call}
-use Rattle.world_model.specs.declared.op.Op.{Op}
+use Rattle.core_session.proofs.Prelude.{◌⊎◌, inl, inr, ℕ, List, refl, subst, Entry, Call, Op, Asks, IsWriter, IsLastRemove, Terms, Mounted, IsAsked, machine_of, Setup, View, begins-unbegun, IsForRoom, GoesSo, SentCall}
 use Rattle.world_model.specs.declared.op.Op.TheVariants as ops
-use Rattle.claims.specs.Asks.{Asks, IsWriter}
 use Rattle.claims.specs.Asks as asks
-use Rattle.claims.specs.RefusalRows.{IsLastRemove}
-use Rattle.claims.specs.Terms.{Terms}
-use Rattle.op_machines.specs.declared.begun.Mounted.{Mounted}
-use Rattle.op_machines.specs.Begun.{IsAsked, machine_of}
-use Rattle.client_core.specs.declared.setup.Setup.{Setup}
-use Rattle.client_core.specs.View.{View}
-use Rattle.core_facts.proofs.AllCounts.{begins-unbegun}
-use Rattle.core_answers.specs.asks.PutCalls.{IsForRoom}
 use Rattle.core_answers.specs.refusals.Asked.{AskedOr, asked, rooms, hides, removes}
-use Rattle.core_answers.specs.refusals.Rowed.{GoesSo, AsksPlainly}
+use Rattle.core_answers.specs.refusals.Rowed.{AsksPlainly}
 use Rattle.core_answers.proofs.refusals.Asking as asking
 use Rattle.core_answers.proofs.refusals.Refused.{NoRemoval}
-use Rattle.core_answers.proofs.refusals.SentCalls.{SentCall}
 use Rattle.core_session.proofs.outcomes.RemoveRefusals.{asks-for}
 use Rattle.core_session.proofs.outcomes.RoomRows.{store-room, put-room}
 

@@ -1,47 +1,15 @@
 -- An operation is refused for the kind of a file only if it wants one, and for too many names only if it lists them.
-use Rattle.std.proofs.Common.{◌≡◌, ◌+◌, ℕ, List, [], ◌∷◌, ◌++◌, length, option_map, Result, Ok, Err, sym, ap, subst, ◌∙◌}
-use Rattle.rpc_retry.specs.declared.waiting.Waiting.{Waiting}
-use Rattle.world_model.specs.declared.answer.Answer.{Answer}
+use Rattle.core_session.proofs.Prelude.{◌≡◌, ◌+◌, ℕ, List, [], ◌∷◌, ◌++◌, length, option_map, Result, Ok, Err, sym, ap, subst, ◌∙◌, Waiting, Answer, Fault, Entry, Began, Call, Reply, Op, RefusesSo, Says, Next, Shelf, Turn, Mounted, Machine, machine_of, Takes, Purpose, State, Busy, Over, Setup, in_flight, begins-unbegun, FineAnswer, ThenOf, AsksFor, Did, Expects, expects-laws, IsPiece, CallFaults, one-call, CallFits, fits-laws, machine-fits, CameOf, heard_of, unmade, IsUnmadeFault, SlotLaws, reached-answered}
 use Rattle.world_model.specs.declared.answer.Answer.TheVariants as answers
-use Rattle.world_model.specs.declared.answer.Fault.{Fault}
 use Rattle.world_model.specs.declared.answer.Fault.TheVariants as faults
-use Rattle.world_model.specs.declared.entry.Entry.{Entry}
-use Rattle.world_model.specs.declared.entry.Entry.TheVariants.{Began}
-use Rattle.world_model.specs.declared.message.Call.{Call}
-use Rattle.world_model.specs.declared.message.Reply.{Reply}
-use Rattle.world_model.specs.declared.op.Op.{Op}
 use Rattle.world_model.specs.Heard.{Refuses}
-use Rattle.claims.specs.PageRules.{RefusesSo}
 use Rattle.claims.specs.PageRules as page_rules
-use Rattle.call_replies.specs.Says.{Says}
-use Rattle.client_shelf.specs.declared.next.Next.{Next}
 use Rattle.client_shelf.specs.declared.next.Next.TheVariants as nexts
-use Rattle.client_shelf.specs.declared.shelf.Shelf.{Shelf}
-use Rattle.client_shelf.specs.declared.turn.Turn.{Turn}
-use Rattle.op_machines.specs.declared.begun.Mounted.{Mounted}
-use Rattle.op_machines.specs.declared.machine.Machine.{Machine}
-use Rattle.op_machines.specs.Begun.{machine_of}
-use Rattle.op_machines.specs.Steps.{Takes}
-use Rattle.client_core.specs.declared.lane.Purpose.{Purpose}
-use Rattle.client_core.specs.declared.lane.State.{State}
-use Rattle.client_core.specs.declared.lane.State.TheVariants.{Busy, Over}
-use Rattle.client_core.specs.declared.setup.Setup.{Setup}
-use Rattle.core_facts.specs.InFlight.{in_flight}
-use Rattle.core_facts.proofs.AllCounts.{begins-unbegun}
-use Rattle.core_facts.proofs.Faults.{FineAnswer}
-use Rattle.core_facts.proofs.Steps.{ThenOf}
-use Rattle.core_facts.proofs.Tales.{AsksFor, Did}
-use Rattle.core_answers.proofs.asks.CallsAwaited.{Expects, expects-laws}
 use Rattle.core_answers.proofs.answers.Both.{both-laws}
-use Rattle.core_answers.proofs.answers.PieceSteps.{IsPiece}
-use Rattle.core_answers.proofs.answers.SaveFaults.{CallFaults}
 use Rattle.core_answers.proofs.answers.Writing.{written-reached}
-use Rattle.core_answers.proofs.bonds.OneCall.{one-call}
-use Rattle.core_answers.proofs.writes.AllFits.{CallFits, fits-laws}
 use Rattle.core_answers.proofs.refusals.FitAll as steps
-use Rattle.core_answers.proofs.refusals.Fitting.{machine-fits}
 use Rattle.core_answers.proofs.refusals.Replied.{Given}
-use Rattle.core_answers.proofs.refusals.Answering.{IsSeen, CameOf, heard_of, unmade, IsUnmadeFault, SlotLaws, reached-answered}
+use Rattle.core_answers.proofs.refusals.Answering.{IsSeen}
 use Rattle.core_answers.proofs.refusals.SentCalls.{nfs-of}
 use Rattle.core_session.specs.outcomes.Refusals.{IsItsOwn, FaultsTheirOwn}
 use Rattle.core_session.proofs.outcomes.Sorts.{IsSort, sort-on, begins-sort, starts-so, resumes-so, takes-so}

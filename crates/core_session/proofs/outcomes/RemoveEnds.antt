@@ -1,31 +1,15 @@
 -- A step of a remove ends it well only at the reply to its REMOVE, or to the RENAME that hides its file.
-use Rattle.std.proofs.Common.{◌≡◌, inl, inr, ℕ, Bool, true, false, List, Option, Some, None, Result, Ok, Err, refl, sym, ◌∙◌}
-use Rattle.std.specs.Prelude.{if◌then◌else◌}
-use Rattle.nfs_dir_calls.specs.declared.keeping.DirKept.{DirKept}
+use Rattle.core_session.proofs.Prelude.{◌≡◌, inl, inr, ℕ, Bool, true, false, List, Option, Some, None, Result, Ok, Err, refl, sym, ◌∙◌, if◌then◌else◌, DirKept, Opens, Fault, Value, Call, Reply, Next, Shelf, Turn, Deed, Look, Seek, Move, RemoveFile, WalkNext, found_by, look_again, moved_told, NameMachine}
 use Rattle.nfs_dir_calls.specs.declared.keeping.DirKept.TheVariants as kept
-use Rattle.open_files.specs.Slots.{Opens}
 use Rattle.world_model.specs.declared.answer.Answer.TheVariants as answers
-use Rattle.world_model.specs.declared.answer.Fault.{Fault}
-use Rattle.world_model.specs.declared.answer.Value.{Value}
 use Rattle.world_model.specs.declared.answer.Value.TheVariants as values
-use Rattle.world_model.specs.declared.message.Call.{Call}
-use Rattle.world_model.specs.declared.message.Reply.{Reply}
 use Rattle.world_model.specs.declared.message.Reply.TheVariants as replies
-use Rattle.client_shelf.specs.declared.next.Next.{Next}
 use Rattle.client_shelf.specs.declared.next.Next.TheVariants as nexts
-use Rattle.client_shelf.specs.declared.shelf.Shelf.{Shelf}
-use Rattle.client_shelf.specs.declared.turn.Turn.{Turn}
-use Rattle.name_ops.specs.declared.remove_file.Deed.{Deed}
-use Rattle.name_ops.specs.declared.remove_file.Deed.TheVariants.{Look, Seek, Move, Remove}
-use Rattle.name_ops.specs.declared.remove_file.RemoveFile.{RemoveFile}
-use Rattle.name_ops.specs.declared.walk.WalkNext.{WalkNext}
+use Rattle.name_ops.specs.declared.remove_file.Deed.TheVariants.{Remove}
 use Rattle.name_ops.specs.declared.walk.WalkNext.TheVariants as walks
 use Rattle.name_ops.specs.Changing.{answer_of}
-use Rattle.name_ops.specs.Looking.{found_by, look_again}
-use Rattle.name_ops.specs.Moving.{moved_told}
 use Rattle.name_ops.specs.RemoveFile as removals
 use Rattle.name_ops.specs.Walking as walking
-use Rattle.op_machines.specs.declared.name_machine.NameMachine.{NameMachine}
 use Rattle.op_machines.specs.NameSteps as steps
 use Rattle.core_facts.proofs.OneCalls.{IsOkReply, moved-ok}
 

@@ -1,36 +1,16 @@
 -- The row of a remove that is refused: the call that a record refused is one for which it asked, also where it hides its file.
-use Rattle.std.proofs.Common.{◌≡◌, ◌≤◌, ℕ, List, ◌++◌, length, refl, sym, subst, arith}
-use Rattle.world_model.specs.declared.answer.Fault.{Fault}
+use Rattle.core_session.proofs.Prelude.{◌≡◌, ◌≤◌, ℕ, List, ◌++◌, length, refl, sym, subst, arith, Fault, Entry, Call, Op, Asks, HeldOpen, GoesOn, Rooted, IsLastRemove, RefusedBy, Terms, Mounted, IsNamed, front_of, last_of, machine_of, Busy, Setup, in_flight, KnowsRoot, begins-unbegun, reached-good, Expects, expects-laws, RemoveRuns, NoCall, SentCall}
 use Rattle.world_model.specs.declared.answer.Fault.TheVariants as faults
-use Rattle.world_model.specs.declared.entry.Entry.{Entry}
-use Rattle.world_model.specs.declared.message.Call.{Call}
-use Rattle.world_model.specs.declared.op.Op.{Op}
 use Rattle.world_model.specs.declared.op.Op.TheVariants as ops
-use Rattle.claims.specs.Asks.{Asks, HeldOpen}
-use Rattle.claims.specs.GoesOn.{GoesOn}
 use Rattle.claims.specs.GoesOn as on
-use Rattle.world_model.specs.Mounts.{Rooted}
-use Rattle.claims.specs.RefusalRows.{IsLastRemove, RefusedBy}
-use Rattle.claims.specs.Terms.{Terms}
-use Rattle.op_machines.specs.declared.begun.Mounted.{Mounted}
-use Rattle.op_machines.specs.Begun.{IsNamed, front_of, last_of, machine_of}
-use Rattle.client_core.specs.declared.lane.State.TheVariants.{Busy}
-use Rattle.client_core.specs.declared.setup.Setup.{Setup}
-use Rattle.core_facts.specs.InFlight.{in_flight}
-use Rattle.core_facts.specs.Naming.{KnowsRoot}
-use Rattle.core_facts.proofs.AllCounts.{begins-unbegun}
-use Rattle.core_facts.proofs.Tales.{reached-good}
-use Rattle.core_answers.proofs.asks.CallsAwaited.{Expects, expects-laws}
 use Rattle.core_answers.proofs.asks.PutAsks.{Sending, rooted-now}
 use Rattle.core_answers.proofs.asks.RemoveAsks.{RemoveStory, Shelved, remove-laws}
-use Rattle.core_answers.proofs.asks.RemoveSteps.{RemoveRuns}
-use Rattle.core_answers.proofs.asks.Sendings.{NoCall}
 use Rattle.core_session.proofs.calls.Hiding.{Hides}
 use Rattle.core_session.proofs.calls.HidingHeld.{hiding-held}
 use Rattle.core_session.proofs.calls.RemoveCause.{remove-asks}
 use Rattle.core_answers.specs.refusals.Rowed.{IsFinal}
 use Rattle.core_answers.proofs.refusals.Refused.{OwnRefusal, Shown, own-later, own-refused}
-use Rattle.core_answers.proofs.refusals.SentCalls.{SentCall, as-sent}
+use Rattle.core_answers.proofs.refusals.SentCalls.{as-sent}
 use Rattle.core_session.specs.outcomes.Removed.{RemovesRefused}
 
 -- ---- the call, as it was first sent

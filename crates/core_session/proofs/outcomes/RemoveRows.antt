@@ -1,32 +1,14 @@
 -- The row of a remove that goes well.
-use Rattle.std.proofs.Common.{◌≡◌, ℕ, List, ◌++◌, length, refl, sym, subst, arith}
+use Rattle.core_session.proofs.Prelude.{◌≡◌, ℕ, List, ◌++◌, length, refl, sym, subst, arith, Value, Entry, Call, Reply, Acts, HeldOpen, look_up, Asked, Rooted, PlaceOf, Terms, Asked-grow, Rooted-wide, Mounted, IsNamed, front_of, last_of, machine_of, begins-unbegun, LeadsTo, front-last, Expects, expects-laws, NoCall, leads-on, reached-answered}
 use Rattle.nfs_dir_calls.specs.declared.keeping.DirKept.TheVariants as kept
 use Rattle.world_model.specs.declared.answer.Answer.TheVariants as answers
-use Rattle.world_model.specs.declared.answer.Value.{Value}
-use Rattle.world_model.specs.declared.entry.Entry.{Entry}
-use Rattle.world_model.specs.declared.message.Call.{Call}
-use Rattle.world_model.specs.declared.message.Reply.{Reply}
 use Rattle.world_model.specs.declared.message.Reply.TheVariants as replies
 use Rattle.world_model.specs.declared.op.Op.TheVariants as ops
-use Rattle.claims.specs.Asks.{Acts, HeldOpen, look_up}
 use Rattle.claims.specs.Asks as asks
-use Rattle.world_model.specs.Heard.{Asked}
-use Rattle.world_model.specs.Mounts.{Rooted}
 use Rattle.claims.specs.OkRows.{ActOk}
-use Rattle.claims.specs.Paths.{PlaceOf}
-use Rattle.claims.specs.Terms.{Terms}
-use Rattle.world_model.proofs.Growth.{Asked-grow, Rooted-wide}
-use Rattle.op_machines.specs.declared.begun.Mounted.{Mounted}
-use Rattle.op_machines.specs.Begun.{IsNamed, front_of, last_of, machine_of}
-use Rattle.core_facts.proofs.AllCounts.{begins-unbegun}
-use Rattle.core_facts.proofs.Leading.{LeadsTo}
-use Rattle.core_facts.proofs.OneCallStory.{front-last, ends-until}
-use Rattle.core_answers.proofs.asks.CallsAwaited.{Expects, expects-laws}
+use Rattle.core_facts.proofs.OneCallStory.{ends-until}
 use Rattle.core_answers.proofs.asks.RemoveAsks.{Shelved}
-use Rattle.core_answers.proofs.asks.Sendings.{NoCall}
-use Rattle.core_answers.proofs.asks.WalkAsks.{leads-on}
 use Rattle.core_session.proofs.calls.HidingHeld.{open-grow}
-use Rattle.core_answers.proofs.refusals.Answering.{reached-answered}
 use Rattle.core_session.specs.outcomes.Removed.{RemovesWell}
 use Rattle.core_session.proofs.outcomes.RemoveStory.{Does, removed, hidden, WentWell, Story, Seen, NoLane, well-laws, sees}
 

@@ -1,55 +1,22 @@
 -- How a remove goes well: what its path leads to, and, of a file that it hides, that a slot held it and that nothing had its new name.
-use Rattle.std.proofs.Common.{◌≡◌, ◌≤◌, ℕ, List, [], ◌∷◌, ◌++◌, length, Option, Some, Result, Ok, Err, refl, sym, ap, subst, ◌∙◌, arith}
+use Rattle.core_session.proofs.Prelude.{◌≡◌, ◌≤◌, ℕ, List, [], ◌∷◌, ◌++◌, length, Option, Some, Result, Ok, Err, refl, sym, ap, subst, ◌∙◌, arith, Answer, Fault, Value, Entry, Began, Delivered, Call, Reply, Op, HeldOpen, look_up, status_of, EndsWith, Terms, IsDelivered, Asked-grow, Asked-wide, length_last, Next, Shelf, Turn, Deed, Look, Seek, Move, RemoveFile, Mounted, Machine, front_of, last_of, machine_of, Starts, Resumes, Takes, State, Busy, Over, Setup, LeadsTo, leads-later, end-leads, RemoveAwaits, ends-later, IsQuiet, Did, TaleLaws, Expects, RemoveRuns, NoCall, CameOf, heard_of, unmade, SlotLaws}
 use Rattle.nfs_dir_calls.specs.declared.call.DirCall.TheVariants as dirs
-use Rattle.world_model.specs.declared.answer.Answer.{Answer}
 use Rattle.world_model.specs.declared.answer.Answer.TheVariants as answers
-use Rattle.world_model.specs.declared.answer.Fault.{Fault}
-use Rattle.world_model.specs.declared.answer.Value.{Value}
-use Rattle.world_model.specs.declared.entry.Entry.{Entry}
-use Rattle.world_model.specs.declared.entry.Entry.TheVariants.{Began, Delivered}
-use Rattle.world_model.specs.declared.message.Call.{Call}
 use Rattle.world_model.specs.declared.message.Call.TheVariants as calls
-use Rattle.world_model.specs.declared.message.Reply.{Reply}
-use Rattle.world_model.specs.declared.op.Op.{Op}
 use Rattle.world_model.specs.declared.op.Op.TheVariants as ops
-use Rattle.claims.specs.Asks.{HeldOpen, look_up}
-use Rattle.world_model.specs.Heard.{status_of}
 use Rattle.claims.specs.Hidden.{IsHidden}
 use Rattle.claims.specs.OkRows.{value_of}
-use Rattle.world_model.specs.Operations.{EndsWith}
-use Rattle.claims.specs.Terms.{Terms}
-use Rattle.world_model.specs.Waiting.{IsDelivered}
-use Rattle.world_model.proofs.Growth.{Asked-grow, Asked-wide}
-use Rattle.world_model.proofs.Places.{length_last}
 use Rattle.nfs_dir_calls.specs.declared.keeping.DirKept.TheVariants as kept
 use Rattle.world_model.specs.declared.message.Reply.TheVariants as replies
-use Rattle.client_shelf.specs.declared.next.Next.{Next}
 use Rattle.client_shelf.specs.declared.next.Next.TheVariants as nexts
-use Rattle.client_shelf.specs.declared.shelf.Shelf.{Shelf}
-use Rattle.client_shelf.specs.declared.turn.Turn.{Turn}
-use Rattle.name_ops.specs.declared.remove_file.Deed.{Deed}
-use Rattle.name_ops.specs.declared.remove_file.Deed.TheVariants.{Look, Seek, Move, Remove}
-use Rattle.name_ops.specs.declared.remove_file.RemoveFile.{RemoveFile}
+use Rattle.name_ops.specs.declared.remove_file.Deed.TheVariants.{Remove}
 use Rattle.name_ops.specs.Moving.{move_call}
 use Rattle.name_ops.specs.RemoveFile as removals
-use Rattle.op_machines.specs.declared.begun.Mounted.{Mounted}
-use Rattle.op_machines.specs.declared.machine.Machine.{Machine}
-use Rattle.op_machines.specs.Begun.{front_of, last_of, machine_of}
-use Rattle.op_machines.specs.Steps.{Starts, Resumes, Takes}
-use Rattle.client_core.specs.declared.lane.State.{State}
-use Rattle.client_core.specs.declared.lane.State.TheVariants.{Busy, Over}
-use Rattle.client_core.specs.declared.setup.Setup.{Setup}
-use Rattle.core_facts.proofs.Leading.{LeadsTo, leads-later, end-leads}
-use Rattle.core_facts.proofs.NamesAwaited.{RemoveAwaits}
-use Rattle.core_facts.proofs.OneCallStory.{ends-later}
-use Rattle.core_facts.proofs.Tales.{IsQuiet, Did, TaleLaws}
-use Rattle.core_answers.proofs.asks.CallsAwaited.{Expects}
 use Rattle.core_answers.proofs.asks.RemoveAsks.{RemoveStory, Shelved, remove-laws}
-use Rattle.core_answers.proofs.asks.RemoveSteps.{IsFound, IsFree, IsFineOf, HasDeed, RemoveRuns}
-use Rattle.core_answers.proofs.asks.Sendings.{NoCall}
+use Rattle.core_answers.proofs.asks.RemoveSteps.{IsFound, IsFree, IsFineOf, HasDeed}
 use Rattle.core_session.proofs.calls.Hiding.{Hides, SomeHides, DeedHides, hides-map}
 use Rattle.core_session.proofs.calls.HidingHeld.{open-grow, hiding-held}
-use Rattle.core_answers.proofs.refusals.Answering.{IsSeen, CameOf, heard_of, unmade, SlotLaws}
+use Rattle.core_answers.proofs.refusals.Answering.{IsSeen}
 use Rattle.core_session.proofs.outcomes.RemoveEnds.{IsUnwell, remove-goes-unwell, DoesIt, EndsWell, remove-takes-well}
 use Rattle.core_session.proofs.outcomes.Telling.{replied, told-so}
 

@@ -1,47 +1,17 @@
 -- The rows of a write, fill or put that a record refused: it asked for the call, or made room by it.
-use Rattle.std.proofs.Common.{◌≡◌, ◌≢◌, ◌≤◌, ◌⊎◌, inl, inr, ℕ, List, ◌++◌, length, refl, sym, subst, ◌∙◌, arith}
-use Rattle.std.proofs.lemmas.Bool.{cases_lt}
-use Rattle.nfs_types.specs.declared.mode.Mode.{Mode}
+use Rattle.core_session.proofs.Prelude.{◌≡◌, ◌≢◌, ◌≤◌, ◌⊎◌, inl, inr, ℕ, List, ◌++◌, length, refl, sym, subst, ◌∙◌, arith, cases_lt, Mode, Answer, Fault, Entry, Began, Answered, Sent, Call, Op, Asks, IsWriter, At, GoesOn, Rooted, Ended, UnderWay, IsLastRemove, RefusedBy, Terms, jukebox, At-one, Mounted, IsAsked, IsNamed, machine_of, Busy, Setup, View, in_flight, KnowsRoot, begins-unbegun, good-over, over-laws, Always, reached-good, IsForRoom, Expects, expects-laws, NoCall, GoesSo, SentCall}
 use Rattle.nfs_types.specs.declared.mode.Mode.TheVariants as modes
-use Rattle.world_model.specs.declared.answer.Answer.{Answer}
 use Rattle.world_model.specs.declared.answer.Answer.TheVariants as answers
-use Rattle.world_model.specs.declared.answer.Fault.{Fault}
 use Rattle.world_model.specs.declared.answer.Fault.TheVariants as faults
-use Rattle.world_model.specs.declared.entry.Entry.{Entry}
-use Rattle.world_model.specs.declared.entry.Entry.TheVariants.{Began, Answered, Sent}
-use Rattle.world_model.specs.declared.message.Call.{Call}
-use Rattle.world_model.specs.declared.op.Op.{Op}
 use Rattle.world_model.specs.declared.op.Op.TheVariants as ops
-use Rattle.claims.specs.Asks.{Asks, IsWriter}
 use Rattle.claims.specs.Asks as asks
-use Rattle.world_model.specs.Entries.{At}
-use Rattle.claims.specs.GoesOn.{GoesOn}
 use Rattle.claims.specs.GoesOn as on
 use Rattle.world_model.specs.Heard.{Heard}
-use Rattle.world_model.specs.Mounts.{Rooted}
-use Rattle.world_model.specs.Operations.{Ended, UnderWay}
-use Rattle.claims.specs.RefusalRows.{IsLastRemove, RefusedBy}
-use Rattle.claims.specs.Terms.{Terms, jukebox}
-use Rattle.world_model.proofs.Places.{At-one}
-use Rattle.op_machines.specs.declared.begun.Mounted.{Mounted}
-use Rattle.op_machines.specs.Begun.{IsAsked, IsNamed, machine_of}
-use Rattle.client_core.specs.declared.lane.State.TheVariants.{Busy}
-use Rattle.client_core.specs.declared.setup.Setup.{Setup}
-use Rattle.client_core.specs.View.{View}
-use Rattle.core_facts.specs.InFlight.{in_flight}
-use Rattle.core_facts.specs.Naming.{KnowsRoot}
-use Rattle.core_facts.proofs.AllCounts.{begins-unbegun}
-use Rattle.core_facts.proofs.Stories.{good-over, over-laws, Always}
-use Rattle.core_facts.proofs.Tales.{reached-good}
-use Rattle.core_answers.specs.asks.PutCalls.{IsForRoom}
-use Rattle.core_answers.proofs.asks.CallsAwaited.{Expects, expects-laws}
 use Rattle.core_answers.proofs.asks.PutAsks as puts
 use Rattle.core_answers.proofs.asks.PutAsks.{Sending, rooted-now, put-asks}
-use Rattle.core_answers.proofs.asks.Sendings.{NoCall}
 use Rattle.core_session.proofs.calls.WriteCause.{IsStore, WriteStory, write-laws, write-asks}
-use Rattle.core_answers.specs.refusals.Rowed.{GoesSo}
 use Rattle.core_answers.proofs.refusals.Refused.{OwnRefusal, Shown, own-later, own-refused}
-use Rattle.core_answers.proofs.refusals.SentCalls.{SentCall, as-sent}
+use Rattle.core_answers.proofs.refusals.SentCalls.{as-sent}
 use Rattle.core_session.specs.outcomes.Rooms.{IsNoJukebox, RefusedForRoom}
 
 -- ---- the call, as it was first sent

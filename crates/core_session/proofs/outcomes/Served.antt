@@ -1,13 +1,11 @@
 -- A lawful server's record that answers a call tells of an execution of it, and breaks no rule (as `core_answers.proofs.completes` has it, for calls of which
 -- it isn't known that an operation asks for them).
-use Rattle.std.proofs.Common.{◌≡◌, ◌<◌, ◌≤◌, ◌⊎◌, inl, inr, ℕ, suc, Bool, true, false, List, [], ◌∷◌, length, Some, Result, Ok, Err, sym, ap, subst, ◌∙◌, arith}
+use Rattle.core_session.proofs.Prelude.{◌≡◌, ◌<◌, ◌≤◌, ◌⊎◌, inl, inr, ℕ, suc, Bool, true, false, List, [], ◌∷◌, length, Some, Result, Ok, Err, sym, ap, subst, ◌∙◌, arith, DirKept, FileKept, Entry, Sent, Executed, Delivered, Call, Reply, Op, Asks, Acts, At, History, Lawful, HasXid, SpellsCall, SpellsReply, RefusesSo, Terms, IsNfs, one-call}
 use Rattle.xdr_codec.specs.declared.reader.XdrFault.{XdrFault}
 use Rattle.nfs_dir_calls.specs.declared.call.DirCall.TheVariants as dirs
-use Rattle.nfs_dir_calls.specs.declared.keeping.DirKept.{DirKept}
 use Rattle.nfs_dir_calls.specs.declared.keeping.DirKept.TheVariants as found
 use Rattle.nfs_dir_calls.proofs.Replies.{dir_reply_codec}
 use Rattle.nfs_file_calls.specs.declared.call.FileCall.TheVariants as files
-use Rattle.nfs_file_calls.specs.declared.owned.FileKept.{FileKept}
 use Rattle.nfs_file_calls.specs.declared.owned.FileKept.TheVariants as kept
 use Rattle.nfs_file_calls.proofs.ReplyLaws.{file_reply_codec}
 use Rattle.mount_calls.specs.declared.reply.MountReply.{MountReply}
@@ -19,29 +17,19 @@ use Rattle.rpc_message.specs.declared.reply.ReplyFault.{ReplyFault}
 use Rattle.rpc_message.specs.declared.reply.ReplyFault.TheVariants.{NotReply}
 use Rattle.rpc_message.specs.Reply.{RpcReply, Accepted, Refused as RpcRefused, Denied, SpellsRefusal}
 use Rattle.rpc_message.proofs.ReplyLaws.{reply_first, reply_again}
-use Rattle.world_model.specs.declared.entry.Entry.{Entry}
-use Rattle.world_model.specs.declared.entry.Entry.TheVariants.{Sent, Executed, Delivered}
-use Rattle.world_model.specs.declared.message.Call.{Call}
 use Rattle.world_model.specs.declared.message.Call.TheVariants as calls
-use Rattle.world_model.specs.declared.message.Reply.{Reply}
 use Rattle.world_model.specs.declared.message.Reply.TheVariants as replies
-use Rattle.world_model.specs.declared.op.Op.{Op}
 use Rattle.claims.specs.Asks as asks
-use Rattle.claims.specs.Asks.{Asks, Acts}
-use Rattle.world_model.specs.Entries.{At}
 use Rattle.world_model.specs.Heard.{Heard}
-use Rattle.world_model.specs.History.{History}
-use Rattle.world_model.specs.Lawful.{Lawful, IsReplied, replied, refused}
-use Rattle.world_model.specs.Messages.{HasXid, SpellsCall, SpellsReply, SpellsResults}
+use Rattle.world_model.specs.Lawful.{IsReplied, replied, refused}
+use Rattle.world_model.specs.Messages.{SpellsResults}
 use Rattle.claims.specs.PageRules as pages
-use Rattle.claims.specs.PageRules.{WrongData, BreaksPage, RefusesSo}
+use Rattle.claims.specs.PageRules.{WrongData, BreaksPage}
 use Rattle.world_model.specs.Rules as rules
 use Rattle.world_model.specs.Rules.{Breaks, IsNotReply}
-use Rattle.claims.specs.Terms.{Terms}
 use Rattle.world_model.proofs.Doing.{read_done, write_done, list_done}
 use Rattle.law_calls.proofs.CallsWait.{xid_of_call}
 use Rattle.call_replies.proofs.Readings.{not_reply_read}
-use Rattle.core_answers.proofs.bonds.OneCall.{IsNfs, one-call}
 use Rattle.core_session.specs.outcomes.Complete.{CarriesBytes}
 
 -- ---- one reply

@@ -1,19 +1,9 @@
 -- What came of a call that a machine waited for: a reply, the last record, or why there is none.
-use Rattle.std.proofs.Common.{◌≡◌, ◌<◌, ◌+◌, ℕ, List, length, Result, Ok, Err, sym, subst, ◌∙◌, arith}
-use Rattle.world_model.specs.declared.answer.Fault.{Fault}
+use Rattle.core_session.proofs.Prelude.{◌≡◌, ◌<◌, ◌+◌, ℕ, List, length, Result, Ok, Err, sym, subst, ◌∙◌, arith, Fault, Entry, Call, Reply, Op, SpellsReply, Says, Shelf, Turn, Machine, IsTold, IsHeardNow, CameOf, heard_of, unmade, IsUnmadeFault}
 use Rattle.world_model.specs.declared.answer.Fault.TheVariants as faults
-use Rattle.world_model.specs.declared.entry.Entry.{Entry}
-use Rattle.world_model.specs.declared.message.Call.{Call}
-use Rattle.world_model.specs.declared.message.Reply.{Reply}
-use Rattle.world_model.specs.declared.op.Op.{Op}
 use Rattle.world_model.specs.Heard.{Refuses as IsRefusal, Heard as IsHeard}
-use Rattle.world_model.specs.Messages.{SpellsReply}
-use Rattle.call_replies.specs.Says.{Says}
-use Rattle.client_shelf.specs.declared.shelf.Shelf.{Shelf}
-use Rattle.client_shelf.specs.declared.turn.Turn.{Turn}
-use Rattle.op_machines.specs.declared.machine.Machine.{Machine}
-use Rattle.core_facts.proofs.Tales.{IsWhy, IsLastReply, IsTold}
-use Rattle.core_answers.proofs.refusals.Answering.{Sight, IsHeardNow, CameOf, heard_of, unmade, IsUnmadeFault}
+use Rattle.core_facts.proofs.Tales.{IsWhy, IsLastReply}
+use Rattle.core_answers.proofs.refusals.Answering.{Sight}
 
 last-reply : (h : List Entry) (x xid : ℕ) (call : Call) (reply : Reply) (bytes : List ℕ) (d : IsHeard h x (length h) call xid bytes) → x < d.sent_at → d.got_at + 1 ≡ length h
     → SpellsReply xid call reply bytes → IsLastReply h x call reply

@@ -1,10 +1,8 @@
 -- The rows of all operations that go well, as each of them has its own.
 use Rattle.world_model.specs.declared.answer.Answer.TheVariants.{Done}
-use Rattle.world_model.specs.declared.op.Op.{Op}
+use Rattle.core_session.proofs.Prelude.{Op, Ended, IsAsked}
 use Rattle.world_model.specs.declared.op.Op.TheVariants as ops
 use Rattle.claims.specs.OkRows.{OkRow}
-use Rattle.world_model.specs.Operations.{Ended}
-use Rattle.op_machines.specs.Begun.{IsAsked}
 use Rattle.core_facts.proofs.OneCalled.{one-calls-done}
 use Rattle.core_answers.proofs.rows.ListStory.{lists-shown}
 use Rattle.core_answers.proofs.rows.WholeRows.{slot-rows}

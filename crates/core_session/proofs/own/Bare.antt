@@ -1,51 +1,19 @@
 -- Past the size of a truncate that went well the server has no byte but zeros, unless the place was touched since.
-use Rattle.std.proofs.Common.{◌≡◌, ◌<◌, ◌≤◌, ◌+◌, ◌⊎◌, inl, inr, ℕ, suc, List, length, Some, None, slice_get, refl, sym, ap, subst, ◌∙◌, arith}
-use Rattle.std.proofs.lemmas.Bool.{cases_lt}
-use Rattle.std.proofs.lemmas.Option.{slice_get_within}
+use Rattle.core_session.proofs.Prelude.{◌≡◌, ◌<◌, ◌≤◌, ◌+◌, ◌⊎◌, inl, inr, ℕ, suc, List, length, Some, None, slice_get, refl, sym, ap, subst, ◌∙◌, arith, cases_lt, slice_get_within, Entry, Answered, Sent, Call, Reply, Acts, NoneBegan, At, status_of, History, Lawful, SpellsCall, Once, EndsWith, Bytes, Object, Server, HasBytes, IsOf, Terms, Truncated, Touched, written, FirstSent, At-one, Numbered, CutBy, NoForeign, one_file_call, Mounted, machine_of, Setup, View, KnowsRoot, Notes, GoesWith, notes-reach, reached-rows, OnlySetsUp, PutsNamed}
 use Rattle.nfs_file_calls.specs.declared.call.FileCall.TheVariants as files
 use Rattle.nfs_file_calls.specs.declared.owned.FileKept.TheVariants as kept
 use Rattle.world_model.specs.declared.answer.Answer.TheVariants as answers
-use Rattle.world_model.specs.declared.entry.Entry.{Entry}
-use Rattle.world_model.specs.declared.entry.Entry.TheVariants.{Answered, Sent}
-use Rattle.world_model.specs.declared.message.Call.{Call}
 use Rattle.world_model.specs.declared.message.Call.TheVariants as calls
-use Rattle.world_model.specs.declared.message.Reply.{Reply}
 use Rattle.world_model.specs.declared.op.Op.TheVariants as ops
-use Rattle.claims.specs.Asks.{Acts}
 use Rattle.claims.specs.Asks as asks
-use Rattle.claims.specs.CallsAsked.{NoneBegan}
-use Rattle.world_model.specs.Entries.{At}
-use Rattle.world_model.specs.Heard.{status_of}
-use Rattle.world_model.specs.History.{History}
-use Rattle.world_model.specs.Lawful.{Lawful}
-use Rattle.world_model.specs.Messages.{SpellsCall}
 use Rattle.claims.specs.OkRows.{ActOk}
-use Rattle.world_model.specs.Once.{Once}
-use Rattle.world_model.specs.Operations.{EndsWith}
-use Rattle.world_model.specs.Server.{Bytes, Object, Server, HasBytes}
-use Rattle.claims.specs.Slots.{IsOf}
-use Rattle.claims.specs.Terms.{Terms}
-use Rattle.claims.specs.Touched.{Truncated, Touched, foreign, written}
-use Rattle.world_model.specs.Waiting.{FirstSent}
-use Rattle.world_model.proofs.Places.{At-one}
-use Rattle.law_calls.specs.Calls.{Numbered}
-use Rattle.law_stable.specs.Cut.{CutBy, OwnZeros, IsBare}
-use Rattle.law_stable.specs.OwnCalls.{HeardBefore, NoForeign}
-use Rattle.law_stable.proofs.OneFileCall.{one_file_call}
+use Rattle.claims.specs.Touched.{foreign}
+use Rattle.law_stable.specs.Cut.{OwnZeros, IsBare}
+use Rattle.law_stable.specs.OwnCalls.{HeardBefore}
 use Rattle.law_stable.proofs.Zeros.{cut_stays}
-use Rattle.op_machines.specs.declared.begun.Mounted.{Mounted}
-use Rattle.op_machines.specs.Begun.{machine_of}
-use Rattle.client_core.specs.declared.setup.Setup.{Setup}
-use Rattle.client_core.specs.View.{View}
-use Rattle.core_facts.specs.Naming.{KnowsRoot}
-use Rattle.core_facts.specs.Notes.{Notes}
-use Rattle.core_facts.specs.SlotAnswers.{GoesWith}
-use Rattle.core_facts.proofs.Noting.{notes-reach}
-use Rattle.core_facts.proofs.Rows.{reached-rows}
 use Rattle.core_answers.proofs.answers.CutRows.{truncates-ok}
 use Rattle.core_session.specs.order.Altering as order
-use Rattle.core_session.specs.settled.Settling.{IsSetUpCall, mounts, informs, IsSetUpRecord, OnlySetsUp}
-use Rattle.core_session.specs.syncs.Synced.{PutsNamed}
+use Rattle.core_session.specs.settled.Settling.{IsSetUpCall, mounts, informs, IsSetUpRecord}
 use Rattle.core_session.proofs.order.Earliers.{earlier-heard}
 use Rattle.core_session.proofs.pending.Begins.{one-file}
 use Rattle.core_session.specs.own.Cuts.{CutsStayBare}

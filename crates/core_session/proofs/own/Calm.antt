@@ -1,50 +1,17 @@
 -- Where answers are noted before records are sent, nothing is sent between the last record that came before the answer of a truncate that goes well and that answer.
-use Rattle.std.proofs.Common.{◌≡◌, ◌≤◌, ◌<◌, ◌⊎◌, inl, inr, ℕ, Bool, true, false, nat_eq, List, [], ◌∷◌, ◌++◌, length, map, Some, None, slice_get, slice_set, refl, sym, ap, subst, ◌∙◌, arith}
-use Rattle.std.proofs.lemmas.Bool.{eqb-true, eqb-false}
-use Rattle.world_model.specs.declared.answer.Answer.{Answer}
+use Rattle.core_session.proofs.Prelude.{◌≡◌, ◌≤◌, ◌<◌, ◌⊎◌, inl, inr, ℕ, Bool, true, false, nat_eq, List, [], ◌∷◌, ◌++◌, length, map, Some, None, slice_get, slice_set, refl, sym, ap, subst, ◌∙◌, arith, eqb-true, eqb-false, Answer, Fault, Value, Entry, Began, Answered, Dialed, Sent, Executed, Foreign, Flushed, Reboot, Delivered, Failed, Clock, Op, At, Ended, UnderWay, Terms, At-grow, At-below, At-back, At-last, At-one, At-cases, length_last, Next, Shelf, Truncating, Mounted, FileMachine, Machine, machine_of, Starts, Resumes, Lane, State, Busy, Over, Setup, lost_lane, numbers_of, IsRefused, Moves, moves_none, moves_more, Stirs, StartsLane, BeginsIf, AnswersAt, counted, View, turn_at, NoneReady, Notes, StepsTo, Reaches, last_reading, begins-unbegun, sent_now, FailedNow, goes_on, gives_up, failed_now, answered_now, Given, is-given, idle-numbers, number_of, lanes-under-way, reached-lanes, at-set, get-push, get-remove, in-map, skip, to-map, notes-reach, good-over, ended-grow, set-other, WorksAt, SlotRuns, SlotStory, slot-laws}
 use Rattle.world_model.specs.declared.answer.Answer.TheVariants as answers
-use Rattle.world_model.specs.declared.answer.Fault.{Fault}
 use Rattle.world_model.specs.declared.answer.Fault.TheVariants as faults
-use Rattle.world_model.specs.declared.answer.Value.{Value}
-use Rattle.world_model.specs.declared.entry.Entry.{Entry}
-use Rattle.world_model.specs.declared.entry.Entry.TheVariants.{Began, Answered, Dialed, Sent, Executed, Foreign, Flushed, Reboot, Delivered, Failed, Clock}
-use Rattle.world_model.specs.declared.op.Op.{Op}
 use Rattle.world_model.specs.declared.op.Op.TheVariants as ops
-use Rattle.world_model.specs.Entries.{At}
-use Rattle.world_model.specs.Operations.{Ended, UnderWay}
-use Rattle.claims.specs.Terms.{Terms}
-use Rattle.world_model.proofs.Places.{At-grow, At-below, At-back, At-last, At-one, At-cases, length_last}
-use Rattle.client_shelf.specs.declared.next.Next.{Next}
 use Rattle.client_shelf.specs.declared.next.Next.TheVariants as nexts
-use Rattle.client_shelf.specs.declared.shelf.Shelf.{Shelf}
-use Rattle.file_ops.specs.declared.truncate_file.Truncating.{Truncating}
 use Rattle.file_ops.specs.declared.truncate_file.Truncating.TheVariants as truncating
-use Rattle.op_machines.specs.declared.begun.Mounted.{Mounted}
-use Rattle.op_machines.specs.declared.file_machine.FileMachine.{FileMachine}
 use Rattle.op_machines.specs.declared.file_machine.FileMachine.TheVariants as files
-use Rattle.op_machines.specs.declared.machine.Machine.{Machine}
 use Rattle.op_machines.specs.declared.machine.Machine.TheVariants as machines
-use Rattle.op_machines.specs.Begun.{machine_of}
-use Rattle.op_machines.specs.Steps.{Starts, Resumes}
-use Rattle.client_core.specs.declared.lane.Lane.{Lane}
-use Rattle.client_core.specs.declared.lane.State.{State}
-use Rattle.client_core.specs.declared.lane.State.TheVariants.{Busy, Over}
-use Rattle.client_core.specs.declared.setup.Setup.{Setup}
-use Rattle.client_core.specs.Lanes.{lost_lane, lost_state}
-use Rattle.client_core.specs.Numbers.{numbers_of}
-use Rattle.client_core.specs.Steps.{IsRefused, Moves, moves_none, moves_more, Stirs, StartsLane, BeginsIf, BeginsNow, AnswersAt, counted, lost}
-use Rattle.client_core.specs.View.{View, turn_at}
-use Rattle.core_facts.specs.Notes.{NoneReady, ComesAfter, Notes}
-use Rattle.core_facts.specs.Reaches.{StepsTo, BeginsOp, Reaches, last_reading}
-use Rattle.core_facts.proofs.AllCounts.{begins-unbegun}
+use Rattle.client_core.specs.Lanes.{lost_state}
+use Rattle.client_core.specs.Steps.{BeginsNow, lost}
+use Rattle.core_facts.specs.Notes.{ComesAfter}
+use Rattle.core_facts.specs.Reaches.{BeginsOp}
 use Rattle.core_facts.proofs.Along.{KeepsNoting, notes-along}
-use Rattle.core_facts.proofs.Cases.{sent_now, FailedNow, goes_on, gives_up, failed_now, answered_now}
-use Rattle.core_facts.proofs.HeldSlots.{Given, is-given}
-use Rattle.core_facts.proofs.LaneMarks.{idle-numbers, number_of, lanes-under-way, reached-lanes}
-use Rattle.core_facts.proofs.Lists.{at-set, get-push, get-remove, in-map, skip, to-map}
-use Rattle.core_facts.proofs.Noting.{notes-reach}
-use Rattle.core_facts.proofs.Stories.{good-over, ended-grow, set-other}
-use Rattle.core_answers.proofs.asks.SlotFiles.{WorksAt, SlotRuns, SlotStory, slot-laws}
 use Rattle.core_session.proofs.drops.KnowingAlong.{IsPlain}
 use Rattle.core_session.proofs.drops.LaneIs.{state-is, number-is, answer-is}
 use Rattle.core_session.proofs.drops.Leading.{Settles, Leading, settles, unmade, Led, Pushed, stirs-led, starts-led}

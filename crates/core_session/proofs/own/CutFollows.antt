@@ -1,43 +1,17 @@
 -- What a step makes of the pages of a file, at the reply to a SETATTR of its size.
-use Rattle.std.proofs.Common.{◌≡◌, ◌≤◌, ◌-◌, ◌⊎◌, inl, inr, ℕ, false, List, [], Option, Some, None, Result, Ok, Err, refl, sym, ap, subst, ◌∙◌, arith}
-use Rattle.nfs_types.specs.declared.set_attr.SetAttr.{SetAttr}
-use Rattle.nfs_types.specs.declared.time.Time.{Time}
-use Rattle.nfs_types.specs.declared.wcc.Wcc.{Wcc}
+use Rattle.core_session.proofs.Prelude.{◌≡◌, ◌≤◌, ◌-◌, ◌⊎◌, inl, inr, ℕ, false, List, [], Option, Some, None, Result, Ok, Err, refl, sym, ap, subst, ◌∙◌, arith, SetAttr, Time, Wcc, FileKept, Pages, cut, Fault, Call, Reply, SpellsCall, one_file_call, Shelf, Turn, TruncateFile, Truncating, Mounted, Machine, machine_of, Takes, Busy, Setup, in_flight, begins-unbegun, calls-some, known-only, lanes-under-way, IsExpected, reached-good, Expects, expects-laws, NoCall, NoShelf, NoStory, no-laws}
 use Rattle.nfs_file_calls.specs.declared.call.FileCall.TheVariants as files
-use Rattle.nfs_file_calls.specs.declared.owned.FileKept.{FileKept}
 use Rattle.nfs_file_calls.specs.declared.owned.FileKept.TheVariants as kept
-use Rattle.page_cache.specs.Pages.{Pages, wrote, cut}
-use Rattle.world_model.specs.declared.answer.Fault.{Fault}
-use Rattle.world_model.specs.declared.message.Call.{Call}
+use Rattle.page_cache.specs.Pages.{wrote}
 use Rattle.world_model.specs.declared.message.Call.TheVariants as calls
-use Rattle.world_model.specs.declared.message.Reply.{Reply}
 use Rattle.world_model.specs.declared.message.Reply.TheVariants as replies
-use Rattle.world_model.specs.Messages.{SpellsCall}
-use Rattle.law_stable.proofs.OneFileCall.{one_file_call}
 use Rattle.client_shelf.specs.Unmade.{is_unmade, came_unmade}
-use Rattle.client_shelf.specs.declared.shelf.Shelf.{Shelf}
-use Rattle.client_shelf.specs.declared.turn.Turn.{Turn}
-use Rattle.file_ops.specs.declared.truncate_file.TruncateFile.{TruncateFile}
-use Rattle.file_ops.specs.declared.truncate_file.Truncating.{Truncating}
 use Rattle.file_ops.specs.declared.truncate_file.Truncating.TheVariants as truncating
 use Rattle.file_ops.specs.Saves as saves
 use Rattle.file_ops.specs.TruncateFile as truncates
 use Rattle.file_ops.proofs.Failed.{failed-made}
-use Rattle.op_machines.specs.declared.begun.Mounted.{Mounted}
 use Rattle.op_machines.specs.declared.file_machine.FileMachine.TheVariants as machines_of
-use Rattle.op_machines.specs.declared.machine.Machine.{Machine}
 use Rattle.op_machines.specs.declared.machine.Machine.TheVariants as machines
-use Rattle.op_machines.specs.Begun.{machine_of}
-use Rattle.op_machines.specs.Steps.{Takes}
-use Rattle.client_core.specs.declared.lane.State.TheVariants.{Busy}
-use Rattle.client_core.specs.declared.setup.Setup.{Setup}
-use Rattle.core_facts.specs.InFlight.{in_flight}
-use Rattle.core_facts.proofs.AllCounts.{begins-unbegun}
-use Rattle.core_facts.proofs.Counting.{calls-some, known-only}
-use Rattle.core_facts.proofs.LaneMarks.{lanes-under-way}
-use Rattle.core_facts.proofs.Tales.{IsExpected, reached-good}
-use Rattle.core_answers.proofs.asks.CallsAwaited.{Expects, expects-laws}
-use Rattle.core_answers.proofs.asks.Sendings.{NoCall, NoShelf, NoStory, no-laws}
 use Rattle.core_session.proofs.order.Tame.{Tame, IsCut, expects-tame}
 use Rattle.core_session.proofs.kept.OwnFollows.{Follows}
 

@@ -1,26 +1,11 @@
 -- On an honest server a stamp that a file may have since a truncate is one that it had at a moment since the size was set.
-use Rattle.std.proofs.Common.{◌≡◌, ◌<◌, ◌≤◌, inl, inr, ℕ, suc, List, ◌++◌, length, Option, Some, refl, sym, ap, subst, ◌∙◌, arith}
-use Rattle.std.proofs.lemmas.Bool.{cases_lt}
-use Rattle.nfs_types.specs.declared.attr.Attr.{Attr}
-use Rattle.nfs_types.specs.declared.set_attr.SetAttr.{SetAttr}
-use Rattle.nfs_types.specs.declared.time.Time.{Time}
-use Rattle.nfs_types.specs.declared.wcc.Stamp.{Stamp}
-use Rattle.nfs_types.specs.declared.wcc.Wcc.{Wcc}
-use Rattle.nfs_types.specs.Stamps.{stamp_of}
+use Rattle.core_session.proofs.Prelude.{◌≡◌, ◌<◌, ◌≤◌, inl, inr, ℕ, suc, List, ◌++◌, length, Option, Some, refl, sym, ap, subst, ◌∙◌, arith, cases_lt, Attr, SetAttr, Time, Stamp, Wcc, stamp_of, Entry, resized, Fresh, History, HoldsSized, SetsAttr, Lawful, Holds, Bytes, Entries, Text, Object, Numbered, HasStamp, serves}
 use Rattle.nfs_file_calls.specs.declared.call.FileCall.TheVariants as files
 use Rattle.nfs_file_calls.specs.declared.owned.FileKept.TheVariants as kept
-use Rattle.world_model.specs.declared.entry.Entry.{Entry}
-use Rattle.world_model.specs.Bytes.{resized}
-use Rattle.world_model.specs.Fresh.{Fresh}
-use Rattle.world_model.specs.History.{History}
-use Rattle.world_model.specs.FileService.{HoldsSized, SetsAttr}
-use Rattle.world_model.specs.Lawful.{Lawful}
-use Rattle.world_model.specs.Server.{Holds, Bytes, Entries, Text, Object}
 use Rattle.world_model.specs.Steps.{TrueOf, TrueStamp, TrueWcc}
 use Rattle.world_model.proofs.Doing.{setattr_done}
-use Rattle.law_calls.specs.Calls.{Numbered}
-use Rattle.law_reads.specs.Kept.{Done, HasStamp}
-use Rattle.law_reads.proofs.KeptBytes.{writes, serves, later, put_before, put_after, stamp_there}
+use Rattle.law_reads.specs.Kept.{Done}
+use Rattle.law_reads.proofs.KeptBytes.{writes, later, put_before, put_after, stamp_there}
 use Rattle.core_session.specs.current.Seen as seen_by
 use Rattle.core_session.proofs.current.ReadsRecent.{done-by}
 use Rattle.core_session.proofs.current.SeenTrue.{HadSince, had-since}

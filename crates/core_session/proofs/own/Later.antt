@@ -1,37 +1,11 @@
 -- Where a WRITE is sent, the newest byte that is pending at a place of it was given by an operation; and so it wasn't cut off since.
-use Rattle.std.proofs.Common.{◌≡◌, ◌≢◌, ◌<◌, ◌≤◌, ◌⊎◌, inl, inr, ℕ, true, List, length, Option, Some, None, refl, sym, ap, subst, ◌∙◌, arith}
+use Rattle.core_session.proofs.Prelude.{◌≡◌, ◌≢◌, ◌<◌, ◌≤◌, ◌⊎◌, inl, inr, ℕ, true, List, length, Option, Some, None, refl, sym, ap, subst, ◌∙◌, arith, of_file, Flown, fly_at, Cell, byte_of, covers, cell_at, IsSound, IsOver, fly-some, Entry, Began, Sent, NoneBegan, At, SpellsCall, AnsweredBefore, Terms, WritesByte, RefusedWrite, Truncated, writes-byte, one_file_call, Mounted, machine_of, Setup, View, KnowsRoot, GoesWith, IsMade, begins-unbegun, reached-rows, written_file, IsInFlight, writes-whole, PutsNamed}
 use Rattle.nfs_file_calls.specs.declared.call.FileCall.TheVariants as file_calls
-use Rattle.write_back.specs.Files.{of_file}
-use Rattle.write_back.specs.Pieces.{Flown, fly_at}
-use Rattle.write_back.specs.Segments.{Cell, byte_of, covers, cell_at}
-use Rattle.write_back.specs.Sound.{IsSound, IsOver}
-use Rattle.write_back.proofs.Flying.{fly-some}
-use Rattle.world_model.specs.declared.entry.Entry.{Entry}
-use Rattle.world_model.specs.declared.entry.Entry.TheVariants.{Began, Sent}
 use Rattle.world_model.specs.declared.message.Call.TheVariants as calls
 use Rattle.world_model.specs.declared.op.Op.TheVariants as ops
-use Rattle.claims.specs.CallsAsked.{NoneBegan}
-use Rattle.world_model.specs.Entries.{At}
-use Rattle.world_model.specs.Messages.{SpellsCall}
-use Rattle.world_model.specs.Operations.{AnsweredBefore}
-use Rattle.claims.specs.Terms.{Terms}
-use Rattle.claims.specs.Touched.{Covers, WritesByte, RefusedWrite, Truncated}
-use Rattle.law_own.proofs.OneByte.{writes-byte, no-truncate}
-use Rattle.law_stable.proofs.OneFileCall.{one_file_call}
-use Rattle.op_machines.specs.declared.begun.Mounted.{Mounted}
-use Rattle.op_machines.specs.Begun.{machine_of}
-use Rattle.client_core.specs.declared.setup.Setup.{Setup}
-use Rattle.client_core.specs.View.{View}
-use Rattle.core_facts.specs.Naming.{KnowsRoot}
-use Rattle.core_facts.specs.SlotAnswers.{GoesWith}
-use Rattle.core_facts.specs.Tries.{IsMade}
-use Rattle.core_facts.proofs.AllCounts.{begins-unbegun}
-use Rattle.core_facts.proofs.Rows.{reached-rows}
-use Rattle.core_answers.specs.writes.Alone.{written_file}
-use Rattle.core_answers.specs.writes.Flights.{IsInFlight}
-use Rattle.core_answers.proofs.writes.WholeWrites.{writes-whole}
+use Rattle.claims.specs.Touched.{Covers}
+use Rattle.law_own.proofs.OneByte.{no-truncate}
 use Rattle.core_session.specs.pending.Held.{IsUnsettled}
-use Rattle.core_session.specs.syncs.Synced.{PutsNamed}
 use Rattle.core_session.proofs.order.Basis.{reached-basis}
 use Rattle.core_session.proofs.pending.Unsettled.{held-at}
 use Rattle.core_session.proofs.calls.Outgoing.{Outgoing}

@@ -1,49 +1,18 @@
 -- Past the size of a truncate that went well before it began, a read shows zeros, unless the place was touched since.
-use Rattle.std.proofs.Common.{◌≡◌, ◌<◌, ◌≤◌, ◌+◌, ℕ, suc, true, List, ◌++◌, length, length-append, Some, slice_get, refl, sym, ap, subst, ◌∙◌, append_assoc, arith}
-use Rattle.nfs_types.specs.declared.wcc.Stamp.{Stamp}
+use Rattle.core_session.proofs.Prelude.{◌≡◌, ◌<◌, ◌≤◌, ◌+◌, ℕ, suc, true, List, ◌++◌, length, length-append, Some, slice_get, refl, sym, ap, subst, ◌∙◌, append_assoc, arith, Stamp, start_of, of_file, newest_at, Entry, Began, At, Fresh, History, Lawful, Once, PendingWithin, ReadsBytes, HasBytes, IsOf, Terms, Truncated, Touched, written, At-below, Numbered, writes-byte, serves, CutBy, Mounted, machine_of, Setup, View, KnowsRoot, Notes, GoesWith, always-later, notes-reach, reached-rows, IsPage, LastAtMost, KeepsBriefly, OnlySetsUp, PutsNamed}
 use Rattle.nfs_file_calls.specs.declared.call.FileCall.TheVariants as files
 use Rattle.nfs_file_calls.specs.declared.owned.FileKept.TheVariants as kept
-use Rattle.page_cache.specs.Bytes.{start_of, page_at}
-use Rattle.write_back.specs.Files.{of_file}
-use Rattle.write_back.specs.Segments.{newest_at}
-use Rattle.world_model.specs.declared.entry.Entry.{Entry}
-use Rattle.world_model.specs.declared.entry.Entry.TheVariants.{Began}
+use Rattle.page_cache.specs.Bytes.{page_at}
 use Rattle.world_model.specs.declared.message.Call.TheVariants as calls
 use Rattle.world_model.specs.declared.message.Reply.TheVariants as replies
 use Rattle.world_model.specs.declared.op.Op.TheVariants as ops
-use Rattle.world_model.specs.Entries.{At}
-use Rattle.world_model.specs.Fresh.{Fresh}
-use Rattle.world_model.specs.History.{History}
-use Rattle.world_model.specs.Lawful.{Lawful}
-use Rattle.world_model.specs.Once.{Once}
 use Rattle.claims.specs.Pending.{Pending}
-use Rattle.claims.specs.ReadTrue.{PendingWithin, ReadsBytes, ReadCut}
-use Rattle.world_model.specs.Server.{HasBytes}
-use Rattle.claims.specs.Slots.{IsOf}
-use Rattle.claims.specs.Terms.{Terms}
-use Rattle.claims.specs.Touched.{Truncated, Touched, written}
-use Rattle.world_model.proofs.Places.{At-below}
-use Rattle.law_calls.specs.Calls.{Numbered}
-use Rattle.law_own.proofs.OneByte.{writes-byte, no-truncate, touched-later}
+use Rattle.claims.specs.ReadTrue.{ReadCut}
+use Rattle.law_own.proofs.OneByte.{no-truncate, touched-later}
 use Rattle.law_reads.proofs.Bytes.{part_stands}
-use Rattle.law_reads.proofs.KeptBytes.{reads, serves}
-use Rattle.law_stable.specs.Cut.{CutBy, IsBare}
+use Rattle.law_reads.proofs.KeptBytes.{reads}
+use Rattle.law_stable.specs.Cut.{IsBare}
 use Rattle.law_stable.proofs.Executions.{Ran, ran}
-use Rattle.op_machines.specs.declared.begun.Mounted.{Mounted}
-use Rattle.op_machines.specs.Begun.{machine_of}
-use Rattle.client_core.specs.declared.setup.Setup.{Setup}
-use Rattle.client_core.specs.View.{View}
-use Rattle.core_facts.specs.Naming.{KnowsRoot}
-use Rattle.core_facts.specs.Notes.{Notes}
-use Rattle.core_facts.specs.SlotAnswers.{GoesWith}
-use Rattle.core_facts.proofs.HeldSlots.{always-later}
-use Rattle.core_facts.proofs.Noting.{notes-reach}
-use Rattle.core_facts.proofs.Rows.{reached-rows}
-use Rattle.core_answers.specs.pages.Kept.{IsPage}
-use Rattle.core_answers.specs.bonds.Kept.{LastAtMost}
-use Rattle.core_session.specs.current.Recent.{KeepsBriefly}
-use Rattle.core_session.specs.settled.Settling.{OnlySetsUp}
-use Rattle.core_session.specs.syncs.Synced.{PutsNamed}
 use Rattle.core_session.proofs.current.ReadsRecent.{file-of, done-by, page-is}
 use Rattle.core_session.proofs.current.ReadsTaken.{of-grows}
 use Rattle.core_session.proofs.shown.Answer.{IsShown}

@@ -1,23 +1,10 @@
 -- What the last reply of a truncate shows: SETATTR of its size was answered 0.
-use Rattle.std.proofs.Common.{◌≡◌, ◌<◌, ◌≤◌, ℕ, suc, List, Some, refl, subst, arith}
-use Rattle.nfs_types.specs.declared.set_attr.SetAttr.{SetAttr}
-use Rattle.nfs_types.specs.declared.time.Time.{Time}
+use Rattle.core_session.proofs.Prelude.{◌≡◌, ◌<◌, ◌≤◌, ℕ, suc, List, Some, refl, subst, arith, SetAttr, Time, Wcc, FileKept, Entry, Delivered, Call, Reply, At, Asked, status_of, SpellsReply, EndsWith, CutBy}
 use Rattle.std.specs.Prelude.{Option}
-use Rattle.nfs_types.specs.declared.wcc.Wcc.{Wcc}
 use Rattle.nfs_file_calls.specs.declared.call.FileCall.TheVariants as files
-use Rattle.nfs_file_calls.specs.declared.owned.FileKept.{FileKept}
 use Rattle.nfs_file_calls.specs.declared.owned.FileKept.TheVariants as kept
-use Rattle.world_model.specs.declared.entry.Entry.{Entry}
-use Rattle.world_model.specs.declared.entry.Entry.TheVariants.{Delivered}
-use Rattle.world_model.specs.declared.message.Call.{Call}
 use Rattle.world_model.specs.declared.message.Call.TheVariants as calls
-use Rattle.world_model.specs.declared.message.Reply.{Reply}
 use Rattle.world_model.specs.declared.message.Reply.TheVariants as replies
-use Rattle.world_model.specs.Entries.{At}
-use Rattle.world_model.specs.Heard.{Asked, status_of}
-use Rattle.world_model.specs.Messages.{SpellsReply}
-use Rattle.world_model.specs.Operations.{EndsWith}
-use Rattle.law_stable.specs.Cut.{CutBy}
 
 -- ---- the reply to the SETATTR
 

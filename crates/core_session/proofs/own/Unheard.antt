@@ -1,26 +1,11 @@
 -- Before the record that answers a call no record under its xid came since it was executed.
-use Rattle.std.proofs.Common.{◌≡◌, ◌≤◌, ◌<◌, ◌+◌, ◌-◌, inl, inr, ℕ, zero, suc, Bool, true, false, nat_eq, List, Option, Some, None, refl, sym, ap, subst, ◌∙◌, arith}
-use Rattle.std.proofs.lemmas.Bool.{cases_lt, eqb-true, eqb-false}
-use Rattle.rpc_message.specs.Call.{xid_at}
-use Rattle.nfs_file_calls.specs.declared.call.FileCall.{FileCall}
-use Rattle.nfs_file_calls.specs.declared.owned.FileKept.{FileKept}
-use Rattle.world_model.specs.declared.entry.Entry.{Entry}
-use Rattle.world_model.specs.declared.entry.Entry.TheVariants.{Began, Answered, Dialed, Sent, Executed, Foreign, Flushed, Reboot, Delivered, Failed, Clock}
+use Rattle.core_session.proofs.Prelude.{◌≡◌, ◌≤◌, ◌<◌, ◌+◌, ◌-◌, inl, inr, ℕ, zero, suc, Bool, true, false, nat_eq, List, Option, Some, None, refl, sym, ap, subst, ◌∙◌, arith, cases_lt, eqb-true, eqb-false, xid_at, FileCall, FileKept, Entry, Began, Answered, Dialed, Sent, Executed, Foreign, Flushed, Reboot, Delivered, Failed, Clock, At, Asked, History, Lawful, HasXid, Once, At-below, At-one, Numbered, HeardBefore}
 use Rattle.world_model.specs.declared.message.Call.TheVariants as calls
 use Rattle.world_model.specs.declared.message.Reply.TheVariants as replies
-use Rattle.world_model.specs.Entries.{At}
-use Rattle.world_model.specs.Heard.{Asked}
-use Rattle.world_model.specs.History.{History}
-use Rattle.world_model.specs.Lawful.{Lawful}
-use Rattle.world_model.specs.Messages.{HasXid}
-use Rattle.world_model.specs.Once.{Once}
 use Rattle.world_model.specs.Waiting.{Waits, Answers}
 use Rattle.world_model.proofs.Lasting.{entry_at}
-use Rattle.world_model.proofs.Places.{At-below, At-one}
-use Rattle.law_calls.specs.Calls.{Numbered}
 use Rattle.law_calls.proofs.CallsWait.{idle, waiting}
 use Rattle.law_stable.proofs.Executions.{ran}
-use Rattle.core_session.specs.order.Altering.{HeardBefore}
 
 -- ---- the first record under an xid
 

@@ -1,20 +1,12 @@
 -- Of one place only bytes with a number above another are pending: what a save that ended well, a cut and new bytes leave.
-use Rattle.std.proofs.Common.{◌≡◌, ◌≤◌, ◌<◌, ◌+◌, ◌-◌, ℕ, Bool, true, false, List, [], ◌∷◌, length, Option, Some, None, refl, sym, ap, subst, ◌∙◌, arith}
-use Rattle.std.specs.Prelude.{nat_le, slice_index}
-use Rattle.std.proofs.lemmas.Bool.{le-leb, leb-false}
+use Rattle.core_session.proofs.Prelude.{◌≡◌, ◌≤◌, ◌<◌, ◌+◌, ◌-◌, ℕ, Bool, true, false, List, [], ◌∷◌, length, Option, Some, None, refl, sym, ap, subst, ◌∙◌, arith, slice_index, le-leb, is_in_flight, Pending, of_file, OnFile, HasNoPiece, with_bytes, with_cut, FilePending, Flown, fly_at, fly_in, rest_at, Segments, Cell, covers, cell_at, last_end, IsOver, low-of, high-of, EachSound, IsClearUpTo}
+use Rattle.std.specs.Prelude.{nat_le}
+use Rattle.std.proofs.lemmas.Bool.{leb-false}
 use Rattle.write_back.specs.declared.state.State.TheVariants.{Waiting}
 use Rattle.write_back.specs.declared.state.Ready.TheVariants.{Unsent}
-use Rattle.write_back.specs.States.{is_in_flight}
-use Rattle.write_back.specs.Files.{Pending, of_file, OnFile, HasNoPiece, with_bytes}
-use Rattle.write_back.specs.Landing.{with_cut}
-use Rattle.write_back.specs.Pieces.{Sent, FilePending, Flown, fly_at, fly_in, rest_at, rest_of}
+use Rattle.write_back.specs.Pieces.{Sent, rest_of}
 use Rattle.write_back.specs.Places.{cell_cut}
-use Rattle.write_back.specs.Segments.{Segments, Cell, covers, cell_at, last_end}
-use Rattle.write_back.specs.Sound.{IsOver}
 use Rattle.write_back.proofs.Adding.{cells-added, cells-cut}
-use Rattle.write_back.proofs.Keys.{low-of, high-of}
-use Rattle.step_pending.specs.Cells.{EachSound}
-use Rattle.step_saves.specs.Saves.{IsClearUpTo}
 use Rattle.core_session.proofs.pending.Newest.{of-cells, OfNewest}
 
 one-cell : (a b : Cell) → Some a ≡ Some b → a ≡ b

@@ -1,41 +1,14 @@
 -- A file that a last close left alone isn't guarded: no slot holds it before the next record comes.
-use Rattle.std.proofs.Common.{◌≡◌, ◌≤◌, ◌<◌, ◌+◌, ◌⊎◌, inl, inr, ℕ, false, List, [], ◌∷◌, ◌++◌, length, Some, None, refl, sym, ap, subst, ◌∙◌, arith, append_assoc}
-use Rattle.std.proofs.lemmas.Bool.{cases_lt}
+use Rattle.core_session.proofs.Prelude.{◌≡◌, ◌≤◌, ◌<◌, ◌+◌, ◌⊎◌, inl, inr, ℕ, false, List, [], ◌∷◌, ◌++◌, length, Some, None, refl, sym, ap, subst, ◌∙◌, arith, append_assoc, cases_lt, Mode, Opened, Answer, Entry, Began, Answered, Delivered, Op, At, Modes, AnsweredBefore, Ended, UnderWay, LeftAlone, InSlot, IsOf, Terms, At-grow, At-last, At-one, length_last, CloseFile, Closing, Removal, Mounted, machine_of, Busy, Setup, View, Reaches, GoesWith, always-later, IsHeld, held-grow, Kind, plainly, kind_of, IsClose, IsGuarded, slot, past, removal_in, IsPast}
 use Rattle.std.specs.FinMap as finite
-use Rattle.nfs_types.specs.declared.mode.Mode.{Mode}
-use Rattle.open_files.specs.declared.opened.Opened.{Opened}
-use Rattle.world_model.specs.declared.answer.Answer.{Answer}
-use Rattle.world_model.specs.declared.entry.Entry.{Entry}
-use Rattle.world_model.specs.declared.entry.Entry.TheVariants.{Began, Answered, Delivered}
-use Rattle.world_model.specs.declared.op.Op.{Op}
 use Rattle.world_model.specs.declared.op.Op.TheVariants as ops
-use Rattle.world_model.specs.Entries.{At}
-use Rattle.claims.specs.Modes.{Modes}
-use Rattle.world_model.specs.Operations.{AnsweredBefore, Ended, NoneCame, UnderWay}
-use Rattle.claims.specs.Pending.{LeftAlone}
-use Rattle.claims.specs.Slots.{InSlot, IsOf}
-use Rattle.claims.specs.Terms.{Terms}
-use Rattle.world_model.proofs.Places.{At-grow, At-last, At-one, length_last}
-use Rattle.file_ops.specs.declared.close_file.CloseFile.{CloseFile}
-use Rattle.file_ops.specs.declared.close_file.Closing.{Closing}
+use Rattle.world_model.specs.Operations.{NoneCame}
 use Rattle.file_ops.specs.declared.close_file.Closing.TheVariants as closings
-use Rattle.file_ops.specs.declared.closing.Removal.{Removal}
-use Rattle.op_machines.specs.declared.begun.Mounted.{Mounted}
 use Rattle.op_machines.specs.declared.file_machine.FileMachine.TheVariants as files
 use Rattle.op_machines.specs.declared.machine.Machine.TheVariants as machines
-use Rattle.op_machines.specs.Begun.{machine_of}
-use Rattle.client_core.specs.declared.lane.State.TheVariants.{Busy}
-use Rattle.client_core.specs.declared.setup.Setup.{Setup}
-use Rattle.client_core.specs.View.{View}
-use Rattle.core_facts.specs.Reaches.{Reaches}
-use Rattle.core_facts.specs.SlotAnswers.{GoesWith}
-use Rattle.core_facts.proofs.HeldSlots.{always-later}
-use Rattle.core_facts.proofs.SlotGrowth.{IsHeld, held-grow}
-use Rattle.core_facts.proofs.Slots.{Kind, opening, closing, plainly, kind_of}
+use Rattle.core_facts.proofs.Slots.{opening, closing}
 use Rattle.core_session.proofs.calls.TableHeld.{AllNoted, table-held}
-use Rattle.core_session.specs.drops.Guarded.{IsClose, IsGuarded, slot, past, removal_in}
 use Rattle.core_session.proofs.drops.Drops.{LaneTold, closer-kind}
-use Rattle.core_session.specs.drops.Dropped.{IsPast}
 use Rattle.core_session.proofs.drops.Dropping.{past-file}
 use Rattle.core_session.proofs.drops.Laws.{DropsKnown}
 use Rattle.core_session.proofs.drops.OneFile.{one-by-one}

@@ -1,47 +1,15 @@
 -- A guarded byte isn't given up by a last close, at any step: since the session rested last the table of slots only got less, and each answer that was ready then
 -- is noted before the next record.
-use Rattle.std.proofs.Common.{◌≡◌, ◌≤◌, ◌<◌, ◌⊎◌, inl, inr, ℕ, suc, Bool, true, false, nat_eq, List, [], ◌∷◌, ◌++◌, length, Option, Some, None, slice_get, refl, sym, ap, subst, ◌∙◌, arith, append_assoc, append-nil, ◌+◌}
+use Rattle.core_session.proofs.Prelude.{◌≡◌, ◌≤◌, ◌<◌, ◌⊎◌, inl, inr, ℕ, suc, Bool, true, false, nat_eq, List, [], ◌∷◌, ◌++◌, length, Option, Some, None, slice_get, refl, sym, ap, subst, ◌∙◌, arith, append_assoc, append-nil, ◌+◌, cases_lt, eqb-true, eqb-false, Mode, Opened, Answer, Value, Entry, Began, Answered, Dialed, Sent, Executed, Foreign, Flushed, Reboot, Delivered, Failed, Clock, Call, Op, At, HasXid, AnsweredBefore, Ended, LastReply, UnderWay, LeftAlone, Finds, Terms, At-back, At-below, At-grow, At-last, At-one, length_last, Shelf, Mounted, Machine, machine_of, Lane, State, Busy, Over, Setup, IsIdle, IsOther, numbers_of, Stirs, counted, StartsLane, View, Reaches, GoesWith, Known, lanes-under-way, reached-lanes, IsHeld, Kind, plainly, kind_of, StoryOf, Slots, reached-slots, IsGuarded, slot, past}
 use Rattle.std.proofs.lemmas.List.{length-append}
-use Rattle.std.proofs.lemmas.Bool.{cases_lt, eqb-true, eqb-false}
 use Rattle.std.specs.FinMap as finite
-use Rattle.nfs_types.specs.declared.mode.Mode.{Mode}
-use Rattle.open_files.specs.declared.opened.Opened.{Opened}
-use Rattle.world_model.specs.declared.answer.Answer.{Answer}
 use Rattle.world_model.specs.declared.answer.Answer.TheVariants as answers
-use Rattle.world_model.specs.declared.answer.Value.{Value}
-use Rattle.world_model.specs.declared.entry.Entry.{Entry}
-use Rattle.world_model.specs.declared.entry.Entry.TheVariants.{Began, Answered, Dialed, Sent, Executed, Foreign, Flushed, Reboot, Delivered, Failed, Clock}
-use Rattle.world_model.specs.declared.message.Call.{Call}
-use Rattle.world_model.specs.declared.op.Op.{Op}
 use Rattle.world_model.specs.declared.op.Op.TheVariants as ops
-use Rattle.world_model.specs.Entries.{At}
-use Rattle.world_model.specs.Messages.{HasXid}
-use Rattle.world_model.specs.Operations.{AnsweredBefore, Ended, LastReply, NoneCame, UnderWay}
-use Rattle.claims.specs.Pending.{LeftAlone}
-use Rattle.claims.specs.Slots.{Finds}
-use Rattle.claims.specs.Terms.{Terms}
-use Rattle.world_model.proofs.Places.{At-back, At-below, At-grow, At-last, At-one, length_last}
-use Rattle.client_shelf.specs.declared.shelf.Shelf.{Shelf}
-use Rattle.op_machines.specs.declared.begun.Mounted.{Mounted}
-use Rattle.op_machines.specs.declared.machine.Machine.{Machine}
-use Rattle.op_machines.specs.Begun.{machine_of}
-use Rattle.client_core.specs.declared.lane.Lane.{Lane}
-use Rattle.client_core.specs.declared.lane.State.{State}
-use Rattle.client_core.specs.declared.lane.State.TheVariants.{Busy, Over}
-use Rattle.client_core.specs.declared.setup.Setup.{Setup}
-use Rattle.client_core.specs.Numbers.{IsIdle, IsOther, numbers_of}
-use Rattle.client_core.specs.Steps.{Stirs, counted, StartsLane}
-use Rattle.client_core.specs.View.{View}
-use Rattle.core_facts.specs.Reaches.{Reaches}
-use Rattle.core_facts.specs.SlotAnswers.{GoesWith}
-use Rattle.core_facts.proofs.Keeping.{Known}
-use Rattle.core_facts.proofs.LaneMarks.{lanes-under-way, reached-lanes}
-use Rattle.core_facts.proofs.SlotGrowth.{IsHeld, finds-by}
-use Rattle.core_facts.proofs.Slots.{Kind, opening, closing, plainly, kind_of, OpenedNow, StoryOf}
-use Rattle.core_facts.proofs.SlotsAlong.{Slots, reached-slots}
+use Rattle.world_model.specs.Operations.{NoneCame}
+use Rattle.core_facts.proofs.SlotGrowth.{finds-by}
+use Rattle.core_facts.proofs.Slots.{opening, closing, OpenedNow}
 use Rattle.core_session.proofs.calls.TableHeld.{AllNoted, IsLane, kind-shown, lane-or, shown}
 use Rattle.core_session.proofs.drops.KnowingAlong.{IsPlain}
-use Rattle.core_session.specs.drops.Guarded.{IsGuarded, slot, past}
 use Rattle.core_session.proofs.drops.Laws.{DropsKnown, starts-begun, stirs-stepped}
 use Rattle.core_session.proofs.drops.SlotKinds.{OnlyLess}
 use Rattle.core_session.proofs.pending.Alone.{HeldBy, HeldSoon, held-by, not-held, past-not}

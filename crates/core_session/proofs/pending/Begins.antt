@@ -1,44 +1,15 @@
 -- What an operation may give to a place of a file, as it begins, or as a put's opening ends.
-use Rattle.std.proofs.Common.{◌≡◌, ◌<◌, ◌≤◌, ◌^◌, ◌+◌, ◌-◌, ℕ, List, [], ◌∷◌, ◌++◌, length, true, false, Option, Some, None, option_map, Ok, replicate, refl, sym, subst, ◌∙◌, append_assoc, arith}
+use Rattle.core_session.proofs.Prelude.{◌≡◌, ◌<◌, ◌≤◌, ◌^◌, ◌+◌, ◌-◌, ℕ, List, [], ◌∷◌, ◌++◌, length, true, false, Option, Some, None, option_map, Ok, replicate, refl, sym, subst, ◌∙◌, append_assoc, arith, slice_index, le-leb, lt-ltb, slice_get-get_or, slice_get_within, Mode, Opened, covers, low-of, high-of, Entry, Began, Delivered, Op, At, Modes, InSlot, IsOf, slot_of, Terms, Origin, UnderWay, WritesByte, At-one, At-grow, At-below, At-last, Mounted, machine_of, Fits, Setup, IsIdle, View, Reaches, GoesWith, may, held-begins, always-later, Given, is-given, IsHeld, held-grow, KnowsRoot, LeadsTo}
 use Rattle.std.specs.FinMap as finite
-use Rattle.std.specs.Prelude.{slice_index}
-use Rattle.std.proofs.lemmas.Bool.{le-leb, lt-ltb}
 use Rattle.std.proofs.lemmas.List.{length-replicate, get_or-replicate}
-use Rattle.std.proofs.lemmas.Option.{slice_get-get_or, slice_get_within}
-use Rattle.nfs_types.specs.declared.mode.Mode.{Mode}
 use Rattle.nfs_types.specs.declared.mode.Mode.TheVariants as modes
-use Rattle.open_files.specs.declared.opened.Opened.{Opened}
-use Rattle.write_back.specs.Segments.{covers}
-use Rattle.write_back.proofs.Keys.{low-of, high-of}
-use Rattle.world_model.specs.declared.entry.Entry.{Entry}
-use Rattle.world_model.specs.declared.entry.Entry.TheVariants.{Began, Delivered}
-use Rattle.world_model.specs.declared.op.Op.{Op}
 use Rattle.world_model.specs.declared.op.Op.TheVariants as ops
-use Rattle.world_model.specs.Entries.{At}
-use Rattle.claims.specs.Modes.{Modes}
 use Rattle.claims.specs.Rights.{can_write}
-use Rattle.claims.specs.Slots.{InSlot, IsOf, slot_of}
-use Rattle.claims.specs.Terms.{Terms}
-use Rattle.world_model.specs.Mounts.{Origin}
-use Rattle.world_model.specs.Operations.{UnderWay}
-use Rattle.claims.specs.Touched.{Covers, WritesByte}
+use Rattle.claims.specs.Touched.{Covers}
 use Rattle.claims.specs.Touched as touched
-use Rattle.world_model.proofs.Places.{At-one, At-grow, At-below, At-last}
 use Rattle.file_ops.specs.Opens.{in_mode, of_open}
-use Rattle.op_machines.specs.declared.begun.Mounted.{Mounted}
-use Rattle.op_machines.specs.Begun.{machine_of}
-use Rattle.op_machines.specs.Fits.{Fits}
-use Rattle.client_core.specs.declared.setup.Setup.{Setup}
-use Rattle.client_core.specs.Numbers.{IsIdle}
-use Rattle.client_core.specs.View.{View}
-use Rattle.core_facts.specs.Reaches.{Reaches}
-use Rattle.core_facts.specs.SlotAnswers.{GoesWith}
-use Rattle.core_facts.proofs.HeldSlots.{may, held-begins, always-later, Given, is-given}
-use Rattle.core_facts.proofs.SlotGrowth.{IsHeld, held-grow}
 use Rattle.core_session.proofs.drops.OneFile.{slot-file}
 use Rattle.core_session.proofs.syncs.AllJobs.{JobBegins}
-use Rattle.core_facts.specs.Naming.{KnowsRoot}
-use Rattle.core_facts.proofs.Leading.{LeadsTo}
 use Rattle.core_session.proofs.syncs.Causes.{IsWriter, IsSaver, OfOp, Saving_}
 use Rattle.core_session.proofs.syncs.Fates.{job_kind}
 use Rattle.core_session.proofs.syncs.PutAdding.{began-fits}

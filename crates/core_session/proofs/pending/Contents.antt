@@ -1,16 +1,6 @@
 -- What is known of each newest byte, along the steps of saves and of what else operations do.
-use Rattle.std.proofs.Common.{◌≡◌, ◌≤◌, ◌+◌, ◌-◌, ◌^◌, ℕ, true, false, List, [], ◌∷◌, length, Result}
-use Rattle.std.specs.Prelude.{slice_index}
-use Rattle.world_model.specs.declared.answer.Fault.{Fault}
-use Rattle.world_model.specs.declared.message.Reply.{Reply}
-use Rattle.write_back.specs.Files.{Pending, of_file, OnFile, with_bytes}
-use Rattle.write_back.specs.Landing.{with_cut}
-use Rattle.write_back.specs.Numbers.{AllUpTo, SegmentsUpTo}
-use Rattle.write_back.specs.Pieces.{nothing}
-use Rattle.write_back.specs.Segments.{Segments, covers}
-use Rattle.client_shelf.specs.declared.turn.Turn.{Turn}
-use Rattle.file_ops.specs.Adding.{is_full}
-use Rattle.file_ops.specs.Quiet.{is_quiet}
+use Rattle.core_session.proofs.Prelude.{◌≡◌, ◌≤◌, ◌+◌, ◌-◌, ◌^◌, ℕ, true, false, List, [], ◌∷◌, length, Result, slice_index, Fault, Reply, Pending, of_file, OnFile, with_bytes, with_cut, AllUpTo, nothing, Segments, covers, Turn, is_full, is_quiet}
+use Rattle.write_back.specs.Numbers.{SegmentsUpTo}
 use Rattle.core_answers.proofs.writes.SaveChanges.{IsKept, goes-kept, takes-kept}
 use Rattle.core_session.proofs.syncs.Contents.{Common, common, common-replies, common-adds, common-cuts, common-gives, Anything}
 use Rattle.core_session.proofs.syncs.Levels.{Content, ContentReplies}

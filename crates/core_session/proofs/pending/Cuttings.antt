@@ -1,36 +1,13 @@
 -- A truncate that goes well cuts what is pending of its file: each step of its machine, and of its lane.
-use Rattle.std.specs.Prelude.{if◌then◌else◌}
-use Rattle.std.proofs.Common.{◌≡◌, ◌≤◌, inl, inr, ℕ, Bool, true, false, List, Some, Result, Ok, Err, slice_get, refl, sym, ap, subst, ◌∙◌}
-use Rattle.nfs_types.specs.declared.wcc.Wcc.{Wcc}
-use Rattle.world_model.specs.declared.answer.Answer.{Answer}
+use Rattle.core_session.proofs.Prelude.{if◌then◌else◌, ◌≡◌, ◌≤◌, inl, inr, ℕ, Bool, true, false, List, Some, Result, Ok, Err, slice_get, refl, sym, ap, subst, ◌∙◌, Wcc, Answer, Fault, Value, Reply, Op, Pending, HasNoPiece, Next, Repeat, Shelf, Turn, TruncateFile, Truncating, is_quiet, joined, FileMachine, Machine, Starts, Resumes, Takes, State, Busy, Over, IsRefused, Leads, View, turn_at, unmade_turn, at-set}
 use Rattle.world_model.specs.declared.answer.Answer.TheVariants as answers
-use Rattle.world_model.specs.declared.answer.Fault.{Fault}
-use Rattle.world_model.specs.declared.answer.Value.{Value}
-use Rattle.world_model.specs.declared.message.Reply.{Reply}
-use Rattle.world_model.specs.declared.op.Op.{Op}
 use Rattle.world_model.specs.declared.op.Op.TheVariants as ops
-use Rattle.write_back.specs.Files.{Pending, HasNoPiece}
-use Rattle.client_shelf.specs.declared.next.Next.{Next}
 use Rattle.client_shelf.specs.declared.next.Next.TheVariants as nexts
-use Rattle.client_shelf.specs.declared.repeats.Repeat.{Repeat}
-use Rattle.client_shelf.specs.declared.shelf.Shelf.{Shelf}
-use Rattle.client_shelf.specs.declared.turn.Turn.{Turn}
-use Rattle.file_ops.specs.declared.truncate_file.TruncateFile.{TruncateFile}
-use Rattle.file_ops.specs.declared.truncate_file.Truncating.{Truncating}
 use Rattle.file_ops.specs.declared.truncate_file.Truncating.TheVariants as truncating
-use Rattle.file_ops.specs.Quiet.{is_quiet, are_none}
-use Rattle.file_ops.specs.SlotFiles.{joined}
+use Rattle.file_ops.specs.Quiet.{are_none}
 use Rattle.file_ops.specs.TruncateFile as truncates
-use Rattle.op_machines.specs.declared.file_machine.FileMachine.{FileMachine}
 use Rattle.op_machines.specs.declared.file_machine.FileMachine.TheVariants as files
-use Rattle.op_machines.specs.declared.machine.Machine.{Machine}
 use Rattle.op_machines.specs.declared.machine.Machine.TheVariants as machines
-use Rattle.op_machines.specs.Steps.{Starts, Resumes, Takes}
-use Rattle.client_core.specs.declared.lane.State.{State}
-use Rattle.client_core.specs.declared.lane.State.TheVariants.{Busy, Over}
-use Rattle.client_core.specs.Steps.{IsRefused, Leads}
-use Rattle.client_core.specs.View.{View, turn_at, unmade_turn}
-use Rattle.core_facts.proofs.Lists.{at-set}
 use Rattle.core_session.proofs.drops.LaneIs.{state-is, busy-over}
 use Rattle.core_session.proofs.pending.Settles.{IsGood}
 

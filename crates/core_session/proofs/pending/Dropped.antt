@@ -1,41 +1,14 @@
 -- Where a close is refused and no slot holds its file any more, nothing of it is pending: the steps of its machine.
-use Rattle.std.proofs.Common.{◌≡◌, ◌&&◌, inl, inr, ℕ, Bool, true, false, not, List, [], Option, Some, None, Result, Err, slice_get, refl, sym, ap, subst, ◌∙◌}
-use Rattle.open_files.specs.Slots.{Opens, IsOpen}
-use Rattle.world_model.specs.declared.answer.Answer.{Answer}
+use Rattle.core_session.proofs.Prelude.{◌≡◌, ◌&&◌, inl, inr, ℕ, Bool, true, false, not, List, [], Option, Some, None, Result, Err, slice_get, refl, sym, ap, subst, ◌∙◌, Opens, IsOpen, Answer, Fault, Call, Reply, last_end, Pending, of_file, HasNoPiece, nothing, Next, Shelf, Turn, goes_again, is_first, CloseFile, Closing, Removal, Saving, TellsOpen, GivesUpBy, closed_answer, remove_busy, refusal_of, remove_of, is_quiet, file_at, joined, by-step, Machine, Starts, Resumes, Takes, State, Busy, Over, Leads, IsRefused, View, turn_at, unmade_turn, at-set, file_in}
 use Rattle.world_model.specs.declared.answer.Answer.TheVariants as answers
-use Rattle.world_model.specs.declared.answer.Fault.{Fault}
-use Rattle.world_model.specs.declared.message.Call.{Call}
-use Rattle.world_model.specs.declared.message.Reply.{Reply}
-use Rattle.write_back.specs.Segments.{last_end}
-use Rattle.write_back.specs.Files.{Pending, of_file, HasNoPiece}
-use Rattle.write_back.specs.Pieces.{nothing}
-use Rattle.client_shelf.specs.declared.next.Next.{Next}
 use Rattle.client_shelf.specs.declared.next.Next.TheVariants as nexts
-use Rattle.client_shelf.specs.declared.shelf.Shelf.{Shelf}
-use Rattle.client_shelf.specs.declared.turn.Turn.{Turn}
-use Rattle.client_shelf.specs.Busy.{goes_again}
-use Rattle.client_shelf.specs.LaneFiles.{is_first}
-use Rattle.file_ops.specs.declared.close_file.CloseFile.{CloseFile}
-use Rattle.file_ops.specs.declared.close_file.Closing.{Closing}
 use Rattle.file_ops.specs.declared.close_file.Closing.TheVariants as closing
-use Rattle.file_ops.specs.declared.closing.Removal.{Removal}
-use Rattle.file_ops.specs.declared.saving.Saving.{Saving}
-use Rattle.file_ops.specs.Closings.{TellsOpen, GivesIf, GivesUp, GivesUpBy, closed_answer, remove_busy, refusal_of, remove_of}
+use Rattle.file_ops.specs.Closings.{GivesIf, GivesUp}
 use Rattle.file_ops.specs.Closes as closes
-use Rattle.file_ops.specs.Quiet.{are_none, is_quiet}
+use Rattle.file_ops.specs.Quiet.{are_none}
 use Rattle.file_ops.specs.Saves as saves
-use Rattle.file_ops.specs.SlotFiles.{file_at, joined}
-use Rattle.file_ops.proofs.SaveCounts.{by-step}
 use Rattle.op_machines.specs.declared.file_machine.FileMachine.TheVariants as files
-use Rattle.op_machines.specs.declared.machine.Machine.{Machine}
 use Rattle.op_machines.specs.declared.machine.Machine.TheVariants as machines
-use Rattle.op_machines.specs.Steps.{Starts, Resumes, Takes}
-use Rattle.client_core.specs.declared.lane.State.{State}
-use Rattle.client_core.specs.declared.lane.State.TheVariants.{Busy, Over}
-use Rattle.client_core.specs.Steps.{Leads, IsRefused}
-use Rattle.client_core.specs.View.{View, turn_at, unmade_turn}
-use Rattle.core_facts.proofs.Lists.{at-set}
-use Rattle.core_session.specs.drops.Guarded.{file_in}
 use Rattle.core_session.proofs.drops.LaneIs.{state-is, busy-over}
 use Rattle.core_session.proofs.drops.SaveFiles.{goes-save, takes-save}
 

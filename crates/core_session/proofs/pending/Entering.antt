@@ -1,15 +1,5 @@
 -- What is known of an operation as its step begins: a put whose bytes aren't there yet brings them in this step, or not.
-use Rattle.std.proofs.Common.{◌≡◌, ℕ, Bool, true, false, nat_eq, List, Some, None, refl, sym, ◌∙◌, arith}
-use Rattle.std.proofs.lemmas.Bool.{eqb-true, eqb-false}
-use Rattle.world_model.specs.declared.entry.Entry.{Entry}
-use Rattle.claims.specs.Terms.{Terms}
-use Rattle.write_back.specs.Files.{Pending}
-use Rattle.client_shelf.specs.declared.lane_files.LaneFile.{LaneFile}
-use Rattle.file_ops.specs.declared.saving.Saving.{Saving}
-use Rattle.op_machines.specs.declared.begun.Mounted.{Mounted}
-use Rattle.op_machines.specs.declared.machine.Machine.{Machine}
-use Rattle.client_core.specs.declared.setup.Setup.{Setup}
-use Rattle.client_core.specs.View.{View}
+use Rattle.core_session.proofs.Prelude.{◌≡◌, ℕ, Bool, true, false, nat_eq, List, Some, None, refl, sym, ◌∙◌, arith, eqb-true, eqb-false, Entry, Terms, Pending, LaneFile, Saving, Mounted, Machine, Setup, View}
 use Rattle.core_session.proofs.syncs.Aims.{JobAims, aimed, aimed-has, put-has, write-has}
 use Rattle.core_session.proofs.syncs.AllJobs.{JobHas}
 use Rattle.core_session.proofs.syncs.Causes.{IsWriter, OfOp}

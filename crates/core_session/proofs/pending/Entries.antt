@@ -1,43 +1,14 @@
 -- What stands of the newest bytes goes on standing as an answer is noted, and as any entry comes that leaves lanes and shelf as they are; and it holds of a fresh core.
-use Rattle.std.proofs.Common.{◌≡◌, ◌≢◌, ◌≤◌, ◌<◌, ◌⊎◌, inl, inr, ℕ, Bool, true, false, nat_eq, List, [], ◌∷◌, ◌++◌, length, Some, None, slice_get, refl, sym, ap, subst, ◌∙◌, append_assoc, arith}
+use Rattle.core_session.proofs.Prelude.{◌≡◌, ◌≢◌, ◌≤◌, ◌<◌, ◌⊎◌, inl, inr, ℕ, Bool, true, false, nat_eq, List, [], ◌∷◌, ◌++◌, length, Some, None, slice_get, refl, sym, ap, subst, ◌∙◌, append_assoc, arith, cases_lt, eqb-true, eqb-false, Answer, Entry, Began, Answered, Op, At, Ended, UnderWay, Terms, At-one, At-back, At-below, At-cases, At-grow, length_last, Pending, HasNoPiece, AllUpTo, LaneFile, Shelf, Mounted, Machine, EachSound, nothing-sound, Lane, Busy, Over, Setup, IsFresh, AnswersAt, View, AreApart, IsOpenLine, Known, skip, get-remove, still-there, IsGuarded, IsSaving, CloseFile}
 use Rattle.std.specs.Prelude.{remove}
-use Rattle.std.proofs.lemmas.Bool.{cases_lt, eqb-true, eqb-false}
-use Rattle.world_model.specs.declared.answer.Answer.{Answer}
 use Rattle.world_model.specs.declared.answer.Answer.TheVariants as answers
-use Rattle.world_model.specs.declared.entry.Entry.{Entry}
-use Rattle.world_model.specs.declared.entry.Entry.TheVariants.{Began, Answered}
-use Rattle.world_model.specs.declared.op.Op.{Op}
-use Rattle.world_model.specs.Entries.{At}
-use Rattle.world_model.specs.Operations.{Ended, UnderWay}
-use Rattle.claims.specs.Terms.{Terms}
-use Rattle.world_model.proofs.Places.{At-one, At-back, At-below, At-cases, At-grow, length_last}
-use Rattle.write_back.specs.Files.{Pending, HasNoPiece}
-use Rattle.write_back.specs.Numbers.{AllUpTo}
 use Rattle.write_back.proofs.Numbers.{upto-nothing}
-use Rattle.client_shelf.specs.declared.lane_files.LaneFile.{LaneFile}
-use Rattle.client_shelf.specs.declared.shelf.Shelf.{Shelf}
-use Rattle.op_machines.specs.declared.begun.Mounted.{Mounted}
-use Rattle.op_machines.specs.declared.machine.Machine.{Machine}
-use Rattle.step_pending.specs.Cells.{EachSound}
-use Rattle.step_pending.proofs.Cutting.{nothing-sound}
-use Rattle.client_core.specs.declared.lane.Lane.{Lane}
-use Rattle.client_core.specs.declared.lane.State.TheVariants.{Busy, Over}
-use Rattle.client_core.specs.declared.setup.Setup.{Setup}
-use Rattle.client_core.specs.Fresh.{IsFresh}
-use Rattle.client_core.specs.Steps.{AnswersAt}
-use Rattle.client_core.specs.View.{View}
 use Rattle.core_session.proofs.drops.KnowingAlong.{IsPlain, NotedBefore}
 use Rattle.core_session.proofs.drops.LaneIs.{state-is, busy-over}
-use Rattle.core_facts.specs.Lanes.{AreApart}
-use Rattle.core_facts.specs.Reaches.{IsOpenLine}
-use Rattle.core_facts.proofs.Keeping.{Known}
-use Rattle.core_facts.proofs.Lists.{skip, get-remove, still-there}
 use Rattle.core_session.proofs.syncs.Contents.{Common}
 use Rattle.core_session.proofs.syncs.Seen.{StateRested, Owned, free, taken}
 use Rattle.core_session.proofs.syncs.Turning.{IsFixed, ready, gone, fixed-answers, fixed-same, under-answers-back, under-plain-back}
-use Rattle.core_session.specs.drops.Guarded.{IsGuarded, IsSaving}
 use Rattle.core_session.specs.drops.Guarded as guarded
-use Rattle.file_ops.specs.declared.close_file.CloseFile.{CloseFile}
 use Rattle.std.specs.FinMap as finite
 use Rattle.core_session.proofs.pending.Above.{Above}
 use Rattle.core_session.proofs.pending.Alone.{UnleftTo}

@@ -1,62 +1,14 @@
 -- What a WRITE carries may have been pending since the operation began that asks for it: as it was made, or as it was made first.
-use Rattle.std.proofs.Common.{◌≡◌, ◌≢◌, ◌≤◌, ◌<◌, ◌+◌, ◌-◌, ◌⊎◌, inl, inr, ℕ, zero, suc, Bool, true, false, nat_eq, List, [], ◌∷◌, ◌++◌, length, Option, Some, None, option_map, slice_get, refl, sym, ap, subst, ◌∙◌, arith}
-use Rattle.std.specs.Prelude.{if◌then◌else◌, slice_index}
-use Rattle.std.proofs.lemmas.Bool.{cases_lt, eqb-true, eqb-false}
-use Rattle.rpc_retry.specs.declared.waiting.Waiting.{Waiting}
-use Rattle.rpc_retry.specs.Held.{next_xid}
-use Rattle.rpc_retry.specs.Waiting.{made_call, waiting_at, without}
-use Rattle.rpc_retry.proofs.Lookups.{waits_early, at_made, others_made, others_taken}
-use Rattle.rpc_retry.proofs.Records.{gone}
+use Rattle.core_session.proofs.Prelude.{◌≡◌, ◌≢◌, ◌≤◌, ◌<◌, ◌+◌, ◌-◌, ◌⊎◌, inl, inr, ℕ, zero, suc, Bool, true, false, nat_eq, List, [], ◌∷◌, ◌++◌, length, Option, Some, None, option_map, slice_get, refl, sym, ap, subst, ◌∙◌, arith, if◌then◌else◌, slice_index, cases_lt, eqb-true, eqb-false, Waiting, next_xid, made_call, waiting_at, without, waits_early, at_made, others_made, others_taken, gone, is_in_flight, of_file, Flown, flown_in, fly_at, piece_under, rest_at, Cell, cell_at, covers, IsOver, IsSound, covered, flown-some, fly-under, some-of, flown-from, Answer, Value, Entry, Began, Answered, Delivered, Call, Op, proc_of, AnsweredBefore, UnderWay, LeftAlone, PutRefused, Terms, RefusedWrite, length_last, said_of, Next, Shelf, Mounted, Machine, machine_of, Purpose, Busy, Setup, IsFresh, IsIdle, numbers_of, with_state, record_of, Makes, Leads, Stirs, counted, StartsLane, TakesAt, AnswersAt, View, turn_at, IsOpenLine, GoesWith, taken_one, calls-some, Known, Runs, idle-numbers, number_of, to-map, Rows, same-rows, taken-rows, SameCalls, After, waits-late, unused-next, starts-under, resumes-under, takes-under, SameUnder}
 use Rattle.write_back.specs.declared.state.State.TheVariants.{Waiting as Waits}
-use Rattle.write_back.specs.States.{is_in_flight}
 use Rattle.write_back.specs.declared.state.Ready.TheVariants.{Unsent}
-use Rattle.write_back.specs.Files.{of_file}
-use Rattle.write_back.specs.Pieces.{Sent, Flown, flown_in, fly_at, piece_under, rest_at, rest_of}
-use Rattle.write_back.specs.Segments.{Cell, cell_at, covers}
-use Rattle.write_back.specs.Sound.{IsOver, IsSound}
-use Rattle.write_back.proofs.ByPlace.{covered}
-use Rattle.write_back.proofs.Flying.{flown-some, under-whole}
-use Rattle.write_back.proofs.Xids.{fly-under}
-use Rattle.step_pending.proofs.Shown.{some-of, flown-from}
-use Rattle.world_model.specs.declared.answer.Answer.{Answer}
+use Rattle.write_back.specs.Pieces.{Sent, rest_of}
+use Rattle.write_back.proofs.Flying.{under-whole}
 use Rattle.world_model.specs.declared.answer.Answer.TheVariants as answers
-use Rattle.world_model.specs.declared.answer.Value.{Value}
-use Rattle.world_model.specs.declared.entry.Entry.{Entry}
-use Rattle.world_model.specs.declared.entry.Entry.TheVariants.{Began, Answered, Delivered}
-use Rattle.world_model.specs.declared.message.Call.{Call}
-use Rattle.world_model.specs.declared.op.Op.{Op}
-use Rattle.world_model.specs.Messages.{proc_of}
-use Rattle.world_model.specs.Operations.{AnsweredBefore, UnderWay}
-use Rattle.claims.specs.Pending.{LeftAlone, Pending, PutRefused}
-use Rattle.claims.specs.Terms.{Terms}
-use Rattle.claims.specs.Touched.{RefusedWrite}
-use Rattle.world_model.proofs.Places.{length_last}
-use Rattle.call_replies.specs.Says.{said_of}
-use Rattle.client_shelf.specs.declared.next.Next.{Next}
+use Rattle.claims.specs.Pending.{Pending}
 use Rattle.client_shelf.specs.declared.next.Next.TheVariants as nexts
-use Rattle.client_shelf.specs.declared.shelf.Shelf.{Shelf}
-use Rattle.op_machines.specs.declared.begun.Mounted.{Mounted}
-use Rattle.op_machines.specs.declared.machine.Machine.{Machine}
-use Rattle.op_machines.specs.Begun.{machine_of}
-use Rattle.client_core.specs.declared.lane.Purpose.{Purpose}
-use Rattle.client_core.specs.declared.lane.State.TheVariants.{Busy}
-use Rattle.client_core.specs.declared.setup.Setup.{Setup}
-use Rattle.client_core.specs.Fresh.{IsFresh}
-use Rattle.client_core.specs.Numbers.{IsIdle, numbers_of}
-use Rattle.client_core.specs.Steps.{with_state, record_of, Makes, Leads, Stirs, counted, StartsLane, TakesAt, AnswersAt}
-use Rattle.client_core.specs.View.{View, turn_at}
-use Rattle.core_facts.specs.Reaches.{IsOpenLine}
-use Rattle.core_facts.specs.SlotAnswers.{GoesWith}
-use Rattle.core_facts.proofs.Cases.{taken_one}
-use Rattle.core_facts.proofs.Counting.{calls-some, known-some}
-use Rattle.core_facts.proofs.Keeping.{Known}
-use Rattle.core_facts.proofs.LaneMarks.{Runs, idle-numbers, number_of}
-use Rattle.core_facts.proofs.Lists.{to-map}
-use Rattle.core_facts.proofs.Rows.{Rows, same-rows, taken-rows}
-use Rattle.core_answers.proofs.writes.Along.{SameCalls}
-use Rattle.core_answers.proofs.writes.Backs.{After}
-use Rattle.core_answers.proofs.writes.PiecesCarried.{Flying, waits-late, unused-next, starts-under, resumes-under, takes-under, unmade-under}
-use Rattle.core_answers.proofs.writes.Under.{SameUnder}
+use Rattle.core_facts.proofs.Counting.{known-some}
+use Rattle.core_answers.proofs.writes.PiecesCarried.{Flying, unmade-under}
 use Rattle.core_session.proofs.calls.TableHeld.{AllNoted}
 use Rattle.core_session.proofs.drops.KnowingAlong.{IsPlain}
 use Rattle.core_session.proofs.drops.Laws.{DropsKnown}

@@ -1,19 +1,9 @@
 -- An operation that was answered, and wrote a byte that may still be pending, is a write or fill, but for a put that was refused.
-use Rattle.std.proofs.Common.{◌≡◌, ◌<◌, ℕ, List, subst, arith}
-use Rattle.world_model.specs.declared.answer.Answer.{Answer}
+use Rattle.core_session.proofs.Prelude.{◌≡◌, ◌<◌, ℕ, List, subst, arith, Answer, Entry, Began, Op, At, Modes, Origin, AnsweredBefore, Ended, PutRefused, WritesByte, At-one}
 use Rattle.world_model.specs.declared.answer.Answer.TheVariants as answers
-use Rattle.world_model.specs.declared.entry.Entry.{Entry}
-use Rattle.world_model.specs.declared.entry.Entry.TheVariants.{Began}
-use Rattle.world_model.specs.declared.op.Op.{Op}
 use Rattle.world_model.specs.declared.op.Op.TheVariants as ops
-use Rattle.world_model.specs.Entries.{At}
-use Rattle.claims.specs.Modes.{Modes}
-use Rattle.world_model.specs.Mounts.{Origin}
-use Rattle.world_model.specs.Operations.{AnsweredBefore, Ended}
-use Rattle.claims.specs.Pending.{PutRefused, PutSucceeded}
-use Rattle.claims.specs.Touched.{WritesByte}
+use Rattle.claims.specs.Pending.{PutSucceeded}
 use Rattle.claims.specs.Touched as touched
-use Rattle.world_model.proofs.Places.{At-one}
 use Rattle.core_session.proofs.syncs.Causes.{IsWriter, OfOp}
 
 began-op : (a b c d : ℕ) (o p : Op) → Began a b o ≡ Began c d p → o ≡ p

@@ -1,35 +1,12 @@
 -- A lane's truncate that goes well has cut what is pending of its file.
-use Rattle.std.proofs.Common.{◌≡◌, ◌≤◌, ℕ, true, List, Option, Some, None, refl, sym, ap, subst, ◌∙◌}
-use Rattle.world_model.specs.declared.entry.Entry.{Entry}
-use Rattle.world_model.specs.declared.entry.Entry.TheVariants.{Began}
-use Rattle.world_model.specs.declared.op.Op.{Op}
+use Rattle.core_session.proofs.Prelude.{◌≡◌, ◌≤◌, ℕ, true, List, Option, Some, None, refl, sym, ap, subst, ◌∙◌, Entry, Began, Op, IsOf, Terms, Cuts, At-one, Pending, of_file, OnFile, HasNoPiece, with_cut, LaneFile, is_first, TruncateFile, Truncating, is_quiet, Mounted, Machine, Setup, View, GoesWith, IsLive, seat_of, SitsWith, seat_with, seat-own, seat-other, same-first, IsFirst, EachSound}
 use Rattle.world_model.specs.declared.op.Op.TheVariants as ops
-use Rattle.claims.specs.Slots.{IsOf}
-use Rattle.claims.specs.Terms.{Terms}
-use Rattle.claims.specs.Touched.{Cuts}
-use Rattle.world_model.proofs.Places.{At-one}
-use Rattle.write_back.specs.Files.{Pending, of_file, OnFile, HasNoPiece}
-use Rattle.write_back.specs.Landing.{with_cut}
-use Rattle.client_shelf.specs.declared.lane_files.LaneFile.{LaneFile}
-use Rattle.client_shelf.specs.LaneFiles.{is_first}
-use Rattle.file_ops.specs.declared.truncate_file.TruncateFile.{TruncateFile}
-use Rattle.file_ops.specs.declared.truncate_file.Truncating.{Truncating}
 use Rattle.file_ops.specs.declared.truncate_file.Truncating.TheVariants as truncating
-use Rattle.file_ops.specs.Quiet.{is_quiet}
 use Rattle.file_ops.specs.TruncateFile as truncates
-use Rattle.op_machines.specs.declared.begun.Mounted.{Mounted}
 use Rattle.op_machines.specs.declared.file_machine.FileMachine.TheVariants as files
-use Rattle.op_machines.specs.declared.machine.Machine.{Machine}
 use Rattle.op_machines.specs.declared.machine.Machine.TheVariants as machines
-use Rattle.client_core.specs.declared.setup.Setup.{Setup}
-use Rattle.client_core.specs.View.{View}
-use Rattle.core_facts.specs.SlotAnswers.{GoesWith}
-use Rattle.core_facts.proofs.AllSeats.{IsLive, seat_of}
-use Rattle.core_facts.proofs.Orders.{SitsWith, seat_with, seat-own, seat-other}
 use Rattle.core_answers.proofs.writes.AllTurns.{TurnOf}
-use Rattle.core_answers.proofs.writes.Firsts.{same-first}
-use Rattle.core_answers.proofs.writes.Turns.{IsFirst, TruncateTurn}
-use Rattle.step_pending.specs.Cells.{EachSound}
+use Rattle.core_answers.proofs.writes.Turns.{TruncateTurn}
 use Rattle.step_pending.proofs.Cutting.{cut-sound}
 use Rattle.core_session.proofs.syncs.AllJobs.{JobHas, job_save}
 use Rattle.core_session.proofs.syncs.Fates.{live-lane}

@@ -1,49 +1,16 @@
 -- Where a lane's sync or close has saved its file, only later bytes are pending of it: a lane's whole step, also at a call that isn't made.
-use Rattle.std.proofs.Common.{◌≡◌, ◌≤◌, inl, inr, ℕ, false, List, [], ◌∷◌, ◌++◌, length, Option, Some, None, position, Result, Err, slice_get, refl, sym, ap, subst, ◌∙◌, arith}
+use Rattle.core_session.proofs.Prelude.{◌≡◌, ◌≤◌, inl, inr, ℕ, false, List, [], ◌∷◌, ◌++◌, length, Option, Some, None, position, Result, Err, slice_get, refl, sym, ap, subst, ◌∙◌, arith, Waiting, waiting_at, Fault, Entry, Reply, said_of, Pending, of_file, piece_under, LaneFile, Shelf, Turn, Next, CloseFile, Saving, SyncFile, file_at, Mounted, Machine, machine_of, Resumes, Takes, Purpose, State, Busy, Over, Setup, is_busy, with_state, IsRefused, Leads, Stirs, counted, StartsLane, TakesAt, View, turn_at, unmade_turn, in_flight, Reaches, taken_one, Known, taker-is, taker-one, at-set, at-push, unused-next, EachSound, IsAwaited}
 use Rattle.std.specs.Prelude.{IsSome}
-use Rattle.rpc_retry.specs.declared.waiting.Waiting.{Waiting}
-use Rattle.rpc_retry.specs.Waiting.{waiting_at}
 use Rattle.world_model.specs.declared.answer.Answer.TheVariants as answers
-use Rattle.world_model.specs.declared.answer.Fault.{Fault}
-use Rattle.world_model.specs.declared.entry.Entry.{Entry}
-use Rattle.world_model.specs.declared.message.Reply.{Reply}
-use Rattle.call_replies.specs.Says.{said_of}
-use Rattle.write_back.specs.Files.{Pending, of_file}
-use Rattle.write_back.specs.Pieces.{Sent, piece_under}
-use Rattle.client_shelf.specs.declared.lane_files.LaneFile.{LaneFile}
-use Rattle.client_shelf.specs.declared.shelf.Shelf.{Shelf}
-use Rattle.client_shelf.specs.declared.turn.Turn.{Turn}
-use Rattle.client_shelf.specs.declared.next.Next.{Next}
+use Rattle.write_back.specs.Pieces.{Sent}
 use Rattle.client_shelf.specs.declared.next.Next.TheVariants as nexts
-use Rattle.file_ops.specs.declared.close_file.CloseFile.{CloseFile}
-use Rattle.file_ops.specs.declared.saving.Saving.{Saving}
-use Rattle.file_ops.specs.declared.sync_file.SyncFile.{SyncFile}
 use Rattle.file_ops.specs.Saves as saves
-use Rattle.file_ops.specs.SlotFiles.{file_at}
-use Rattle.op_machines.specs.declared.begun.Mounted.{Mounted}
 use Rattle.op_machines.specs.declared.file_machine.FileMachine.TheVariants as files
-use Rattle.op_machines.specs.declared.machine.Machine.{Machine}
 use Rattle.op_machines.specs.declared.machine.Machine.TheVariants as machines
-use Rattle.op_machines.specs.Begun.{machine_of}
-use Rattle.op_machines.specs.Steps.{Resumes, Takes}
-use Rattle.client_core.specs.declared.lane.Purpose.{Purpose}
-use Rattle.client_core.specs.declared.lane.State.{State}
-use Rattle.client_core.specs.declared.lane.State.TheVariants.{Busy, Over}
-use Rattle.client_core.specs.declared.setup.Setup.{Setup}
-use Rattle.client_core.specs.Lanes.{is_busy}
-use Rattle.client_core.specs.Steps.{with_state, IsRefused, Leads, Stirs, counted, StartsLane, TakesAt}
-use Rattle.client_core.specs.View.{View, turn_at, unmade_turn}
-use Rattle.core_facts.specs.InFlight.{in_flight, of_saving}
-use Rattle.core_facts.specs.Reaches.{Reaches}
-use Rattle.core_facts.proofs.Cases.{taken_one}
-use Rattle.core_facts.proofs.Keeping.{Known, taker-is, taker-one}
-use Rattle.core_facts.proofs.Lists.{at-set, at-push}
-use Rattle.core_answers.proofs.writes.PiecesCarried.{unused-next}
+use Rattle.core_facts.specs.InFlight.{of_saving}
 use Rattle.core_session.proofs.saves.Taking.{sent-piece}
 use Rattle.core_session.proofs.saves.WholeSteps.{Wholly}
 use Rattle.core_session.proofs.drops.LaneIs.{state-is}
-use Rattle.step_pending.specs.Cells.{EachSound}
-use Rattle.step_saves.specs.Saves.{IsAwaited}
 use Rattle.core_session.proofs.syncs.AllJobs.{job_save}
 use Rattle.core_session.proofs.syncs.Fates.{save-is}
 use Rattle.core_session.proofs.syncs.Levels.{Owner, SaveSo, queued, elsewhere, under}

@@ -1,58 +1,13 @@
 -- Where a step of a lane lets go a guarded number, nothing older than it is pending any more: a close saved it, or was refused with no slot left, and dropped all.
-use Rattle.std.proofs.Common.{◌≡◌, ◌≢◌, ◌≤◌, ◌⊎◌, inl, inr, ℕ, Bool, true, false, nat_eq, List, [], ◌∷◌, ◌++◌, length, Some, None, position, slice_get, refl, sym, ap, subst, ◌∙◌, arith}
-use Rattle.std.proofs.lemmas.Bool.{eqb-true, eqb-false}
-use Rattle.rpc_retry.specs.declared.waiting.Waiting.{Waiting}
-use Rattle.rpc_retry.specs.Waiting.{waiting_at}
-use Rattle.open_files.specs.Slots.{IsOpen}
-use Rattle.world_model.specs.declared.answer.Answer.{Answer}
+use Rattle.core_session.proofs.Prelude.{◌≡◌, ◌≢◌, ◌≤◌, ◌⊎◌, inl, inr, ℕ, Bool, true, false, nat_eq, List, [], ◌∷◌, ◌++◌, length, Some, None, position, slice_get, refl, sym, ap, subst, ◌∙◌, arith, eqb-true, eqb-false, Waiting, waiting_at, IsOpen, Answer, Fault, Value, Entry, Began, Delivered, Op, Modes, said_of, Pending, of_file, HasNoPiece, FilePending, last_end, LaneFile, left, is_first, CloseFile, Closing, Removal, Saving, file_at, joined, Mounted, Machine, machine_of, Lane, Purpose, State, Busy, Over, Setup, is_busy, IsIdle, numbers_of, counted, Stirs, TakesAt, StartsLane, with_state, View, turn_at, AreApart, Reaches, taken_one, seat_close, Known, lanes-under-way, idle-numbers, number_of, at-set, at-push, to-map, Sits, seat_with, seat-own, seat-other, look-at, seat_state, seat_in, first-left, first-added, same-first, IsGuarded, save_in, removal_in, file_in, EachSound, IsUnderWay}
 use Rattle.world_model.specs.declared.answer.Answer.TheVariants as answers
-use Rattle.world_model.specs.declared.answer.Fault.{Fault}
-use Rattle.world_model.specs.declared.answer.Value.{Value}
-use Rattle.world_model.specs.declared.entry.Entry.{Entry}
-use Rattle.world_model.specs.declared.entry.Entry.TheVariants.{Began, Delivered}
-use Rattle.world_model.specs.declared.op.Op.{Op}
 use Rattle.world_model.specs.declared.op.Op.TheVariants as ops
-use Rattle.claims.specs.Modes.{Modes}
-use Rattle.call_replies.specs.Says.{said_of}
-use Rattle.write_back.specs.Files.{Pending, of_file, HasNoPiece}
-use Rattle.write_back.specs.Pieces.{Sent, FilePending}
-use Rattle.write_back.specs.Segments.{last_end}
-use Rattle.client_shelf.specs.declared.lane_files.LaneFile.{LaneFile}
-use Rattle.client_shelf.specs.LaneFiles.{left, is_first}
-use Rattle.file_ops.specs.declared.close_file.CloseFile.{CloseFile}
-use Rattle.file_ops.specs.declared.close_file.Closing.{Closing}
+use Rattle.write_back.specs.Pieces.{Sent}
 use Rattle.file_ops.specs.declared.close_file.Closing.TheVariants as closings
-use Rattle.file_ops.specs.declared.closing.Removal.{Removal}
-use Rattle.file_ops.specs.declared.saving.Saving.{Saving}
 use Rattle.file_ops.specs.Saves as saves
-use Rattle.file_ops.specs.SlotFiles.{file_at, joined}
-use Rattle.op_machines.specs.declared.begun.Mounted.{Mounted}
 use Rattle.op_machines.specs.declared.file_machine.FileMachine.TheVariants as files
-use Rattle.op_machines.specs.declared.machine.Machine.{Machine}
 use Rattle.op_machines.specs.declared.machine.Machine.TheVariants as machines
-use Rattle.op_machines.specs.Begun.{machine_of}
-use Rattle.client_core.specs.declared.lane.Lane.{Lane}
-use Rattle.client_core.specs.declared.lane.Purpose.{Purpose}
-use Rattle.client_core.specs.declared.lane.State.{State}
-use Rattle.client_core.specs.declared.lane.State.TheVariants.{Busy, Over}
-use Rattle.client_core.specs.declared.setup.Setup.{Setup}
-use Rattle.client_core.specs.Lanes.{is_busy}
-use Rattle.client_core.specs.Numbers.{IsIdle, numbers_of}
-use Rattle.client_core.specs.Steps.{counted, Stirs, TakesAt, StartsLane, with_state}
-use Rattle.client_core.specs.View.{View, turn_at}
-use Rattle.core_facts.specs.Lanes.{AreApart}
-use Rattle.core_facts.specs.Reaches.{Reaches}
-use Rattle.core_facts.proofs.Cases.{taken_one}
-use Rattle.core_facts.proofs.FileSeats.{seat_close}
-use Rattle.core_facts.proofs.Keeping.{Known}
-use Rattle.core_facts.proofs.LaneMarks.{lanes-under-way, idle-numbers, number_of}
-use Rattle.core_facts.proofs.Lists.{at-set, at-push, to-map}
-use Rattle.core_facts.proofs.Orders.{Sits, seat_with, seat-own, seat-other}
-use Rattle.core_facts.proofs.Looks.{look-at}
-use Rattle.core_facts.proofs.Placing.{seat_state, seat_in}
 use Rattle.core_session.proofs.saves.WholeSteps.{Wholly}
-use Rattle.core_answers.proofs.writes.Firsts.{first-left, first-added, same-first}
-use Rattle.core_session.specs.drops.Guarded.{IsGuarded, save_in, removal_in, file_in}
 use Rattle.core_session.proofs.drops.BeginSteps.{starts-step, StartOf, queued-sits}
 use Rattle.core_session.proofs.drops.CloseGoes.{both-in}
 use Rattle.core_session.proofs.drops.Guards.{Ranked, Stepping, CloserStep, OtherStep, LetGo, own-now}
@@ -60,8 +15,6 @@ use Rattle.core_session.proofs.drops.Guards as guards
 use Rattle.core_session.proofs.drops.GuardLaws.{StepOf, guarded-step, stirs-step, takes-step}
 use Rattle.core_session.proofs.drops.LaneIs.{state-is, number-is, busy-over}
 use Rattle.core_session.proofs.drops.Laws.{DropsKnown}
-use Rattle.step_pending.specs.Cells.{EachSound}
-use Rattle.step_saves.specs.Saves.{IsUnderWay}
 use Rattle.core_session.proofs.syncs.AllJobs.{job_save}
 use Rattle.core_session.proofs.syncs.Fates.{save-is}
 use Rattle.core_session.proofs.syncs.Jobs.{closing_save}

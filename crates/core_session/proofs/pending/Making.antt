@@ -1,50 +1,19 @@
 -- A WRITE carries what is newest at its places as it is made; or it is one that was put off, and carries the same again.
-use Rattle.std.proofs.Common.{◌≡◌, ◌≢◌, ◌⊎◌, inl, inr, ℕ, Bool, true, false, List, [], ◌∷◌, ◌++◌, length, Option, Some, None, Result, Ok, Err, refl, sym, ap, subst, ◌∙◌}
-use Rattle.commit_verf.specs.declared.commit.Verdict.{Verdict}
-use Rattle.commit_verf.specs.declared.commit.Verdict.TheVariants.{AllStable, SendAgain}
-use Rattle.commit_verf.specs.Decisions.{verdict_of}
-use Rattle.nfs_types.specs.declared.verf.Verf.{Verf}
-use Rattle.world_model.specs.declared.answer.Fault.{Fault}
-use Rattle.world_model.specs.declared.message.Reply.{Reply}
-use Rattle.write_back.specs.Changes.{lost}
-use Rattle.write_back.specs.Choice.{chosen, piece_of, with_sent}
-use Rattle.write_back.specs.Files.{Pending, of_file, OnFile}
-use Rattle.write_back.specs.Landing.{with_xid}
-use Rattle.write_back.specs.Pieces.{Sent, FilePending, piece_under, rest_at}
-use Rattle.write_back.specs.Places.{PutsInFlight}
-use Rattle.write_back.specs.Segments.{Segments, covers}
-use Rattle.write_back.proofs.WritesByFile.{same-or}
-use Rattle.client_shelf.specs.declared.next.Next.{Next}
+use Rattle.core_session.proofs.Prelude.{◌≡◌, ◌≢◌, ◌⊎◌, inl, inr, ℕ, Bool, true, false, List, [], ◌∷◌, ◌++◌, length, Option, Some, None, Result, Ok, Err, refl, sym, ap, subst, ◌∙◌, Verdict, AllStable, SendAgain, verdict_of, Verf, Fault, Reply, lost, chosen, piece_of, with_sent, Pending, of_file, OnFile, with_xid, FilePending, piece_under, rest_at, PutsInFlight, Segments, covers, same-or, Next, Repeat, Shelf, Turn, goes_again, Closing, Putting, Sending, Committing, Resending, CommittingAgain, Saving, Syncing, Writing, commit_told, IsUnused, FileMachine, Machine, Opener, file_of, Starts, Resumes, Takes, After, CarriesReply}
+use Rattle.write_back.specs.Pieces.{Sent}
 use Rattle.client_shelf.specs.declared.next.Next.TheVariants as nexts
-use Rattle.client_shelf.specs.declared.repeats.Repeat.{Repeat}
-use Rattle.client_shelf.specs.declared.shelf.Shelf.{Shelf}
-use Rattle.client_shelf.specs.declared.turn.Turn.{Turn}
-use Rattle.client_shelf.specs.Busy.{goes_again}
-use Rattle.file_ops.specs.declared.close_file.Closing.{Closing}
 use Rattle.file_ops.specs.declared.close_file.Closing.TheVariants as closing
-use Rattle.file_ops.specs.declared.put_file.Putting.{Putting}
 use Rattle.file_ops.specs.declared.put_file.Putting.TheVariants as putting
 use Rattle.file_ops.specs.declared.saving.Phase.{Phase}
-use Rattle.file_ops.specs.declared.saving.Phase.TheVariants.{Sending, Committing, Resending, CommittingAgain}
-use Rattle.file_ops.specs.declared.saving.Saving.{Saving}
-use Rattle.file_ops.specs.declared.sync_file.Syncing.{Syncing}
 use Rattle.file_ops.specs.declared.sync_file.Syncing.TheVariants as syncing
-use Rattle.file_ops.specs.declared.write_file.Writing.{Writing}
 use Rattle.file_ops.specs.declared.write_file.Writing.TheVariants as writing
-use Rattle.file_ops.specs.Judging.{commit_told}
-use Rattle.file_ops.specs.SlotFiles.{IsUnused}
 use Rattle.file_ops.specs.Saves as saves
 use Rattle.file_ops.specs.Syncs as syncs
 use Rattle.file_ops.proofs.Landed.{lands-out}
-use Rattle.op_machines.specs.declared.file_machine.FileMachine.{FileMachine}
 use Rattle.op_machines.specs.declared.file_machine.FileMachine.TheVariants as files
-use Rattle.op_machines.specs.declared.machine.Machine.{Machine}
 use Rattle.op_machines.specs.declared.machine.Machine.TheVariants as machines
-use Rattle.op_machines.specs.declared.opener.Opener.{Opener}
-use Rattle.op_machines.specs.Openers.{file_of}
-use Rattle.op_machines.specs.Steps.{Starts, Resumes, Takes}
 use Rattle.core_answers.proofs.writes.AllBacks.{PathSaves, Saves, all-starts, all-resumes, all-takes}
-use Rattle.core_answers.proofs.writes.Backs.{After, Carries, CarriesReply, SyncSaves, CloseSaves, WriteSaves, PutSaves, FileSaves}
+use Rattle.core_answers.proofs.writes.Backs.{Carries, SyncSaves, CloseSaves, WriteSaves, PutSaves, FileSaves}
 use Rattle.core_answers.proofs.writes.Mapped.{any-asks, any-brings, any-starts}
 use Rattle.core_answers.proofs.writes.OwnPieces.{same-free, on-free, out-free}
 use Rattle.core_answers.proofs.writes.Under.{under-last, under-renamed, same-under, bytes-under, gives-under}

@@ -1,24 +1,11 @@
 -- At any moment of a history the newest byte that is pending at a place may be so by `Pending` of claims.
-use Rattle.std.proofs.Common.{◌≡◌, ◌≤◌, ◌<◌, ℕ, List, ◌++◌, length, Some, refl, sym, subst, arith}
-use Rattle.world_model.specs.declared.answer.Answer.{Answer}
+use Rattle.core_session.proofs.Prelude.{◌≡◌, ◌≤◌, ◌<◌, ℕ, List, ◌++◌, length, Some, refl, sym, subst, arith, Answer, Entry, Began, Answered, Op, At, AnsweredBefore, Ended, LeftAlone, PutRefused, Terms, RefusedWrite, Truncated, Wrote, At-grow, At-back, At-one, of_file, Cell, cell_at, Mounted, Setup, View}
 use Rattle.world_model.specs.declared.answer.Answer.TheVariants as answers
-use Rattle.world_model.specs.declared.entry.Entry.{Entry}
-use Rattle.world_model.specs.declared.entry.Entry.TheVariants.{Began, Answered}
-use Rattle.world_model.specs.declared.op.Op.{Op}
 use Rattle.world_model.specs.declared.op.Op.TheVariants as ops
-use Rattle.world_model.specs.Entries.{At}
-use Rattle.world_model.specs.Operations.{AnsweredBefore, Ended}
-use Rattle.claims.specs.Pending.{LeftAlone, Pending, PutRefused, PutSucceeded}
+use Rattle.claims.specs.Pending.{Pending, PutSucceeded}
 use Rattle.claims.specs.Slots.{PutsTo}
-use Rattle.claims.specs.Terms.{Terms}
-use Rattle.claims.specs.Touched.{RefusedWrite, MadeStable, Truncated, Wrote}
+use Rattle.claims.specs.Touched.{MadeStable}
 use Rattle.claims.specs.Touched as touched
-use Rattle.world_model.proofs.Places.{At-grow, At-back, At-one}
-use Rattle.write_back.specs.Files.{of_file}
-use Rattle.write_back.specs.Segments.{Cell, cell_at}
-use Rattle.op_machines.specs.declared.begun.Mounted.{Mounted}
-use Rattle.client_core.specs.declared.setup.Setup.{Setup}
-use Rattle.client_core.specs.View.{View}
 use Rattle.core_session.proofs.syncs.Aparts.{apart-done}
 use Rattle.core_session.proofs.syncs.Causes.{IsWriter, IsPut, OfOp}
 use Rattle.core_session.proofs.syncs.Turning.{IsFixed, gone}

@@ -1,26 +1,9 @@
 -- A write or fill that has a good answer, noted or not, isn't refused as the session goes on.
-use Rattle.std.proofs.Common.{◌≡◌, inr, ℕ, List, ◌++◌, Some, slice_get, refl, sym, ap, subst, ◌∙◌}
+use Rattle.core_session.proofs.Prelude.{◌≡◌, inr, ℕ, List, ◌++◌, Some, slice_get, refl, sym, ap, subst, ◌∙◌, Fault, Value, Entry, Began, Answered, Op, At, RefusedWrite, At-grow, At-one, At-below, Mounted, machine_of, Lane, Over, Setup, View, AreApart, Reaches, lanes-under-way, reached-lanes}
 use Rattle.world_model.specs.declared.answer.Answer.TheVariants as answers
-use Rattle.world_model.specs.declared.answer.Fault.{Fault}
-use Rattle.world_model.specs.declared.answer.Value.{Value}
-use Rattle.world_model.specs.declared.entry.Entry.{Entry}
-use Rattle.world_model.specs.declared.entry.Entry.TheVariants.{Began, Answered}
-use Rattle.world_model.specs.declared.op.Op.{Op}
 use Rattle.world_model.specs.declared.op.Op.TheVariants as ops
 use Rattle.claims.specs.Asks as asks
-use Rattle.world_model.specs.Entries.{At}
-use Rattle.claims.specs.Touched.{RefusedWrite}
 use Rattle.claims.specs.Touched as touched
-use Rattle.world_model.proofs.Places.{At-grow, At-one, At-below}
-use Rattle.op_machines.specs.declared.begun.Mounted.{Mounted}
-use Rattle.op_machines.specs.Begun.{machine_of}
-use Rattle.client_core.specs.declared.lane.Lane.{Lane}
-use Rattle.client_core.specs.declared.lane.State.TheVariants.{Over}
-use Rattle.client_core.specs.declared.setup.Setup.{Setup}
-use Rattle.client_core.specs.View.{View}
-use Rattle.core_facts.specs.Lanes.{AreApart}
-use Rattle.core_facts.specs.Reaches.{Reaches}
-use Rattle.core_facts.proofs.LaneMarks.{lanes-under-way, reached-lanes}
 use Rattle.core_session.proofs.room.Entered.{IsDone, LaneSafe}
 use Rattle.core_session.proofs.room.Onward.{Onward, entered-onward}
 use Rattle.core_session.proofs.syncs.Causes.{IsWriter, OfOp}

@@ -1,38 +1,7 @@
 -- Each byte of a WRITE that waits may have been pending at a moment since the operation began that asks for it.
-use Rattle.std.proofs.Common.{◌≡◌, ◌<◌, ◌≤◌, ◌+◌, ℕ, false, List, [], ◌∷◌, ◌++◌, length, Some, position, slice_get, refl, sym, subst, ◌∙◌, append_assoc, arith}
-use Rattle.rpc_retry.specs.declared.waiting.Waiting.{Waiting}
-use Rattle.rpc_retry.specs.Waiting.{waiting_at}
-use Rattle.write_back.specs.Files.{of_file}
-use Rattle.write_back.specs.Pieces.{Sent, piece_under}
-use Rattle.world_model.specs.declared.entry.Entry.{Entry}
-use Rattle.world_model.specs.declared.entry.Entry.TheVariants.{Began, Answered, Delivered}
-use Rattle.world_model.specs.declared.op.Op.{Op}
-use Rattle.world_model.specs.LanesTogether.{IsBusy}
-use Rattle.world_model.specs.Operations.{Ended, UnderWay}
-use Rattle.claims.specs.ReadTrue.{PendingWithin}
-use Rattle.claims.specs.Terms.{Terms}
-use Rattle.claims.specs.Touched.{RefusedWrite}
-use Rattle.world_model.proofs.Places.{At-below}
-use Rattle.call_replies.specs.Says.{said_of}
-use Rattle.op_machines.specs.declared.begun.Mounted.{Mounted}
-use Rattle.op_machines.specs.Begun.{machine_of}
-use Rattle.client_core.specs.declared.lane.Purpose.{Purpose}
-use Rattle.client_core.specs.declared.lane.State.TheVariants.{Busy}
-use Rattle.client_core.specs.declared.setup.Setup.{Setup}
-use Rattle.client_core.specs.Lanes.{is_busy}
-use Rattle.client_core.specs.Numbers.{numbers_of}
-use Rattle.client_core.specs.Steps.{TakesAt}
-use Rattle.client_core.specs.View.{View}
-use Rattle.core_facts.specs.Naming.{KnowsRoot}
-use Rattle.core_facts.specs.Reaches.{Reaches, begins}
-use Rattle.core_facts.specs.SlotAnswers.{GoesWith}
-use Rattle.core_facts.proofs.AllCounts.{begins-unbegun}
-use Rattle.core_facts.proofs.Cases.{taken_one}
-use Rattle.core_facts.proofs.Keeping.{Known, taker-is}
-use Rattle.core_facts.proofs.LaneMarks.{Runs, quiet-facts, lanes-under-way, number_of}
-use Rattle.core_facts.proofs.Lists.{to-map}
+use Rattle.core_session.proofs.Prelude.{◌≡◌, ◌<◌, ◌≤◌, ◌+◌, ℕ, false, List, [], ◌∷◌, ◌++◌, length, Some, position, slice_get, refl, sym, subst, ◌∙◌, append_assoc, arith, Waiting, waiting_at, of_file, piece_under, Entry, Began, Answered, Delivered, Op, IsBusy, Ended, UnderWay, PendingWithin, Terms, RefusedWrite, At-below, said_of, Mounted, machine_of, Purpose, Busy, Setup, is_busy, numbers_of, TakesAt, View, KnowsRoot, Reaches, begins, GoesWith, begins-unbegun, taken_one, Known, taker-is, Runs, quiet-facts, lanes-under-way, number_of, to-map, PutsNamed}
+use Rattle.write_back.specs.Pieces.{Sent}
 use Rattle.core_session.proofs.calls.TableHeld.{AllNoted}
-use Rattle.core_session.specs.syncs.Synced.{PutsNamed}
 use Rattle.core_session.proofs.syncs.Ends.{answered-once}
 use Rattle.core_session.proofs.syncs.Turning.{IsFixed, ready, gone, fixed-same, under-on}
 use Rattle.core_session.proofs.syncs.WatchingAlong.{KeepsWatching, reached-watching}

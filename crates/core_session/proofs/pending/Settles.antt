@@ -1,44 +1,16 @@
 -- Where a sync or a close has saved its file, only later bytes are pending of it: each step of their machines.
-use Rattle.std.proofs.Common.{◌≡◌, ◌≤◌, ◌⊎◌, inl, inr, ℕ, Bool, true, false, List, Option, Some, None, Result, Ok, Err, refl, sym, ap, subst}
+use Rattle.core_session.proofs.Prelude.{◌≡◌, ◌≤◌, ◌⊎◌, inl, inr, ℕ, Bool, true, false, List, Option, Some, None, Result, Ok, Err, refl, sym, ap, subst, Fault, Call, Reply, last_end, Pending, of_file, HasNoPiece, Next, Repeat, Shelf, Turn, goes_again, is_first, CloseFile, Closing, Removal, Saving, SyncFile, Syncing, GivesUpBy, closed_answer, remove_busy, file_at, joined, by-step, ends_as, FileMachine, Machine, Starts, Resumes, Takes, State, Busy, Over, EndsSo, takes-not, Free, EachSound, IsClearUpTo, IsUnderWay, IsAwaited}
 use Rattle.world_model.specs.declared.answer.Answer.TheVariants as answers
-use Rattle.world_model.specs.declared.answer.Fault.{Fault}
-use Rattle.world_model.specs.declared.message.Call.{Call}
-use Rattle.world_model.specs.declared.message.Reply.{Reply}
-use Rattle.write_back.specs.Segments.{last_end}
-use Rattle.write_back.specs.Files.{Pending, of_file, HasNoPiece}
-use Rattle.client_shelf.specs.declared.next.Next.{Next}
 use Rattle.client_shelf.specs.declared.next.Next.TheVariants as nexts
-use Rattle.client_shelf.specs.declared.repeats.Repeat.{Repeat}
-use Rattle.client_shelf.specs.declared.shelf.Shelf.{Shelf}
-use Rattle.client_shelf.specs.declared.turn.Turn.{Turn}
-use Rattle.client_shelf.specs.Busy.{goes_again}
-use Rattle.client_shelf.specs.LaneFiles.{is_first}
-use Rattle.file_ops.specs.declared.close_file.CloseFile.{CloseFile}
-use Rattle.file_ops.specs.declared.close_file.Closing.{Closing}
 use Rattle.file_ops.specs.declared.close_file.Closing.TheVariants as closing
-use Rattle.file_ops.specs.declared.closing.Removal.{Removal}
-use Rattle.file_ops.specs.declared.saving.Saving.{Saving}
-use Rattle.file_ops.specs.declared.sync_file.SyncFile.{SyncFile}
-use Rattle.file_ops.specs.declared.sync_file.Syncing.{Syncing}
 use Rattle.file_ops.specs.declared.sync_file.Syncing.TheVariants as syncing
-use Rattle.file_ops.specs.Closings.{GivesUpBy, closed_answer, remove_busy}
 use Rattle.file_ops.specs.Closes as closes
 use Rattle.file_ops.specs.Saves as saves
-use Rattle.file_ops.specs.SlotFiles.{file_at, joined}
 use Rattle.file_ops.specs.Syncs as syncs
-use Rattle.file_ops.proofs.SaveCounts.{by-step, ends_as}
-use Rattle.op_machines.specs.declared.file_machine.FileMachine.{FileMachine}
 use Rattle.op_machines.specs.declared.file_machine.FileMachine.TheVariants as files
-use Rattle.op_machines.specs.declared.machine.Machine.{Machine}
 use Rattle.op_machines.specs.declared.machine.Machine.TheVariants as machines
-use Rattle.op_machines.specs.Steps.{Starts, Resumes, Takes}
-use Rattle.client_core.specs.declared.lane.State.{State}
-use Rattle.client_core.specs.declared.lane.State.TheVariants.{Busy, Over}
-use Rattle.core_facts.proofs.SaveCommits.{EndsSo}
-use Rattle.core_answers.proofs.paths.Endings.{goes-not, takes-not}
-use Rattle.core_answers.proofs.writes.OwnPieces.{Free}
-use Rattle.step_pending.specs.Cells.{EachSound}
-use Rattle.step_saves.specs.Saves.{IsClearUpTo, IsUnderWay, IsSaved, Leaves, IsAwaited}
+use Rattle.core_answers.proofs.paths.Endings.{goes-not}
+use Rattle.step_saves.specs.Saves.{IsSaved, Leaves}
 use Rattle.step_saves.proofs.Taking.{takes-leaves, takes-sound}
 use Rattle.core_session.proofs.syncs.AllJobs.{job_save}
 use Rattle.core_session.proofs.syncs.Jobs.{file_save}

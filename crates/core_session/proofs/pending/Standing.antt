@@ -1,34 +1,7 @@
 -- What holds at each moment of a history of the newest bytes at a place of a file: who gave each, and which operations since then have left none older.
-use Rattle.std.proofs.Common.{◌≡◌, ◌≤◌, ◌<◌, ◌+◌, ◌-◌, ◌⊎◌, inl, inr, ℕ, true, false, List, ◌++◌, length, Option, Result, Some, None, slice_get, sym, subst, ◌∙◌, arith}
-use Rattle.std.specs.Prelude.{slice_index}
-use Rattle.world_model.specs.declared.answer.Answer.{Answer}
+use Rattle.core_session.proofs.Prelude.{◌≡◌, ◌≤◌, ◌<◌, ◌+◌, ◌-◌, ◌⊎◌, inl, inr, ℕ, true, false, List, ◌++◌, length, Option, Result, Some, None, slice_get, sym, subst, ◌∙◌, arith, slice_index, Answer, Fault, Value, Entry, Began, Call, Reply, Op, At, AnsweredBefore, Ended, LastReply, UnderWay, IsOf, NamesFile, Terms, WritesByte, Cuts, Pending, of_file, OnFile, with_bytes, covers, Shelf, Turn, Saving, is_full, Mounted, Machine, machine_of, Busy, Setup, View, Placed, IsGuarded}
 use Rattle.world_model.specs.declared.answer.Answer.TheVariants as answers
-use Rattle.world_model.specs.declared.answer.Fault.{Fault}
-use Rattle.world_model.specs.declared.answer.Value.{Value}
-use Rattle.world_model.specs.declared.entry.Entry.{Entry}
-use Rattle.world_model.specs.declared.entry.Entry.TheVariants.{Began}
-use Rattle.world_model.specs.declared.message.Call.{Call}
-use Rattle.world_model.specs.declared.message.Reply.{Reply}
-use Rattle.world_model.specs.declared.op.Op.{Op}
 use Rattle.world_model.specs.declared.op.Op.TheVariants as ops
-use Rattle.world_model.specs.Entries.{At}
-use Rattle.world_model.specs.Operations.{AnsweredBefore, Ended, LastReply, UnderWay}
-use Rattle.claims.specs.Slots.{IsOf, NamesFile}
-use Rattle.claims.specs.Terms.{Terms}
-use Rattle.claims.specs.Touched.{WritesByte, Cuts}
-use Rattle.write_back.specs.Files.{Pending, of_file, OnFile, with_bytes}
-use Rattle.write_back.specs.Segments.{covers}
-use Rattle.client_shelf.specs.declared.shelf.Shelf.{Shelf}
-use Rattle.client_shelf.specs.declared.turn.Turn.{Turn}
-use Rattle.file_ops.specs.declared.saving.Saving.{Saving}
-use Rattle.file_ops.specs.Adding.{is_full}
-use Rattle.op_machines.specs.declared.begun.Mounted.{Mounted}
-use Rattle.op_machines.specs.declared.machine.Machine.{Machine}
-use Rattle.op_machines.specs.Begun.{machine_of}
-use Rattle.client_core.specs.declared.lane.State.TheVariants.{Busy}
-use Rattle.client_core.specs.declared.setup.Setup.{Setup}
-use Rattle.client_core.specs.View.{View}
-use Rattle.core_facts.proofs.Placing.{Placed}
 use Rattle.core_session.proofs.saves.WholeSteps.{Wholly}
 use Rattle.core_session.proofs.syncs.Causes.{IsWriter, IsSaver, IsPut, OfOp, Saving_}
 use Rattle.core_session.proofs.syncs.Contents.{Common, Anything}
@@ -42,7 +15,6 @@ use Rattle.core_session.proofs.syncs.Plans.{Plan}
 use Rattle.core_session.proofs.syncs.Seen.{Owned}
 use Rattle.core_session.proofs.syncs.Stands.{Has}
 use Rattle.core_session.proofs.syncs.Turning.{IsFixed}
-use Rattle.core_session.specs.drops.Guarded.{IsGuarded}
 use Rattle.core_session.proofs.drops.Along.{GuardsKnown}
 use Rattle.core_session.proofs.pending.Above.{Above, adds-above}
 use Rattle.core_session.proofs.pending.Alone.{UnleftTo}

@@ -1,37 +1,7 @@
 -- An operation begins: what stands of the newest bytes goes on standing.
-use Rattle.std.proofs.Common.{◌≡◌, ◌≢◌, ◌≤◌, ◌<◌, ◌+◌, ◌⊎◌, inl, inr, ℕ, Bool, true, false, nat_eq, List, [], ◌∷◌, ◌++◌, length, None, refl, sym, subst, ◌∙◌, append_assoc, arith}
-use Rattle.std.specs.Prelude.{if◌then◌else◌}
-use Rattle.std.proofs.lemmas.Bool.{eqb-true, eqb-false}
-use Rattle.world_model.specs.declared.answer.Answer.{Answer}
+use Rattle.core_session.proofs.Prelude.{◌≡◌, ◌≢◌, ◌≤◌, ◌<◌, ◌+◌, ◌⊎◌, inl, inr, ℕ, Bool, true, false, nat_eq, List, [], ◌∷◌, ◌++◌, length, None, refl, sym, subst, ◌∙◌, append_assoc, arith, if◌then◌else◌, eqb-true, eqb-false, Answer, Value, Entry, Began, Op, At, Ended, UnderWay, IsOf, Terms, Cuts, IsDelivered, At-one, At-grow, At-last, length_last, Mounted, Machine, machine_of, Fits, Starts, Busy, Over, Setup, IsIdle, counted, StartsLane, View, turn_at, unmade_turn, Reaches, GoesWith, Known, Runs, lanes-begin, number_of, to-map, at-push, Placed}
 use Rattle.world_model.specs.declared.answer.Answer.TheVariants as answers
-use Rattle.world_model.specs.declared.answer.Value.{Value}
-use Rattle.world_model.specs.declared.entry.Entry.{Entry}
-use Rattle.world_model.specs.declared.entry.Entry.TheVariants.{Began}
-use Rattle.world_model.specs.declared.op.Op.{Op}
 use Rattle.world_model.specs.declared.op.Op.TheVariants as ops
-use Rattle.world_model.specs.Entries.{At}
-use Rattle.world_model.specs.Operations.{Ended, UnderWay}
-use Rattle.claims.specs.Slots.{IsOf}
-use Rattle.claims.specs.Terms.{Terms}
-use Rattle.claims.specs.Touched.{Cuts}
-use Rattle.world_model.specs.Waiting.{IsDelivered}
-use Rattle.world_model.proofs.Places.{At-one, At-grow, At-last, length_last}
-use Rattle.op_machines.specs.declared.begun.Mounted.{Mounted}
-use Rattle.op_machines.specs.declared.machine.Machine.{Machine}
-use Rattle.op_machines.specs.Begun.{machine_of}
-use Rattle.op_machines.specs.Fits.{Fits}
-use Rattle.op_machines.specs.Steps.{Starts}
-use Rattle.client_core.specs.declared.lane.State.TheVariants.{Busy, Over}
-use Rattle.client_core.specs.declared.setup.Setup.{Setup}
-use Rattle.client_core.specs.Numbers.{IsIdle}
-use Rattle.client_core.specs.Steps.{counted, StartsLane}
-use Rattle.client_core.specs.View.{View, turn_at, unmade_turn}
-use Rattle.core_facts.specs.Reaches.{Reaches}
-use Rattle.core_facts.specs.SlotAnswers.{GoesWith}
-use Rattle.core_facts.proofs.Keeping.{Known}
-use Rattle.core_facts.proofs.LaneMarks.{Runs, lanes-begin, number_of}
-use Rattle.core_facts.proofs.Lists.{to-map, at-push}
-use Rattle.core_facts.proofs.Placing.{Placed}
 use Rattle.core_session.proofs.saves.WholeSteps.{Wholly}
 use Rattle.core_session.proofs.syncs.Causes.{IsWriter, IsSaver, IsPut, OfOp}
 use Rattle.core_session.proofs.syncs.Fates.{job_kind}

@@ -1,41 +1,12 @@
 -- A step of a lane keeps what stands of the newest bytes at a place.
-use Rattle.std.proofs.Common.{◌≡◌, ◌≢◌, ◌≤◌, ◌<◌, ◌⊎◌, inl, inr, ℕ, Bool, true, false, nat_eq, List, ◌++◌, length, Option, Some, None, slice_get, refl, sym, ap, subst, ◌∙◌, arith}
-use Rattle.std.proofs.lemmas.Bool.{eqb-true, eqb-false, cases_lt}
-use Rattle.world_model.specs.declared.answer.Answer.{Answer}
+use Rattle.core_session.proofs.Prelude.{◌≡◌, ◌≢◌, ◌≤◌, ◌<◌, ◌⊎◌, inl, inr, ℕ, Bool, true, false, nat_eq, List, ◌++◌, length, Option, Some, None, slice_get, refl, sym, ap, subst, ◌∙◌, arith, eqb-true, eqb-false, cases_lt, Answer, Value, Entry, Began, Answered, Op, At, AnsweredBefore, Ended, UnderWay, IsOf, slot_of, Terms, WritesByte, Cuts, At-one, At-below, Pending, of_file, LaneFile, Closing, Saving, Syncing, Mounted, FileMachine, Machine, Opener, machine_of, file_of, State, Busy, Over, Setup, View, GoesWith, Runs, IsGuarded, IsClose, plainly, kind_of, EachSound, Cell, cell_at, CloseFile}
 use Rattle.world_model.specs.declared.answer.Answer.TheVariants as answers
-use Rattle.world_model.specs.declared.answer.Value.{Value}
-use Rattle.world_model.specs.declared.entry.Entry.{Entry}
-use Rattle.world_model.specs.declared.entry.Entry.TheVariants.{Began, Answered}
-use Rattle.world_model.specs.declared.op.Op.{Op}
 use Rattle.world_model.specs.declared.op.Op.TheVariants as ops
-use Rattle.world_model.specs.Entries.{At}
-use Rattle.world_model.specs.Operations.{AnsweredBefore, Ended, UnderWay}
-use Rattle.claims.specs.Slots.{IsOf, slot_of}
-use Rattle.claims.specs.Terms.{Terms}
-use Rattle.claims.specs.Touched.{WritesByte, Cuts}
-use Rattle.world_model.proofs.Places.{At-one, At-below}
-use Rattle.write_back.specs.Files.{Pending, of_file}
-use Rattle.client_shelf.specs.declared.lane_files.LaneFile.{LaneFile}
-use Rattle.file_ops.specs.declared.close_file.Closing.{Closing}
 use Rattle.file_ops.specs.declared.close_file.Closing.TheVariants as closing
-use Rattle.file_ops.specs.declared.saving.Saving.{Saving}
-use Rattle.file_ops.specs.declared.sync_file.Syncing.{Syncing}
 use Rattle.file_ops.specs.declared.sync_file.Syncing.TheVariants as syncing
-use Rattle.op_machines.specs.declared.begun.Mounted.{Mounted}
-use Rattle.op_machines.specs.declared.file_machine.FileMachine.{FileMachine}
 use Rattle.op_machines.specs.declared.file_machine.FileMachine.TheVariants as files
-use Rattle.op_machines.specs.declared.machine.Machine.{Machine}
 use Rattle.op_machines.specs.declared.machine.Machine.TheVariants as machines
-use Rattle.op_machines.specs.declared.opener.Opener.{Opener}
 use Rattle.op_machines.specs.declared.opener.Opener.TheVariants as openers
-use Rattle.op_machines.specs.Begun.{machine_of}
-use Rattle.op_machines.specs.Openers.{file_of}
-use Rattle.client_core.specs.declared.lane.State.{State}
-use Rattle.client_core.specs.declared.lane.State.TheVariants.{Busy, Over}
-use Rattle.client_core.specs.declared.setup.Setup.{Setup}
-use Rattle.client_core.specs.View.{View}
-use Rattle.core_facts.specs.SlotAnswers.{GoesWith}
-use Rattle.core_facts.proofs.LaneMarks.{Runs}
 use Rattle.core_session.proofs.drops.LaneIs.{state-is, number-is, busy-over}
 use Rattle.core_session.proofs.syncs.AllJobs.{JobHas, job_save}
 use Rattle.core_session.proofs.syncs.Causes.{IsWriter, IsSaver, IsPut, OfOp}
@@ -56,11 +27,6 @@ use Rattle.core_session.proofs.syncs.Guard.{slot-guard}
 use Rattle.core_session.proofs.pending.Newest.{OfNewest, cell-of, newest-zip, newest-map, newest-each, newest-there}
 use Rattle.core_session.proofs.syncs.SlotHeld.{HoldsSlot}
 use Rattle.core_session.proofs.pending.Alone.{UnleftTo}
-use Rattle.core_session.specs.drops.Guarded.{IsGuarded, IsClose}
-use Rattle.core_facts.proofs.Slots.{plainly, kind_of}
-use Rattle.step_pending.specs.Cells.{EachSound}
-use Rattle.write_back.specs.Segments.{Cell, cell_at}
-use Rattle.file_ops.specs.declared.close_file.CloseFile.{CloseFile}
 use Rattle.claims.specs.Touched as touched
 use Rattle.core_session.proofs.pending.Settles as settles
 use Rattle.core_session.proofs.pending.Settles.{StateGood}

@@ -1,25 +1,6 @@
 -- A lane goes on: what stands of the newest bytes goes on standing.
-use Rattle.std.proofs.Common.{◌≡◌, ◌≤◌, ◌<◌, ℕ, List, ◌++◌, length, refl, arith}
+use Rattle.core_session.proofs.Prelude.{◌≡◌, ◌≤◌, ◌<◌, ℕ, List, ◌++◌, length, refl, arith, Value, Entry, Began, Op, At, IsBusy, Terms, Cuts, Mounted, Machine, Busy, Over, Setup, Stirs, with_state, View, turn_at, unmade_turn, GoesWith, Known, Runs, lanes-under-way, number_of, at-set, to-map, Placed}
 use Rattle.world_model.specs.declared.answer.Answer.TheVariants as answers
-use Rattle.world_model.specs.declared.answer.Value.{Value}
-use Rattle.world_model.specs.declared.entry.Entry.{Entry}
-use Rattle.world_model.specs.declared.entry.Entry.TheVariants.{Began}
-use Rattle.world_model.specs.declared.op.Op.{Op}
-use Rattle.world_model.specs.Entries.{At}
-use Rattle.world_model.specs.LanesTogether.{IsBusy}
-use Rattle.claims.specs.Terms.{Terms}
-use Rattle.claims.specs.Touched.{Cuts}
-use Rattle.op_machines.specs.declared.begun.Mounted.{Mounted}
-use Rattle.op_machines.specs.declared.machine.Machine.{Machine}
-use Rattle.client_core.specs.declared.lane.State.TheVariants.{Busy, Over}
-use Rattle.client_core.specs.declared.setup.Setup.{Setup}
-use Rattle.client_core.specs.Steps.{Stirs, with_state}
-use Rattle.client_core.specs.View.{View, turn_at, unmade_turn}
-use Rattle.core_facts.specs.SlotAnswers.{GoesWith}
-use Rattle.core_facts.proofs.Keeping.{Known}
-use Rattle.core_facts.proofs.LaneMarks.{Runs, lanes-under-way, number_of}
-use Rattle.core_facts.proofs.Lists.{at-set, to-map}
-use Rattle.core_facts.proofs.Placing.{Placed}
 use Rattle.core_session.proofs.saves.WholeSteps.{Wholly}
 use Rattle.core_session.proofs.syncs.Causes.{IsWriter, IsPut, OfOp}
 use Rattle.core_session.proofs.syncs.Fates.{job_kind}

@@ -1,48 +1,9 @@
 -- A lane takes what came of its call: what stands of the newest bytes goes on standing.
-use Rattle.std.proofs.Common.{◌≡◌, ◌≢◌, ◌≤◌, ◌<◌, ◌⊎◌, inl, inr, ℕ, false, List, [], ◌∷◌, ◌++◌, length, Option, Some, None, position, slice_get, refl, sym, ap, subst, ◌∙◌, append_assoc, arith}
-use Rattle.rpc_message.specs.Call.{xid_at}
-use Rattle.rpc_retry.specs.declared.waiting.Waiting.{Waiting}
-use Rattle.rpc_retry.specs.Waiting.{waiting_at}
-use Rattle.world_model.specs.declared.answer.Answer.{Answer}
+use Rattle.core_session.proofs.Prelude.{◌≡◌, ◌≢◌, ◌≤◌, ◌<◌, ◌⊎◌, inl, inr, ℕ, false, List, [], ◌∷◌, ◌++◌, length, Option, Some, None, position, slice_get, refl, sym, ap, subst, ◌∙◌, append_assoc, arith, xid_at, Waiting, waiting_at, Answer, Value, Entry, Began, Answered, Delivered, Op, At, IsBusy, Ended, UnderWay, Terms, Cuts, At-one, At-grow, At-back, At-cases, At-last, At-below, length_last, said_of, same-or, Saving, Mounted, Machine, machine_of, Purpose, State, Busy, Over, Setup, is_busy, numbers_of, TakesAt, with_state, View, turn_at, unmade_turn, KnowsRoot, Reaches, HearsRecord, GoesWith, AreApart, taken_one, begins-unbegun, Known, taker-is, reached-kept, Runs, quiet-facts, lanes-under-way, number_of, at-set, to-map, Placed, Turned, PutsNamed}
 use Rattle.world_model.specs.declared.answer.Answer.TheVariants as answers
-use Rattle.world_model.specs.declared.answer.Value.{Value}
-use Rattle.world_model.specs.declared.entry.Entry.{Entry}
-use Rattle.world_model.specs.declared.entry.Entry.TheVariants.{Began, Answered, Delivered}
-use Rattle.world_model.specs.declared.op.Op.{Op}
 use Rattle.world_model.specs.declared.op.Op.TheVariants as ops
-use Rattle.world_model.specs.Entries.{At}
-use Rattle.world_model.specs.LanesTogether.{IsBusy}
-use Rattle.world_model.specs.Operations.{Ended, UnderWay}
-use Rattle.claims.specs.Terms.{Terms}
-use Rattle.claims.specs.Touched.{Cuts}
-use Rattle.world_model.proofs.Places.{At-one, At-grow, At-back, At-cases, At-last, At-below, length_last}
-use Rattle.call_replies.specs.Says.{said_of}
-use Rattle.write_back.proofs.WritesByFile.{same-or}
-use Rattle.file_ops.specs.declared.saving.Saving.{Saving}
-use Rattle.op_machines.specs.declared.begun.Mounted.{Mounted}
-use Rattle.op_machines.specs.declared.machine.Machine.{Machine}
-use Rattle.op_machines.specs.Begun.{machine_of}
-use Rattle.client_core.specs.declared.lane.Purpose.{Purpose}
-use Rattle.client_core.specs.declared.lane.State.{State}
-use Rattle.client_core.specs.declared.lane.State.TheVariants.{Busy, Over}
-use Rattle.client_core.specs.declared.setup.Setup.{Setup}
-use Rattle.client_core.specs.Lanes.{is_busy}
-use Rattle.client_core.specs.Numbers.{numbers_of}
-use Rattle.client_core.specs.Steps.{TakesAt, with_state}
-use Rattle.client_core.specs.View.{View, turn_at, unmade_turn}
-use Rattle.core_facts.specs.Naming.{KnowsRoot}
-use Rattle.core_facts.specs.Reaches.{Reaches, HearsRecord}
-use Rattle.core_facts.specs.SlotAnswers.{GoesWith}
-use Rattle.core_facts.specs.Lanes.{AreApart}
-use Rattle.core_facts.proofs.Cases.{taken_one}
-use Rattle.core_facts.proofs.AllCounts.{begins-unbegun}
-use Rattle.core_facts.proofs.Keeping.{Known, taker-is, reached-kept}
-use Rattle.core_facts.proofs.LaneMarks.{Runs, quiet-facts, lanes-under-way, number_of}
-use Rattle.core_facts.proofs.Lists.{at-set, to-map}
-use Rattle.core_facts.proofs.Placing.{Placed}
 use Rattle.core_session.proofs.saves.WholeSteps.{Wholly}
-use Rattle.core_answers.proofs.writes.AllTurns.{Turned, keeps-turned}
-use Rattle.core_session.specs.syncs.Synced.{PutsNamed}
+use Rattle.core_answers.proofs.writes.AllTurns.{keeps-turned}
 use Rattle.core_session.proofs.syncs.AllJobs.{JobOpens, job_save}
 use Rattle.core_session.proofs.syncs.Causes.{IsWriter, IsPut, OfOp}
 use Rattle.core_session.proofs.syncs.Fates.{job_kind, take-kind}

@@ -1,55 +1,17 @@
 -- Each newest byte that is pending was given by an operation since whose answer none that went well covered or settled it.
-use Rattle.std.proofs.Common.{◌≡◌, ◌≤◌, ◌<◌, ℕ, false, List, [], ◌∷◌, ◌++◌, length, Option, Some, None, position, append_assoc, append-nil, slice_get, refl, sym, ap, subst, ◌∙◌}
-use Rattle.rpc_retry.specs.declared.waiting.Waiting.{Waiting}
-use Rattle.rpc_retry.specs.Waiting.{waiting_at}
-use Rattle.world_model.specs.declared.answer.Answer.{Answer}
+use Rattle.core_session.proofs.Prelude.{◌≡◌, ◌≤◌, ◌<◌, ℕ, false, List, [], ◌∷◌, ◌++◌, length, Option, Some, None, position, append_assoc, append-nil, slice_get, refl, sym, ap, subst, ◌∙◌, Waiting, waiting_at, Answer, Fault, Value, Entry, Began, Answered, Delivered, Op, AnsweredBefore, Terms, RefusedWrite, At-one, said_of, of_file, Cell, byte_of, cell_at, newest_at, Mounted, machine_of, Purpose, Setup, is_busy, IsIdle, StartsLane, TakesAt, Stirs, AnswersAt, counted, View, KnowsRoot, Reaches, GoesWith, begins-unbegun, taken_one, Known, reached-all, lanes-under-way, keeps-placed, stirs-stay, starts-stay, steps-stay, Stays, PutsNamed, PutRefused, LeftAlone, Shelf, Lane, Busy, IsFresh, Kind, BeginsAs}
 use Rattle.world_model.specs.declared.answer.Answer.TheVariants as answers
-use Rattle.world_model.specs.declared.answer.Fault.{Fault}
-use Rattle.world_model.specs.declared.answer.Value.{Value}
-use Rattle.world_model.specs.declared.entry.Entry.{Entry}
-use Rattle.world_model.specs.declared.entry.Entry.TheVariants.{Began, Answered, Delivered}
-use Rattle.world_model.specs.declared.op.Op.{Op}
 use Rattle.world_model.specs.declared.op.Op.TheVariants as ops
-use Rattle.world_model.specs.Operations.{AnsweredBefore}
-use Rattle.claims.specs.Terms.{Terms}
-use Rattle.claims.specs.Touched.{RefusedWrite}
 use Rattle.claims.specs.Touched as touched
-use Rattle.world_model.proofs.Places.{At-one}
-use Rattle.call_replies.specs.Says.{said_of}
-use Rattle.write_back.specs.Files.{of_file}
-use Rattle.write_back.specs.Segments.{Cell, byte_of, cell_at, newest_at}
-use Rattle.op_machines.specs.declared.begun.Mounted.{Mounted}
-use Rattle.op_machines.specs.Begun.{machine_of}
-use Rattle.client_core.specs.declared.lane.Purpose.{Purpose}
-use Rattle.client_core.specs.declared.setup.Setup.{Setup}
-use Rattle.client_core.specs.Lanes.{is_busy}
-use Rattle.client_core.specs.Numbers.{IsIdle}
-use Rattle.client_core.specs.Steps.{StartsLane, TakesAt, Stirs, AnswersAt, counted}
-use Rattle.client_core.specs.View.{View}
-use Rattle.core_facts.specs.Naming.{KnowsRoot}
-use Rattle.core_facts.specs.Reaches.{Reaches}
-use Rattle.core_facts.specs.SlotAnswers.{GoesWith}
-use Rattle.core_facts.proofs.AllCounts.{begins-unbegun}
-use Rattle.core_facts.proofs.Cases.{taken_one}
-use Rattle.core_facts.proofs.Keeping.{Known, reached-all}
-use Rattle.core_facts.proofs.LaneMarks.{lanes-under-way}
-use Rattle.core_facts.proofs.Placing.{keeps-placed}
-use Rattle.core_facts.proofs.Walks.{stirs-stay, starts-stay, steps-stay, Stays}
 use Rattle.core_session.proofs.saves.WholeSteps.{keeps-wholly, starts-wholly}
-use Rattle.core_session.specs.syncs.Synced.{PutsNamed}
 use Rattle.core_session.proofs.syncs.Causes.{IsWriter, OfOp}
 use Rattle.core_session.proofs.syncs.Turning.{IsFixed, under-was, under-answers-back, under-plain-back}
 use Rattle.core_session.proofs.syncs.WatchingAlong.{KeepsWatching, reached-watching}
 use Rattle.core_session.specs.pending.Held.{IsUnsettled, PendingUnsettled, PendingHeldBack}
 use Rattle.core_session.proofs.pending.Entries.{answers-phase, same-phase, fresh-phase}
-use Rattle.claims.specs.Pending.{PutRefused, LeftAlone, Pending}
-use Rattle.client_shelf.specs.declared.shelf.Shelf.{Shelf}
+use Rattle.claims.specs.Pending.{Pending}
 use Rattle.op_machines.specs.declared.file_machine.FileMachine.TheVariants as files
 use Rattle.op_machines.specs.declared.machine.Machine.TheVariants as machines
-use Rattle.client_core.specs.declared.lane.Lane.{Lane}
-use Rattle.client_core.specs.declared.lane.State.TheVariants.{Busy}
-use Rattle.client_core.specs.Fresh.{IsFresh}
-use Rattle.core_facts.proofs.Slots.{Kind, BeginsAs}
 use Rattle.core_session.proofs.drops.Along.{GuardsKnown, guards-steps}
 use Rattle.core_session.proofs.drops.Drops.{own-others}
 use Rattle.core_session.proofs.drops.GuardLaws.{stirs-step, takes-step}

@@ -1,49 +1,26 @@
 -- The same of any operation, as it begins, as it goes on, and as it takes what came of its call.
-use Rattle.std.proofs.Common.{◌≡◌, ◌≤◌, ◌<◌, ◌+◌, ◌-◌, ◌⊎◌, inl, inr, ℕ, Bool, true, false, List, [], ◌∷◌, length, replicate, Option, Some, None, Result, Ok, Err, refl, sym, ap, subst, ◌∙◌, arith}
-use Rattle.nfs_types.specs.declared.mode.Mode.{Mode}
-use Rattle.nfs_types.specs.declared.wcc.Wcc.{Wcc}
+use Rattle.core_session.proofs.Prelude.{◌≡◌, ◌≤◌, ◌<◌, ◌+◌, ◌-◌, ◌⊎◌, inl, inr, ℕ, Bool, true, false, List, [], ◌∷◌, length, replicate, Option, Some, None, Result, Ok, Err, refl, sym, ap, subst, ◌∙◌, arith, Mode, Wcc, Fault, Reply, Op, Pending, all_pending, Next, Shelf, Turn, CloseFile, SyncFile, TruncateFile, WriteFile, WalkNext, walk_of, walk-takes-kept, Mounted, FileMachine, Machine, NameMachine, Opener, PathMachine, machine_of, front_of, last_of, file_of, slot_taken, begun_at, Starts, Resumes, Takes, name-goes-kept, name-takes-kept}
 use Rattle.world_model.specs.declared.answer.Answer.TheVariants as answers
-use Rattle.world_model.specs.declared.answer.Fault.{Fault}
-use Rattle.world_model.specs.declared.message.Reply.{Reply}
-use Rattle.world_model.specs.declared.op.Op.{Op}
 use Rattle.world_model.specs.declared.op.Op.TheVariants as ops
-use Rattle.write_back.specs.Files.{Pending, all_pending}
-use Rattle.client_shelf.specs.declared.next.Next.{Next}
 use Rattle.client_shelf.specs.declared.next.Next.TheVariants as nexts
-use Rattle.client_shelf.specs.declared.shelf.Shelf.{Shelf}
-use Rattle.client_shelf.specs.declared.turn.Turn.{Turn}
-use Rattle.file_ops.specs.declared.close_file.CloseFile.{CloseFile}
 use Rattle.file_ops.specs.declared.close_file.Closing.TheVariants as closings
-use Rattle.file_ops.specs.declared.sync_file.SyncFile.{SyncFile}
 use Rattle.file_ops.specs.declared.sync_file.Syncing.TheVariants as syncings
-use Rattle.file_ops.specs.declared.truncate_file.TruncateFile.{TruncateFile}
 use Rattle.file_ops.specs.declared.truncate_file.Truncating.TheVariants as truncatings
 use Rattle.file_ops.specs.declared.write_file.Text.{Text}
 use Rattle.file_ops.specs.declared.write_file.Text.TheVariants as texts
-use Rattle.file_ops.specs.declared.write_file.WriteFile.{WriteFile}
 use Rattle.file_ops.specs.declared.write_file.Writing.TheVariants as writings
 use Rattle.file_ops.specs.TruncateFile as truncates
 use Rattle.file_ops.specs.WriteFile as writes
-use Rattle.name_ops.specs.declared.walk.WalkNext.{WalkNext}
 use Rattle.name_ops.specs.declared.walk.WalkNext.TheVariants as walks
-use Rattle.name_ops.specs.Pairs.{walk_of}
 use Rattle.name_ops.specs.Walking as walking
-use Rattle.name_ops.proofs.Keeps.{IsKept, walk-takes-kept}
-use Rattle.op_machines.specs.declared.begun.Mounted.{Mounted}
-use Rattle.op_machines.specs.declared.file_machine.FileMachine.{FileMachine}
+use Rattle.name_ops.proofs.Keeps.{IsKept}
 use Rattle.op_machines.specs.declared.file_machine.FileMachine.TheVariants as files
-use Rattle.op_machines.specs.declared.machine.Machine.{Machine}
 use Rattle.op_machines.specs.declared.machine.Machine.TheVariants as machines
-use Rattle.op_machines.specs.declared.name_machine.NameMachine.{NameMachine}
-use Rattle.op_machines.specs.declared.opener.Opener.{Opener}
 use Rattle.op_machines.specs.declared.opener.Opener.TheVariants as openers
-use Rattle.op_machines.specs.declared.path_machine.PathMachine.{PathMachine}
-use Rattle.op_machines.specs.Begun.{machine_of, front_of, last_of, open_of, put_of, path_of, write_of}
+use Rattle.op_machines.specs.Begun.{open_of, put_of, path_of, write_of}
 use Rattle.op_machines.specs.FileSteps as steps
-use Rattle.op_machines.specs.Openers.{file_of, slot_taken, begun_at, placed}
+use Rattle.op_machines.specs.Openers.{placed}
 use Rattle.op_machines.specs.PathSteps as paths
-use Rattle.op_machines.specs.Steps.{Starts, Resumes, Takes}
-use Rattle.op_machines.proofs.NameLaws.{name-goes-kept, name-takes-kept}
 use Rattle.core_session.proofs.room.Stages.{Stage, neither, storing, putting, is_room, file_stage, before_stage, path_stage, stage_of, Outcome, outcome, Verdict, rests, ends, same-verdict, worked-verdict}
 use Rattle.core_session.proofs.room.Steps.{write-resumed, write-took, write-started, put-resumed, put-took}
 use Rattle.core_session.proofs.room.Totals.{Less, same-less, sync-resumes, sync-takes, sync-starts, close-starts, close-resumes, close-takes}

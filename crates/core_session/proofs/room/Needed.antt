@@ -1,41 +1,17 @@
 -- Each call that makes room was needed, as it was sent and in the whole history.
-use Rattle.std.proofs.Common.{◌≡◌, ◌≢◌, ◌<◌, ◌≤◌, ◌+◌, ◌⊎◌, inl, inr, ℕ, List, [], ◌∷◌, ◌++◌, length, Bool, true, false, refl, sym, ap, subst, ◌∙◌, arith}
+use Rattle.core_session.proofs.Prelude.{◌≡◌, ◌≢◌, ◌<◌, ◌≤◌, ◌+◌, ◌⊎◌, inl, inr, ℕ, List, [], ◌∷◌, ◌++◌, length, Bool, true, false, refl, sym, ap, subst, ◌∙◌, arith, Entry, Began, Sent, Call, Op, Asks, IsWriter, IsCaused, KeepsTo, At, SpellsCallBy, UnderWay, Terms, Putting, Writing, Mounted, Machine, Opener, IsAsked, IsNamed, machine_of, Busy, Setup, View, of_writing, in_flight, begins-unbegun, reached-good, Expects, expects-laws, NoCall, IsSession, GoesFrom}
 use Rattle.nfs_file_calls.specs.declared.call.FileCall.TheVariants as files
-use Rattle.world_model.specs.declared.entry.Entry.{Entry}
-use Rattle.world_model.specs.declared.entry.Entry.TheVariants.{Began, Sent}
-use Rattle.world_model.specs.declared.message.Call.{Call}
-use Rattle.world_model.specs.declared.op.Op.{Op}
 use Rattle.world_model.specs.declared.op.Op.TheVariants as ops
-use Rattle.claims.specs.Asks.{Asks, Placed, IsWriter, TakesRoom, NeedsRoom, write as a_write, fill as a_fill, put as a_put}
-use Rattle.claims.specs.CallsAsked.{IsCaused, asked, KeepsTo}
-use Rattle.world_model.specs.Entries.{At}
-use Rattle.world_model.specs.Messages.{SpellsCallBy}
-use Rattle.world_model.specs.Operations.{UnderWay}
-use Rattle.claims.specs.Terms.{Terms}
-use Rattle.file_ops.specs.declared.put_file.Putting.{Putting}
+use Rattle.claims.specs.Asks.{Placed, TakesRoom, NeedsRoom, write as a_write, fill as a_fill, put as a_put}
+use Rattle.claims.specs.CallsAsked.{asked}
 use Rattle.file_ops.specs.declared.put_file.Putting.TheVariants as puttings
-use Rattle.file_ops.specs.declared.write_file.Writing.{Writing}
 use Rattle.file_ops.specs.declared.write_file.Writing.TheVariants as writings
 use Rattle.file_ops.specs.WriteFile as writes
-use Rattle.op_machines.specs.declared.begun.Mounted.{Mounted}
 use Rattle.op_machines.specs.declared.file_machine.FileMachine.TheVariants as machines_of_files
-use Rattle.op_machines.specs.declared.machine.Machine.{Machine}
 use Rattle.op_machines.specs.declared.machine.Machine.TheVariants as machines
-use Rattle.op_machines.specs.declared.opener.Opener.{Opener}
 use Rattle.op_machines.specs.declared.opener.Opener.TheVariants as openers
-use Rattle.op_machines.specs.Begun.{IsAsked, IsNamed, machine_of}
-use Rattle.client_core.specs.declared.lane.State.TheVariants.{Busy}
-use Rattle.client_core.specs.declared.setup.Setup.{Setup}
-use Rattle.client_core.specs.View.{View}
-use Rattle.core_facts.specs.InFlight.{of_writing, in_flight}
-use Rattle.core_facts.proofs.AllCounts.{begins-unbegun}
-use Rattle.core_facts.proofs.Tales.{reached-good}
-use Rattle.core_answers.proofs.asks.CallsAwaited.{Expects, expects-laws}
 use Rattle.core_answers.proofs.asks.PutAsks as puts
-use Rattle.core_answers.proofs.asks.Sendings.{NoCall}
 use Rattle.core_session.specs.calls.Made.{IsBeside, makes_room as any_room, removes as any_removal}
-use Rattle.core_session.specs.calls.Sessions.{IsSession}
-use Rattle.core_session.specs.calls.Whole.{GoesFrom}
 use Rattle.core_session.proofs.calls.Causes.{Now, Spelt, under-now, cause, reads-keep}
 use Rattle.core_session.proofs.calls.Outgoing.{Outgoing}
 use Rattle.core_session.proofs.calls.OwnBytes.{own-bytes}

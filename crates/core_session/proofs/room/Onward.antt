@@ -1,37 +1,9 @@
 -- From one view to a later one: what has entered stays so. And of each record that was sent, how the session went on from the view before it.
-use Rattle.std.proofs.Common.{◌+◌, ◌≡◌, ◌<◌, ◌≤◌, ◌⊎◌, inl, inr, ℕ, List, [], ◌∷◌, ◌++◌, length, map, Bool, true, false, Some, None, slice_get, refl, sym, ap, subst, ◌∙◌, arith, append_assoc}
-use Rattle.rpc_retry.specs.declared.waiting.Waiting.{Waiting}
-use Rattle.rpc_retry.specs.Held.{next_xid}
-use Rattle.rpc_retry.specs.Waiting.{waiting_at}
-use Rattle.rpc_retry.proofs.Lookups.{at_sent, waits_early}
+use Rattle.core_session.proofs.Prelude.{◌+◌, ◌≡◌, ◌<◌, ◌≤◌, ◌⊎◌, inl, inr, ℕ, List, [], ◌∷◌, ◌++◌, length, map, Bool, true, false, Some, None, slice_get, refl, sym, ap, subst, ◌∙◌, arith, append_assoc, Waiting, next_xid, waiting_at, at_sent, waits_early, Answer, Entry, Began, Answered, Dialed, Sent, Executed, Foreign, Flushed, Reboot, Delivered, Failed, Clock, Op, NoneBegan, At, UnderWay, At-below, At-back, At-cases, Shelf, Machine, Lane, Purpose, State, Busy, Setup, lost_lane, SendsIf, View, calls_for, IsOfOperation, in_flight, IsUnbegun, StepsTo, Reaches, begins, goes, loses, last_reading, Heard, dropped, replied, SentNow, sent_now, FailedNow, goes_on, gives_up, failed_now, answered_now, taken_one, IsKnown, calls-some, known-only, reached-count, lanes-under-way, reached-lanes, reached-owned, Rows, reached-rows}
 use Rattle.rpc_retry.proofs.Records.{waits_late}
-use Rattle.world_model.specs.declared.answer.Answer.{Answer}
-use Rattle.world_model.specs.declared.entry.Entry.{Entry}
-use Rattle.world_model.specs.declared.entry.Entry.TheVariants.{Began, Answered, Dialed, Sent, Executed, Foreign, Flushed, Reboot, Delivered, Failed, Clock}
-use Rattle.world_model.specs.declared.op.Op.{Op}
 use Rattle.claims.specs.Asks.{Placed}
-use Rattle.claims.specs.CallsAsked.{NoneBegan}
-use Rattle.world_model.specs.Entries.{At}
-use Rattle.world_model.specs.Operations.{UnderWay}
-use Rattle.world_model.proofs.Places.{At-below, At-back, At-cases}
-use Rattle.client_shelf.specs.declared.shelf.Shelf.{Shelf}
-use Rattle.op_machines.specs.declared.machine.Machine.{Machine}
-use Rattle.client_core.specs.declared.lane.Lane.{Lane}
-use Rattle.client_core.specs.declared.lane.Purpose.{Purpose}
-use Rattle.client_core.specs.declared.lane.State.{State}
-use Rattle.client_core.specs.declared.lane.State.TheVariants.{Busy}
-use Rattle.client_core.specs.declared.setup.Setup.{Setup}
-use Rattle.client_core.specs.Lanes.{lost_lane}
-use Rattle.client_core.specs.Steps.{SendsIf, lost}
-use Rattle.client_core.specs.View.{View}
-use Rattle.core_facts.specs.Counted.{calls_for, IsOfOperation}
-use Rattle.core_facts.specs.InFlight.{in_flight, IsUnbegun}
-use Rattle.core_facts.specs.Reaches.{StepsTo, Reaches, begins, goes, loses, last_reading}
-use Rattle.core_facts.proofs.Cases.{Heard, dropped, replied, heard, SentNow, sent_now, FailedNow, goes_on, gives_up, failed_now, answered_now, taken_one}
-use Rattle.core_facts.proofs.Counting.{IsKnown, calls-some, known-only, reached-count}
-use Rattle.core_facts.proofs.LaneMarks.{lanes-under-way, reached-lanes}
-use Rattle.core_facts.proofs.Owning.{reached-owned}
-use Rattle.core_facts.proofs.Rows.{Rows, reached-rows}
+use Rattle.client_core.specs.Steps.{lost}
+use Rattle.core_facts.proofs.Cases.{heard}
 use Rattle.core_answers.proofs.asks.Limits.{reached-limit}
 use Rattle.core_session.proofs.calls.Outgoing.{Outgoing}
 use Rattle.core_session.proofs.room.Entered.{Safe, Entered, RefusedNow, silent-now, safe-stays, begins-stay, hears-for-stay, safe-push, safe-remove, safe-lost, answered-now-put, entered-with, entered-lanes, began-early, under-early}

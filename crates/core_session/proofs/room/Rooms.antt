@@ -1,49 +1,12 @@
 -- As many bytes are pending as those operations write whose bytes were added; and each operation that makes room found none as it began to.
-use Rattle.std.proofs.Common.{◌≡◌, ◌≢◌, ◌<◌, ◌≤◌, ◌+◌, ◌⊎◌, inl, inr, ℕ, zero, suc, List, [], ◌∷◌, ◌++◌, length, replicate, map, remove, Bool, true, false, nat_eq, Option, Some, None, position, slice_get, slice_set, Err, refl, sym, ap, subst, ◌∙◌, arith}
-use Rattle.std.proofs.lemmas.Bool.{eqb-true, eqb-false}
+use Rattle.core_session.proofs.Prelude.{◌≡◌, ◌≢◌, ◌<◌, ◌≤◌, ◌+◌, ◌⊎◌, inl, inr, ℕ, zero, suc, List, [], ◌∷◌, ◌++◌, length, replicate, map, remove, Bool, true, false, nat_eq, Option, Some, None, position, slice_get, slice_set, Err, refl, sym, ap, subst, ◌∙◌, arith, eqb-true, eqb-false, Waiting, waiting_at, Answer, Value, Entry, Began, Answered, Delivered, Call, Op, IsWriter, At, IsBusy, Ended, UnderWay, RefusedWrite, At-below, At-cases, At-one, said_of, Pending, all_pending, Next, Shelf, Mounted, Machine, machine_of, Lane, Purpose, State, Busy, Over, Setup, IsFresh, is_busy, IsIdle, numbers_of, with_state, Makes, IsRefused, Leads, Stirs, counted, StartsLane, TakesAt, AnswersAt, View, turn_at, unmade_turn, AreApart, IsSetUp, Reaches, begins-unbegun, taken_one, Known, LanesKnown, quiet-facts, lanes-stay, lanes-begin, lanes-under-way, idle-numbers, at-set, at-push, get-push, get-remove, skip, to-map, under-back, set-other, by-place}
 use Rattle.std.proofs.lemmas.List.{length-replicate}
-use Rattle.rpc_retry.specs.declared.waiting.Waiting.{Waiting}
-use Rattle.rpc_retry.specs.Waiting.{waiting_at}
-use Rattle.world_model.specs.declared.answer.Answer.{Answer}
 use Rattle.world_model.specs.declared.answer.Answer.TheVariants as answers
-use Rattle.world_model.specs.declared.answer.Value.{Value}
-use Rattle.world_model.specs.declared.entry.Entry.{Entry}
-use Rattle.world_model.specs.declared.entry.Entry.TheVariants.{Began, Answered, Delivered}
-use Rattle.world_model.specs.declared.message.Call.{Call}
-use Rattle.world_model.specs.declared.op.Op.{Op}
 use Rattle.world_model.specs.declared.op.Op.TheVariants as ops
-use Rattle.claims.specs.Asks.{Placed, IsWriter, count_of, most_pending, write as a_write, fill as a_fill, put as a_put}
-use Rattle.world_model.specs.Entries.{At}
-use Rattle.world_model.specs.LanesTogether.{IsBusy}
-use Rattle.world_model.specs.Operations.{Ended, UnderWay}
-use Rattle.claims.specs.Touched.{RefusedWrite, write as refused_write, fill as refused_fill}
-use Rattle.world_model.proofs.Places.{At-below, At-cases, At-one}
-use Rattle.call_replies.specs.Says.{said_of}
-use Rattle.write_back.specs.Files.{Pending, all_pending}
-use Rattle.client_shelf.specs.declared.next.Next.{Next}
+use Rattle.claims.specs.Asks.{Placed, count_of, most_pending, write as a_write, fill as a_fill, put as a_put}
+use Rattle.claims.specs.Touched.{write as refused_write, fill as refused_fill}
 use Rattle.client_shelf.specs.declared.next.Next.TheVariants as nexts
-use Rattle.client_shelf.specs.declared.shelf.Shelf.{Shelf}
-use Rattle.op_machines.specs.declared.begun.Mounted.{Mounted}
-use Rattle.op_machines.specs.declared.machine.Machine.{Machine}
-use Rattle.op_machines.specs.Begun.{machine_of}
-use Rattle.client_core.specs.declared.lane.Lane.{Lane}
-use Rattle.client_core.specs.declared.lane.Purpose.{Purpose}
-use Rattle.client_core.specs.declared.lane.State.{State}
-use Rattle.client_core.specs.declared.lane.State.TheVariants.{Busy, Over}
-use Rattle.client_core.specs.declared.setup.Setup.{Setup}
-use Rattle.client_core.specs.Fresh.{IsFresh}
-use Rattle.client_core.specs.Lanes.{is_busy}
-use Rattle.client_core.specs.Numbers.{IsIdle, numbers_of}
-use Rattle.client_core.specs.Steps.{IsBusyAt, with_state, Makes, Refuses, IsRefused, Leads, Stirs, counted, StartsLane, TakesAt, AnswersAt}
-use Rattle.client_core.specs.View.{View, turn_at, unmade_turn}
-use Rattle.core_facts.specs.Lanes.{AreApart}
-use Rattle.core_facts.specs.Reaches.{IsSetUp, Reaches}
-use Rattle.core_facts.proofs.AllCounts.{begins-unbegun}
-use Rattle.core_facts.proofs.Cases.{taken_one}
-use Rattle.core_facts.proofs.Keeping.{Known}
-use Rattle.core_facts.proofs.LaneMarks.{LanesKnown, quiet-facts, lanes-stay, lanes-begin, lanes-under-way, idle-numbers}
-use Rattle.core_facts.proofs.Lists.{at-set, at-push, get-push, get-remove, skip, to-map}
-use Rattle.core_facts.proofs.Stories.{under-back, set-other, by-place}
+use Rattle.client_core.specs.Steps.{IsBusyAt, Refuses}
 use Rattle.core_answers.proofs.asks.Along.{IsPlain, KeepsAlong, reached-along}
 use Rattle.core_session.proofs.room.Entered.{IsPut, IsDone, LaneSafe, Safe, Entered, silent-now, entered-with, entered-lanes, answered-now-put, safe-push, safe-remove, began-early, under-early}
 use Rattle.core_session.proofs.room.Machines.{all-starts, all-resumes, all-takes}

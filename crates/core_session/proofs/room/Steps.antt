@@ -1,37 +1,18 @@
 -- What one step of any operation makes of how many bytes are pending.
-use Rattle.std.proofs.Common.{◌≡◌, ◌≤◌, ◌<◌, ◌+◌, ◌-◌, ◌⊎◌, inl, inr, ℕ, Bool, true, false, nat_lt, List, [], ◌∷◌, length, replicate, Option, Some, None, Result, Ok, Err, refl, sym, ap, subst, ◌∙◌, arith}
-use Rattle.std.proofs.lemmas.Bool.{ltb-true}
-use Rattle.world_model.specs.declared.answer.Answer.{Answer}
+use Rattle.core_session.proofs.Prelude.{◌≡◌, ◌≤◌, ◌<◌, ◌+◌, ◌-◌, ◌⊎◌, inl, inr, ℕ, Bool, true, false, List, [], ◌∷◌, length, replicate, Option, Some, None, Result, Ok, Err, refl, sym, ap, subst, ◌∙◌, arith, ltb-true, Answer, Fault, Reply, Pending, all_pending, Next, Shelf, Turn, left, is_first, OpeningNext, PutFile, Putting, Saving, WriteFile, Writing, is_full, closed_answer, refusal_of, file_to_write, joined, by-step, ends_as}
+use Rattle.std.proofs.Common.{nat_lt}
 use Rattle.world_model.specs.declared.answer.Answer.TheVariants as answers
-use Rattle.world_model.specs.declared.answer.Fault.{Fault}
-use Rattle.world_model.specs.declared.message.Reply.{Reply}
 use Rattle.claims.specs.Asks.{most_pending}
-use Rattle.write_back.specs.Files.{Pending, all_pending}
 use Rattle.write_back.specs.Sound.{most_pending as most_held}
-use Rattle.client_shelf.specs.declared.next.Next.{Next}
 use Rattle.client_shelf.specs.declared.next.Next.TheVariants as nexts
-use Rattle.client_shelf.specs.declared.shelf.Shelf.{Shelf}
-use Rattle.client_shelf.specs.declared.turn.Turn.{Turn}
-use Rattle.client_shelf.specs.LaneFiles.{left, is_first}
-use Rattle.file_ops.specs.declared.opening.OpeningNext.{OpeningNext}
 use Rattle.file_ops.specs.declared.opening.OpeningNext.TheVariants as openings
-use Rattle.file_ops.specs.declared.put_file.PutFile.{PutFile}
-use Rattle.file_ops.specs.declared.put_file.Putting.{Putting}
 use Rattle.file_ops.specs.declared.put_file.Putting.TheVariants as puttings
-use Rattle.file_ops.specs.declared.saving.Saving.{Saving}
-use Rattle.file_ops.specs.declared.write_file.WriteFile.{WriteFile}
-use Rattle.file_ops.specs.declared.write_file.Writing.{Writing}
 use Rattle.file_ops.specs.declared.write_file.Writing.TheVariants as writings
-use Rattle.file_ops.specs.Adding.{is_full}
-use Rattle.file_ops.specs.Closings.{closed_answer, refusal_of}
 use Rattle.file_ops.specs.Opening as opening
 use Rattle.file_ops.specs.OpenFile as opens
-use Rattle.file_ops.specs.Opens.{file_to_write}
 use Rattle.file_ops.specs.PutFile as puts_
 use Rattle.file_ops.specs.Saves as saves
-use Rattle.file_ops.specs.SlotFiles.{joined}
 use Rattle.file_ops.specs.WriteFile as writes
-use Rattle.file_ops.proofs.SaveCounts.{by-step, ends_as}
 use Rattle.core_session.proofs.room.Stages.{Stage, neither, storing, putting, settling, is_room, put_stage, Outcome, going, over, outcome, Verdict, rests, ends, quiet-verdict, same-verdict, made-size, IsGoing, Written, crowds, gives, adds, Worked, on, written, wider, written-verdict, worked-verdict, PutEnds, put-verdict, put-worked}
 use Rattle.core_session.proofs.room.Totals.{Less, same-less, less-less, goes-less, takes-less, given-less}
 

@@ -1,43 +1,17 @@
 -- What a record that is heard shows of a byte that was written.
-use Rattle.std.proofs.Common.{◌≡◌, ◌<◌, ◌≤◌, ◌+◌, ℕ, List, [], ◌∷◌, ◌++◌, length, false, Some, Ok, sym, subst, ◌∙◌, arith}
-use Rattle.nfs_types.specs.declared.verf.Verf.{Verf}
-use Rattle.nfs_types.specs.declared.wcc.Wcc.{Wcc}
+use Rattle.core_session.proofs.Prelude.{◌≡◌, ◌<◌, ◌≤◌, ◌+◌, ℕ, List, [], ◌∷◌, ◌++◌, length, false, Some, Ok, sym, subst, ◌∙◌, arith, Verf, Wcc, xid_at, Waiting, waiting_at, Entry, Began, Sent, Delivered, Call, Reply, Op, At, Asked, HasXid, SpellsCall, SpellsReply, commit_call, Asked-grow, At-back, said_of, Says, Mounted, machine_of, Purpose, Setup, View, Reaches, HearsRecord, IsOfOperation, Tried, unsent, begins-unbegun, was-sent, says-of, reached-owned, reached-rows, IsNfs, one-call, write_of, WroteByte, MadeStable}
 use Rattle.nfs_file_calls.specs.declared.owned.FileKept.TheVariants as kept
 use Rattle.nfs_file_calls.specs.declared.call.FileCall.TheVariants as files
-use Rattle.rpc_message.specs.Call.{xid_at}
-use Rattle.rpc_retry.specs.declared.waiting.Waiting.{Waiting}
-use Rattle.rpc_retry.specs.Waiting.{waiting_at}
-use Rattle.world_model.specs.declared.entry.Entry.{Entry}
-use Rattle.world_model.specs.declared.entry.Entry.TheVariants.{Began, Sent, Delivered}
-use Rattle.world_model.specs.declared.message.Call.{Call}
 use Rattle.world_model.specs.declared.message.Call.TheVariants as calls
-use Rattle.world_model.specs.declared.message.Reply.{Reply}
 use Rattle.world_model.specs.declared.message.Reply.TheVariants as replies
-use Rattle.world_model.specs.declared.op.Op.{Op}
-use Rattle.world_model.specs.Entries.{At}
-use Rattle.world_model.specs.Heard.{Asked, Heard}
-use Rattle.world_model.specs.Messages.{HasXid, SpellsCall, SpellsReply}
-use Rattle.world_model.specs.Commits.{commit_call}
-use Rattle.world_model.proofs.Growth.{Asked-grow}
-use Rattle.world_model.proofs.Places.{At-back}
-use Rattle.call_replies.specs.Says.{said_of, Says, IsCallOf}
-use Rattle.op_machines.specs.declared.begun.Mounted.{Mounted}
-use Rattle.op_machines.specs.Begun.{machine_of}
-use Rattle.client_core.specs.declared.lane.Purpose.{Purpose}
-use Rattle.client_core.specs.declared.setup.Setup.{Setup}
-use Rattle.client_core.specs.View.{View}
-use Rattle.core_facts.specs.Reaches.{Reaches, HearsRecord}
-use Rattle.core_facts.specs.Counted.{IsOfOperation}
-use Rattle.core_facts.specs.Tries.{IsKnown, Tried, unsent, runs, ended}
-use Rattle.core_facts.proofs.AllCounts.{begins-unbegun}
-use Rattle.core_facts.proofs.Hearing.{was-sent, says-of, heard-of}
-use Rattle.core_facts.proofs.Owning.{reached-owned}
-use Rattle.core_facts.proofs.Rows.{reached-rows}
-use Rattle.core_answers.proofs.bonds.OneCall.{IsNfs, one-call}
-use Rattle.core_answers.specs.writes.Carried.{write_of, IsCarried}
+use Rattle.world_model.specs.Heard.{Heard}
+use Rattle.call_replies.specs.Says.{IsCallOf}
+use Rattle.core_facts.specs.Tries.{IsKnown, runs, ended}
+use Rattle.core_facts.proofs.Hearing.{heard-of}
+use Rattle.core_answers.specs.writes.Carried.{IsCarried}
 use Rattle.core_answers.proofs.writes.PiecesCarried.{pieces-carried}
 use Rattle.step_saves.specs.Accounts.{Reaches as ReachesByte}
-use Rattle.core_session.specs.saves.Evidence.{WroteByte, WroteUnder, MadeStable, at_once, by_commit}
+use Rattle.core_session.specs.saves.Evidence.{WroteUnder, at_once, by_commit}
 
 some-waiting : (a b : Waiting Purpose) → Some a ≡ Some b → a ≡ b
 some-waiting a b e = cc

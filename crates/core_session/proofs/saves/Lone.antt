@@ -1,61 +1,16 @@
 -- Along a history: each byte of an ok put that was alone was made stable.
-use Rattle.std.proofs.Common.{◌≡◌, ◌⊎◌, inl, inr, ◌<◌, ◌≤◌, ◌^◌, ◌+◌, ◌-◌, ℕ, List, [], ◌∷◌, ◌++◌, length, Bool, true, false, nat_eq, Option, Some, None, option_map, position, slice_get, slice_set, refl, sym, ap, subst, ◌∙◌, arith}
-use Rattle.std.specs.Prelude.{slice_index, remove}
-use Rattle.std.proofs.lemmas.Bool.{eqb-true}
-use Rattle.rpc_message.specs.Call.{xid_at}
-use Rattle.rpc_retry.specs.declared.waiting.Waiting.{Waiting}
-use Rattle.rpc_retry.specs.Held.{next_xid}
-use Rattle.rpc_retry.specs.Waiting.{waiting_at, without}
-use Rattle.rpc_retry.proofs.Lookups.{others_taken}
-use Rattle.rpc_retry.proofs.Records.{gone}
-use Rattle.world_model.specs.declared.answer.Answer.{Answer}
+use Rattle.core_session.proofs.Prelude.{◌≡◌, ◌⊎◌, inl, inr, ◌<◌, ◌≤◌, ◌^◌, ◌+◌, ◌-◌, ℕ, List, [], ◌∷◌, ◌++◌, length, Bool, true, false, nat_eq, Option, Some, None, option_map, position, slice_get, slice_set, refl, sym, ap, subst, ◌∙◌, arith, slice_index, eqb-true, xid_at, Waiting, next_xid, waiting_at, without, others_taken, gone, Answer, Value, Entry, Began, Answered, Sent, Delivered, Call, Op, At, HasXid, At-grow, At-below, At-back, At-last, At-cases, said_of, Next, Shelf, Pending, IsFree, IsUnused, Mounted, Machine, machine_of, last_of, front_of, Fits, Starts, walk_of, Lane, Purpose, State, Busy, Over, Setup, is_busy, with_state, Leads, Stirs, counted, StartsLane, TakesAt, AnswersAt, View, turn_at, in_flight, Reaches, IsSetUp, HearsRecord, begins-unbegun, taken_one, flies_of, Known, purpose_at, taker-is, taker-one, Rows, same-rows, silent-grow, rows-grow, taken-quiet, not-sent, taken-rows, Stays, stirs-stay, starts-stay, steps-stay, SameCalls, waits-late, unused-next, starts-under, resumes-under, takes-under, SameUnder, After, Free, AllMadeStable}
+use Rattle.std.specs.Prelude.{remove}
 use Rattle.world_model.specs.declared.answer.Answer.TheVariants as answers
-use Rattle.world_model.specs.declared.answer.Value.{Value}
-use Rattle.world_model.specs.declared.entry.Entry.{Entry}
-use Rattle.world_model.specs.declared.entry.Entry.TheVariants.{Began, Answered, Sent, Delivered}
-use Rattle.world_model.specs.declared.message.Call.{Call}
-use Rattle.world_model.specs.declared.op.Op.{Op}
 use Rattle.world_model.specs.declared.op.Op.TheVariants as ops
-use Rattle.world_model.specs.Entries.{At}
-use Rattle.world_model.specs.Messages.{HasXid}
-use Rattle.world_model.proofs.Places.{At-grow, At-below, At-back, At-last, At-cases}
-use Rattle.call_replies.specs.Says.{said_of}
-use Rattle.client_shelf.specs.declared.next.Next.{Next}
 use Rattle.client_shelf.specs.declared.next.Next.TheVariants as nexts
-use Rattle.client_shelf.specs.declared.shelf.Shelf.{Shelf}
-use Rattle.write_back.specs.Files.{Pending, IsFree, IsNothing}
-use Rattle.file_ops.specs.SlotFiles.{IsUnused}
-use Rattle.op_machines.specs.declared.begun.Mounted.{Mounted}
-use Rattle.op_machines.specs.declared.machine.Machine.{Machine}
-use Rattle.op_machines.specs.Begun.{machine_of, put_of, last_of, front_of}
-use Rattle.op_machines.specs.Fits.{Fits}
-use Rattle.op_machines.specs.Steps.{Starts}
-use Rattle.name_ops.specs.Pairs.{walk_of}
+use Rattle.write_back.specs.Files.{IsNothing}
+use Rattle.op_machines.specs.Begun.{put_of}
 use Rattle.file_ops.specs.PutFile.{not_begun}
-use Rattle.client_core.specs.declared.lane.Lane.{Lane}
-use Rattle.client_core.specs.declared.lane.Purpose.{Purpose}
-use Rattle.client_core.specs.declared.lane.State.{State}
-use Rattle.client_core.specs.declared.lane.State.TheVariants.{Busy, Over}
-use Rattle.client_core.specs.declared.setup.Setup.{Setup}
-use Rattle.client_core.specs.Lanes.{is_busy}
-use Rattle.client_core.specs.Steps.{with_state, Leads, Stirs, counted, StartsLane, TakesAt, AnswersAt}
-use Rattle.client_core.specs.View.{View, turn_at}
-use Rattle.core_facts.specs.InFlight.{in_flight}
-use Rattle.core_facts.specs.Reaches.{Reaches, IsSetUp, HearsRecord}
-use Rattle.core_facts.proofs.AllCounts.{begins-unbegun}
-use Rattle.core_facts.proofs.Cases.{taken_one}
-use Rattle.core_facts.proofs.Flights.{flies_of, Flies}
+use Rattle.core_facts.proofs.Flights.{Flies}
 use Rattle.core_facts.proofs.Flown.{Flown, sender, look_at}
-use Rattle.core_facts.proofs.Keeping.{Known, purpose_at, taker-is, taker-one}
-use Rattle.core_facts.proofs.Rows.{Rows, same-rows, silent-grow, rows-grow, taken-quiet, not-sent, taken-rows}
-use Rattle.core_facts.proofs.Walks.{Stays, stirs-stay, starts-stay, steps-stay}
 use Rattle.core_answers.proofs.writes.AllFits as fitting
-use Rattle.core_answers.proofs.writes.Along.{SameCalls}
-use Rattle.core_answers.proofs.writes.PiecesCarried.{waits-late, unused-next, starts-under, resumes-under, takes-under}
-use Rattle.core_answers.proofs.writes.Under.{SameUnder}
-use Rattle.core_answers.proofs.writes.Backs.{After}
-use Rattle.core_answers.proofs.writes.OwnPieces.{Free}
-use Rattle.core_session.specs.saves.PutsWritten.{AllMadeStable, IsAlone, PutsWritten}
+use Rattle.core_session.specs.saves.PutsWritten.{IsAlone, PutsWritten}
 use Rattle.core_session.proofs.saves.Evidenced.{stable-grow}
 use Rattle.core_session.proofs.saves.HearingAlong.{IsPlain, KeepsHearing, reached-hearing}
 use Rattle.core_session.proofs.saves.PutPaths.{runs-starts, runs-resumes, runs-takes}

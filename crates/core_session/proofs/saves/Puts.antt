@@ -1,44 +1,13 @@
 -- Along a history in which a put is the only operation: each of its bytes is accounted for until its answer.
-use Rattle.std.proofs.Common.{◌≡◌, ◌⊎◌, inl, inr, ◌≤◌, ◌^◌, ◌+◌, ◌-◌, ℕ, zero, suc, List, [], ◌∷◌, ◌++◌, length, Bool, true, false, nat_eq, Option, Some, None, Err, slice_get, slice_set, refl, sym, ap, subst, ◌∙◌, arith}
-use Rattle.std.specs.Prelude.{slice_index, IsSome}
-use Rattle.std.proofs.lemmas.Bool.{eqb-true}
-use Rattle.rpc_retry.specs.declared.waiting.Waiting.{Waiting}
-use Rattle.rpc_retry.specs.Held.{next_xid}
-use Rattle.rpc_retry.specs.Waiting.{waiting_at, made_call}
-use Rattle.rpc_retry.proofs.Lookups.{others_made}
+use Rattle.core_session.proofs.Prelude.{◌≡◌, ◌⊎◌, inl, inr, ◌≤◌, ◌^◌, ◌+◌, ◌-◌, ℕ, zero, suc, List, [], ◌∷◌, ◌++◌, length, Bool, true, false, nat_eq, Option, Some, None, Err, slice_get, slice_set, refl, sym, ap, subst, ◌∙◌, arith, slice_index, eqb-true, Waiting, next_xid, waiting_at, made_call, others_made, Fault, Entry, Sent, Call, At, HasXid, proc_of, length_last, Next, Turn, Pending, of_file, IsFree, piece_under, Putting, Saving, Machine, Opener, file_of, Lane, Purpose, State, Busy, Over, Setup, record_of, IsRefused, Leads, View, turn_at, unmade_turn, flies_if, flies_put, flies_of, flies_path, flies_file, Rows, IsAwaited, MadeStable, AllMadeStable}
+use Rattle.std.specs.Prelude.{IsSome}
 use Rattle.world_model.specs.declared.answer.Answer.TheVariants as answers
-use Rattle.world_model.specs.declared.answer.Fault.{Fault}
-use Rattle.world_model.specs.declared.entry.Entry.{Entry}
-use Rattle.world_model.specs.declared.entry.Entry.TheVariants.{Sent}
-use Rattle.world_model.specs.declared.message.Call.{Call}
-use Rattle.world_model.specs.Entries.{At}
-use Rattle.world_model.specs.Messages.{HasXid, proc_of}
-use Rattle.world_model.proofs.Places.{length_last}
-use Rattle.client_shelf.specs.declared.next.Next.{Next}
 use Rattle.client_shelf.specs.declared.next.Next.TheVariants as nexts
-use Rattle.client_shelf.specs.declared.turn.Turn.{Turn}
-use Rattle.write_back.specs.Files.{Pending, of_file, IsFree}
-use Rattle.write_back.specs.Pieces.{Sent as Piece, piece_under}
-use Rattle.file_ops.specs.declared.put_file.Putting.{Putting}
+use Rattle.write_back.specs.Pieces.{Sent as Piece}
 use Rattle.file_ops.specs.declared.put_file.Putting.TheVariants as putting
-use Rattle.file_ops.specs.declared.saving.Saving.{Saving}
 use Rattle.file_ops.specs.Saves as saves
-use Rattle.op_machines.specs.declared.machine.Machine.{Machine}
-use Rattle.op_machines.specs.declared.opener.Opener.{Opener}
-use Rattle.op_machines.specs.Openers.{file_of}
-use Rattle.client_core.specs.declared.lane.Lane.{Lane}
-use Rattle.client_core.specs.declared.lane.Purpose.{Purpose}
-use Rattle.client_core.specs.declared.lane.State.{State}
-use Rattle.client_core.specs.declared.lane.State.TheVariants.{Busy, Over}
-use Rattle.client_core.specs.declared.setup.Setup.{Setup}
-use Rattle.client_core.specs.Steps.{record_of, IsRefused, Leads}
-use Rattle.client_core.specs.View.{View, turn_at, unmade_turn}
-use Rattle.core_facts.proofs.Flights.{flies_if, flies_put, flies_of, flies_path, flies_file}
-use Rattle.core_facts.proofs.Rows.{Rows}
-use Rattle.step_saves.specs.Saves.{IsAwaited}
 use Rattle.step_saves.proofs.PutSteps.{SaveKnown}
-use Rattle.core_session.specs.saves.Evidence.{MadeStable, IsHeldBy}
-use Rattle.core_session.specs.saves.PutsWritten.{AllMadeStable}
+use Rattle.core_session.specs.saves.Evidence.{IsHeldBy}
 use Rattle.core_session.proofs.saves.Evidenced.{stable-grow}
 use Rattle.core_session.proofs.saves.PutPaths.{PutRuns, PutGoes, put-more, runs-takes}
 use Rattle.core_session.proofs.saves.Told.{held-grow, held-calls}

@@ -1,55 +1,19 @@
 -- What the operation of a call knows of it, as a record that answers it is heard.
-use Rattle.std.proofs.Common.{◌≡◌, ◌≤◌, ◌^◌, ◌+◌, ◌-◌, ℕ, List, [], ◌∷◌, ◌++◌, length, Bool, true, false, Some, Ok, option_map, slice_get, refl, sym, ap, subst, ◌∙◌, arith}
-use Rattle.std.specs.Prelude.{slice_index}
-use Rattle.nfs_types.specs.declared.verf.Verf.{Verf}
-use Rattle.nfs_types.specs.declared.wcc.Wcc.{Wcc}
+use Rattle.core_session.proofs.Prelude.{◌≡◌, ◌≤◌, ◌^◌, ◌+◌, ◌-◌, ℕ, List, [], ◌∷◌, ◌++◌, length, Bool, true, false, Some, Ok, option_map, slice_get, refl, sym, ap, subst, ◌∙◌, arith, slice_index, Verf, Wcc, xid_at, Waiting, waiting_at, Entry, Began, Delivered, Call, Op, At, SpellsCall, commit_call, length_last, said_of, Next, Shelf, Turn, Putting, Saving, Mounted, Machine, machine_of, Purpose, Busy, Setup, View, Reaches, HearsRecord, begins-unbegun, ExpectLaws, flies_of, TaleLaws, Did, reached-good, one-call, written_file, write_of, CallFits, fits-laws, MadeStable}
 use Rattle.nfs_file_calls.specs.declared.owned.FileKept.TheVariants as kept
-use Rattle.rpc_message.specs.Call.{xid_at}
-use Rattle.rpc_retry.specs.declared.waiting.Waiting.{Waiting}
-use Rattle.rpc_retry.specs.Waiting.{waiting_at}
-use Rattle.world_model.specs.declared.entry.Entry.{Entry}
-use Rattle.world_model.specs.declared.entry.Entry.TheVariants.{Began, Delivered}
-use Rattle.world_model.specs.declared.message.Call.{Call}
 use Rattle.world_model.specs.declared.message.Reply.TheVariants as replies
-use Rattle.world_model.specs.declared.op.Op.{Op}
-use Rattle.world_model.specs.Entries.{At}
-use Rattle.world_model.specs.Messages.{SpellsCall}
-use Rattle.world_model.specs.Commits.{commit_call}
-use Rattle.world_model.proofs.Places.{length_last}
-use Rattle.call_replies.specs.Says.{said_of}
-use Rattle.client_shelf.specs.declared.next.Next.{Next}
 use Rattle.client_shelf.specs.declared.next.Next.TheVariants as nexts
-use Rattle.client_shelf.specs.declared.shelf.Shelf.{Shelf}
-use Rattle.client_shelf.specs.declared.turn.Turn.{Turn}
-use Rattle.file_ops.specs.declared.put_file.Putting.{Putting}
 use Rattle.file_ops.specs.declared.put_file.Putting.TheVariants as putting
-use Rattle.file_ops.specs.declared.saving.Saving.{Saving}
 use Rattle.file_ops.specs.Saves as saves
 use Rattle.file_ops.specs.WriteFile as writes
-use Rattle.op_machines.specs.declared.begun.Mounted.{Mounted}
-use Rattle.op_machines.specs.declared.machine.Machine.{Machine}
 use Rattle.op_machines.specs.declared.machine.Machine.TheVariants as machines
-use Rattle.op_machines.specs.Begun.{machine_of}
-use Rattle.client_core.specs.declared.lane.Purpose.{Purpose}
-use Rattle.client_core.specs.declared.lane.State.TheVariants.{Busy}
-use Rattle.client_core.specs.declared.setup.Setup.{Setup}
-use Rattle.client_core.specs.View.{View}
-use Rattle.core_facts.specs.Reaches.{Reaches, HearsRecord}
-use Rattle.core_facts.proofs.AllCounts.{begins-unbegun}
 use Rattle.core_facts.proofs.Expecting.{Expects, expects-starts, expects-resumes, expects-takes, arrived-expects}
-use Rattle.core_facts.proofs.Expects.{ExpectLaws}
-use Rattle.core_facts.proofs.Flights.{flies_of}
 use Rattle.core_facts.proofs.Putting.{PutExpects}
-use Rattle.core_facts.proofs.Tales.{TaleLaws, Did, reached-good}
-use Rattle.core_answers.proofs.bonds.OneCall.{one-call}
-use Rattle.core_answers.specs.writes.Alone.{written_file}
-use Rattle.core_answers.specs.writes.Carried.{write_of, IsCarried}
-use Rattle.core_answers.proofs.writes.AllFits.{CallFits, fits-laws}
+use Rattle.core_answers.specs.writes.Carried.{IsCarried}
 use Rattle.core_answers.proofs.writes.CommitsAlone.{tales, nfs-write}
 use Rattle.core_answers.proofs.writes.PiecesCarried.{pieces-carried}
 use Rattle.step_saves.specs.Accounts.{ByWrite, ByCommit}
 use Rattle.step_saves.proofs.PutSteps.{SaveKnown}
-use Rattle.core_session.specs.saves.Evidence.{MadeStable}
 use Rattle.core_session.proofs.saves.Evidenced.{spelled-as}
 use Rattle.core_session.proofs.saves.Puts.{Wrote, Made, Runs, put-flies, awaited-put}
 use Rattle.core_session.proofs.saves.Told.{told-write, told-commit}

@@ -1,32 +1,10 @@
 -- What is known of a byte of a put as a record is heard, and from then on.
-use Rattle.std.proofs.Common.{◌≡◌, ◌⊎◌, inl, inr, ◌≤◌, ◌+◌, ℕ, List, [], ◌∷◌, ◌++◌, length, false, Some, None, refl, sym, ap, subst, ◌∙◌, arith}
-use Rattle.rpc_message.specs.Call.{xid_at}
-use Rattle.rpc_retry.specs.declared.waiting.Waiting.{Waiting}
-use Rattle.rpc_retry.specs.Waiting.{waiting_at}
-use Rattle.world_model.specs.declared.entry.Entry.{Entry}
-use Rattle.world_model.specs.declared.entry.Entry.TheVariants.{Began, Sent, Delivered}
-use Rattle.world_model.specs.declared.op.Op.{Op}
-use Rattle.world_model.specs.Entries.{At}
-use Rattle.world_model.specs.declared.message.Call.{Call}
-use Rattle.world_model.specs.Messages.{HasXid, SpellsCall, SpellsCallBy}
-use Rattle.world_model.specs.Commits.{commit_call}
-use Rattle.world_model.proofs.Places.{At-grow, At-cases, length_last}
-use Rattle.call_replies.specs.Says.{said_of}
-use Rattle.write_back.specs.Files.{of_file}
-use Rattle.write_back.specs.Pieces.{Sent as Piece, piece_under}
-use Rattle.op_machines.specs.declared.begun.Mounted.{Mounted}
-use Rattle.op_machines.specs.Begun.{machine_of}
-use Rattle.client_core.specs.declared.lane.Purpose.{Purpose}
-use Rattle.client_core.specs.declared.setup.Setup.{Setup}
-use Rattle.client_core.specs.View.{View}
-use Rattle.core_facts.specs.Reaches.{Reaches, HearsRecord}
-use Rattle.core_facts.specs.Tries.{IsUnsent}
-use Rattle.core_facts.proofs.Rows.{reached-rows}
-use Rattle.core_answers.proofs.bonds.OneCall.{one-call}
-use Rattle.core_answers.specs.writes.Alone.{IsWaiting, IsQuiet}
+use Rattle.core_session.proofs.Prelude.{◌≡◌, ◌⊎◌, inl, inr, ◌≤◌, ◌+◌, ℕ, List, [], ◌∷◌, ◌++◌, length, false, Some, None, refl, sym, ap, subst, ◌∙◌, arith, xid_at, Waiting, waiting_at, Entry, Began, Sent, Delivered, Op, At, Call, HasXid, SpellsCall, SpellsCallBy, commit_call, At-grow, At-cases, length_last, said_of, of_file, piece_under, Mounted, machine_of, Purpose, Setup, View, Reaches, HearsRecord, IsUnsent, reached-rows, one-call, IsWaiting, WroteByte, MadeStable}
+use Rattle.write_back.specs.Pieces.{Sent as Piece}
+use Rattle.core_answers.specs.writes.Alone.{IsQuiet}
 use Rattle.core_answers.proofs.writes.CommitsAlone.{commits-alone}
 use Rattle.step_saves.specs.Accounts.{ByWrite, ByCommit}
-use Rattle.core_session.specs.saves.Evidence.{WroteByte, MadeStable, at_once, IsHeldBy}
+use Rattle.core_session.specs.saves.Evidence.{at_once, IsHeldBy}
 use Rattle.core_session.proofs.saves.Evidenced.{wrote-byte, committed-after, under-grow}
 
 -- ---- from one entry to the next, and as calls are made

@@ -1,96 +1,32 @@
 -- Each WRITE that waits has its piece in flight: the same bytes.
-use Rattle.std.proofs.Common.{◌≡◌, ◌≢◌, ◌≤◌, ◌<◌, ◌+◌, ◌-◌, ◌&&◌, ◌==◌, inl, inr, ℕ, List, [], ◌∷◌, ◌++◌, length, Bool, true, false, nat_eq, Option, Some, None, option_map, position, Result, Ok, Err, refl, sym, ap, subst, ◌∙◌, arith}
-use Rattle.std.specs.Prelude.{nat_lt, unwrap_or}
-use Rattle.std.proofs.lemmas.Bool.{eqb-true, eqb-false}
-use Rattle.commit_verf.specs.declared.commit.Verdict.{Verdict}
-use Rattle.commit_verf.specs.declared.commit.Verdict.TheVariants.{AllStable, SendAgain}
-use Rattle.commit_verf.specs.Decisions.{verdict_of}
-use Rattle.nfs_types.specs.declared.verf.Verf.{Verf}
-use Rattle.rpc_retry.specs.declared.waiting.Waiting.{Waiting}
-use Rattle.rpc_retry.specs.Held.{next_xid}
-use Rattle.rpc_retry.specs.Waiting.{made_call, waiting_at, without}
-use Rattle.rpc_retry.proofs.Lookups.{waits_early, at_made, others_made, others_taken}
-use Rattle.rpc_retry.proofs.Records.{gone}
-use Rattle.write_back.specs.Changes.{lost}
-use Rattle.write_back.specs.Choice.{chosen, piece_of, with_sent}
-use Rattle.write_back.specs.Files.{Pending, of_file, OnFile}
-use Rattle.write_back.specs.Landing.{with_xid}
-use Rattle.write_back.specs.Pieces.{Sent, FilePending, piece_under}
-use Rattle.write_back.specs.Segments.{Segments}
-use Rattle.world_model.specs.declared.answer.Fault.{Fault}
-use Rattle.world_model.specs.declared.answer.Fault.TheVariants.{Memory}
-use Rattle.world_model.specs.declared.entry.Entry.{Entry}
-use Rattle.world_model.specs.declared.entry.Entry.TheVariants.{Began, Delivered}
-use Rattle.world_model.specs.declared.message.Call.{Call}
+use Rattle.core_session.proofs.Prelude.{◌≡◌, ◌≢◌, ◌≤◌, ◌<◌, ◌+◌, ◌-◌, ◌&&◌, ◌==◌, inl, inr, ℕ, List, [], ◌∷◌, ◌++◌, length, Bool, true, false, nat_eq, Option, Some, None, option_map, position, Result, Ok, Err, refl, sym, ap, subst, ◌∙◌, arith, nat_lt, eqb-true, eqb-false, Verdict, AllStable, SendAgain, verdict_of, Verf, Waiting, next_xid, made_call, waiting_at, without, waits_early, at_made, others_made, others_taken, gone, lost, chosen, piece_of, with_sent, Pending, of_file, OnFile, with_xid, FilePending, piece_under, Segments, Fault, Memory, Entry, Began, Delivered, Call, Reply, Op, SpellsCallBy, proc_of, said_of, Next, Repeat, Shelf, Turn, goes_again, Closing, Putting, Sending, Committing, Resending, CommittingAgain, Saving, Syncing, Writing, commit_told, IsUnused, Mounted, FileMachine, Machine, Opener, PathMachine, machine_of, file_of, Starts, Resumes, Takes, Purpose, Busy, Setup, is_busy, IsIdle, with_state, record_of, Makes, Leads, Stirs, counted, StartsLane, TakesAt, View, turn_at, unmade_turn, in_flight, Reaches, begins-unbegun, taken_one, flies_if, flies_save, flies_write, flies_sync, flies_close, flies_put, flies_file, flies_path, flies_of, Known, taker-is, taker-one, Rows, same-rows, taken-rows, made-known, made-asked, reached-good, one-call, written_file, IsWaiting, write_of, IsInFlight, CallFits, fits-laws, After, CarriesReply, Free, waits-late, unused-next, starts-under, resumes-under, takes-under, SameUnder}
+use Rattle.std.specs.Prelude.{unwrap_or}
+use Rattle.write_back.specs.Pieces.{Sent}
 use Rattle.world_model.specs.declared.message.Call.TheVariants as calls
-use Rattle.world_model.specs.declared.message.Reply.{Reply}
-use Rattle.world_model.specs.declared.op.Op.{Op}
-use Rattle.world_model.specs.Messages.{SpellsCallBy, proc_of}
-use Rattle.call_replies.specs.Says.{said_of}
-use Rattle.client_shelf.specs.declared.next.Next.{Next}
 use Rattle.client_shelf.specs.declared.next.Next.TheVariants as nexts
-use Rattle.client_shelf.specs.declared.repeats.Repeat.{Repeat}
-use Rattle.client_shelf.specs.declared.shelf.Shelf.{Shelf}
-use Rattle.client_shelf.specs.declared.turn.Turn.{Turn}
-use Rattle.client_shelf.specs.Busy.{goes_again}
-use Rattle.file_ops.specs.declared.close_file.Closing.{Closing}
 use Rattle.file_ops.specs.declared.close_file.Closing.TheVariants as closing
-use Rattle.file_ops.specs.declared.put_file.Putting.{Putting}
 use Rattle.file_ops.specs.declared.put_file.Putting.TheVariants as putting
 use Rattle.file_ops.specs.declared.saving.Phase.{Phase}
-use Rattle.file_ops.specs.declared.saving.Phase.TheVariants.{Sending, Committing, Resending, CommittingAgain}
-use Rattle.file_ops.specs.declared.saving.Saving.{Saving}
-use Rattle.file_ops.specs.declared.sync_file.Syncing.{Syncing}
 use Rattle.file_ops.specs.declared.sync_file.Syncing.TheVariants as syncing
-use Rattle.file_ops.specs.declared.write_file.Writing.{Writing}
 use Rattle.file_ops.specs.declared.write_file.Writing.TheVariants as writing
-use Rattle.file_ops.specs.Judging.{commit_told}
-use Rattle.file_ops.specs.SlotFiles.{IsUnused}
 use Rattle.file_ops.specs.Saves as saves
 use Rattle.file_ops.specs.Syncs as syncs
 use Rattle.file_ops.proofs.Landed.{lands-out}
-use Rattle.op_machines.specs.declared.begun.Mounted.{Mounted}
-use Rattle.op_machines.specs.declared.file_machine.FileMachine.{FileMachine}
 use Rattle.op_machines.specs.declared.file_machine.FileMachine.TheVariants as files
-use Rattle.op_machines.specs.declared.machine.Machine.{Machine}
 use Rattle.op_machines.specs.declared.machine.Machine.TheVariants as machines
-use Rattle.op_machines.specs.declared.opener.Opener.{Opener}
-use Rattle.op_machines.specs.declared.path_machine.PathMachine.{PathMachine}
-use Rattle.op_machines.specs.Begun.{machine_of}
-use Rattle.op_machines.specs.Openers.{file_of}
-use Rattle.op_machines.specs.Steps.{Starts, Resumes, Takes}
-use Rattle.client_core.specs.declared.lane.Purpose.{Purpose}
-use Rattle.client_core.specs.declared.lane.State.TheVariants.{Busy}
-use Rattle.client_core.specs.declared.setup.Setup.{Setup}
-use Rattle.client_core.specs.Lanes.{is_busy}
-use Rattle.client_core.specs.Numbers.{IsIdle}
-use Rattle.client_core.specs.Steps.{with_state, record_of, Makes, Leads, Stirs, counted, StartsLane, TakesAt}
-use Rattle.client_core.specs.View.{View, turn_at, unmade_turn}
-use Rattle.core_facts.specs.InFlight.{in_flight}
-use Rattle.core_facts.specs.Reaches.{Reaches}
-use Rattle.core_facts.proofs.AllCounts.{begins-unbegun}
-use Rattle.core_facts.proofs.Cases.{taken_one}
-use Rattle.core_facts.proofs.Flights.{flies_if, flies_save, flies_write, flies_sync, flies_close, flies_put, flies_file, flies_path, flies_of}
-use Rattle.core_facts.proofs.Keeping.{Known, taker-is, taker-one}
-use Rattle.core_facts.proofs.Rows.{Rows, same-rows, taken-rows, made-known, made-asked}
-use Rattle.core_facts.proofs.Tales.{reached-good}
-use Rattle.core_answers.proofs.bonds.OneCall.{one-call}
-use Rattle.core_answers.specs.writes.Alone.{written_file, IsWaiting}
-use Rattle.core_answers.specs.writes.Carried.{write_of}
-use Rattle.core_answers.specs.writes.Flights.{IsInFlight}
 use Rattle.core_answers.proofs.writes.AllBacks.{AsksOther, OtherBy, OnWay, Saves, PathSaves}
 use Rattle.core_answers.proofs.writes.AllBacks as backs
-use Rattle.core_answers.proofs.writes.AllFits.{CallFits, Asks, fits-laws}
+use Rattle.core_answers.proofs.writes.AllFits.{Asks}
 use Rattle.core_answers.proofs.writes.AllFits as fitting
 use Rattle.core_answers.proofs.writes.Along.{KeepsAlong, reached-along}
-use Rattle.core_answers.proofs.writes.Backs.{After, Carries, CarriesReply, SyncSaves, CloseSaves, WriteSaves, PutSaves, FileSaves}
+use Rattle.core_answers.proofs.writes.Backs.{Carries, SyncSaves, CloseSaves, WriteSaves, PutSaves, FileSaves}
 use Rattle.core_answers.proofs.writes.CallFits.{no-write}
 use Rattle.core_answers.proofs.writes.CommitsAlone.{tales, nfs-write}
 use Rattle.core_answers.proofs.writes.Mapped.{any-brings, any-starts}
-use Rattle.core_answers.proofs.writes.OwnPieces.{Free, on-free, out-free}
-use Rattle.core_answers.proofs.writes.PiecesCarried.{Flying, waits-late, unused-next, unmade-under, starts-under, resumes-under, takes-under, keeps-flying}
+use Rattle.core_answers.proofs.writes.OwnPieces.{on-free, out-free}
+use Rattle.core_answers.proofs.writes.PiecesCarried.{Flying, unmade-under, keeps-flying}
 use Rattle.core_answers.proofs.writes.Plain.{IsOther}
-use Rattle.core_answers.proofs.writes.Under.{SameUnder, under-last, renamed-under, as_xid, bytes-under, same-under, gives-under}
+use Rattle.core_answers.proofs.writes.Under.{under-last, renamed-under, as_xid, bytes-under, same-under, gives-under}
 
 pub none-some : {X : Type 0} → (f : List ℕ) → None ≡ Some f → X
 none-some f e = absurd (let no_way : None ≡ Some f = e in cc)

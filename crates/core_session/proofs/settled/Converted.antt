@@ -1,12 +1,9 @@
 -- What the core's crates say of a byte that was made stable, in the words of the law of stable bytes.
-use Rattle.std.proofs.Common.{◌≡◌, ◌<◌, ◌≤◌, ◌+◌, ◌-◌, ◌&&◌, ℕ, Bool, true, false, nat_le, nat_lt, List, length, Some, refl, sym, ap, ◌∙◌, arith}
-use Rattle.std.proofs.lemmas.Bool.{leb-true, ltb-true}
-use Rattle.std.proofs.lemmas.Option.{slice_get-get_or}
-use Rattle.nfs_types.specs.declared.verf.Verf.{Verf}
-use Rattle.world_model.specs.declared.entry.Entry.{Entry}
-use Rattle.claims.specs.Settled.{WroteAt, Evidence}
+use Rattle.core_session.proofs.Prelude.{◌≡◌, ◌<◌, ◌≤◌, ◌+◌, ◌-◌, ◌&&◌, ℕ, Bool, true, false, nat_le, List, length, Some, refl, sym, ap, ◌∙◌, arith, ltb-true, slice_get-get_or, Verf, Entry, WroteAt, Evidence, WroteByte, MadeStable}
+use Rattle.std.proofs.Common.{nat_lt}
+use Rattle.std.proofs.lemmas.Bool.{leb-true}
 use Rattle.claims.specs.Settled as stably
-use Rattle.core_session.specs.saves.Evidence.{WroteByte, MadeStable, at_once, by_commit}
+use Rattle.core_session.specs.saves.Evidence.{at_once, by_commit}
 
 both-left : (a b : Bool) → (a && b) ≡ true → a ≡ true
 both-left true b e = refl

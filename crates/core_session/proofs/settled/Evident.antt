@@ -1,33 +1,12 @@
 -- Of each byte that an answer settled there is evidence by then.
-use Rattle.std.proofs.Common.{◌≡◌, ◌≢◌, ◌≤◌, ◌<◌, ◌⊎◌, inl, inr, ℕ, suc, List, length, refl, sym, ap, subst, ◌∙◌, arith}
-use Rattle.std.proofs.lemmas.Bool.{cases_lt}
-use Rattle.world_model.specs.declared.answer.Answer.{Answer}
+use Rattle.core_session.proofs.Prelude.{◌≡◌, ◌≢◌, ◌≤◌, ◌<◌, ◌⊎◌, inl, inr, ℕ, suc, List, length, refl, sym, ap, subst, ◌∙◌, arith, cases_lt, Answer, Entry, Began, Answered, Delivered, Call, Reply, Op, At, Asked, Origin, AnsweredBefore, Ended, At-below, At-one, Modes, SettledBy, WroteAt, MadeFirm, at_once, by_commit, Evidence, Terms, WritesByte, Cuts, Mounted, Setup, View, KnowsRoot, GoesWith, MadeAndKept, PutsNamed, TouchedUntil}
 use Rattle.world_model.specs.declared.answer.Answer.TheVariants.{Done}
-use Rattle.world_model.specs.declared.entry.Entry.{Entry}
-use Rattle.world_model.specs.declared.entry.Entry.TheVariants.{Began, Answered, Delivered}
-use Rattle.world_model.specs.declared.message.Call.{Call}
-use Rattle.world_model.specs.declared.message.Reply.{Reply}
-use Rattle.world_model.specs.declared.op.Op.{Op}
 use Rattle.world_model.specs.declared.op.Op.TheVariants as ops
-use Rattle.world_model.specs.Entries.{At}
-use Rattle.world_model.specs.Heard.{Asked}
-use Rattle.world_model.specs.Mounts.{Origin}
-use Rattle.world_model.specs.Operations.{AnsweredBefore, Ended}
-use Rattle.world_model.proofs.Places.{At-below, At-one}
-use Rattle.claims.specs.Modes.{Modes}
-use Rattle.claims.specs.Settled.{SettledBy, later, itself, WroteAt, MadeFirm, at_once, by_commit, Evidence, Overtaken}
+use Rattle.claims.specs.Settled.{later, itself, Overtaken}
 use Rattle.claims.specs.Settled as settled
-use Rattle.claims.specs.Terms.{Terms}
-use Rattle.claims.specs.Touched.{WritesByte, Cuts, MadeStable}
+use Rattle.claims.specs.Touched.{MadeStable}
 use Rattle.claims.specs.Touched as touched
-use Rattle.op_machines.specs.declared.begun.Mounted.{Mounted}
-use Rattle.client_core.specs.declared.setup.Setup.{Setup}
-use Rattle.client_core.specs.View.{View}
-use Rattle.core_facts.specs.Naming.{KnowsRoot}
-use Rattle.core_facts.specs.SlotAnswers.{GoesWith}
 use Rattle.core_session.specs.settled.Evident.{SettledEvident}
-use Rattle.core_session.specs.syncs.Synced.{MadeAndKept, PutsNamed}
-use Rattle.core_session.specs.syncs.Until.{TouchedUntil}
 use Rattle.core_session.specs.syncs.Until as until
 use Rattle.core_session.proofs.settled.Converted.{to-evidence}
 use Rattle.core_session.proofs.settled.LostSyncs.{all-synced}

@@ -1,53 +1,17 @@
 -- Which operation gave each byte of a WRITE that is sent: what the call carries is in flight, and that is pending, which some operation gave.
-use Rattle.std.proofs.Common.{◌≡◌, ◌<◌, ◌+◌, ◌-◌, ◌&&◌, ◌⊎◌, inl, inr, ℕ, Bool, true, false, nat_le, nat_lt, List, [], ◌∷◌, ◌++◌, length, Option, Some, None, slice_index, refl, sym, ap, subst, ◌∙◌, arith, append_assoc}
-use Rattle.std.proofs.lemmas.Bool.{le-leb, lt-ltb}
-use Rattle.std.proofs.lemmas.Option.{slice_get_within, get_or_from_slice_get}
+use Rattle.core_session.proofs.Prelude.{◌≡◌, ◌<◌, ◌+◌, ◌-◌, ◌&&◌, ◌⊎◌, inl, inr, ℕ, Bool, true, false, nat_le, List, [], ◌∷◌, ◌++◌, length, Option, Some, None, refl, sym, ap, subst, ◌∙◌, arith, append_assoc, le-leb, lt-ltb, slice_get_within, Waiting, next_xid, waiting_at, at_sent, Entry, Began, Answered, Dialed, Sent, Executed, Foreign, Flushed, Reboot, Delivered, Failed, Clock, Op, NoneBegan, At, SpellsCall, Modes, IsOf, Terms, At-grow, At-below, At-back, At-cases, one_file_call, of_file, Flown, fly_in, flown_in, covers, IsSound, fly-some, fly-under, Mounted, machine_of, Purpose, Setup, SendsIf, View, StepsTo, Reaches, begins, goes, loses, IsMade, SentNow, sent_now, always-later, Rows, reached-rows, IsHeld, held-grow, written_file, IsInFlight, write_of, writes-whole}
+use Rattle.std.proofs.Common.{nat_lt, slice_index}
+use Rattle.std.proofs.lemmas.Option.{get_or_from_slice_get}
 use Rattle.nfs_file_calls.specs.declared.call.FileCall.TheVariants as files
-use Rattle.rpc_retry.specs.declared.waiting.Waiting.{Waiting}
-use Rattle.rpc_retry.specs.Held.{next_xid}
-use Rattle.rpc_retry.specs.Waiting.{waiting_at}
-use Rattle.rpc_retry.proofs.Lookups.{at_sent}
-use Rattle.world_model.specs.declared.entry.Entry.{Entry}
-use Rattle.world_model.specs.declared.entry.Entry.TheVariants.{Began, Answered, Dialed, Sent, Executed, Foreign, Flushed, Reboot, Delivered, Failed, Clock}
 use Rattle.world_model.specs.declared.message.Call.TheVariants as calls
-use Rattle.world_model.specs.declared.op.Op.{Op}
 use Rattle.world_model.specs.declared.op.Op.TheVariants as ops
-use Rattle.claims.specs.CallsAsked.{NoneBegan}
-use Rattle.world_model.specs.Entries.{At}
-use Rattle.world_model.specs.Messages.{SpellsCall}
-use Rattle.claims.specs.Modes.{Modes}
-use Rattle.claims.specs.Slots.{IsOf}
-use Rattle.claims.specs.Terms.{Terms}
 use Rattle.claims.specs.Touched.{Covers}
-use Rattle.world_model.proofs.Places.{At-grow, At-below, At-back, At-cases}
-use Rattle.law_stable.proofs.OneFileCall.{one_file_call}
-use Rattle.write_back.specs.Files.{of_file}
 use Rattle.write_back.specs.declared.sent.Part.{Part}
-use Rattle.write_back.specs.Pieces.{part_at, Flown, fly_in, flown_in}
+use Rattle.write_back.specs.Pieces.{part_at}
 use Rattle.write_back.specs.Pieces.{Sent as Piece}
-use Rattle.write_back.specs.Segments.{covers}
-use Rattle.write_back.specs.Sound.{IsSound}
-use Rattle.write_back.proofs.Flying.{fly-some}
-use Rattle.write_back.proofs.Xids.{fly-under}
-use Rattle.op_machines.specs.declared.begun.Mounted.{Mounted}
-use Rattle.op_machines.specs.Begun.{machine_of}
-use Rattle.client_core.specs.declared.lane.Purpose.{Purpose}
-use Rattle.client_core.specs.declared.setup.Setup.{Setup}
-use Rattle.client_core.specs.Steps.{SendsIf}
-use Rattle.client_core.specs.View.{View}
-use Rattle.core_facts.specs.Reaches.{StepsTo, Reaches, begins, goes, loses}
-use Rattle.core_facts.specs.Tries.{IsMade}
-use Rattle.core_facts.proofs.Cases.{SentNow, sent_now}
-use Rattle.core_facts.proofs.HeldSlots.{always-later}
-use Rattle.core_facts.proofs.Rows.{Rows, reached-rows}
-use Rattle.core_facts.proofs.SlotGrowth.{IsHeld, held-grow}
 use Rattle.core_session.proofs.order.Basis.{reached-basis}
-use Rattle.core_answers.specs.writes.Alone.{written_file}
-use Rattle.core_answers.specs.writes.Flights.{IsInFlight}
-use Rattle.core_answers.specs.writes.Carried.{write_of}
 use Rattle.core_answers.specs.writes.Written.{IsAtFile, IsWritten}
 use Rattle.core_answers.proofs.writes.PendingWritten.{pending-written}
-use Rattle.core_answers.proofs.writes.WholeWrites.{writes-whole}
 use Rattle.core_session.specs.settled.Lone.{IsGiven, WritesGiven}
 
 -- ---- the record at a place, and the call that waits for its reply

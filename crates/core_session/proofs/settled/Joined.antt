@@ -1,44 +1,16 @@
 -- Bytes that are saved stay: by the law of stable bytes, since what else is sent of their place is spared or answered.
-use Rattle.std.proofs.Common.{◌≡◌, ◌≢◌, ◌<◌, ◌≤◌, ◌⊎◌, inl, inr, ◌+◌, ℕ, suc, List, length, Option, Some, refl, subst, ◌∙◌, arith}
-use Rattle.std.proofs.lemmas.Option.{slice_get_within}
-use Rattle.nfs_types.specs.declared.set_attr.SetAttr.{SetAttr}
-use Rattle.nfs_types.specs.declared.time.Time.{Time}
-use Rattle.nfs_dir_calls.specs.declared.call.DirCall.{DirCall}
+use Rattle.core_session.proofs.Prelude.{◌≡◌, ◌≢◌, ◌<◌, ◌≤◌, ◌⊎◌, inl, inr, ◌+◌, ℕ, suc, List, length, Option, Some, refl, subst, ◌∙◌, arith, slice_get_within, SetAttr, Time, DirCall, FileCall, Entry, Began, Call, NoneBegan, At, History, Lawful, SpellsCall, Modes, Once, AnsweredBefore, Terms, Wrote, write, fill, Cuts, FirstSent, At-one, NoForeign, info_call, one_file_call, one-call, Mounted, machine_of, Setup, View, GoesWith, reached-rows, OnlySetsUp, IsSaved}
 use Rattle.nfs_dir_calls.specs.declared.call.DirCall.TheVariants as dirs
 use Rattle.nfs_dir_calls.specs.declared.create.Making.TheVariants as makings
-use Rattle.nfs_file_calls.specs.declared.call.FileCall.{FileCall}
 use Rattle.nfs_file_calls.specs.declared.call.FileCall.TheVariants as files
-use Rattle.world_model.specs.declared.entry.Entry.{Entry}
-use Rattle.world_model.specs.declared.entry.Entry.TheVariants.{Began}
-use Rattle.world_model.specs.declared.message.Call.{Call}
 use Rattle.world_model.specs.declared.message.Call.TheVariants as calls
 use Rattle.world_model.specs.declared.op.Op.TheVariants as ops
-use Rattle.claims.specs.CallsAsked.{NoneBegan}
-use Rattle.world_model.specs.Entries.{At}
-use Rattle.world_model.specs.History.{History}
-use Rattle.world_model.specs.Lawful.{Lawful}
-use Rattle.world_model.specs.Messages.{SpellsCall}
-use Rattle.claims.specs.Modes.{Modes}
-use Rattle.world_model.specs.Once.{Once}
-use Rattle.world_model.specs.Operations.{AnsweredBefore}
 use Rattle.claims.specs.Settled.{HoldsStable, written_at}
-use Rattle.claims.specs.Terms.{Terms}
-use Rattle.claims.specs.Touched.{Wrote, write, fill, put, Cuts, cut}
-use Rattle.world_model.specs.Waiting.{FirstSent}
-use Rattle.world_model.proofs.Places.{At-one}
-use Rattle.law_stable.specs.OwnCalls.{Alters, writes, sizes, HeardBefore, OwnCalls, NoForeign}
-use Rattle.world_model.specs.Mounts.{info_call}
+use Rattle.claims.specs.Touched.{put, cut}
+use Rattle.law_stable.specs.OwnCalls.{Alters, writes, sizes, HeardBefore, OwnCalls}
 use Rattle.law_stable.proofs.Deciding.{stable_decided}
-use Rattle.law_stable.proofs.OneFileCall.{one_file_call}
-use Rattle.core_answers.proofs.bonds.OneCall.{one-call}
 use Rattle.law_stable.proofs.Stays.{evidence_stable, untouched_unforeign}
-use Rattle.op_machines.specs.declared.begun.Mounted.{Mounted}
-use Rattle.op_machines.specs.Begun.{machine_of}
-use Rattle.client_core.specs.declared.setup.Setup.{Setup}
-use Rattle.client_core.specs.View.{View}
-use Rattle.core_facts.specs.SlotAnswers.{GoesWith}
-use Rattle.core_facts.proofs.Rows.{reached-rows}
-use Rattle.core_session.specs.settled.Settling.{IsSetUpCall, mounts, informs, IsSetUpRecord, OnlySetsUp, IsSaved, SavedStay}
+use Rattle.core_session.specs.settled.Settling.{IsSetUpCall, mounts, informs, IsSetUpRecord, SavedStay}
 use Rattle.core_session.specs.order.Altering as order
 use Rattle.core_session.specs.order.Sizes.{IsTruncate}
 use Rattle.core_session.proofs.order.Earliers.{earlier-heard}

@@ -1,19 +1,9 @@
 -- Where a last close gave up what was pending of a file, a byte that is settled later was settled before, or was touched.
-use Rattle.std.proofs.Common.{◌≡◌, ◌<◌, ◌≤◌, ℕ, zero, suc, List, length, refl, sym, subst, arith}
-use Rattle.world_model.specs.declared.answer.Answer.{Answer}
-use Rattle.world_model.specs.declared.entry.Entry.{Entry}
-use Rattle.world_model.specs.declared.entry.Entry.TheVariants.{Began, Answered}
-use Rattle.world_model.specs.declared.op.Op.{Op}
+use Rattle.core_session.proofs.Prelude.{◌≡◌, ◌<◌, ◌≤◌, ℕ, zero, suc, List, length, refl, sym, subst, arith, Answer, Entry, Began, Answered, Op, At, History, Modes, Origin, Ended, SettledBy, MadeFirm, at_once, by_commit, Wrote, write, fill, Touched, At-one, IsSaved}
 use Rattle.world_model.specs.declared.op.Op.TheVariants as ops
-use Rattle.world_model.specs.Entries.{At}
-use Rattle.world_model.specs.History.{History}
-use Rattle.claims.specs.Modes.{Modes}
-use Rattle.world_model.specs.Mounts.{Origin}
-use Rattle.world_model.specs.Operations.{Ended}
-use Rattle.claims.specs.Settled.{SettledBy, later, itself, MadeFirm, at_once, by_commit}
-use Rattle.claims.specs.Touched.{Wrote, write, fill, put, StableSince, IsAnsweredPut, Touched, given_up}
-use Rattle.world_model.proofs.Places.{At-one}
-use Rattle.core_session.specs.settled.Settling.{IsSaved, AreSaved}
+use Rattle.claims.specs.Settled.{later, itself}
+use Rattle.claims.specs.Touched.{put, StableSince, IsAnsweredPut, given_up}
+use Rattle.core_session.specs.settled.Settling.{AreSaved}
 
 -- ---- by a later place
 

@@ -1,28 +1,11 @@
 -- The bytes of a put that went well by itself stay: its evidence stands in the history, and WRITEs of their places have them.
-use Rattle.std.proofs.Common.{◌≡◌, ◌<◌, ◌≤◌, ◌+◌, ◌-◌, ◌⊎◌, inl, inr, ◌==◌, ℕ, suc, Bool, List, [], ◌∷◌, length, Some, None, slice_get, refl, sym, ap, subst, ◌∙◌, arith}
-use Rattle.std.specs.Prelude.{if◌then◌else◌}
-use Rattle.std.proofs.lemmas.Bool.{cases_Bool, cases_lt, eqb-true, eqb-false, le-ltb}
+use Rattle.core_session.proofs.Prelude.{◌≡◌, ◌<◌, ◌≤◌, ◌+◌, ◌-◌, ◌⊎◌, inl, inr, ◌==◌, ℕ, suc, Bool, List, [], ◌∷◌, length, Some, None, slice_get, refl, sym, ap, subst, ◌∙◌, arith, if◌then◌else◌, cases_lt, eqb-true, eqb-false, le-ltb, Entry, Began, Sent, Op, NoneBegan, At, SpellsCall, Terms, At-one, WroteAt, Evidence, Mounted, Setup, View, GoesWith, MadeStable, AllMadeStable, byte_from, byte_by}
+use Rattle.std.proofs.lemmas.Bool.{cases_Bool}
 use Rattle.nfs_file_calls.specs.declared.call.FileCall.TheVariants as files
 use Rattle.world_model.specs.declared.answer.Answer.TheVariants.{Done}
-use Rattle.world_model.specs.declared.entry.Entry.{Entry}
-use Rattle.world_model.specs.declared.entry.Entry.TheVariants.{Began, Sent}
 use Rattle.world_model.specs.declared.message.Call.TheVariants as calls
-use Rattle.world_model.specs.declared.op.Op.{Op}
 use Rattle.world_model.specs.declared.op.Op.TheVariants as ops
-use Rattle.claims.specs.CallsAsked.{NoneBegan}
-use Rattle.world_model.specs.Entries.{At}
-use Rattle.world_model.specs.Messages.{SpellsCall}
-use Rattle.claims.specs.Terms.{Terms}
 use Rattle.claims.specs.Touched.{Covers}
-use Rattle.world_model.proofs.Places.{At-one}
-use Rattle.claims.specs.Settled.{WroteAt, Evidence}
-use Rattle.op_machines.specs.declared.begun.Mounted.{Mounted}
-use Rattle.client_core.specs.declared.setup.Setup.{Setup}
-use Rattle.client_core.specs.View.{View}
-use Rattle.core_facts.specs.SlotAnswers.{GoesWith}
-use Rattle.core_session.specs.saves.Evidence.{MadeStable}
-use Rattle.core_session.specs.saves.PutsWritten.{AllMadeStable}
-use Rattle.core_answers.specs.writes.Written.{byte_from, byte_by}
 use Rattle.core_session.specs.settled.Lone.{IsGiven, NoOther, LonePutsStay}
 use Rattle.core_session.proofs.settled.Converted.{to-evidence}
 use Rattle.core_session.proofs.settled.Given.{writes-given, covers-true, covers-index}

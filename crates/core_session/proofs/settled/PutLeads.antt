@@ -1,33 +1,13 @@
 -- To which file the path of a put by itself leads: the one that its WRITEs are of.
-use Rattle.std.proofs.Common.{◌≡◌, ◌<◌, ◌≤◌, ◌⊎◌, inl, inr, ℕ, List, sym, subst, ◌∙◌, arith}
+use Rattle.core_session.proofs.Prelude.{◌≡◌, ◌<◌, ◌≤◌, ◌⊎◌, inl, inr, ℕ, List, sym, subst, ◌∙◌, arith, Entry, Began, Sent, Call, Op, Answer, Asks, Acts, NoneBegan, At, SpellsCall, Origin, Ended, Terms, WritesByte, Rooted-wide, Asked-wide, At-one, At-below, one_file_call, Mounted, machine_of, IsNamed, Setup, View, KnowsRoot, Reaches}
 use Rattle.nfs_file_calls.specs.declared.call.FileCall.TheVariants as files
-use Rattle.world_model.specs.declared.entry.Entry.{Entry}
-use Rattle.world_model.specs.declared.entry.Entry.TheVariants.{Began, Sent}
-use Rattle.world_model.specs.declared.message.Call.{Call}
 use Rattle.world_model.specs.declared.message.Call.TheVariants as calls
-use Rattle.world_model.specs.declared.op.Op.{Op}
 use Rattle.world_model.specs.declared.op.Op.TheVariants as ops
-use Rattle.world_model.specs.declared.answer.Answer.{Answer}
-use Rattle.claims.specs.Asks.{Asks, Acts, Stabilizes}
+use Rattle.claims.specs.Asks.{Stabilizes}
 use Rattle.claims.specs.Asks as asks
-use Rattle.claims.specs.CallsAsked.{NoneBegan}
-use Rattle.world_model.specs.Entries.{At}
 use Rattle.world_model.specs.Leads.{Leads, root, step}
-use Rattle.world_model.specs.Messages.{SpellsCall}
-use Rattle.world_model.specs.Mounts.{Origin}
-use Rattle.world_model.specs.Operations.{Ended, EndsAt, answered, unanswered}
-use Rattle.claims.specs.Terms.{Terms}
-use Rattle.claims.specs.Touched.{WritesByte}
+use Rattle.world_model.specs.Operations.{EndsAt, answered, unanswered}
 use Rattle.claims.specs.Touched as touching
-use Rattle.world_model.proofs.Growth.{Rooted-wide, Asked-wide}
-use Rattle.world_model.proofs.Places.{At-one, At-below}
-use Rattle.law_stable.proofs.OneFileCall.{one_file_call}
-use Rattle.op_machines.specs.declared.begun.Mounted.{Mounted}
-use Rattle.op_machines.specs.Begun.{machine_of, IsNamed}
-use Rattle.client_core.specs.declared.setup.Setup.{Setup}
-use Rattle.client_core.specs.View.{View}
-use Rattle.core_facts.specs.Naming.{KnowsRoot}
-use Rattle.core_facts.specs.Reaches.{Reaches}
 use Rattle.core_answers.specs.asks.PutCalls.{IsMadeAlone}
 use Rattle.core_answers.proofs.asks.PutAsks.{lone-puts-ask}
 use Rattle.core_session.specs.saves.PutsWritten.{IsAlone}

@@ -1,32 +1,15 @@
 -- Bytes that were settled stay.
-use Rattle.std.proofs.Common.{◌≡◌, ◌<◌, ◌≤◌, ◌+◌, ◌-◌, ◌&&◌, ℕ, suc, Bool, true, false, nat_le, nat_lt, List, length, Some, slice_get, slice_index, refl, sym, ap, ◌∙◌, arith}
-use Rattle.std.proofs.lemmas.Bool.{le-leb, lt-ltb}
-use Rattle.std.proofs.lemmas.Option.{slice_get_within, get_or_from_slice_get}
+use Rattle.core_session.proofs.Prelude.{◌≡◌, ◌<◌, ◌≤◌, ◌+◌, ◌-◌, ◌&&◌, ℕ, suc, Bool, true, false, nat_le, List, length, Some, slice_get, refl, sym, ap, ◌∙◌, arith, le-leb, lt-ltb, slice_get_within, Entry, Began, Sent, At, SpellsCall, Modes, At-one, covers, History, Origin, Terms, Wrote, write, fill, GivesUp, Touched, Mounted, Setup, View, KnowsRoot, GoesWith, TouchedUntil, MadeAndKept, WritesCarry, PutsNamed, IsSaved}
+use Rattle.std.proofs.Common.{nat_lt, slice_index}
+use Rattle.std.proofs.lemmas.Option.{get_or_from_slice_get}
 use Rattle.nfs_file_calls.specs.declared.call.FileCall.TheVariants as files
-use Rattle.world_model.specs.declared.entry.Entry.{Entry}
-use Rattle.world_model.specs.declared.entry.Entry.TheVariants.{Began, Sent}
 use Rattle.world_model.specs.declared.message.Call.TheVariants as calls
 use Rattle.world_model.specs.declared.op.Op.TheVariants as ops
-use Rattle.world_model.specs.Entries.{At}
-use Rattle.world_model.specs.Messages.{SpellsCall}
-use Rattle.claims.specs.Modes.{Modes}
-use Rattle.world_model.proofs.Places.{At-one}
-use Rattle.write_back.specs.Segments.{covers}
-use Rattle.world_model.specs.History.{History}
-use Rattle.world_model.specs.Mounts.{Origin}
-use Rattle.claims.specs.Terms.{Terms}
-use Rattle.claims.specs.Touched.{Wrote, write, fill, put, Left, GivesUp, Touched}
+use Rattle.claims.specs.Touched.{put, Left}
 use Rattle.claims.specs.Touched as touched
-use Rattle.op_machines.specs.declared.begun.Mounted.{Mounted}
-use Rattle.client_core.specs.declared.setup.Setup.{Setup}
-use Rattle.client_core.specs.View.{View}
-use Rattle.core_facts.specs.Naming.{KnowsRoot}
-use Rattle.core_facts.specs.SlotAnswers.{GoesWith}
-use Rattle.core_session.specs.syncs.Until.{TouchedUntil}
-use Rattle.core_session.specs.syncs.Until as until
-use Rattle.core_session.specs.syncs.Synced.{MadeAndKept, WritesCarry, PutsNamed}
 use Rattle.core_session.specs.syncs.Until.{cut}
-use Rattle.core_session.specs.settled.Settling.{IsSaved, AreSaved, SettledStay}
+use Rattle.core_session.specs.syncs.Until as until
+use Rattle.core_session.specs.settled.Settling.{AreSaved, SettledStay}
 use Rattle.core_session.specs.settled.Synced.{SyncedStay}
 use Rattle.core_session.proofs.settled.Converted.{to-evidence}
 use Rattle.core_session.proofs.settled.Joined.{BeganOther, saved-stays, saved-stay}

@@ -1,13 +1,6 @@
 -- What a read answers, with what is known of the views in which the bytes of its own client were pending.
 use Rattle.std.specs.Prelude.{◌≡◌, ◌<◌, ◌≤◌, ◌+◌, ◌⊎◌, ℕ, List, ◌++◌, length, Some, slice_get}
-use Rattle.write_back.specs.Files.{of_file}
-use Rattle.write_back.specs.Segments.{newest_at}
-use Rattle.world_model.specs.declared.entry.Entry.{Entry}
-use Rattle.world_model.specs.declared.op.Op.{Op}
-use Rattle.claims.specs.Modes.{Modes}
-use Rattle.claims.specs.Slots.{IsOf}
-use Rattle.client_core.specs.View.{View}
-use Rattle.core_session.specs.current.Read.{IsFound, IsEnd}
+use Rattle.core_session.proofs.Prelude.{of_file, newest_at, Entry, Op, Modes, IsOf, View, IsFound, IsEnd}
 
 -- The byte was pending in a view of which this is known, since the place x.
 pub record OwnByte (J : List Entry → View → Type 0) (h : List Entry) (x : ℕ) (file : List ℕ) (place v : ℕ) : Type 0 where

@@ -1,28 +1,9 @@
 -- Each byte that a read shows is current.
-use Rattle.std.proofs.Common.{◌≡◌, ◌<◌, ◌≤◌, ◌+◌, ◌⊎◌, inl, inr, ℕ, true, List, ◌++◌, length, length-append, Some, slice_get, sym, ap, subst, ◌∙◌, append_assoc, arith}
-use Rattle.std.proofs.lemmas.Option.{slice_get_within}
-use Rattle.write_back.specs.Files.{of_file}
-use Rattle.write_back.specs.Segments.{newest_at}
-use Rattle.world_model.specs.declared.entry.Entry.{Entry}
+use Rattle.core_session.proofs.Prelude.{◌≡◌, ◌<◌, ◌≤◌, ◌+◌, ◌⊎◌, inl, inr, ℕ, true, List, ◌++◌, length, length-append, Some, slice_get, sym, ap, subst, ◌∙◌, append_assoc, arith, slice_get_within, of_file, newest_at, Entry, Fresh, History, Lawful, HeldSize, PendingWithin, ReadsBytes, IsOf, Terms, Numbered, Mounted, machine_of, Setup, View, KnowsRoot, GoesWith, always-later, reached-rows, IsEnd, KeepsBriefly, PutsNamed}
 use Rattle.world_model.specs.declared.op.Op.TheVariants as ops
-use Rattle.world_model.specs.Fresh.{Fresh}
-use Rattle.world_model.specs.History.{History}
-use Rattle.world_model.specs.Lawful.{Lawful}
 use Rattle.claims.specs.Pending.{Pending}
-use Rattle.claims.specs.ReadTrue.{HeldByte, HeldSize, IsCurrent, own, held, hole, PendingWithin, ReadsBytes, Since}
-use Rattle.claims.specs.Slots.{IsOf, Opens}
-use Rattle.claims.specs.Terms.{Terms}
-use Rattle.law_calls.specs.Calls.{Numbered}
-use Rattle.op_machines.specs.declared.begun.Mounted.{Mounted}
-use Rattle.op_machines.specs.Begun.{machine_of}
-use Rattle.client_core.specs.declared.setup.Setup.{Setup}
-use Rattle.client_core.specs.View.{View}
-use Rattle.core_facts.specs.Naming.{KnowsRoot}
-use Rattle.core_facts.specs.SlotAnswers.{GoesWith}
-use Rattle.core_facts.proofs.HeldSlots.{always-later}
-use Rattle.core_facts.proofs.Rows.{reached-rows}
-use Rattle.core_session.specs.current.Read.{IsEnd}
-use Rattle.core_session.specs.current.Recent.{KeepsBriefly}
+use Rattle.claims.specs.ReadTrue.{HeldByte, IsCurrent, own, held, hole, Since}
+use Rattle.claims.specs.Slots.{Opens}
 use Rattle.core_session.proofs.current.ReadsRecent.{opens-front, found-held, end-held, file-of}
 use Rattle.core_session.proofs.current.ReadsTaken.{of-grows}
 use Rattle.core_session.proofs.pending.Standing.{Stands}
@@ -32,7 +13,6 @@ use Rattle.core_session.proofs.shown.Answer.{IsShown}
 use Rattle.core_session.proofs.shown.Answer as shown
 use Rattle.core_session.proofs.shown.Moment.{newest, pending-during}
 use Rattle.core_session.proofs.shown.Taken.{AllOf, HadRead, had-read}
-use Rattle.core_session.specs.syncs.Synced.{PutsNamed}
 use Rattle.core_session.proofs.syncs.WatchingAlong.{KeepsWatching}
 
 -- ---- what is known of the newest bytes of a file, at all its places

@@ -1,40 +1,16 @@
 -- What is pending in a view through which the core passed during a read may be pending at that moment, by the whole history: the read's own slot is open, so no
 -- last close left its file alone.
-use Rattle.std.proofs.Common.{◌≡◌, ◌≢◌, ◌≤◌, ◌<◌, ◌⊎◌, inl, inr, ℕ, List, ◌++◌, length, Option, Some, None, slice_get, refl, sym, ap, subst, ◌∙◌, arith}
-use Rattle.std.proofs.lemmas.Bool.{cases_lt}
-use Rattle.world_model.specs.declared.answer.Answer.{Answer}
+use Rattle.core_session.proofs.Prelude.{◌≡◌, ◌≢◌, ◌≤◌, ◌<◌, ◌⊎◌, inl, inr, ℕ, List, ◌++◌, length, Option, Some, None, slice_get, refl, sym, ap, subst, ◌∙◌, arith, cases_lt, Answer, Fault, Value, Entry, Began, Answered, Delivered, Op, At, AnsweredBefore, Ended, PutRefused, LeftAlone, ReadsBytes, Terms, RefusedWrite, Truncated, Wrote, At-grow, At-back, At-one, of_file, Cell, byte_of, cell_at, newest_at, Mounted, Machine, machine_of, Busy, Over, Setup, View, KnowsRoot, GoesWith, set-other, PutsNamed}
 use Rattle.world_model.specs.declared.answer.Answer.TheVariants as answers
-use Rattle.world_model.specs.declared.answer.Fault.{Fault}
-use Rattle.world_model.specs.declared.answer.Value.{Value}
 use Rattle.world_model.specs.declared.answer.Value.TheVariants as values
-use Rattle.world_model.specs.declared.entry.Entry.{Entry}
-use Rattle.world_model.specs.declared.entry.Entry.TheVariants.{Began, Answered, Delivered}
-use Rattle.world_model.specs.declared.op.Op.{Op}
 use Rattle.world_model.specs.declared.op.Op.TheVariants as ops
-use Rattle.world_model.specs.Entries.{At}
-use Rattle.world_model.specs.Operations.{AnsweredBefore, Ended}
-use Rattle.claims.specs.Pending.{PutRefused, PutSucceeded, LeftAlone, Pending}
-use Rattle.claims.specs.ReadTrue.{ReadsBytes}
+use Rattle.claims.specs.Pending.{PutSucceeded, Pending}
 use Rattle.claims.specs.Slots.{PutsTo}
-use Rattle.claims.specs.Terms.{Terms}
-use Rattle.claims.specs.Touched.{MadeStable, RefusedWrite, Truncated, Wrote}
+use Rattle.claims.specs.Touched.{MadeStable}
 use Rattle.claims.specs.Touched as touched
-use Rattle.world_model.proofs.Places.{At-grow, At-back, At-one}
-use Rattle.write_back.specs.Files.{of_file}
-use Rattle.write_back.specs.Segments.{Cell, byte_of, cell_at, newest_at}
-use Rattle.op_machines.specs.declared.begun.Mounted.{Mounted}
-use Rattle.op_machines.specs.declared.machine.Machine.{Machine}
-use Rattle.op_machines.specs.Begun.{machine_of}
-use Rattle.client_core.specs.declared.lane.State.TheVariants.{Busy, Over}
-use Rattle.client_core.specs.declared.setup.Setup.{Setup}
-use Rattle.client_core.specs.View.{View}
-use Rattle.core_facts.specs.Naming.{KnowsRoot}
-use Rattle.core_facts.specs.SlotAnswers.{GoesWith}
-use Rattle.core_facts.proofs.Stories.{set-other}
 use Rattle.core_session.proofs.drops.LaneIs.{state-is, busy-over}
 use Rattle.core_session.proofs.drops.OneFile.{one-by-one}
 use Rattle.core_session.proofs.room.Entered.{BusyStays, stirs-stay}
-use Rattle.core_session.specs.syncs.Synced.{PutsNamed}
 use Rattle.core_session.proofs.syncs.Aparts.{apart-done}
 use Rattle.core_session.proofs.syncs.Causes.{IsWriter, IsPut, OfOp}
 use Rattle.core_session.proofs.syncs.Turning.{IsFixed, ready, gone}

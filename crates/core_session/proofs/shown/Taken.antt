@@ -1,69 +1,23 @@
 -- What a read answers, along a history, as `proofs.current.ReadsTaken`; with how the session went on from the views in which its own bytes were pending.
-use Rattle.std.proofs.Common.{◌≡◌, ◌≤◌, ◌+◌, ◌-◌, ◌⊎◌, inl, inr, ℕ, Bool, true, false, List, [], ◌∷◌, ◌++◌, length, Option, Some, None, Result, Ok, Err, refl, sym, ap, subst, ◌∙◌, append_assoc, arith}
+use Rattle.core_session.proofs.Prelude.{◌≡◌, ◌≤◌, ◌+◌, ◌-◌, ◌⊎◌, inl, inr, ℕ, Bool, true, false, List, [], ◌∷◌, ◌++◌, length, Option, Some, None, Result, Ok, Err, refl, sym, ap, subst, ◌∙◌, append_assoc, arith, Attr, stamp_of, of_object, IsAnswered, LastAtMost, Mode, Opened, Stamp, Pages, known_of, Pending, EachSound, Fault, Entry, Began, Call, Reply, Op, Modes, Ended, IsOf, Terms, At-grow, At-below, Next, Shelf, Turn, ReadFile, Repeat, Phase, Reading, place_after, nothing_of, opened_pages, machine_of, Mounted, FileMachine, Machine, Starts, Resumes, Takes, State, Busy, Over, Setup, View, GoesWith, may, Held, Given, is-given, held-begins, always-later, IsHeld, held-grow, ThenOf, answered-last, RecentThen, IsFound, in_page, in_reply, IsEnd, by_known, by_page, by_reply, IsAged, IsSeen, SeenFrom, shown, WasRegular, ReadOn, IsOn, ReadAwaits, Both, both-asks, Good, quiet-good, page-grows, from-start}
 use Rattle.std.specs.FinMap as finite
-use Rattle.nfs_types.specs.declared.attr.Attr.{Attr}
-use Rattle.nfs_types.specs.Stamps.{stamp_of}
 use Rattle.world_model.specs.declared.message.Call.TheVariants as calls
 use Rattle.nfs_file_calls.specs.declared.call.FileCall.TheVariants as file_calls
-use Rattle.claims.specs.Shown.{of_object}
-use Rattle.core_answers.specs.bonds.Kept.{IsAnswered}
-use Rattle.nfs_types.specs.declared.mode.Mode.{Mode}
 use Rattle.nfs_types.specs.declared.mode.Mode.TheVariants as modes
-use Rattle.open_files.specs.declared.opened.Opened.{Opened}
-use Rattle.nfs_types.specs.declared.wcc.Stamp.{Stamp}
 use Rattle.nfs_file_calls.specs.declared.owned.FileKept.TheVariants as kept
-use Rattle.page_cache.specs.Pages.{Pages, known_of}
-use Rattle.write_back.specs.Files.{Pending}
-use Rattle.step_pending.specs.Cells.{EachSound}
 use Rattle.world_model.specs.declared.answer.Answer.TheVariants as answers
-use Rattle.world_model.specs.declared.answer.Fault.{Fault}
 use Rattle.world_model.specs.declared.answer.Fault.TheVariants as faults
 use Rattle.world_model.specs.declared.answer.Value.TheVariants as values
-use Rattle.world_model.specs.declared.entry.Entry.{Entry}
-use Rattle.world_model.specs.declared.entry.Entry.TheVariants.{Began}
-use Rattle.world_model.specs.declared.message.Call.{Call}
-use Rattle.world_model.specs.declared.message.Reply.{Reply}
 use Rattle.world_model.specs.declared.message.Reply.TheVariants as replies
-use Rattle.world_model.specs.declared.op.Op.{Op}
 use Rattle.world_model.specs.declared.op.Op.TheVariants as ops
-use Rattle.claims.specs.Modes.{Modes}
-use Rattle.world_model.specs.Operations.{Ended}
-use Rattle.claims.specs.Slots.{IsOf}
-use Rattle.claims.specs.Terms.{Terms}
-use Rattle.world_model.proofs.Places.{At-grow, At-below}
-use Rattle.client_shelf.specs.declared.next.Next.{Next}
 use Rattle.client_shelf.specs.declared.next.Next.TheVariants as nexts
-use Rattle.client_shelf.specs.declared.shelf.Shelf.{Shelf}
-use Rattle.client_shelf.specs.declared.turn.Turn.{Turn}
-use Rattle.file_ops.specs.declared.read_file.ReadFile.{ReadFile}
-use Rattle.client_shelf.specs.declared.repeats.Repeat.{Repeat}
-use Rattle.file_ops.specs.declared.reading.Phase.{Phase}
 use Rattle.file_ops.specs.declared.reading.Phase.TheVariants as phases
-use Rattle.file_ops.specs.declared.reading.Reading.{Reading}
-use Rattle.file_ops.specs.Base.{Bytes, place_after, nothing_of}
-use Rattle.file_ops.specs.PagesOpened.{opened_pages}
+use Rattle.file_ops.specs.Base.{Bytes}
 use Rattle.file_ops.specs.ReadFile as reads
 use Rattle.file_ops.specs.Reading as reading
-use Rattle.op_machines.specs.Begun.{machine_of}
-use Rattle.op_machines.specs.declared.begun.Mounted.{Mounted}
-use Rattle.op_machines.specs.declared.file_machine.FileMachine.{FileMachine}
 use Rattle.op_machines.specs.declared.file_machine.FileMachine.TheVariants as files
-use Rattle.op_machines.specs.declared.machine.Machine.{Machine}
 use Rattle.op_machines.specs.declared.machine.Machine.TheVariants as machines
-use Rattle.op_machines.specs.Steps.{Starts, Resumes, Takes}
-use Rattle.client_core.specs.declared.lane.State.{State}
-use Rattle.client_core.specs.declared.lane.State.TheVariants.{Busy, Over}
-use Rattle.client_core.specs.declared.setup.Setup.{Setup}
-use Rattle.client_core.specs.View.{View}
-use Rattle.core_facts.specs.SlotAnswers.{GoesWith}
-use Rattle.core_facts.proofs.HeldSlots.{may, Held, Given, is-given, held-begins, always-later}
-use Rattle.core_facts.proofs.SlotGrowth.{IsHeld, held-grow}
-use Rattle.core_facts.proofs.Steps.{ThenOf}
-use Rattle.core_answers.specs.bonds.Kept.{LastAtMost}
-use Rattle.core_answers.proofs.bonds.AttrsShown.{answered-last}
-use Rattle.core_session.specs.current.Read.{RecentThen, IsFound, in_page, in_reply, IsEnd, by_known, by_page, by_reply}
 use Rattle.core_session.proofs.shown.Answer.{OwnByte, OwnPast, IsShown, own, served, empty, ReadShown}
-use Rattle.core_session.specs.current.Seen.{IsAged, IsSeen, SeenFrom, shown, WasRegular}
 use Rattle.core_session.proofs.current.FedPages as fed
 use Rattle.core_session.proofs.current.Good as marked
 use Rattle.core_session.proofs.current.Along.{KeepsMoments, of-moments}
@@ -74,14 +28,12 @@ use Rattle.core_session.proofs.syncs.WatchingAlong.{KeepsWatching}
 use Rattle.core_session.proofs.current.ReadMarks.{past, ReadIn}
 use Rattle.core_session.proofs.current.Sounds.{All, each-sound, keeps-all}
 use Rattle.core_session.proofs.current.Moments.{IsMoment, SinceIn, newly-opened, marked-grows, regular-grows, seen-grows, known-seen, IsToldSince, fed-marks, shows-marks}
-use Rattle.core_answers.proofs.bonds.FileCalls.{ReadOn}
-use Rattle.core_answers.proofs.bonds.Learnt.{IsOn}
 use Rattle.core_answers.proofs.bonds.MachineCalls.{Asks}
 use Rattle.core_answers.proofs.pages.FilePages.{pages-opened, noted-pages}
 use Rattle.core_answers.proofs.pages.MachinePages.{pages-starts, pages-resumes}
-use Rattle.core_answers.proofs.pages.PageCalls.{PageAwaits, ReadAwaits, PartAwaits, Both, both-asks}
-use Rattle.core_answers.proofs.pages.PageLaws.{Good, quiet-good, told-good-laws}
-use Rattle.core_answers.proofs.pages.PagesShown.{GoodShelf, page-grows, good-grows, from-start, takes-good, none-good}
+use Rattle.core_answers.proofs.pages.PageCalls.{PageAwaits, PartAwaits}
+use Rattle.core_answers.proofs.pages.PageLaws.{told-good-laws}
+use Rattle.core_answers.proofs.pages.PagesShown.{GoodShelf, good-grows, takes-good, none-good}
 use Rattle.core_session.proofs.shown.Story.{AlignedIn, EndsSo, GoodFor, HadBack, ReadAt, Answered, from-settled, takes-read, framed-begins, begins-reach}
 
 -- ---- one entry more

@@ -1,31 +1,7 @@
 -- How an operation that was to settle a byte ended: it settled it, came over it, or is a put that saved another file, as the last record says until the
 -- answer is noted.
-use Rattle.std.proofs.Common.{◌≡◌, ◌≢◌, ◌≤◌, ◌⊎◌, inl, inr, ℕ, Bool, true, false, nat_eq, List, [], ◌∷◌, ◌++◌, length, Some, slice_get, refl, sym, ap, subst, ◌∙◌, arith}
-use Rattle.std.proofs.lemmas.Bool.{eqb-true, eqb-false}
-use Rattle.world_model.specs.declared.answer.Answer.{Answer}
+use Rattle.core_session.proofs.Prelude.{◌≡◌, ◌≢◌, ◌≤◌, ◌⊎◌, inl, inr, ℕ, Bool, true, false, nat_eq, List, [], ◌∷◌, ◌++◌, length, Some, slice_get, refl, sym, ap, subst, ◌∙◌, arith, eqb-true, eqb-false, Answer, Value, Entry, Began, Answered, Delivered, Call, Op, At, Ended, UnderWay, LastReply, NamesFile, IsDelivered, FirstSent-grow, At-one, At-grow, At-below, At-cases, length_last, Lane, State, Over, AnswersAt, View, AreApart, MayHear, IsOpenLine, always-later, LanesKnown, Runs, lanes-under-way, number_of, still-there, to-map, ended-grow}
 use Rattle.world_model.specs.declared.answer.Answer.TheVariants as answers
-use Rattle.world_model.specs.declared.answer.Value.{Value}
-use Rattle.world_model.specs.declared.entry.Entry.{Entry}
-use Rattle.world_model.specs.declared.entry.Entry.TheVariants.{Began, Answered, Delivered}
-use Rattle.world_model.specs.declared.message.Call.{Call}
-use Rattle.world_model.specs.declared.op.Op.{Op}
-use Rattle.world_model.specs.Entries.{At}
-use Rattle.world_model.specs.Operations.{Ended, UnderWay, LastReply}
-use Rattle.claims.specs.Slots.{NamesFile}
-use Rattle.world_model.specs.Waiting.{IsDelivered}
-use Rattle.world_model.proofs.Growth.{FirstSent-grow}
-use Rattle.world_model.proofs.Places.{At-one, At-grow, At-below, At-cases, length_last}
-use Rattle.client_core.specs.declared.lane.Lane.{Lane}
-use Rattle.client_core.specs.declared.lane.State.{State}
-use Rattle.client_core.specs.declared.lane.State.TheVariants.{Over}
-use Rattle.client_core.specs.Steps.{AnswersAt}
-use Rattle.client_core.specs.View.{View}
-use Rattle.core_facts.specs.Lanes.{AreApart}
-use Rattle.core_facts.specs.Reaches.{MayHear, IsOpenLine}
-use Rattle.core_facts.proofs.HeldSlots.{always-later}
-use Rattle.core_facts.proofs.LaneMarks.{LanesKnown, Runs, lanes-under-way, number_of}
-use Rattle.core_facts.proofs.Lists.{still-there, to-map}
-use Rattle.core_facts.proofs.Stories.{ended-grow}
 use Rattle.core_session.proofs.drops.KnowingAlong.{IsPlain, NotedBefore}
 use Rattle.core_session.proofs.drops.LaneIs.{number-is}
 use Rattle.core_session.proofs.drops.Noting.{ended-at}

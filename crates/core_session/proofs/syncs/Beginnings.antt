@@ -1,40 +1,14 @@
 -- As an operation begins, what it may do to a byte of a file is known of it.
-use Rattle.std.proofs.Common.{◌≡◌, ◌<◌, ◌≤◌, ◌^◌, ◌+◌, ◌-◌, ℕ, List, [], ◌∷◌, ◌++◌, length, Bool, true, false, Option, Some, None, option_map, Ok, slice_get, replicate, refl, sym, ap, subst, ◌∙◌, append_assoc, arith}
+use Rattle.core_session.proofs.Prelude.{◌≡◌, ◌<◌, ◌≤◌, ◌^◌, ◌+◌, ◌-◌, ℕ, List, [], ◌∷◌, ◌++◌, length, Bool, true, false, Option, Some, None, option_map, Ok, slice_get, replicate, refl, sym, ap, subst, ◌∙◌, append_assoc, arith, nat_lt, slice_index, if◌then◌else◌, le-leb, lt-ltb, ltb-false, slice_get-get_or, slice_get_within, Mode, Opened, covers, low-of, high-of, Entry, Began, Op, At, Modes, InSlot, IsOf, slot_of, Terms, WritesByte, Cuts, At-one, At-grow, At-below, At-last, Mounted, file_at, machine_of, Fits, Setup, IsIdle, View, Reaches, GoesWith, may, held-begins, always-later, Given, is-given, IsHeld, held-grow, byte_from, byte_by}
 use Rattle.std.specs.FinMap as finite
-use Rattle.std.specs.Prelude.{nat_lt, slice_index, if◌then◌else◌}
-use Rattle.std.proofs.lemmas.Bool.{le-leb, lt-ltb, ltb-false}
 use Rattle.std.proofs.lemmas.List.{length-replicate}
-use Rattle.std.proofs.lemmas.Option.{slice_get-get_or, slice_get_within, get_or_from_slice_get}
-use Rattle.nfs_types.specs.declared.mode.Mode.{Mode}
+use Rattle.std.proofs.lemmas.Option.{get_or_from_slice_get}
 use Rattle.nfs_types.specs.declared.mode.Mode.TheVariants as modes
-use Rattle.open_files.specs.declared.opened.Opened.{Opened}
-use Rattle.write_back.specs.Segments.{covers}
-use Rattle.write_back.proofs.Keys.{low-of, high-of}
-use Rattle.world_model.specs.declared.entry.Entry.{Entry}
-use Rattle.world_model.specs.declared.entry.Entry.TheVariants.{Began}
-use Rattle.world_model.specs.declared.op.Op.{Op}
 use Rattle.world_model.specs.declared.op.Op.TheVariants as ops
-use Rattle.world_model.specs.Entries.{At}
-use Rattle.claims.specs.Modes.{Modes}
 use Rattle.claims.specs.Rights.{can_write}
-use Rattle.claims.specs.Slots.{InSlot, IsOf, slot_of}
-use Rattle.claims.specs.Terms.{Terms}
-use Rattle.claims.specs.Touched.{Covers, WritesByte, Cuts}
+use Rattle.claims.specs.Touched.{Covers}
 use Rattle.claims.specs.Touched as touched
-use Rattle.world_model.proofs.Places.{At-one, At-grow, At-below, At-last}
 use Rattle.file_ops.specs.Opens.{in_mode, of_open}
-use Rattle.op_machines.specs.declared.begun.Mounted.{Mounted}
-use Rattle.file_ops.specs.SlotFiles.{file_at}
-use Rattle.op_machines.specs.Begun.{machine_of}
-use Rattle.op_machines.specs.Fits.{Fits}
-use Rattle.client_core.specs.declared.setup.Setup.{Setup}
-use Rattle.client_core.specs.Numbers.{IsIdle}
-use Rattle.client_core.specs.View.{View}
-use Rattle.core_facts.specs.Reaches.{Reaches}
-use Rattle.core_facts.specs.SlotAnswers.{GoesWith}
-use Rattle.core_facts.proofs.HeldSlots.{may, held-begins, always-later, Given, is-given}
-use Rattle.core_facts.proofs.SlotGrowth.{IsHeld, held-grow}
-use Rattle.core_answers.specs.writes.Written.{byte_from, byte_by}
 use Rattle.core_session.proofs.drops.OneFile.{slot-file}
 use Rattle.core_session.proofs.syncs.AllJobs.{JobBegins}
 use Rattle.core_session.proofs.syncs.Causes.{IsWriter, IsSaver, by_write, Adding, Saving_, Cutting}

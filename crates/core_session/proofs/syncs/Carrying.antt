@@ -1,48 +1,9 @@
 -- What is known of a byte by the history goes on being known, as entries come and calls are made and answered.
-use Rattle.std.proofs.Common.{◌≡◌, ◌⊎◌, inl, inr, ◌≤◌, ◌-◌, ℕ, List, [], ◌∷◌, ◌++◌, length, Bool, true, false, nat_eq, Option, Some, None, Result, refl, sym, ap, subst, ◌∙◌, arith}
-use Rattle.std.specs.Prelude.{slice_index}
-use Rattle.std.proofs.lemmas.Bool.{eqb-true}
-use Rattle.rpc_message.specs.Call.{xid_at}
-use Rattle.rpc_retry.specs.declared.waiting.Waiting.{Waiting}
-use Rattle.rpc_retry.specs.Held.{next_xid}
-use Rattle.rpc_retry.specs.Waiting.{made_call, waiting_at, without}
-use Rattle.rpc_retry.proofs.Lookups.{others_made, others_taken}
-use Rattle.rpc_retry.proofs.Records.{gone}
+use Rattle.core_session.proofs.Prelude.{◌≡◌, ◌⊎◌, inl, inr, ◌≤◌, ◌-◌, ℕ, List, [], ◌∷◌, ◌++◌, length, Bool, true, false, nat_eq, Option, Some, None, Result, refl, sym, ap, subst, ◌∙◌, arith, slice_index, eqb-true, xid_at, Waiting, next_xid, made_call, waiting_at, without, others_made, others_taken, gone, Fault, Entry, Began, Sent, Delivered, Call, Reply, Op, SpellsCall, proc_of, At-cases, length_last, Next, Turn, Mounted, Machine, of_file, Flown, fly_at, piece_under, covers, fly-some, fly-under, EachSound, flown-from, Purpose, Busy, Setup, with_state, record_of, Leads, Stirs, counted, StartsLane, TakesAt, View, turn_at, IsUnsent, taken_one, Known, Rows, same-rows, rows-grow, silent-grow, taken-quiet, not-sent, taken-rows, one-call, written_file, IsInFlight, SameCalls}
 use Rattle.nfs_file_calls.specs.declared.call.FileCall.TheVariants as file_calls
-use Rattle.world_model.specs.declared.answer.Fault.{Fault}
-use Rattle.world_model.specs.declared.entry.Entry.{Entry}
-use Rattle.world_model.specs.declared.entry.Entry.TheVariants.{Began, Sent, Delivered}
-use Rattle.world_model.specs.declared.message.Call.{Call}
 use Rattle.world_model.specs.declared.message.Call.TheVariants as calls
-use Rattle.world_model.specs.declared.message.Reply.{Reply}
-use Rattle.world_model.specs.declared.op.Op.{Op}
-use Rattle.world_model.specs.Messages.{SpellsCall, proc_of}
-use Rattle.world_model.proofs.Places.{At-cases, length_last}
-use Rattle.client_shelf.specs.declared.next.Next.{Next}
 use Rattle.client_shelf.specs.declared.next.Next.TheVariants as nexts
-use Rattle.client_shelf.specs.declared.turn.Turn.{Turn}
-use Rattle.op_machines.specs.declared.begun.Mounted.{Mounted}
-use Rattle.op_machines.specs.declared.machine.Machine.{Machine}
-use Rattle.write_back.specs.Files.{of_file}
-use Rattle.write_back.specs.Pieces.{Sent as Piece, Flown, fly_at, piece_under}
-use Rattle.write_back.specs.Segments.{covers}
-use Rattle.write_back.proofs.Flying.{fly-some}
-use Rattle.write_back.proofs.Xids.{fly-under}
-use Rattle.step_pending.specs.Cells.{EachSound}
-use Rattle.step_pending.proofs.Shown.{flown-from}
-use Rattle.client_core.specs.declared.lane.Purpose.{Purpose}
-use Rattle.client_core.specs.declared.lane.State.TheVariants.{Busy}
-use Rattle.client_core.specs.declared.setup.Setup.{Setup}
-use Rattle.client_core.specs.Steps.{with_state, record_of, Leads, Stirs, counted, StartsLane, TakesAt}
-use Rattle.client_core.specs.View.{View, turn_at}
-use Rattle.core_facts.specs.Tries.{IsUnsent}
-use Rattle.core_facts.proofs.Cases.{taken_one}
-use Rattle.core_facts.proofs.Keeping.{Known}
-use Rattle.core_facts.proofs.Rows.{Rows, same-rows, rows-grow, silent-grow, taken-quiet, not-sent, taken-rows}
-use Rattle.core_answers.proofs.bonds.OneCall.{one-call}
-use Rattle.core_answers.specs.writes.Alone.{written_file}
-use Rattle.core_answers.specs.writes.Flights.{IsInFlight}
-use Rattle.core_answers.proofs.writes.Along.{SameCalls}
+use Rattle.write_back.specs.Pieces.{Sent as Piece}
 use Rattle.core_session.proofs.saves.Evidenced.{stable-grow}
 use Rattle.core_session.proofs.saves.Told.{held-grow, held-calls}
 use Rattle.core_session.proofs.saves.WholeSteps.{Wholly}

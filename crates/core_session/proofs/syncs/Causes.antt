@@ -1,16 +1,6 @@
 -- What the operation that began at a place of a history may do to a byte of a file, by what it began as.
-use Rattle.std.proofs.Common.{◌≡◌, ◌≢◌, ◌≤◌, ◌^◌, ◌+◌, ◌-◌, ℕ, true, List, length, refl}
-use Rattle.std.specs.Prelude.{slice_index}
-use Rattle.world_model.specs.declared.entry.Entry.{Entry}
-use Rattle.world_model.specs.declared.entry.Entry.TheVariants.{Began}
-use Rattle.world_model.specs.declared.op.Op.{Op}
+use Rattle.core_session.proofs.Prelude.{◌≡◌, ◌≢◌, ◌≤◌, ◌^◌, ◌+◌, ◌-◌, ℕ, true, List, length, refl, slice_index, Entry, Began, Op, At, Modes, Origin, IsOf, WritesByte, Cuts, covers}
 use Rattle.world_model.specs.declared.op.Op.TheVariants as ops
-use Rattle.world_model.specs.Entries.{At}
-use Rattle.claims.specs.Modes.{Modes}
-use Rattle.world_model.specs.Mounts.{Origin}
-use Rattle.claims.specs.Slots.{IsOf}
-use Rattle.claims.specs.Touched.{WritesByte, Cuts}
-use Rattle.write_back.specs.Segments.{covers}
 
 -- a write or a fill; a sync or a close
 abbrev pub IsWriter : Op → Type 0

@@ -1,35 +1,16 @@
 -- What is known of all that is pending, and of one byte of it, along the steps of saves and of what else operations do.
-use Rattle.std.proofs.Common.{◌≡◌, ◌≤◌, ◌^◌, ◌+◌, ◌-◌, ◌⊎◌, inl, inr, ℕ, true, false, List, [], length, Result, ap, ◌∙◌, arith}
-use Rattle.std.specs.Prelude.{slice_index}
-use Rattle.std.proofs.lemmas.Bool.{ltb-false}
-use Rattle.world_model.specs.declared.answer.Fault.{Fault}
-use Rattle.world_model.specs.declared.message.Reply.{Reply}
-use Rattle.write_back.specs.Files.{Pending, of_file, all_pending, with_bytes, OnFile, HasNoPiece, IsFree}
-use Rattle.write_back.specs.Landing.{with_cut}
-use Rattle.write_back.specs.Numbers.{AllUpTo}
-use Rattle.write_back.specs.Pieces.{nothing, piece_under}
-use Rattle.write_back.specs.Segments.{covers}
+use Rattle.core_session.proofs.Prelude.{◌≡◌, ◌≤◌, ◌^◌, ◌+◌, ◌-◌, ◌⊎◌, inl, inr, ℕ, true, false, List, [], length, Result, ap, ◌∙◌, arith, ◌≢◌, sym, slice_index, ltb-false, Fault, Reply, Pending, of_file, all_pending, with_bytes, OnFile, HasNoPiece, IsFree, with_cut, AllUpTo, nothing, piece_under, FilePending, rest_at, fly_at, covers, Turn, Saving, is_full, is_quiet, Free, EachSound, same-or}
 use Rattle.write_back.specs.Sound.{most_pending}
 use Rattle.write_back.proofs.Numbers.{upto-add, upto-cut, upto-given-up, newest}
-use Rattle.client_shelf.specs.declared.turn.Turn.{Turn}
-use Rattle.file_ops.specs.declared.saving.Saving.{Saving}
-use Rattle.file_ops.specs.Adding.{is_full}
-use Rattle.file_ops.specs.Quiet.{is_quiet}
 use Rattle.file_ops.proofs.Walks.{SamePieces}
-use Rattle.core_answers.proofs.writes.OwnPieces.{Free}
-use Rattle.step_pending.specs.Cells.{EachSound}
 use Rattle.step_pending.proofs.ComingIn.{sound-in}
 use Rattle.step_pending.proofs.Cutting.{cut-sound, sound-given}
 use Rattle.step_saves.proofs.Going.{goes-sound}
 use Rattle.step_saves.proofs.Taking.{takes-sound}
 use Rattle.core_session.proofs.syncs.Levels.{Content, ContentReplies, quiet-none}
 use Rattle.core_session.proofs.syncs.SaveMoves.{goes-upto, takes-upto}
-use Rattle.core_session.proofs.syncs.Stages.{Stage}
+use Rattle.core_session.proofs.syncs.Stages.{Stage, stable}
 use Rattle.core_session.proofs.syncs.StageSteps.{ByWrite, ByCommit, goes-known, takes-known, own-known, adds-known, cuts-known, gives-known}
-use Rattle.std.proofs.Common.{◌≢◌, sym}
-use Rattle.write_back.specs.Pieces.{FilePending, rest_at, fly_at}
-use Rattle.write_back.proofs.WritesByFile.{same-or}
-use Rattle.core_session.proofs.syncs.Stages.{stable}
 
 -- ---- of all that is pending
 

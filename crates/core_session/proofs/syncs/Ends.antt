@@ -1,32 +1,14 @@
 -- What the invariant of a settled byte says as the history ends; and what it is said of.
-use Rattle.std.proofs.Common.{◌≡◌, ◌<◌, ◌≤◌, ◌-◌, ◌⊎◌, inl, inr, ℕ, zero, suc, Bool, List, [], ◌++◌, length, replicate, Some, None, slice_get, refl, sym, ap, subst, ◌∙◌, arith, append-nil}
-use Rattle.std.specs.Prelude.{if◌then◌else◌}
-use Rattle.std.proofs.lemmas.Bool.{le-ltb}
-use Rattle.world_model.specs.declared.answer.Answer.{Answer}
+use Rattle.core_session.proofs.Prelude.{◌≡◌, ◌<◌, ◌≤◌, ◌-◌, ◌⊎◌, inl, inr, ℕ, zero, suc, Bool, List, [], ◌++◌, length, replicate, Some, None, slice_get, refl, sym, ap, subst, ◌∙◌, arith, append-nil, if◌then◌else◌, le-ltb, Answer, Fault, Value, Entry, Began, Answered, Op, At, Ended, AnsweredBefore, Terms, RefusedWrite, Wrote, At-one, At-back, At-below, At-grow, Mounted, Setup, View, byte_from, byte_by, WritesCarry, MadeAndKept, TouchedUntil, GoesWith}
 use Rattle.world_model.specs.declared.answer.Answer.TheVariants as answers
-use Rattle.world_model.specs.declared.answer.Fault.{Fault}
-use Rattle.world_model.specs.declared.answer.Value.{Value}
-use Rattle.world_model.specs.declared.entry.Entry.{Entry}
-use Rattle.world_model.specs.declared.entry.Entry.TheVariants.{Began, Answered}
-use Rattle.world_model.specs.declared.op.Op.{Op}
 use Rattle.world_model.specs.declared.op.Op.TheVariants as ops
-use Rattle.world_model.specs.Entries.{At}
-use Rattle.world_model.specs.Operations.{Ended, AnsweredBefore}
-use Rattle.claims.specs.Terms.{Terms}
 use Rattle.claims.specs.Slots.{PutsTo}
-use Rattle.claims.specs.Touched.{Covers, RefusedWrite, Wrote, MadeStable}
+use Rattle.claims.specs.Touched.{Covers, MadeStable}
 use Rattle.claims.specs.Touched as touched_by
-use Rattle.world_model.proofs.Places.{At-one, At-back, At-below, At-grow}
-use Rattle.op_machines.specs.declared.begun.Mounted.{Mounted}
-use Rattle.client_core.specs.declared.setup.Setup.{Setup}
-use Rattle.client_core.specs.View.{View}
-use Rattle.core_answers.specs.writes.Written.{byte_from, byte_by}
-use Rattle.core_session.specs.syncs.Synced.{WritesCarry, MadeAndKept}
-use Rattle.core_session.specs.syncs.Until.{TouchedUntil, written, given_up}
+use Rattle.core_session.specs.syncs.Until.{written, given_up}
 use Rattle.core_session.proofs.syncs.Fate.{Fate, later, busy, refused, well}
 use Rattle.core_session.proofs.syncs.Looks.{Touching, plain, wrote, left_, owed, was_left, doomed, aside}
 use Rattle.core_session.proofs.syncs.Lefts.{over}
-use Rattle.core_facts.specs.SlotAnswers.{GoesWith}
 use Rattle.core_session.proofs.syncs.Aparts.{Apart, apart-done, it_settled, it_came, it_left}
 use Rattle.core_session.proofs.syncs.Stands.{SavesIt, by_slot, by_last, WritesIt, of_slot, of_last, Case, Phase, early, unsent, since, touched, made, SettledTwo, EndsIt}
 use Rattle.core_session.proofs.syncs.Turning.{fixed-once}

@@ -1,63 +1,23 @@
 -- What stands of a byte goes on standing as an answer is noted, and as any entry comes that leaves lanes and shelf as they are.
-use Rattle.std.proofs.Common.{◌≡◌, ◌≢◌, ◌≤◌, ◌<◌, ◌+◌, ◌-◌, ◌⊎◌, inl, inr, ℕ, suc, Bool, true, false, nat_eq, List, [], ◌∷◌, ◌++◌, length, Some, None, slice_get, refl, sym, ap, subst, ◌∙◌, append_assoc, arith}
-use Rattle.std.specs.Prelude.{slice_index, remove}
-use Rattle.std.proofs.lemmas.Bool.{cases_lt, eqb-true, eqb-false}
+use Rattle.core_session.proofs.Prelude.{◌≡◌, ◌≢◌, ◌≤◌, ◌<◌, ◌+◌, ◌-◌, ◌⊎◌, inl, inr, ℕ, suc, Bool, true, false, nat_eq, List, [], ◌∷◌, ◌++◌, length, Some, None, slice_get, refl, sym, ap, subst, ◌∙◌, append_assoc, arith, slice_index, cases_lt, eqb-true, eqb-false, Waiting, Answer, Entry, Began, Answered, Sent, Op, At, SpellsCall, Terms, At-one, At-back, At-grow, At-last, length_last, HasNoPiece, of_file, AllUpTo, Flown, fly_at, rest_at, covers, LaneFile, Shelf, Mounted, Machine, machine_of, EachSound, nothing-sound, Lane, Purpose, Busy, Over, Setup, IsFresh, AnswersAt, View, AreApart, MaySetUp, IsSetUp, IsOpenLine, Reaches, begins-unbegun, Known, reached-all, lanes-under-way, skip, get-remove, still-there, keeps-placed, SameCalls, IsDropped, IsGuarded, MadeStable, WritesCarry, MadeAndKept}
+use Rattle.std.specs.Prelude.{remove}
 use Rattle.nfs_file_calls.specs.declared.call.FileCall.TheVariants as file_calls
-use Rattle.rpc_retry.specs.declared.waiting.Waiting.{Waiting}
-use Rattle.world_model.specs.declared.answer.Answer.{Answer}
 use Rattle.world_model.specs.declared.answer.Answer.TheVariants as answers
-use Rattle.world_model.specs.declared.entry.Entry.{Entry}
-use Rattle.world_model.specs.declared.entry.Entry.TheVariants.{Began, Answered, Sent}
 use Rattle.world_model.specs.declared.message.Call.TheVariants as calls
-use Rattle.world_model.specs.declared.op.Op.{Op}
-use Rattle.world_model.specs.Entries.{At}
-use Rattle.world_model.specs.Messages.{SpellsCall}
-use Rattle.claims.specs.Terms.{Terms}
-use Rattle.world_model.proofs.Places.{At-one, At-back, At-grow, At-last, length_last}
-use Rattle.write_back.specs.Files.{HasNoPiece, of_file}
-use Rattle.write_back.specs.Numbers.{AllUpTo}
-use Rattle.write_back.specs.Pieces.{Flown, fly_at, rest_at}
-use Rattle.write_back.specs.Segments.{covers}
 use Rattle.write_back.specs.declared.state.State.TheVariants.{Waiting as Waits}
 use Rattle.write_back.proofs.Numbers.{upto-nothing}
-use Rattle.client_shelf.specs.declared.lane_files.LaneFile.{LaneFile}
-use Rattle.client_shelf.specs.declared.shelf.Shelf.{Shelf}
-use Rattle.op_machines.specs.declared.begun.Mounted.{Mounted}
-use Rattle.op_machines.specs.declared.machine.Machine.{Machine}
-use Rattle.op_machines.specs.Begun.{machine_of}
-use Rattle.step_pending.specs.Cells.{EachSound}
-use Rattle.step_pending.proofs.Cutting.{nothing-sound}
-use Rattle.client_core.specs.declared.lane.Lane.{Lane}
-use Rattle.client_core.specs.declared.lane.Purpose.{Purpose}
-use Rattle.client_core.specs.declared.lane.State.TheVariants.{Busy, Over}
-use Rattle.client_core.specs.declared.setup.Setup.{Setup}
-use Rattle.client_core.specs.Fresh.{IsFresh}
-use Rattle.client_core.specs.Steps.{AnswersAt}
-use Rattle.client_core.specs.View.{View}
 use Rattle.core_session.proofs.drops.KnowingAlong.{IsPlain, NotedBefore}
 use Rattle.core_session.proofs.drops.LaneIs.{state-is, busy-over}
-use Rattle.core_facts.specs.Lanes.{AreApart}
-use Rattle.core_facts.specs.Reaches.{MaySetUp, IsSetUp, IsOpenLine, Reaches}
-use Rattle.core_facts.proofs.AllCounts.{begins-unbegun}
-use Rattle.core_facts.proofs.Keeping.{Known, reached-all}
-use Rattle.core_facts.proofs.LaneMarks.{lanes-under-way}
-use Rattle.core_facts.proofs.Lists.{skip, get-remove, still-there}
-use Rattle.core_facts.proofs.Placing.{keeps-placed}
 use Rattle.core_session.proofs.saves.WholeSteps.{Wholly, keeps-wholly}
-use Rattle.core_answers.proofs.writes.Along.{SameCalls}
-use Rattle.core_session.specs.drops.Dropped.{IsDropped}
 use Rattle.core_session.proofs.drops.DropLaws.{dropped-same}
 use Rattle.core_session.proofs.drops.Laws.{DropsKnown, drops-fresh, drops-answers}
 use Rattle.core_session.proofs.drops.Along.{guards-steps}
 use Rattle.core_session.proofs.drops.Shown.{guards-kept}
-use Rattle.core_session.specs.drops.Guarded.{IsGuarded}
-use Rattle.core_session.specs.saves.Evidence.{MadeStable}
 use Rattle.core_session.proofs.syncs.Guard.{guarded-same}
 use Rattle.core_session.proofs.syncs.SlotHeld.{holds-same, holds-unbegun}
 use Rattle.op_machines.specs.declared.file_machine.FileMachine.TheVariants as files
 use Rattle.op_machines.specs.declared.machine.Machine.TheVariants as machines
 use Rattle.core_session.proofs.drops.Noting.{dropped-noted}
-use Rattle.core_session.specs.syncs.Synced.{WritesCarry, MadeAndKept}
 use Rattle.core_session.proofs.syncs.Aparts.{Apart, apart-same, apart-answers, Clash, clash-op, clash-not, ending-map}
 use Rattle.core_session.proofs.syncs.Causes.{IsPut, put-no-saver, put-no-writer}
 use Rattle.core_session.proofs.syncs.Carrying.{CallsKept, calls-same, calls-as, fresh-grow, wrote-grow, made-grow, sent-carries}

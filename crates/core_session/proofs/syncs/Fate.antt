@@ -1,30 +1,8 @@
 -- Where an operation stands, and what is told of each that is under way, as lanes make steps and entries come.
-use Rattle.std.proofs.Common.{◌≡◌, ◌≢◌, ◌≤◌, inl, inr, ℕ, Bool, true, false, nat_eq, List, [], ◌∷◌, ◌++◌, length, Some, slice_get, refl, sym, ap, subst, ◌∙◌}
-use Rattle.std.proofs.lemmas.Bool.{eqb-true, eqb-false}
-use Rattle.world_model.specs.declared.answer.Answer.{Answer}
+use Rattle.core_session.proofs.Prelude.{◌≡◌, ◌≢◌, ◌≤◌, inl, inr, ℕ, Bool, true, false, nat_eq, List, [], ◌∷◌, ◌++◌, length, Some, slice_get, refl, sym, ap, subst, ◌∙◌, eqb-true, eqb-false, Answer, Fault, Value, Entry, Began, Answered, Op, At, UnderWay, At-one, Machine, Lane, State, Busy, Over, Setup, AnswersAt, View, AreApart, IsOpenLine, Known, Runs, lanes-under-way, get-remove, still-there}
 use Rattle.world_model.specs.declared.answer.Answer.TheVariants as answers
-use Rattle.world_model.specs.declared.answer.Fault.{Fault}
-use Rattle.world_model.specs.declared.answer.Value.{Value}
-use Rattle.world_model.specs.declared.entry.Entry.{Entry}
-use Rattle.world_model.specs.declared.entry.Entry.TheVariants.{Began, Answered}
-use Rattle.world_model.specs.declared.op.Op.{Op}
-use Rattle.world_model.specs.Entries.{At}
-use Rattle.world_model.specs.Operations.{UnderWay}
-use Rattle.world_model.proofs.Places.{At-one}
-use Rattle.op_machines.specs.declared.machine.Machine.{Machine}
-use Rattle.client_core.specs.declared.lane.Lane.{Lane}
-use Rattle.client_core.specs.declared.lane.State.{State}
-use Rattle.client_core.specs.declared.lane.State.TheVariants.{Busy, Over}
-use Rattle.client_core.specs.declared.setup.Setup.{Setup}
-use Rattle.client_core.specs.Steps.{AnswersAt}
-use Rattle.client_core.specs.View.{View}
 use Rattle.core_session.proofs.drops.KnowingAlong.{IsPlain}
 use Rattle.core_session.proofs.drops.LaneIs.{state-is, busy-over}
-use Rattle.core_facts.specs.Lanes.{AreApart}
-use Rattle.core_facts.specs.Reaches.{IsOpenLine}
-use Rattle.core_facts.proofs.Keeping.{Known}
-use Rattle.core_facts.proofs.LaneMarks.{Runs, lanes-under-way}
-use Rattle.core_facts.proofs.Lists.{get-remove, still-there}
 use Rattle.core_session.proofs.syncs.Turning.{IsFixed, ready, Turns, fixed-turns, fixed-answers, fixed-same, under-answers, under-answers-back, under-plain, under-plain-back}
 
 -- ---- where an operation stands

@@ -1,31 +1,9 @@
 -- What a step of a lane makes of what guards a byte: it is guarded still, or a close saved it, or one gave it up.
-use Rattle.std.proofs.Common.{◌≡◌, ◌≢◌, ◌≤◌, ◌⊎◌, inl, inr, ℕ, Bool, true, false, nat_eq, List, length, Option, Some, None, slice_get, refl, sym, ap, ◌∙◌}
-use Rattle.std.proofs.lemmas.Bool.{eqb-true, eqb-false}
-use Rattle.open_files.specs.Slots.{IsOpen}
+use Rattle.core_session.proofs.Prelude.{◌≡◌, ◌≢◌, ◌≤◌, ◌⊎◌, inl, inr, ℕ, Bool, true, false, nat_eq, List, length, Option, Some, None, slice_get, refl, sym, ap, ◌∙◌, option_map, Result, Err, eqb-true, eqb-false, IsOpen, Fault, Value, Entry, Modes, file_at, CloseFile, Closing, Removal, Saving, Machine, Lane, State, Busy, Over, Stirs, TakesAt, StartsLane, View, turn_at, AreApart, Turned, IsPast, IsOwed, IsGuarded, slot, past, IsClose, save_in, removal_in, file_in, IsSaving, LetsGo, seat_close, Opened, Reply, Next, Send, Wait, Done, Shelf, Turn, Resumes, Takes, Starts, at-set, at-push, IsPlain}
 use Rattle.world_model.specs.declared.answer.Answer.TheVariants as answers
-use Rattle.world_model.specs.declared.answer.Fault.{Fault}
-use Rattle.world_model.specs.declared.answer.Value.{Value}
-use Rattle.world_model.specs.declared.entry.Entry.{Entry}
-use Rattle.claims.specs.Modes.{Modes}
-use Rattle.file_ops.specs.SlotFiles.{file_at}
-use Rattle.file_ops.specs.declared.close_file.CloseFile.{CloseFile}
-use Rattle.file_ops.specs.declared.close_file.Closing.{Closing}
 use Rattle.file_ops.specs.declared.close_file.Closing.TheVariants as closings
-use Rattle.file_ops.specs.declared.closing.Removal.{Removal}
-use Rattle.file_ops.specs.declared.saving.Saving.{Saving}
 use Rattle.op_machines.specs.declared.file_machine.FileMachine.TheVariants as files
-use Rattle.op_machines.specs.declared.machine.Machine.{Machine}
 use Rattle.op_machines.specs.declared.machine.Machine.TheVariants as machines
-use Rattle.client_core.specs.declared.lane.Lane.{Lane}
-use Rattle.client_core.specs.declared.lane.State.{State}
-use Rattle.client_core.specs.declared.lane.State.TheVariants.{Busy, Over}
-use Rattle.client_core.specs.Steps.{Stirs, TakesAt, StartsLane}
-use Rattle.client_core.specs.View.{View}
-use Rattle.core_facts.specs.Lanes.{AreApart}
-use Rattle.core_answers.proofs.writes.AllTurns.{Turned}
-use Rattle.core_session.specs.drops.Dropped.{IsPast}
-use Rattle.core_session.specs.drops.Guarded.{IsGuarded, slot, past, IsClose, save_in, removal_in, file_in, IsSaving}
-use Rattle.core_session.specs.drops.Told.{LetsGo}
 use Rattle.core_session.specs.drops.Told as told
 use Rattle.core_session.proofs.drops.CloseGoes.{both-in}
 use Rattle.core_session.proofs.drops.Giving.{past-at}
@@ -33,26 +11,13 @@ use Rattle.core_session.proofs.drops.Guards.{Ranked, Stepping, CloserStep, Other
 use Rattle.core_session.proofs.drops.Guards as guards
 use Rattle.core_session.proofs.drops.GuardLaws.{StepOf, guarded-step}
 use Rattle.core_session.proofs.drops.LaneIs.{state-is, busy-over}
-use Rattle.core_session.proofs.drops.Laws.{DropsKnown}
-use Rattle.core_facts.proofs.FileSeats.{seat_close}
+use Rattle.core_session.proofs.drops.Laws.{DropsKnown, OneStepped}
 use Rattle.core_session.proofs.syncs.AllJobs.{job_save}
 use Rattle.core_session.proofs.syncs.Jobs.{closing_save}
 use Rattle.core_session.proofs.syncs.Pasts.{IsAhead}
-use Rattle.std.proofs.Common.{option_map, Result, Err}
 use Rattle.std.specs.FinMap as finite
-use Rattle.open_files.specs.declared.opened.Opened.{Opened}
-use Rattle.world_model.specs.declared.message.Reply.{Reply}
-use Rattle.client_shelf.specs.declared.next.Next.{Next}
-use Rattle.client_shelf.specs.declared.next.Next.TheVariants.{Send, Wait, Done}
-use Rattle.client_shelf.specs.declared.shelf.Shelf.{Shelf}
-use Rattle.client_shelf.specs.declared.turn.Turn.{Turn}
-use Rattle.op_machines.specs.Steps.{Resumes, Takes, Starts}
-use Rattle.client_core.specs.View.{turn_at}
-use Rattle.core_facts.proofs.Lists.{at-set, at-push}
-use Rattle.core_facts.proofs.OpenSlots.{IsPlain, plain-starts, plain-resumes, plain-takes}
-use Rattle.core_session.specs.drops.Dropped.{IsOwed}
+use Rattle.core_facts.proofs.OpenSlots.{plain-starts, plain-resumes, plain-takes}
 use Rattle.core_session.proofs.drops.DropLaws.{given-step}
-use Rattle.core_session.proofs.drops.Laws.{OneStepped}
 use Rattle.core_session.proofs.drops.Leading.{Leading, settles, unmade, stirs-led, takes-led, starts-led}
 use Rattle.core_session.proofs.drops.Shown.{was-close, now-over}
 use Rattle.core_session.proofs.syncs.Fates.{job_kind, start-kind, resume-kind, take-kind}

@@ -1,19 +1,6 @@
 -- Each step of a lane leaves the other lanes as they are.
-use Rattle.std.proofs.Common.{◌≡◌, ◌≢◌, ℕ, inl, inr, List, [], ◌∷◌, ◌++◌, length, Some, Result, slice_get, refl, sym, ap, subst, ◌∙◌}
-use Rattle.world_model.specs.declared.answer.Fault.{Fault}
-use Rattle.world_model.specs.declared.message.Reply.{Reply}
-use Rattle.client_shelf.specs.declared.turn.Turn.{Turn}
-use Rattle.client_shelf.specs.declared.next.Next.{Next}
+use Rattle.core_session.proofs.Prelude.{◌≡◌, ◌≢◌, ℕ, inl, inr, List, [], ◌∷◌, ◌++◌, length, Some, Result, slice_get, refl, sym, ap, subst, ◌∙◌, Fault, Reply, Turn, Next, Machine, Lane, State, Busy, Over, with_state, Stirs, counted, StartsLane, TakesAt, Leads, View, taken_one, at-set, at-push, set-other}
 use Rattle.client_shelf.specs.declared.next.Next.TheVariants as nexts
-use Rattle.op_machines.specs.declared.machine.Machine.{Machine}
-use Rattle.client_core.specs.declared.lane.Lane.{Lane}
-use Rattle.client_core.specs.declared.lane.State.{State}
-use Rattle.client_core.specs.declared.lane.State.TheVariants.{Busy, Over}
-use Rattle.client_core.specs.Steps.{with_state, Stirs, counted, StartsLane, TakesAt, Leads}
-use Rattle.client_core.specs.View.{View}
-use Rattle.core_facts.proofs.Cases.{taken_one}
-use Rattle.core_facts.proofs.Lists.{at-set, at-push}
-use Rattle.core_facts.proofs.Stories.{set-other}
 use Rattle.core_session.proofs.syncs.Plans.{stays-but, push-but}
 use Rattle.core_session.proofs.syncs.Seen.{ButFor}
 

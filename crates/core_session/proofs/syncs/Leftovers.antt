@@ -1,46 +1,14 @@
 -- What a refused close gave up: its answer is owed, or the history shows that the last close left the file.
-use Rattle.std.proofs.Common.{◌≡◌, ◌⊎◌, inl, inr, ℕ, List, [], ◌∷◌, ◌++◌, length, false, Option, Some, None, option_map, slice_get, refl, sym, ap, subst, ◌∙◌}
+use Rattle.core_session.proofs.Prelude.{◌≡◌, ◌⊎◌, inl, inr, ℕ, List, [], ◌∷◌, ◌++◌, length, false, Option, Some, None, option_map, slice_get, refl, sym, ap, subst, ◌∙◌, Opened, IsOpen, Opens, Fault, Entry, Began, Op, At, IsOf, InSlot, Terms, At-grow, At-one, Next, Shelf, file_at, joined, Mounted, Machine, machine_of, Starts, Lane, State, Busy, Over, Setup, IsIdle, counted, StartsLane, View, turn_at, AreApart, Reaches, GoesWith, always-later, at-push, Kind, plainly, kind_of, BeginsAs, Turned, IsFirst, IsOwed, CloseFile, Saving, IsPlain, save_in}
 use Rattle.std.specs.FinMap as finite
-use Rattle.open_files.specs.declared.opened.Opened.{Opened}
-use Rattle.open_files.specs.Slots.{IsOpen}
 use Rattle.world_model.specs.declared.answer.Answer.TheVariants as answers
-use Rattle.world_model.specs.declared.answer.Fault.{Fault}
 use Rattle.world_model.specs.declared.answer.Fault.TheVariants as faults
-use Rattle.world_model.specs.declared.entry.Entry.{Entry}
-use Rattle.world_model.specs.declared.entry.Entry.TheVariants.{Began}
-use Rattle.world_model.specs.declared.op.Op.{Op}
 use Rattle.world_model.specs.declared.op.Op.TheVariants as ops
-use Rattle.world_model.specs.Entries.{At}
-use Rattle.claims.specs.Slots.{IsOf, InSlot}
-use Rattle.claims.specs.Terms.{Terms}
-use Rattle.world_model.proofs.Places.{At-grow, At-one}
-use Rattle.client_shelf.specs.declared.next.Next.{Next}
 use Rattle.client_shelf.specs.declared.next.Next.TheVariants as nexts
-use Rattle.client_shelf.specs.declared.shelf.Shelf.{Shelf}
 use Rattle.file_ops.specs.Closes as closes
-use Rattle.file_ops.specs.SlotFiles.{file_at, joined}
-use Rattle.op_machines.specs.declared.begun.Mounted.{Mounted}
 use Rattle.op_machines.specs.declared.file_machine.FileMachine.TheVariants as files
-use Rattle.op_machines.specs.declared.machine.Machine.{Machine}
 use Rattle.op_machines.specs.declared.machine.Machine.TheVariants as machines
-use Rattle.op_machines.specs.Begun.{machine_of}
-use Rattle.op_machines.specs.Steps.{Starts}
-use Rattle.client_core.specs.declared.lane.Lane.{Lane}
-use Rattle.client_core.specs.declared.lane.State.{State}
-use Rattle.client_core.specs.declared.lane.State.TheVariants.{Busy, Over}
-use Rattle.client_core.specs.declared.setup.Setup.{Setup}
-use Rattle.client_core.specs.Numbers.{IsIdle}
-use Rattle.client_core.specs.Steps.{counted, StartsLane}
-use Rattle.client_core.specs.View.{View, turn_at}
-use Rattle.core_facts.specs.Lanes.{AreApart}
-use Rattle.core_facts.specs.Reaches.{Reaches}
-use Rattle.core_facts.specs.SlotAnswers.{GoesWith}
-use Rattle.core_facts.proofs.HeldSlots.{always-later}
-use Rattle.core_facts.proofs.Lists.{at-push}
-use Rattle.core_facts.proofs.Slots.{Kind, opening, closing, plainly, kind_of, BeginsAs}
-use Rattle.core_answers.proofs.writes.AllTurns.{Turned}
-use Rattle.core_answers.proofs.writes.Turns.{IsFirst}
-use Rattle.core_session.specs.drops.Dropped.{IsOwed}
+use Rattle.core_facts.proofs.Slots.{opening, closing}
 use Rattle.core_session.specs.drops.Told as told_of
 use Rattle.core_session.proofs.drops.Drops.{LaneTold, OwnLed, closer, other, HadFile, HadNone, closer-kind}
 use Rattle.core_session.proofs.drops.DropLaws.{given-step}
@@ -52,11 +20,6 @@ use Rattle.core_session.proofs.drops.Leading.{Leading, settles, unmade, starts-l
 use Rattle.core_session.proofs.drops.OneFile.{slot-file}
 use Rattle.core_session.proofs.drops.Shown.{was-close, now-over}
 use Rattle.core_session.proofs.drops.SlotKinds.{begins-as, ClosesSlot, KindTold, CloserLed}
-use Rattle.open_files.specs.Slots.{Opens}
-use Rattle.file_ops.specs.declared.close_file.CloseFile.{CloseFile}
-use Rattle.file_ops.specs.declared.saving.Saving.{Saving}
-use Rattle.core_facts.proofs.OpenSlots.{IsPlain}
-use Rattle.core_session.specs.drops.Guarded.{save_in}
 use Rattle.core_session.proofs.drops.Guards.{closing-save}
 
 began-parts : (a b c d : ℕ) (o p : Op) → Began a b o ≡ Began c d p → (a ≡ c) × (o ≡ p)

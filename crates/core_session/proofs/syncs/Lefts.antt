@@ -1,37 +1,12 @@
 -- What a refused close gave up: it is owed, or the history shows it, through each step and entry.
-use Rattle.std.proofs.Common.{◌≡◌, ◌≤◌, ◌<◌, ◌⊎◌, inl, inr, ℕ, suc, List, [], ◌∷◌, ◌++◌, length, Some, slice_get, refl, sym, ap, subst, ◌∙◌, arith, append-nil, append_assoc}
-use Rattle.std.proofs.lemmas.Bool.{cases_lt}
-use Rattle.open_files.specs.Slots.{IsOpen}
+use Rattle.core_session.proofs.Prelude.{◌≡◌, ◌≤◌, ◌<◌, ◌⊎◌, inl, inr, ℕ, suc, List, [], ◌∷◌, ◌++◌, length, Some, slice_get, refl, sym, ap, subst, ◌∙◌, arith, append-nil, append_assoc, cases_lt, IsOpen, Entry, Began, Answered, Op, At, Modes, AnsweredBefore, UnderWay, IsOf, Terms, GivesUp, itself, beside, RefusedWrite, At-grow, At-one, length_last, file_at, CloseFile, Closing, Mounted, Machine, machine_of, Busy, Setup, View, GoesWith, MayHear, kind_of, ended-grow, IsOwed, IsDropped, IsPast, WasLeft, TouchedUntil}
 use Rattle.world_model.specs.declared.answer.Answer.TheVariants as answers
-use Rattle.world_model.specs.declared.entry.Entry.{Entry}
-use Rattle.world_model.specs.declared.entry.Entry.TheVariants.{Began, Answered}
-use Rattle.world_model.specs.declared.op.Op.{Op}
 use Rattle.world_model.specs.declared.op.Op.TheVariants as ops
-use Rattle.world_model.specs.Entries.{At}
-use Rattle.claims.specs.Modes.{Modes}
-use Rattle.world_model.specs.Operations.{AnsweredBefore, UnderWay}
-use Rattle.claims.specs.Slots.{IsOf}
-use Rattle.claims.specs.Terms.{Terms}
-use Rattle.claims.specs.Touched.{Left, GivesUp, itself, beside, RefusedWrite}
+use Rattle.claims.specs.Touched.{Left}
 use Rattle.claims.specs.Touched as touched_by
-use Rattle.world_model.proofs.Places.{At-grow, At-one, length_last}
-use Rattle.file_ops.specs.SlotFiles.{file_at}
-use Rattle.file_ops.specs.declared.close_file.CloseFile.{CloseFile}
-use Rattle.file_ops.specs.declared.close_file.Closing.{Closing}
 use Rattle.file_ops.specs.declared.close_file.Closing.TheVariants as closings
-use Rattle.op_machines.specs.declared.begun.Mounted.{Mounted}
 use Rattle.op_machines.specs.declared.file_machine.FileMachine.TheVariants as files
-use Rattle.op_machines.specs.declared.machine.Machine.{Machine}
 use Rattle.op_machines.specs.declared.machine.Machine.TheVariants as machines
-use Rattle.op_machines.specs.Begun.{machine_of}
-use Rattle.client_core.specs.declared.lane.State.TheVariants.{Busy}
-use Rattle.client_core.specs.declared.setup.Setup.{Setup}
-use Rattle.client_core.specs.View.{View}
-use Rattle.core_facts.specs.SlotAnswers.{GoesWith}
-use Rattle.core_facts.specs.Reaches.{MayHear}
-use Rattle.core_facts.proofs.Slots.{kind_of}
-use Rattle.core_facts.proofs.Stories.{ended-grow}
-use Rattle.core_session.specs.drops.Dropped.{IsOwed, IsDropped, IsPast, WasLeft}
 use Rattle.core_session.proofs.drops.Closers.{ClosingAt}
 use Rattle.core_session.proofs.drops.Dropping.{dropped-heard, file-open}
 use Rattle.core_session.proofs.drops.Drops.{LaneTold}
@@ -39,7 +14,7 @@ use Rattle.core_session.proofs.drops.Growing.{slot-back, of-grow, none-came-grow
 use Rattle.core_session.proofs.drops.Laws.{DropsKnown}
 use Rattle.core_session.proofs.drops.OneFile.{one-by-one}
 use Rattle.core_session.proofs.drops.SlotKinds.{KindTold, ClosesSlot}
-use Rattle.core_session.specs.syncs.Until.{TouchedUntil, written}
+use Rattle.core_session.specs.syncs.Until.{written}
 use Rattle.core_session.proofs.syncs.Aparts.{it_settled, it_came, it_left}
 use Rattle.core_session.proofs.syncs.Causes.{Comes, IsWriter, IsSaver, IsPut, OfOp, put-no-saver, writer-no-saver}
 use Rattle.core_session.proofs.syncs.Causes as causes

@@ -1,53 +1,28 @@
 -- Of one file: while the save of one operation is under way, no other of it has begun; so what is known of a save as such holds beside other operations.
-use Rattle.std.proofs.Common.{◌≡◌, ◌≢◌, ◌≤◌, ◌+◌, ◌-◌, ◌⊎◌, inl, inr, ℕ, Bool, true, false, List, [], ◌∷◌, length, Option, Some, None, Result, refl, sym, ap, subst, ◌∙◌, arith}
+use Rattle.core_session.proofs.Prelude.{◌≡◌, ◌≢◌, ◌≤◌, ◌+◌, ◌-◌, ◌⊎◌, inl, inr, ℕ, Bool, true, false, List, [], ◌∷◌, length, Option, Some, None, Result, refl, sym, ap, subst, ◌∙◌, arith, slice_get, position, Fault, Reply, Segments, Cell, last_end, covers, cell_at, FilePending, Flown, nothing, rest_at, fly_at, fly_in, flown_in, piece_under, with_cut, Pending, of_file, OnFile, HasNoPiece, IsSound, IsOver, covered, flown-some, same-or, LaneFile, Repeat, Turn, added, left, is_first, is_lane, Next, Sending, Committing, Resending, CommittingAgain, Saving, is_quiet, SitsWith, seat_with, seat-own, seat-other, joins, Sits, first-left, first-added, same-first, Free, After, EachSound, some-of, IsClearUpTo, IsUnderWay, IsAwaited, option_map_or, eqb-true, slice_get-get_or}
+use Rattle.std.proofs.Common.{option_and_then, get_or}
 use Rattle.std.specs.Prelude.{IsSome, nat_le, ◌&&◌}
-use Rattle.world_model.specs.declared.answer.Fault.{Fault}
-use Rattle.world_model.specs.declared.message.Reply.{Reply}
-use Rattle.write_back.specs.Segments.{Segments, Cell, last_end, covers, cell_at}
-use Rattle.write_back.specs.Pieces.{Sent, FilePending, Flown, nothing, rest_of, rest_at, fly_at, fly_in, flown_in, piece_under}
-use Rattle.write_back.specs.Landing.{with_cut}
+use Rattle.write_back.specs.Pieces.{Sent, rest_of}
 use Rattle.write_back.specs.Places.{cell_cut}
-use Rattle.write_back.specs.Files.{Pending, of_file, OnFile, HasNoPiece}
-use Rattle.write_back.specs.Sound.{IsSound, IsOver, AreSent}
+use Rattle.write_back.specs.Sound.{AreSent}
 use Rattle.write_back.proofs.Adding.{cuts-so}
-use Rattle.write_back.proofs.ByPlace.{covered}
-use Rattle.write_back.proofs.Flying.{flown-some}
-use Rattle.write_back.proofs.WritesByFile.{same-or}
-use Rattle.client_shelf.specs.declared.lane_files.LaneFile.{LaneFile}
-use Rattle.client_shelf.specs.declared.repeats.Repeat.{Repeat}
-use Rattle.client_shelf.specs.declared.turn.Turn.{Turn}
-use Rattle.client_shelf.specs.LaneFiles.{added, left, is_first}
-use Rattle.client_shelf.specs.declared.next.Next.{Next}
+use Rattle.client_shelf.specs.LaneFiles.{leads}
 use Rattle.client_shelf.specs.declared.next.Next.TheVariants as nexts
 use Rattle.world_model.specs.declared.answer.Answer.TheVariants as answers
 use Rattle.file_ops.specs.declared.saving.Phase.{Phase}
-use Rattle.file_ops.specs.declared.saving.Phase.TheVariants.{Sending, Committing, Resending, CommittingAgain}
-use Rattle.file_ops.specs.declared.saving.Saving.{Saving}
-use Rattle.file_ops.specs.Quiet.{is_quiet}
 use Rattle.file_ops.specs.Saves as saves
 use Rattle.file_ops.specs.Syncs as syncs
 use Rattle.core_facts.specs.InFlight.{of_saving}
-use Rattle.core_facts.proofs.Orders.{SitsWith, seat_with, seat-own, seat-other, leaves, joins}
+use Rattle.core_facts.proofs.Orders.{leaves}
 use Rattle.core_facts.proofs.SaveCommits.{goes-steps, takes-steps}
-use Rattle.core_answers.proofs.writes.Firsts.{first-left, first-added, same-first}
-use Rattle.core_answers.proofs.writes.OwnPieces.{Free}
-use Rattle.core_answers.proofs.writes.Backs.{After}
 use Rattle.core_session.proofs.saves.WholeSteps.{SendsIt, Has, carries-has, replies-has}
-use Rattle.step_pending.specs.Cells.{EachSound}
-use Rattle.step_pending.proofs.Shown.{some-of}
-use Rattle.step_saves.specs.Saves.{IsClearUpTo, AreAgain, PhaseHas, PhaseCounts, IsUnderWay, IsAwaited, Leaves, GoesOn}
+use Rattle.step_saves.specs.Saves.{AreAgain, PhaseHas, PhaseCounts, Leaves, GoesOn}
 use Rattle.step_saves.proofs.Going.{begins, goes-leaves}
 use Rattle.step_saves.proofs.Staying.{others-on}
 use Rattle.step_saves.proofs.Taking.{takes-leaves}
 use Rattle.core_session.proofs.syncs.Jobs.{Out, Level, Replies}
 use Rattle.core_session.proofs.syncs.SaveMoves.{goes-frame, takes-frame}
-use Rattle.std.proofs.Common.{slice_get, option_and_then, position, get_or}
-use Rattle.std.specs.Option.{option_map_or}
-use Rattle.std.proofs.lemmas.Bool.{eqb-true}
 use Rattle.std.proofs.lemmas.List.Quantifiers.{position-Some}
-use Rattle.std.proofs.lemmas.Option.{slice_get-get_or}
-use Rattle.client_shelf.specs.LaneFiles.{is_lane, leads}
-use Rattle.core_facts.proofs.Orders.{Sits}
 
 -- ---- what a file's pending bytes are
 

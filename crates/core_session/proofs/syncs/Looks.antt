@@ -1,31 +1,9 @@
 -- What the state shows to which a step of an operation led: the byte is known as before, or the operation touched it.
-use Rattle.std.proofs.Common.{◌≡◌, ◌≢◌, ◌≤◌, ◌<◌, ◌⊎◌, inl, inr, ℕ, Bool, true, false, nat_eq, List, length, Option, refl, sym, subst, ◌∙◌, arith}
-use Rattle.std.proofs.lemmas.Bool.{eqb-true, eqb-false}
-use Rattle.world_model.specs.declared.answer.Answer.{Answer}
+use Rattle.core_session.proofs.Prelude.{◌≡◌, ◌≢◌, ◌≤◌, ◌<◌, ◌⊎◌, inl, inr, ℕ, Bool, true, false, nat_eq, List, length, Option, refl, sym, subst, ◌∙◌, arith, eqb-true, eqb-false, Answer, Fault, Value, Entry, Began, Op, At, Modes, Origin, AnsweredBefore, IsOf, WritesByte, Cuts, RefusedWrite, GivesUp, At-one, Pending, of_file, LaneFile, Mounted, machine_of, State, Busy, Over, View, IsDropped, TouchedUntil, Machine}
 use Rattle.world_model.specs.declared.answer.Answer.TheVariants as answers
-use Rattle.world_model.specs.declared.answer.Fault.{Fault}
-use Rattle.world_model.specs.declared.answer.Value.{Value}
-use Rattle.world_model.specs.declared.entry.Entry.{Entry}
-use Rattle.world_model.specs.declared.entry.Entry.TheVariants.{Began}
-use Rattle.world_model.specs.declared.op.Op.{Op}
 use Rattle.world_model.specs.declared.op.Op.TheVariants as ops
-use Rattle.world_model.specs.Entries.{At}
-use Rattle.claims.specs.Modes.{Modes}
-use Rattle.world_model.specs.Mounts.{Origin}
-use Rattle.world_model.specs.Operations.{AnsweredBefore}
-use Rattle.claims.specs.Slots.{IsOf}
-use Rattle.claims.specs.Touched.{WritesByte, Cuts, RefusedWrite, Left, GivesUp}
+use Rattle.claims.specs.Touched.{Left}
 use Rattle.claims.specs.Touched as touched
-use Rattle.world_model.proofs.Places.{At-one}
-use Rattle.write_back.specs.Files.{Pending, of_file}
-use Rattle.client_shelf.specs.declared.lane_files.LaneFile.{LaneFile}
-use Rattle.op_machines.specs.declared.begun.Mounted.{Mounted}
-use Rattle.op_machines.specs.Begun.{machine_of}
-use Rattle.client_core.specs.declared.lane.State.{State}
-use Rattle.client_core.specs.declared.lane.State.TheVariants.{Busy, Over}
-use Rattle.client_core.specs.View.{View}
-use Rattle.core_session.specs.drops.Dropped.{IsDropped}
-use Rattle.core_session.specs.syncs.Until.{TouchedUntil}
 use Rattle.core_session.specs.syncs.Until as touching
 use Rattle.core_session.proofs.syncs.Causes.{IsWriter, IsSaver, OfOp, Comes, by_write, by_put, Saving_, IsPut}
 use Rattle.core_session.proofs.syncs.Fates.{job_kind}
@@ -33,7 +11,6 @@ use Rattle.core_session.proofs.syncs.Levels.{Owner}
 use Rattle.core_session.proofs.syncs.Passing.{Shown}
 use Rattle.core_session.proofs.syncs.Phases.{Across, Doing, came, cut, dropped, Family, KnownBy, StageBy, split, after-tale}
 use Rattle.core_session.proofs.syncs.Turning.{IsFixed}
-use Rattle.op_machines.specs.declared.machine.Machine.{Machine}
 use Rattle.core_session.proofs.syncs.Aparts.{Apart}
 use Rattle.core_session.proofs.syncs.Fate.{Fate, Story}
 

@@ -1,22 +1,7 @@
 -- A lane's whole step: its machine's, and that at a call which can't be made.
-use Rattle.std.proofs.Common.{◌≡◌, ◌≢◌, ◌≤◌, ◌⊎◌, inl, inr, ℕ, List, Option, Some, None, refl, sym, subst}
-use Rattle.world_model.specs.declared.answer.Answer.{Answer}
+use Rattle.core_session.proofs.Prelude.{◌≡◌, ◌≢◌, ◌≤◌, ◌⊎◌, inl, inr, ℕ, List, Option, Some, None, refl, sym, subst, Answer, Fault, Value, Pending, of_file, LaneFile, Turn, Next, Saving, Machine, State, Busy, Over, IsRefused, SitsWith, Free, IsClearUpTo}
 use Rattle.world_model.specs.declared.answer.Answer.TheVariants as answers
-use Rattle.world_model.specs.declared.answer.Fault.{Fault}
-use Rattle.world_model.specs.declared.answer.Value.{Value}
-use Rattle.write_back.specs.Files.{Pending, of_file}
-use Rattle.client_shelf.specs.declared.lane_files.LaneFile.{LaneFile}
-use Rattle.client_shelf.specs.declared.turn.Turn.{Turn}
-use Rattle.client_shelf.specs.declared.next.Next.{Next}
 use Rattle.client_shelf.specs.declared.next.Next.TheVariants as nexts
-use Rattle.file_ops.specs.declared.saving.Saving.{Saving}
-use Rattle.op_machines.specs.declared.machine.Machine.{Machine}
-use Rattle.client_core.specs.declared.lane.State.{State}
-use Rattle.client_core.specs.declared.lane.State.TheVariants.{Busy, Over}
-use Rattle.client_core.specs.Steps.{IsRefused}
-use Rattle.core_facts.proofs.Orders.{SitsWith}
-use Rattle.core_answers.proofs.writes.OwnPieces.{Free}
-use Rattle.step_saves.specs.Saves.{IsClearUpTo}
 use Rattle.core_session.proofs.syncs.AllJobs.{JobHas, JobGood, JobBad, JobFin, job_save}
 use Rattle.core_session.proofs.syncs.Fates.{job-says, Part, none, room, own, job-part, job_kind, good-write, good-save, good-path, good-any, bad-write, bad-any, WritePart, before, in_room, write-part}
 use Rattle.core_session.proofs.syncs.Jobs.{Job, ended}

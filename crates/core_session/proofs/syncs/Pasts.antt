@@ -1,37 +1,7 @@
 -- Beside a close of the file that is past its sync: it is the first in the file's order, so no other operation saves the file.
-use Rattle.std.proofs.Common.{◌≡◌, ◌≢◌, ◌≤◌, ◌⊎◌, ℕ, List, ◌++◌, ◌∷◌, [], length, true, false, Option, Some, None, position, slice_get, refl, sym, ap, ◌∙◌, arith}
-use Rattle.rpc_retry.specs.declared.waiting.Waiting.{Waiting}
-use Rattle.rpc_retry.specs.Held.{next_xid}
-use Rattle.rpc_retry.specs.Waiting.{waiting_at}
-use Rattle.world_model.specs.declared.entry.Entry.{Entry}
-use Rattle.world_model.specs.declared.op.Op.{Op}
-use Rattle.write_back.specs.Files.{Pending, HasNoPiece}
-use Rattle.call_replies.specs.Says.{said_of}
-use Rattle.client_shelf.specs.declared.lane_files.LaneFile.{LaneFile}
-use Rattle.client_shelf.specs.LaneFiles.{is_first}
-use Rattle.file_ops.specs.declared.saving.Saving.{Saving}
+use Rattle.core_session.proofs.Prelude.{◌≡◌, ◌≢◌, ◌≤◌, ◌⊎◌, ℕ, List, ◌++◌, ◌∷◌, [], length, true, false, Option, Some, None, position, slice_get, refl, sym, ap, ◌∙◌, arith, Waiting, next_xid, waiting_at, Entry, Op, Pending, HasNoPiece, said_of, LaneFile, is_first, Saving, Mounted, Machine, machine_of, Lane, Purpose, Busy, Setup, is_busy, IsIdle, counted, Stirs, TakesAt, StartsLane, with_state, View, turn_at, AreApart, Reaches, seat_of, taken_one, Known, look-at, Sits, Placed, seat_state, seat_in, same-first}
 use Rattle.file_ops.specs.Saves as saves
-use Rattle.op_machines.specs.declared.begun.Mounted.{Mounted}
-use Rattle.op_machines.specs.declared.machine.Machine.{Machine}
-use Rattle.op_machines.specs.Begun.{machine_of}
-use Rattle.client_core.specs.declared.lane.Lane.{Lane}
-use Rattle.client_core.specs.declared.lane.Purpose.{Purpose}
-use Rattle.client_core.specs.declared.lane.State.TheVariants.{Busy}
-use Rattle.client_core.specs.declared.setup.Setup.{Setup}
-use Rattle.client_core.specs.Lanes.{is_busy}
-use Rattle.client_core.specs.Numbers.{IsIdle}
-use Rattle.client_core.specs.Steps.{counted, Stirs, TakesAt, StartsLane, with_state}
-use Rattle.client_core.specs.View.{View, turn_at}
-use Rattle.core_facts.specs.Lanes.{AreApart}
-use Rattle.core_facts.specs.Reaches.{Reaches}
-use Rattle.core_facts.proofs.AllSeats.{seat_of}
-use Rattle.core_facts.proofs.Cases.{taken_one}
-use Rattle.core_facts.proofs.Keeping.{Known}
-use Rattle.core_facts.proofs.Looks.{look-at}
-use Rattle.core_facts.proofs.Orders.{Sits}
-use Rattle.core_facts.proofs.Placing.{Placed, seat_state, seat_in}
 use Rattle.core_session.proofs.saves.WholeSteps.{Wholly}
-use Rattle.core_answers.proofs.writes.Firsts.{same-first}
 use Rattle.step_saves.proofs.Going.{begins}
 use Rattle.core_session.proofs.syncs.AllJobs.{JobHas, JobBegins, JobOpens, job_save}
 use Rattle.core_session.proofs.syncs.AllSteps.{stirs-landed, takes-landed, starts-landed}

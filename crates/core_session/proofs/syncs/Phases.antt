@@ -1,18 +1,5 @@
 -- What is told of each operation while one write is looked after: before its bytes came in, and from then on.
-use Rattle.std.proofs.Common.{◌≡◌, ◌≢◌, ◌≤◌, ◌+◌, ◌⊎◌, inl, inr, ℕ, Bool, true, false, nat_eq, List, Result, Err, refl, sym, ap, subst, ◌∙◌}
-use Rattle.std.proofs.lemmas.Bool.{eqb-true, eqb-false}
-use Rattle.open_files.specs.Slots.{IsOpen}
-use Rattle.world_model.specs.declared.answer.Fault.{Fault}
-use Rattle.world_model.specs.declared.entry.Entry.{Entry}
-use Rattle.world_model.specs.declared.message.Reply.{Reply}
-use Rattle.claims.specs.Modes.{Modes}
-use Rattle.world_model.specs.Mounts.{Origin}
-use Rattle.claims.specs.Touched.{Cuts}
-use Rattle.write_back.specs.Files.{Pending, of_file, OnFile, with_bytes}
-use Rattle.write_back.specs.Pieces.{FilePending}
-use Rattle.client_shelf.specs.declared.turn.Turn.{Turn}
-use Rattle.file_ops.specs.declared.saving.Saving.{Saving}
-use Rattle.file_ops.specs.Adding.{is_full}
+use Rattle.core_session.proofs.Prelude.{◌≡◌, ◌≢◌, ◌≤◌, ◌+◌, ◌⊎◌, inl, inr, ℕ, Bool, true, false, nat_eq, List, Result, Err, refl, sym, ap, subst, ◌∙◌, eqb-true, eqb-false, IsOpen, Fault, Entry, Reply, Modes, Origin, Cuts, Pending, of_file, OnFile, with_bytes, FilePending, Turn, Saving, is_full, Shelf}
 use Rattle.core_session.proofs.syncs.Aims.{aimed}
 use Rattle.core_session.proofs.syncs.Causes.{IsWriter, OfOp, Comes, Adding, Saving_, Cutting}
 use Rattle.core_session.proofs.syncs.Contents.{Common, common, common-replies, common-adds, common-cuts, common-gives, Known, known, Shows, known-replies, known-adds, known-cuts, known-given, known-own}
@@ -21,7 +8,6 @@ use Rattle.core_session.proofs.syncs.Passing.{Tale}
 use Rattle.core_session.proofs.syncs.Plans.{Plan}
 use Rattle.core_session.proofs.syncs.StageSteps.{clear-known}
 use Rattle.core_session.proofs.syncs.Stages.{Stage, unsent, flies, again, held, stable, over, known-more}
-use Rattle.client_shelf.specs.declared.shelf.Shelf.{Shelf}
 
 -- another operation's bytes may have come over it
 abbrev pub Across : Modes → Origin → List Entry → ℕ → ℕ → List ℕ → ℕ → Type 0

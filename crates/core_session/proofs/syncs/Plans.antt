@@ -1,38 +1,8 @@
 -- A step of a lane's operation with what is told of it, in any of the three ways a step comes about.
-use Rattle.std.proofs.Common.{false, zero, suc, ◌≡◌, ◌≢◌, ◌≤◌, ◌⊎◌, inl, inr, ℕ, List, [], ◌∷◌, ◌++◌, length, Option, Some, None, position, Result, Err, slice_get, refl, sym, ap, subst, ◌∙◌, arith}
-use Rattle.rpc_retry.specs.declared.waiting.Waiting.{Waiting}
-use Rattle.rpc_retry.specs.Held.{next_xid}
-use Rattle.rpc_retry.specs.Waiting.{waiting_at}
-use Rattle.world_model.specs.declared.answer.Fault.{Fault}
-use Rattle.world_model.specs.declared.entry.Entry.{Entry}
-use Rattle.world_model.specs.declared.message.Reply.{Reply}
-use Rattle.world_model.specs.declared.op.Op.{Op}
-use Rattle.call_replies.specs.Says.{said_of}
-use Rattle.write_back.specs.Files.{Pending}
-use Rattle.client_shelf.specs.declared.lane_files.LaneFile.{LaneFile}
-use Rattle.client_shelf.specs.declared.turn.Turn.{Turn}
-use Rattle.client_shelf.specs.declared.next.Next.{Next}
-use Rattle.file_ops.specs.declared.saving.Saving.{Saving}
-use Rattle.op_machines.specs.declared.begun.Mounted.{Mounted}
-use Rattle.op_machines.specs.Begun.{machine_of}
-use Rattle.client_core.specs.declared.lane.Lane.{Lane}
-use Rattle.client_core.specs.declared.lane.Purpose.{Purpose}
-use Rattle.client_core.specs.declared.lane.State.{State}
-use Rattle.client_core.specs.declared.lane.State.TheVariants.{Busy, Over}
-use Rattle.client_core.specs.declared.setup.Setup.{Setup}
-use Rattle.client_core.specs.Lanes.{is_busy}
-use Rattle.client_core.specs.Numbers.{IsIdle, numbers_of}
-use Rattle.client_core.specs.Steps.{with_state, Stirs, counted, StartsLane, TakesAt}
-use Rattle.client_core.specs.View.{View, turn_at, unmade_turn}
-use Rattle.core_facts.specs.Reaches.{Reaches}
-use Rattle.core_facts.proofs.Cases.{taken_one}
-use Rattle.core_facts.proofs.Keeping.{Known}
-use Rattle.core_facts.proofs.LaneMarks.{idle-numbers, number_of}
-use Rattle.core_facts.proofs.Lists.{get-push, before-push, to-map}
-use Rattle.core_facts.proofs.Placing.{Placed, LaneLive}
+use Rattle.core_session.proofs.Prelude.{false, zero, suc, ◌≡◌, ◌≢◌, ◌≤◌, ◌⊎◌, inl, inr, ℕ, List, [], ◌∷◌, ◌++◌, length, Option, Some, None, position, Result, Err, slice_get, refl, sym, ap, subst, ◌∙◌, arith, Waiting, next_xid, waiting_at, Fault, Entry, Reply, Op, said_of, Pending, LaneFile, Turn, Next, Saving, Mounted, machine_of, Lane, Purpose, State, Busy, Over, Setup, is_busy, IsIdle, numbers_of, with_state, Stirs, counted, StartsLane, TakesAt, View, turn_at, unmade_turn, Reaches, taken_one, Known, idle-numbers, number_of, get-push, before-push, to-map, Placed, AreApart, Shelf, is_other, list_any}
+use Rattle.core_facts.proofs.Placing.{LaneLive}
 use Rattle.core_session.proofs.saves.WholeSteps.{Wholly}
 use Rattle.core_session.proofs.syncs.AllJobs.{JobHas, JobBegins, JobOpens, job_save}
-use Rattle.core_facts.specs.Lanes.{AreApart}
 use Rattle.core_session.proofs.syncs.AllSteps as all
 use Rattle.core_session.proofs.syncs.AllSteps.{stirs-landed, takes-landed, starts-landed}
 use Rattle.core_session.proofs.syncs.Fates.{job_kind}
@@ -41,9 +11,6 @@ use Rattle.core_session.proofs.syncs.Levels.{Owner, ContentReplies}
 use Rattle.core_session.proofs.syncs.Passing.{Tale, told, Ways, Shown, job-in}
 use Rattle.core_session.proofs.syncs.Seen.{Sees, sees, sees-new, OthersSo, ButFor, Came, bare, Owned, owned, bases}
 use Rattle.core_session.proofs.syncs.Working.{GivesPut, Moves}
-use Rattle.client_shelf.specs.declared.shelf.Shelf.{Shelf}
-use Rattle.client_shelf.specs.LaneFiles.{is_other}
-use Rattle.std.specs.List.{list_any}
 
 -- what is known of an operation of this kind, with all that its steps ask for
 pub record Plan (f : List ℕ) (wsize kind q0 : ℕ) (Turned : ℕ → Type 0) : Type 1 where

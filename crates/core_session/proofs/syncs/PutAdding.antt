@@ -1,29 +1,7 @@
 -- As a put's opening ends, its bytes come in to a file to which its path leads.
-use Rattle.std.proofs.Common.{◌≡◌, ◌⊎◌, inl, inr, ◌+◌, ◌-◌, ℕ, List, [], ◌∷◌, ◌++◌, length, true, Some, sym, subst, arith}
-use Rattle.std.specs.Prelude.{slice_index}
-use Rattle.std.proofs.lemmas.Option.{slice_get-get_or}
-use Rattle.write_back.specs.Segments.{covers}
-use Rattle.write_back.proofs.Keys.{low-of, high-of}
-use Rattle.world_model.specs.declared.entry.Entry.{Entry}
-use Rattle.world_model.specs.declared.entry.Entry.TheVariants.{Began, Answered, Dialed, Sent, Executed, Foreign, Flushed, Reboot, Delivered, Failed, Clock}
-use Rattle.world_model.specs.declared.op.Op.{Op}
+use Rattle.core_session.proofs.Prelude.{◌≡◌, ◌⊎◌, inl, inr, ◌+◌, ◌-◌, ℕ, List, [], ◌∷◌, ◌++◌, length, true, Some, sym, subst, arith, slice_index, slice_get-get_or, covers, low-of, high-of, Entry, Began, Answered, Dialed, Sent, Executed, Foreign, Flushed, Reboot, Delivered, Failed, Clock, Op, At, Modes, Origin, UnderWay, At-one, At-grow, At-cases, Mounted, Machine, machine_of, Fits, Setup, View, KnowsRoot, StepsTo, Reaches, begins, goes, loses, LeadsTo, byte_by}
 use Rattle.world_model.specs.declared.op.Op.TheVariants as ops
-use Rattle.world_model.specs.Entries.{At}
-use Rattle.claims.specs.Modes.{Modes}
-use Rattle.world_model.specs.Mounts.{Origin}
-use Rattle.world_model.specs.Operations.{UnderWay}
 use Rattle.claims.specs.Touched.{Covers}
-use Rattle.world_model.proofs.Places.{At-one, At-grow, At-cases}
-use Rattle.op_machines.specs.declared.begun.Mounted.{Mounted}
-use Rattle.op_machines.specs.declared.machine.Machine.{Machine}
-use Rattle.op_machines.specs.Begun.{machine_of}
-use Rattle.op_machines.specs.Fits.{Fits}
-use Rattle.client_core.specs.declared.setup.Setup.{Setup}
-use Rattle.client_core.specs.View.{View}
-use Rattle.core_facts.specs.Naming.{KnowsRoot}
-use Rattle.core_facts.specs.Reaches.{StepsTo, Reaches, begins, goes, loses}
-use Rattle.core_facts.proofs.Leading.{LeadsTo}
-use Rattle.core_answers.specs.writes.Written.{byte_by}
 use Rattle.core_session.proofs.syncs.Beginnings.{from-is}
 use Rattle.core_session.proofs.syncs.Causes.{IsSaver, IsPut, Adding, by_put}
 use Rattle.core_session.proofs.syncs.PutsBring.{put-byte}

@@ -1,49 +1,13 @@
 -- The last record that came names the file of the save that waited for it.
-use Rattle.std.proofs.Common.{◌≡◌, ◌<◌, ◌≤◌, ℕ, List, [], ◌∷◌, ◌++◌, length, false, Some, None, inl, inr, Bool, true, slice_get, refl, sym, subst, ◌∙◌, arith}
-use Rattle.rpc_message.specs.Call.{xid_at}
-use Rattle.rpc_retry.specs.declared.waiting.Waiting.{Waiting}
-use Rattle.rpc_retry.specs.Waiting.{waiting_at}
+use Rattle.core_session.proofs.Prelude.{◌≡◌, ◌<◌, ◌≤◌, ℕ, List, [], ◌∷◌, ◌++◌, length, false, Some, None, inl, inr, Bool, true, slice_get, refl, sym, subst, ◌∙◌, arith, xid_at, Waiting, waiting_at, Entry, Sent, Delivered, Call, At, HasXid, SpellsCall, LastReply, NamesFile, FirstSent-grow, At-one, At-last, At-below, length_last, Putting, Saving, Writing, Mounted, FileMachine, Machine, PathMachine, machine_of, file_of, Purpose, Busy, Setup, View, HearsRecord, Reaches, IsOutstanding, Tried, unsent, begins-unbegun, one-xid, always-later, was-sent, reached-rows, reached-good, PathNames, Names, Expects, expects-laws, StateNames, FileNames, Saves, NoCall, NoShelf, NoStory, no-laws, IsNfs, one-call}
 use Rattle.nfs_file_calls.specs.declared.call.FileCall.TheVariants as file_calls
-use Rattle.world_model.specs.declared.entry.Entry.{Entry}
-use Rattle.world_model.specs.declared.entry.Entry.TheVariants.{Sent, Delivered}
-use Rattle.world_model.specs.declared.message.Call.{Call}
 use Rattle.world_model.specs.declared.message.Call.TheVariants as calls
-use Rattle.world_model.specs.Entries.{At}
-use Rattle.world_model.specs.Messages.{HasXid, SpellsCall}
-use Rattle.world_model.specs.Operations.{LastReply}
-use Rattle.claims.specs.Slots.{NamesFile, writes, commits}
-use Rattle.world_model.proofs.Growth.{FirstSent-grow}
-use Rattle.world_model.proofs.Places.{At-one, At-last, At-below, length_last}
-use Rattle.file_ops.specs.declared.put_file.Putting.{Putting}
+use Rattle.claims.specs.Slots.{writes, commits}
 use Rattle.file_ops.specs.declared.put_file.Putting.TheVariants as putting
-use Rattle.file_ops.specs.declared.saving.Saving.{Saving}
-use Rattle.file_ops.specs.declared.write_file.Writing.{Writing}
-use Rattle.op_machines.specs.declared.begun.Mounted.{Mounted}
-use Rattle.op_machines.specs.declared.file_machine.FileMachine.{FileMachine}
 use Rattle.op_machines.specs.declared.file_machine.FileMachine.TheVariants as files
-use Rattle.op_machines.specs.declared.machine.Machine.{Machine}
 use Rattle.op_machines.specs.declared.machine.Machine.TheVariants as machines
-use Rattle.op_machines.specs.declared.path_machine.PathMachine.{PathMachine}
-use Rattle.op_machines.specs.Begun.{machine_of}
-use Rattle.op_machines.specs.Openers.{file_of}
-use Rattle.client_core.specs.declared.lane.Purpose.{Purpose}
-use Rattle.client_core.specs.declared.lane.State.TheVariants.{Busy}
-use Rattle.client_core.specs.declared.setup.Setup.{Setup}
-use Rattle.client_core.specs.View.{View}
-use Rattle.core_facts.specs.Reaches.{HearsRecord, Reaches}
-use Rattle.core_facts.specs.Tries.{IsOutstanding, Tried, unsent, runs, ended}
-use Rattle.core_facts.proofs.AllCounts.{begins-unbegun}
-use Rattle.core_facts.proofs.Grown.{one-xid}
-use Rattle.core_facts.proofs.HeldSlots.{always-later}
-use Rattle.core_facts.proofs.Hearing.{was-sent}
+use Rattle.core_facts.specs.Tries.{runs, ended}
 use Rattle.core_facts.proofs.LastReplies.{last-grow}
-use Rattle.core_facts.proofs.Rows.{reached-rows}
-use Rattle.core_facts.proofs.Tales.{reached-good}
-use Rattle.core_answers.proofs.asks.CallsAwaited.{PathNames, Names, Expects, expects-laws}
-use Rattle.core_answers.proofs.asks.FilesAwaited.{StateNames, FileNames}
-use Rattle.core_answers.proofs.asks.SavedCalls.{Saves}
-use Rattle.core_answers.proofs.asks.Sendings.{NoCall, NoShelf, NoStory, no-laws}
-use Rattle.core_answers.proofs.bonds.OneCall.{IsNfs, one-call}
 use Rattle.core_session.proofs.syncs.PutGoes.{put_own, file_own, path_own, own_save}
 
 -- ---- the call that a save waits for

@@ -1,58 +1,27 @@
 -- A put ends well only by the reply to a call of its own save.
-use Rattle.std.proofs.Common.{◌≡◌, ◌-◌, ℕ, Bool, true, false, List, length, Option, Some, None, Result, Ok, Err, slice_get, refl, sym, ap, subst, ◌∙◌, ◌≤◌, arith}
-use Rattle.std.specs.Prelude.{if◌then◌else◌}
-use Rattle.world_model.specs.declared.answer.Answer.{Answer}
+use Rattle.core_session.proofs.Prelude.{◌≡◌, ◌-◌, ℕ, Bool, true, false, List, length, Option, Some, None, Result, Ok, Err, slice_get, refl, sym, ap, subst, ◌∙◌, ◌≤◌, arith, if◌then◌else◌, Answer, Fault, Value, Call, Reply, is_first, LaneFile, Pending, Next, Shelf, Turn, OpeningNext, PutFile, Putting, Saving, joined, closed_answer, refusal_of, by-step, WalkNext, FileMachine, Machine, Opener, PathMachine, file_of, slot_taken, begun_at, Starts, Resumes, Takes, Lane, State, Busy, Over, IsRefused, Stirs, StartsLane, TakesAt, View, turn_at, at-set, at-push, EndsSo, takes-not}
 use Rattle.world_model.specs.declared.answer.Answer.TheVariants as answers
-use Rattle.world_model.specs.declared.answer.Fault.{Fault}
-use Rattle.world_model.specs.declared.answer.Value.{Value}
-use Rattle.world_model.specs.declared.message.Call.{Call}
-use Rattle.world_model.specs.declared.message.Reply.{Reply}
-use Rattle.client_shelf.specs.LaneFiles.{is_first}
-use Rattle.client_shelf.specs.declared.lane_files.LaneFile.{LaneFile}
-use Rattle.write_back.specs.Files.{Pending}
-use Rattle.client_shelf.specs.declared.next.Next.{Next}
 use Rattle.client_shelf.specs.declared.next.Next.TheVariants as nexts
-use Rattle.client_shelf.specs.declared.shelf.Shelf.{Shelf}
-use Rattle.client_shelf.specs.declared.turn.Turn.{Turn}
-use Rattle.file_ops.specs.declared.opening.OpeningNext.{OpeningNext}
 use Rattle.file_ops.specs.declared.opening.OpeningNext.TheVariants as openings
-use Rattle.file_ops.specs.declared.put_file.PutFile.{PutFile}
-use Rattle.file_ops.specs.declared.put_file.Putting.{Putting}
 use Rattle.file_ops.specs.declared.put_file.Putting.TheVariants as putting
-use Rattle.file_ops.specs.declared.saving.Saving.{Saving}
 use Rattle.file_ops.specs.OpenFile as opens
 use Rattle.file_ops.specs.Opening as opening
 use Rattle.file_ops.specs.PutFile as puts
 use Rattle.file_ops.specs.Saves as saves
-use Rattle.file_ops.specs.SlotFiles.{joined}
-use Rattle.file_ops.specs.Closings.{closed_answer, refusal_of}
 use Rattle.file_ops.specs.Syncs as syncs
-use Rattle.file_ops.proofs.SaveCounts.{by-step}
-use Rattle.name_ops.specs.declared.walk.WalkNext.{WalkNext}
 use Rattle.name_ops.specs.declared.walk.WalkNext.TheVariants as walks
 use Rattle.name_ops.specs.Walking as walking
-use Rattle.op_machines.specs.declared.file_machine.FileMachine.{FileMachine}
 use Rattle.op_machines.specs.declared.file_machine.FileMachine.TheVariants as files
-use Rattle.op_machines.specs.declared.machine.Machine.{Machine}
 use Rattle.op_machines.specs.declared.machine.Machine.TheVariants as machines
-use Rattle.op_machines.specs.declared.opener.Opener.{Opener}
 use Rattle.op_machines.specs.declared.opener.Opener.TheVariants as openers
-use Rattle.op_machines.specs.declared.path_machine.PathMachine.{PathMachine}
 use Rattle.op_machines.specs.FileSteps as steps
-use Rattle.op_machines.specs.Openers.{file_of, slot_taken, begun_at, placed}
+use Rattle.op_machines.specs.Openers.{placed}
 use Rattle.op_machines.specs.PathSteps as paths
-use Rattle.op_machines.specs.Steps.{Starts, Resumes, Takes}
-use Rattle.client_core.specs.declared.lane.Lane.{Lane}
-use Rattle.client_core.specs.declared.lane.State.{State}
-use Rattle.client_core.specs.declared.lane.State.TheVariants.{Busy, Over}
-use Rattle.client_core.specs.Steps.{IsRefused, Stirs, StartsLane, TakesAt}
-use Rattle.client_core.specs.View.{View, turn_at}
 use Rattle.core_session.proofs.drops.LaneIs.{state-is, answer-is, busy-over}
 use Rattle.core_session.proofs.drops.SaveFiles.{IsSave, goes-save, takes-save}
 use Rattle.core_session.proofs.drops.Leading.{Settles, Leading, settles, unmade, stirs-led, takes-led, starts-led}
-use Rattle.core_facts.proofs.Lists.{at-set, at-push}
-use Rattle.core_facts.proofs.SaveCommits.{WellDone, EndsSo}
-use Rattle.core_answers.proofs.paths.Endings.{ends-map, ends-any, goes-not, takes-not}
+use Rattle.core_facts.proofs.SaveCommits.{WellDone}
+use Rattle.core_answers.proofs.paths.Endings.{ends-map, ends-any, goes-not}
 use Rattle.core_session.proofs.syncs.AllJobs.{PathHas, JobHas}
 use Rattle.core_session.proofs.syncs.Jobs.{Fact, Job, PutHas, FileHas}
 use Rattle.core_session.proofs.syncs.Fates.{file_kind, job_kind, start-kind, resume-kind, take-kind}

@@ -1,19 +1,10 @@
 -- A put that has no save of its own yet goes on as a write does: its bytes aren't there.
-use Rattle.std.proofs.Common.{◌≡◌, ℕ, Bool, true, false, List, Some, None, arith}
-use Rattle.write_back.specs.Files.{Pending}
-use Rattle.client_shelf.specs.declared.lane_files.LaneFile.{LaneFile}
-use Rattle.file_ops.specs.declared.put_file.PutFile.{PutFile}
-use Rattle.file_ops.specs.declared.put_file.Putting.{Putting}
+use Rattle.core_session.proofs.Prelude.{◌≡◌, ℕ, Bool, true, false, List, Some, None, arith, Pending, LaneFile, PutFile, Putting, Writing, FileMachine, Machine, Opener, file_of}
 use Rattle.file_ops.specs.declared.put_file.Putting.TheVariants as putting
-use Rattle.file_ops.specs.declared.write_file.Writing.{Writing}
 use Rattle.file_ops.specs.declared.write_file.Writing.TheVariants as writing
 use Rattle.file_ops.specs.WriteFile as writes
-use Rattle.op_machines.specs.declared.file_machine.FileMachine.{FileMachine}
 use Rattle.op_machines.specs.declared.file_machine.FileMachine.TheVariants as files
-use Rattle.op_machines.specs.declared.machine.Machine.{Machine}
 use Rattle.op_machines.specs.declared.machine.Machine.TheVariants as machines
-use Rattle.op_machines.specs.declared.opener.Opener.{Opener}
-use Rattle.op_machines.specs.Openers.{file_of}
 use Rattle.core_session.proofs.syncs.AllJobs.{PathHas, JobHas}
 use Rattle.core_session.proofs.syncs.Fates.{WritePart, file_kind, job_kind}
 use Rattle.core_session.proofs.syncs.Fates as fates

@@ -1,52 +1,13 @@
 -- Along a history each put that is at its file is there among those to which lanes put: so another put of the file isn't alone.
-use Rattle.std.proofs.Common.{◌≡◌, ◌≢◌, ◌≤◌, ◌-◌, inl, inr, ℕ, zero, suc, List, [], ◌∷◌, ◌++◌, length, remove, Bool, true, false, not, nat_eq, ◌&&◌, ◌||◌, Option, Some, None, position, slice_get, slice_set, Err, refl, sym, ap, subst, ◌∙◌}
-use Rattle.std.specs.List.{list_any}
+use Rattle.core_session.proofs.Prelude.{◌≡◌, ◌≢◌, ◌≤◌, ◌-◌, inl, inr, ℕ, zero, suc, List, [], ◌∷◌, ◌++◌, length, remove, Bool, true, false, not, nat_eq, ◌&&◌, ◌||◌, Option, Some, None, position, slice_get, slice_set, Err, refl, sym, ap, subst, ◌∙◌, option_map, list_any, eqb-true, eqb-false, Waiting, waiting_at, Answer, Entry, Began, Call, Op, said_of, is_other, LaneFile, Next, Send, Wait, Done, Shelf, Mounted, Machine, machine_of, Lane, Purpose, State, Busy, Over, Setup, is_busy, IsIdle, with_state, IsRefused, Leads, Stirs, counted, StartsLane, TakesAt, AnswersAt, View, turn_at, unmade_turn, in_flight, AreApart, IsLive, taken_one, Known, taker-one, lanes-stay, lanes-begin, lanes-under-way, at-set, at-push, look-idle, look-at, Sits, same-sits, seat_with, seat-own, seat-other, SitsWith, joins, Placed, Putting, Saving, file_of, FileMachine, Opener}
 use Rattle.std.specs.Cmp.Lexicographic.{pointwise, bytes_decides}
-use Rattle.std.proofs.lemmas.Bool.{eqb-true, eqb-false, ne_eqb}
-use Rattle.rpc_retry.specs.declared.waiting.Waiting.{Waiting}
-use Rattle.rpc_retry.specs.Waiting.{waiting_at}
-use Rattle.world_model.specs.declared.answer.Answer.{Answer}
-use Rattle.world_model.specs.declared.entry.Entry.{Entry}
-use Rattle.world_model.specs.declared.entry.Entry.TheVariants.{Began}
-use Rattle.world_model.specs.declared.message.Call.{Call}
-use Rattle.world_model.specs.declared.op.Op.{Op}
-use Rattle.call_replies.specs.Says.{said_of}
-use Rattle.client_shelf.specs.LaneFiles.{is_other}
-use Rattle.client_shelf.specs.declared.lane_files.LaneFile.{LaneFile}
-use Rattle.client_shelf.specs.declared.next.Next.{Next}
-use Rattle.client_shelf.specs.declared.next.Next.TheVariants.{Send, Wait, Done}
-use Rattle.client_shelf.specs.declared.shelf.Shelf.{Shelf}
-use Rattle.op_machines.specs.declared.begun.Mounted.{Mounted}
-use Rattle.op_machines.specs.declared.machine.Machine.{Machine}
-use Rattle.op_machines.specs.Begun.{machine_of}
-use Rattle.client_core.specs.declared.lane.Lane.{Lane}
-use Rattle.client_core.specs.declared.lane.Purpose.{Purpose}
-use Rattle.client_core.specs.declared.lane.State.{State}
-use Rattle.client_core.specs.declared.lane.State.TheVariants.{Busy, Over}
-use Rattle.client_core.specs.declared.setup.Setup.{Setup}
-use Rattle.client_core.specs.Lanes.{is_busy}
-use Rattle.client_core.specs.Numbers.{IsIdle}
-use Rattle.client_core.specs.Steps.{with_state, IsRefused, Leads, Stirs, counted, StartsLane, TakesAt, AnswersAt}
-use Rattle.client_core.specs.View.{View, turn_at, unmade_turn}
-use Rattle.core_facts.specs.InFlight.{in_flight}
-use Rattle.core_facts.specs.Lanes.{AreApart}
-use Rattle.core_facts.proofs.AllSeats.{IsLive, begins-fresh, OfMachine, all-starts, all-resumes, all-takes}
-use Rattle.core_facts.proofs.Cases.{taken_one}
-use Rattle.core_facts.proofs.Keeping.{Known, taker-one}
-use Rattle.core_facts.proofs.LaneMarks.{lanes-stay, lanes-begin, lanes-under-way}
-use Rattle.core_facts.proofs.Lists.{at-set, at-push}
-use Rattle.core_facts.proofs.Looks.{look_in, look-idle, look-at, look-set, look-push, look-remove}
-use Rattle.core_facts.proofs.Orders.{Sits, none-sits, same-sits, seat_with, seat-own, seat-other, SitsWith, leaves, joins}
-use Rattle.core_facts.proofs.Placing.{Placed}
-use Rattle.std.proofs.Common.{option_map}
-use Rattle.file_ops.specs.declared.put_file.Putting.{Putting}
+use Rattle.std.proofs.lemmas.Bool.{ne_eqb}
+use Rattle.core_facts.proofs.AllSeats.{begins-fresh, OfMachine, all-starts, all-resumes, all-takes}
+use Rattle.core_facts.proofs.Looks.{look_in, look-set, look-push, look-remove}
+use Rattle.core_facts.proofs.Orders.{none-sits, leaves}
 use Rattle.file_ops.specs.declared.put_file.Putting.TheVariants as putting
-use Rattle.file_ops.specs.declared.saving.Saving.{Saving}
-use Rattle.op_machines.specs.Openers.{file_of}
-use Rattle.op_machines.specs.declared.file_machine.FileMachine.{FileMachine}
 use Rattle.op_machines.specs.declared.file_machine.FileMachine.TheVariants as files
 use Rattle.op_machines.specs.declared.machine.Machine.TheVariants as machines
-use Rattle.op_machines.specs.declared.opener.Opener.{Opener}
 use Rattle.core_session.proofs.syncs.PutGoes.{put_own, file_own, path_own, own_save}
 use Rattle.core_session.proofs.syncs.PutSeats.{put_at_file, puts_file, puts_path, puts_of, Fin, puts-starts, puts-resumes, puts-takes}
 

@@ -1,58 +1,17 @@
 -- Which bytes a put brings in, and that its path leads to their file as they come in.
-use Rattle.std.proofs.Common.{◌≡◌, ℕ, Bool, true, false, List, [], ◌∷◌, ◌++◌, length, Some, None, slice_get, Result, inl, inr, refl, sym, ap, subst, ◌∙◌, arith}
-use Rattle.std.proofs.lemmas.Bool.{cases_lt}
-use Rattle.rpc_message.specs.Call.{xid_at}
-use Rattle.rpc_retry.specs.declared.waiting.Waiting.{Waiting}
-use Rattle.rpc_retry.specs.Waiting.{waiting_at}
-use Rattle.world_model.specs.declared.answer.Fault.{Fault}
-use Rattle.world_model.specs.declared.entry.Entry.{Entry}
-use Rattle.world_model.specs.declared.entry.Entry.TheVariants.{Began, Answered, Delivered}
-use Rattle.world_model.specs.declared.message.Reply.{Reply}
-use Rattle.world_model.specs.declared.op.Op.{Op}
+use Rattle.core_session.proofs.Prelude.{◌≡◌, ℕ, Bool, true, false, List, [], ◌∷◌, ◌++◌, length, Some, None, slice_get, Result, inl, inr, refl, sym, ap, subst, ◌∙◌, arith, cases_lt, xid_at, Waiting, waiting_at, Fault, Entry, Began, Answered, Delivered, Reply, Op, At, Modes, Origin, AnsweredBefore, UnderWay, WritesByte, At-one, At-last, At-grow, length_last, said_of, Next, Shelf, Turn, PutFile, Putting, Writing, Opens, Mounted, FileMachine, Machine, Opener, PathMachine, IsNamed, machine_of, file_of, Takes, Purpose, State, Busy, Over, Setup, View, KnowsRoot, HearsRecord, Reaches, begins-unbegun, LeadsTo, Did, TaleLaws, reached-good, Expects, expects-laws, NoCall, NoShelf, AreApart, seat_of, seat_put, reached-kept, lanes-under-way, reached-lanes, look-at, Placed, seat_state, seat_in, keeps-placed, is_first}
 use Rattle.world_model.specs.declared.op.Op.TheVariants as ops
-use Rattle.world_model.specs.Entries.{At}
-use Rattle.claims.specs.Modes.{Modes}
-use Rattle.world_model.specs.Mounts.{Origin}
-use Rattle.world_model.specs.Operations.{AnsweredBefore, UnderWay}
-use Rattle.claims.specs.Touched.{Covers, WritesByte}
-use Rattle.world_model.proofs.Places.{At-one, At-last, At-grow, length_last}
-use Rattle.call_replies.specs.Says.{said_of}
-use Rattle.client_shelf.specs.declared.next.Next.{Next}
+use Rattle.claims.specs.Touched.{Covers}
 use Rattle.client_shelf.specs.declared.next.Next.TheVariants as nexts
-use Rattle.client_shelf.specs.declared.shelf.Shelf.{Shelf}
-use Rattle.client_shelf.specs.declared.turn.Turn.{Turn}
-use Rattle.file_ops.specs.declared.put_file.PutFile.{PutFile}
-use Rattle.file_ops.specs.declared.put_file.Putting.{Putting}
 use Rattle.file_ops.specs.declared.put_file.Putting.TheVariants as putting
-use Rattle.file_ops.specs.declared.write_file.Writing.{Writing}
-use Rattle.open_files.specs.Slots.{Opens}
 use Rattle.file_ops.specs.PutFile as puts
 use Rattle.file_ops.specs.WriteFile as writes
-use Rattle.op_machines.specs.declared.begun.Mounted.{Mounted}
-use Rattle.op_machines.specs.declared.file_machine.FileMachine.{FileMachine}
 use Rattle.op_machines.specs.declared.file_machine.FileMachine.TheVariants as files
-use Rattle.op_machines.specs.declared.machine.Machine.{Machine}
 use Rattle.op_machines.specs.declared.machine.Machine.TheVariants as machines
-use Rattle.op_machines.specs.declared.opener.Opener.{Opener}
 use Rattle.op_machines.specs.declared.opener.Opener.TheVariants as openers
-use Rattle.op_machines.specs.declared.path_machine.PathMachine.{PathMachine}
-use Rattle.op_machines.specs.Begun.{IsNamed, machine_of}
 use Rattle.op_machines.specs.FileSteps as steps
-use Rattle.op_machines.specs.Openers.{file_of}
 use Rattle.op_machines.specs.PathSteps as paths
-use Rattle.op_machines.specs.Steps.{Takes}
-use Rattle.client_core.specs.declared.lane.Purpose.{Purpose}
-use Rattle.client_core.specs.declared.lane.State.{State}
-use Rattle.client_core.specs.declared.lane.State.TheVariants.{Busy, Over}
-use Rattle.client_core.specs.declared.setup.Setup.{Setup}
-use Rattle.client_core.specs.View.{View}
-use Rattle.core_facts.specs.Naming.{KnowsRoot}
-use Rattle.core_facts.specs.Reaches.{HearsRecord, Reaches}
-use Rattle.core_facts.proofs.AllCounts.{begins-unbegun}
-use Rattle.core_facts.proofs.Leading.{LeadsTo}
-use Rattle.core_facts.proofs.Tales.{Did, TaleLaws, reached-good}
-use Rattle.core_answers.proofs.asks.CallsAwaited.{Expects, expects-laws}
-use Rattle.core_answers.proofs.asks.Sendings.{NoCall, NoShelf, under-until}
+use Rattle.core_answers.proofs.asks.Sendings.{under-until}
 use Rattle.core_answers.proofs.writes.AllBacks.{PathBrings, Brings, StartsWith}
 use Rattle.core_answers.proofs.writes.Backs.{PutIs, FileBrings}
 use Rattle.core_answers.proofs.writes.Brings.{starts-brings, resumes-brings, takes-brings}
@@ -63,14 +22,9 @@ use Rattle.core_session.proofs.syncs.AllJobs.{PathOpens, JobOpens, job_lane}
 use Rattle.core_session.proofs.syncs.Fates.{file_kind, job_kind, live-lane, start-kind, resume-kind, take-kind}
 use Rattle.core_session.proofs.syncs.Jobs.{PutOpens, FileOpens, file_lane}
 use Rattle.core_session.proofs.syncs.Levels.{not-seated}
-use Rattle.core_facts.specs.Lanes.{AreApart}
-use Rattle.core_facts.proofs.AllSeats.{seat_of, path_seat}
-use Rattle.core_facts.proofs.FileSeats.{seat_file, seat_put}
-use Rattle.core_facts.proofs.Keeping.{reached-kept}
-use Rattle.core_facts.proofs.LaneMarks.{lanes-under-way, reached-lanes}
-use Rattle.core_facts.proofs.Looks.{look-at}
-use Rattle.core_facts.proofs.Placing.{Placed, LaneLive, seat_state, seat_in, keeps-placed}
-use Rattle.client_shelf.specs.LaneFiles.{is_first}
+use Rattle.core_facts.proofs.AllSeats.{path_seat}
+use Rattle.core_facts.proofs.FileSeats.{seat_file}
+use Rattle.core_facts.proofs.Placing.{LaneLive}
 
 -- ---- the bytes of an operation
 

@@ -1,20 +1,6 @@
 -- Which lane's save of the file is under way, and how the lanes look to one of them that makes a step, and after it.
-use Rattle.std.proofs.Common.{◌≡◌, ◌≢◌, ◌≤◌, ◌⊎◌, inl, inr, ℕ, Bool, true, false, nat_eq, List, Option, Some, None, slice_get, refl, sym, ap, subst, ◌∙◌, arith}
-use Rattle.std.proofs.lemmas.Bool.{eqb-true, eqb-false}
-use Rattle.write_back.specs.Files.{Pending, HasNoPiece}
-use Rattle.write_back.proofs.WritesByFile.{same-or}
-use Rattle.client_shelf.specs.declared.lane_files.LaneFile.{LaneFile}
-use Rattle.client_shelf.specs.LaneFiles.{is_first}
-use Rattle.file_ops.specs.declared.saving.Saving.{Saving}
+use Rattle.core_session.proofs.Prelude.{◌≡◌, ◌≢◌, ◌≤◌, ◌⊎◌, inl, inr, ℕ, Bool, true, false, nat_eq, List, Option, Some, None, slice_get, refl, sym, ap, subst, ◌∙◌, arith, eqb-true, eqb-false, Pending, HasNoPiece, same-or, LaneFile, is_first, Saving, Machine, Lane, State, Busy, Over, AreApart, look-at, seat_state, seat_in, IsUnderWay}
 use Rattle.file_ops.specs.Saves as saves
-use Rattle.op_machines.specs.declared.machine.Machine.{Machine}
-use Rattle.client_core.specs.declared.lane.Lane.{Lane}
-use Rattle.client_core.specs.declared.lane.State.{State}
-use Rattle.client_core.specs.declared.lane.State.TheVariants.{Busy, Over}
-use Rattle.core_facts.specs.Lanes.{AreApart}
-use Rattle.core_facts.proofs.Looks.{look-at}
-use Rattle.core_facts.proofs.Placing.{seat_state, seat_in}
-use Rattle.step_saves.specs.Saves.{IsUnderWay}
 use Rattle.core_session.proofs.syncs.AllJobs.{job_save}
 use Rattle.core_session.proofs.syncs.Fates.{save-is}
 use Rattle.core_session.proofs.syncs.Levels.{Owner, BesideSo, SaveSo, queued, elsewhere, under}

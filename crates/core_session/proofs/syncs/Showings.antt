@@ -1,76 +1,29 @@
 -- What a record that is heard shows of a byte that came with a write's number, from its first flight on.
-use Rattle.std.proofs.Common.{◌≡◌, inl, inr, ◌≤◌, ◌<◌, ◌+◌, ℕ, List, [], ◌∷◌, ◌++◌, length, Bool, true, false, Some, None, Ok, slice_get, refl, sym, ap, subst, ◌∙◌, arith}
-use Rattle.nfs_types.specs.declared.verf.Verf.{Verf}
-use Rattle.nfs_types.specs.declared.wcc.Wcc.{Wcc}
+use Rattle.core_session.proofs.Prelude.{◌≡◌, inl, inr, ◌≤◌, ◌<◌, ◌+◌, ℕ, List, [], ◌∷◌, ◌++◌, length, Bool, true, false, Some, None, Ok, slice_get, refl, sym, ap, subst, ◌∙◌, arith, Verf, Wcc, xid_at, Waiting, next_xid, waiting_at, Entry, Sent, Delivered, Call, Reply, Op, At, Asked, HasXid, SpellsCall, SpellsCallBy, SpellsReply, commit_call, length_last, said_of, Says, Next, Shelf, Closing, Putting, Saving, Syncing, Writing, Mounted, FileMachine, Machine, PathMachine, machine_of, file_of, of_file, Flown, fly_at, piece_under, fly-under, EachSound, flown-from, Purpose, Busy, Setup, View, Reaches, HearsRecord, IsOfOperation, Tried, unsent, begins-unbegun, flies_of, was-sent, says-of, reached-owned, reached-rows, TaleLaws, Did, reached-good, PathNames, Names, Expects, expects-laws, SyncNames, CloseNames, WriteNames, StateNames, FileNames, Saves, IsNfs, one-call, IsWaiting, write_of, WroteByte, MadeStable}
 use Rattle.nfs_file_calls.specs.declared.owned.FileKept.TheVariants as kept
-use Rattle.rpc_message.specs.Call.{xid_at}
-use Rattle.rpc_retry.specs.declared.waiting.Waiting.{Waiting}
-use Rattle.rpc_retry.specs.Held.{next_xid}
-use Rattle.rpc_retry.specs.Waiting.{waiting_at}
-use Rattle.world_model.specs.declared.entry.Entry.{Entry}
-use Rattle.world_model.specs.declared.entry.Entry.TheVariants.{Sent, Delivered}
-use Rattle.world_model.specs.declared.message.Call.{Call}
-use Rattle.world_model.specs.declared.message.Reply.{Reply}
 use Rattle.world_model.specs.declared.message.Reply.TheVariants as replies
-use Rattle.world_model.specs.declared.op.Op.{Op}
-use Rattle.world_model.specs.Entries.{At}
-use Rattle.world_model.specs.Heard.{Asked, Heard}
-use Rattle.world_model.specs.Messages.{HasXid, SpellsCall, SpellsCallBy, SpellsReply}
-use Rattle.world_model.specs.Commits.{commit_call}
-use Rattle.world_model.proofs.Places.{length_last}
-use Rattle.call_replies.specs.Says.{said_of, Says, IsCallOf}
-use Rattle.client_shelf.specs.declared.next.Next.{Next}
+use Rattle.world_model.specs.Heard.{Heard}
+use Rattle.call_replies.specs.Says.{IsCallOf}
 use Rattle.client_shelf.specs.declared.next.Next.TheVariants as nexts
-use Rattle.client_shelf.specs.declared.shelf.Shelf.{Shelf}
-use Rattle.file_ops.specs.declared.close_file.Closing.{Closing}
 use Rattle.file_ops.specs.declared.close_file.Closing.TheVariants as closing
-use Rattle.file_ops.specs.declared.put_file.Putting.{Putting}
 use Rattle.file_ops.specs.declared.put_file.Putting.TheVariants as putting
-use Rattle.file_ops.specs.declared.saving.Saving.{Saving}
-use Rattle.file_ops.specs.declared.sync_file.Syncing.{Syncing}
 use Rattle.file_ops.specs.declared.sync_file.Syncing.TheVariants as syncing
-use Rattle.file_ops.specs.declared.write_file.Writing.{Writing}
 use Rattle.file_ops.specs.declared.write_file.Writing.TheVariants as writing
 use Rattle.file_ops.specs.Saves as saves
-use Rattle.op_machines.specs.declared.begun.Mounted.{Mounted}
-use Rattle.op_machines.specs.declared.file_machine.FileMachine.{FileMachine}
 use Rattle.op_machines.specs.declared.file_machine.FileMachine.TheVariants as files
-use Rattle.op_machines.specs.declared.machine.Machine.{Machine}
 use Rattle.op_machines.specs.declared.machine.Machine.TheVariants as machines
-use Rattle.op_machines.specs.declared.path_machine.PathMachine.{PathMachine}
-use Rattle.op_machines.specs.Begun.{machine_of}
-use Rattle.op_machines.specs.Openers.{file_of}
-use Rattle.write_back.specs.Files.{of_file}
-use Rattle.write_back.specs.Pieces.{Sent as Piece, Flown, fly_at, piece_under}
-use Rattle.write_back.proofs.Xids.{fly-under}
+use Rattle.write_back.specs.Pieces.{Sent as Piece}
 use Rattle.write_back.proofs.Taking.{under-own}
-use Rattle.step_pending.specs.Cells.{EachSound}
-use Rattle.step_pending.proofs.Shown.{flown-from}
 use Rattle.step_saves.specs.Accounts.{Reaches as ReachesByte}
-use Rattle.client_core.specs.declared.lane.Purpose.{Purpose}
-use Rattle.client_core.specs.declared.lane.State.TheVariants.{Busy}
-use Rattle.client_core.specs.declared.setup.Setup.{Setup}
-use Rattle.client_core.specs.View.{View}
-use Rattle.core_facts.specs.Reaches.{Reaches, HearsRecord}
-use Rattle.core_facts.specs.Counted.{IsOfOperation}
-use Rattle.core_facts.specs.Tries.{Tried, unsent, runs, ended}
-use Rattle.core_facts.proofs.AllCounts.{begins-unbegun}
-use Rattle.core_facts.proofs.Flights.{flies_of}
-use Rattle.core_facts.proofs.Hearing.{was-sent, says-of, heard-of}
-use Rattle.core_facts.proofs.Owning.{reached-owned}
-use Rattle.core_facts.proofs.Rows.{reached-rows}
-use Rattle.core_facts.proofs.Tales.{TaleLaws, Did, reached-good}
-use Rattle.core_answers.proofs.asks.CallsAwaited.{PathNames, Names, Expects, expects-laws}
-use Rattle.core_answers.proofs.asks.FilesAwaited.{SyncNames, CloseNames, WriteNames, StateNames, FileNames}
-use Rattle.core_answers.proofs.asks.SavedCalls.{Saves}
-use Rattle.core_answers.proofs.bonds.OneCall.{IsNfs, one-call}
-use Rattle.core_answers.specs.writes.Alone.{IsWaiting, IsQuiet}
-use Rattle.core_answers.specs.writes.Carried.{write_of, IsCarried}
+use Rattle.core_facts.specs.Tries.{runs, ended}
+use Rattle.core_facts.proofs.Hearing.{heard-of}
+use Rattle.core_answers.specs.writes.Alone.{IsQuiet}
+use Rattle.core_answers.specs.writes.Carried.{IsCarried}
 use Rattle.core_answers.proofs.writes.AllFits.{commits_path, commits_of}
 use Rattle.core_answers.proofs.writes.CallFits.{commits_if, commits_save, commits_write, commits_sync, commits_close, commits_put, commits_file}
 use Rattle.core_answers.proofs.writes.CommitsAlone.{commits-alone}
 use Rattle.core_answers.proofs.writes.PiecesCarried.{pieces-carried}
-use Rattle.core_session.specs.saves.Evidence.{WroteByte, MadeStable, at_once, by_commit, IsHeldBy}
+use Rattle.core_session.specs.saves.Evidence.{at_once, by_commit, IsHeldBy}
 use Rattle.core_session.proofs.saves.Taking.{sent-is, its-piece, sent-piece}
 use Rattle.core_session.proofs.saves.WholeSteps.{SendsIt, Wholly}
 use Rattle.core_session.proofs.syncs.StageSteps.{ByWrite, ByCommit}

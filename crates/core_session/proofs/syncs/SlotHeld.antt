@@ -1,38 +1,11 @@
 -- While an operation on a slot is under way which neither opens nor closes it, the table of opens has the file that the history says.
-use Rattle.std.proofs.Common.{◌≡◌, ◌<◌, ◌≤◌, ◌+◌, ◌⊎◌, inl, inr, ℕ, Bool, true, false, nat_eq, List, [], ◌∷◌, ◌++◌, length, Option, Some, None, option_map, slice_get, refl, sym, ap, subst, ◌∙◌, arith, append-nil, append_assoc}
-use Rattle.std.proofs.lemmas.Bool.{eqb-true, eqb-false, cases_lt}
+use Rattle.core_session.proofs.Prelude.{◌≡◌, ◌<◌, ◌≤◌, ◌+◌, ◌⊎◌, inl, inr, ℕ, Bool, true, false, nat_eq, List, [], ◌∷◌, ◌++◌, length, Option, Some, None, option_map, slice_get, refl, sym, ap, subst, ◌∙◌, arith, append-nil, append_assoc, eqb-true, eqb-false, cases_lt, Opened, Opens, Answer, Entry, Began, Answered, Op, At, Modes, Ended, AnsweredBefore, UnderWay, IsOf, InSlot, slot_of, Terms, At-grow, At-last, At-one, At-back, length_last, file_at, Mounted, machine_of, State, Busy, Setup, IsIdle, View, Reaches, GoesWith, Known, Runs, number_of, to-map, IsHeld, Agrees, Kind, plainly, kind_of, SlotsAgree, reached-slots}
 use Rattle.std.specs.FinMap as finite
-use Rattle.open_files.specs.declared.opened.Opened.{Opened}
-use Rattle.open_files.specs.Slots.{Opens}
-use Rattle.world_model.specs.declared.answer.Answer.{Answer}
-use Rattle.world_model.specs.declared.entry.Entry.{Entry}
-use Rattle.world_model.specs.declared.entry.Entry.TheVariants.{Began, Answered}
-use Rattle.world_model.specs.declared.op.Op.{Op}
 use Rattle.world_model.specs.declared.op.Op.TheVariants as ops
-use Rattle.world_model.specs.Entries.{At}
-use Rattle.claims.specs.Modes.{Modes}
-use Rattle.world_model.specs.Operations.{Ended, AnsweredBefore, UnderWay}
-use Rattle.claims.specs.Slots.{IsOf, InSlot, slot_of}
-use Rattle.claims.specs.Terms.{Terms}
-use Rattle.world_model.proofs.Places.{At-grow, At-last, At-one, At-back, length_last}
-use Rattle.file_ops.specs.SlotFiles.{file_at}
-use Rattle.op_machines.specs.declared.begun.Mounted.{Mounted}
 use Rattle.op_machines.specs.declared.file_machine.FileMachine.TheVariants as files
 use Rattle.op_machines.specs.declared.machine.Machine.TheVariants as machines
-use Rattle.op_machines.specs.Begun.{machine_of}
-use Rattle.client_core.specs.declared.lane.State.{State}
-use Rattle.client_core.specs.declared.lane.State.TheVariants.{Busy}
-use Rattle.client_core.specs.declared.setup.Setup.{Setup}
-use Rattle.client_core.specs.Numbers.{IsIdle}
-use Rattle.client_core.specs.View.{View}
-use Rattle.core_facts.specs.Reaches.{Reaches}
-use Rattle.core_facts.specs.SlotAnswers.{GoesWith}
-use Rattle.core_facts.proofs.Keeping.{Known}
-use Rattle.core_facts.proofs.LaneMarks.{Runs, number_of}
-use Rattle.core_facts.proofs.Lists.{to-map}
-use Rattle.core_facts.proofs.SlotGrowth.{IsHeld, held-back, Agrees, IsShown}
-use Rattle.core_facts.proofs.Slots.{Kind, closing, plainly, kind_of, SlotsAgree}
-use Rattle.core_facts.proofs.SlotsAlong.{reached-slots}
+use Rattle.core_facts.proofs.SlotGrowth.{held-back, IsShown}
+use Rattle.core_facts.proofs.Slots.{closing}
 use Rattle.core_session.proofs.drops.Drops.{LaneTold}
 use Rattle.core_session.proofs.drops.Guards.{CloserStep, OtherStep}
 use Rattle.core_session.proofs.drops.GuardLaws.{StepOf}

@@ -1,52 +1,28 @@
 -- What a step of a save makes of one byte that an operation added.
-use Rattle.std.proofs.Common.{◌≡◌, ◌<◌, ◌≤◌, ◌+◌, ◌-◌, ℕ, zero, suc, Bool, true, false, List, [], ◌∷◌, length, Option, Some, None, Result, Ok, Err, inl, inr, ◌⊎◌, refl, sym, ap, subst, ◌∙◌, arith}
-use Rattle.std.specs.Prelude.{nat_lt, slice_index}
-use Rattle.std.proofs.lemmas.Bool.{lt-ltb}
-use Rattle.nfs_types.specs.declared.verf.Verf.{Verf}
-use Rattle.nfs_types.specs.declared.wcc.Wcc.{Wcc}
+use Rattle.core_session.proofs.Prelude.{◌≡◌, ◌<◌, ◌≤◌, ◌+◌, ◌-◌, ℕ, zero, suc, Bool, true, false, List, [], ◌∷◌, length, Option, Some, None, Result, Ok, Err, inl, inr, ◌⊎◌, refl, sym, ap, subst, ◌∙◌, arith, nat_lt, slice_index, lt-ltb, Verf, Wcc, Fault, Memory, Reply, Repeat, Turn, goes_again, is_in_flight, Change, lost, Segments, covers, chosen, piece_of, with_sent, Pending, of_file, with_bytes, OnFile, at_xid, landed, landed_part, with_cut, with_xid, FilePending, Flown, nothing, fly_at, piece_under, PutsInFlight, fly-under, Verdict, AllStable, SendAgain, decided, verdict_of, Sending, Committing, Resending, CommittingAgain, Saving, commit_told, EachSound, flown-from, IsClearUpTo}
 use Rattle.nfs_file_calls.specs.declared.owned.FileKept.TheVariants as kept
-use Rattle.world_model.specs.declared.answer.Fault.{Fault}
-use Rattle.world_model.specs.declared.answer.Fault.TheVariants.{Memory}
-use Rattle.world_model.specs.declared.message.Reply.{Reply}
 use Rattle.world_model.specs.declared.message.Reply.TheVariants as replies
-use Rattle.client_shelf.specs.declared.repeats.Repeat.{Repeat}
-use Rattle.client_shelf.specs.declared.turn.Turn.{Turn}
-use Rattle.client_shelf.specs.Busy.{goes_again}
 use Rattle.write_back.specs.declared.state.State.{State}
 use Rattle.write_back.specs.declared.state.State.TheVariants.{Waiting, InFlight, Acked}
 use Rattle.write_back.specs.declared.state.Ready.TheVariants.{Refused}
-use Rattle.write_back.specs.States.{is_in_flight}
-use Rattle.write_back.specs.declared.change.Change.{Change}
 use Rattle.write_back.specs.declared.change.Change.TheVariants as by_change
 use Rattle.write_back.specs.declared.change.Change.TheVariants.{Settle, MarkAgain}
 use Rattle.write_back.specs.Effects.{IsAnswer}
-use Rattle.write_back.specs.Changes.{fate, lost}
-use Rattle.write_back.specs.Segments.{Segments, covers}
-use Rattle.write_back.specs.Choice.{chosen, piece_of, with_sent}
-use Rattle.write_back.specs.Files.{Pending, of_file, with_bytes, OnFile}
-use Rattle.write_back.specs.Landing.{acked_by, at_piece, at_xid, landed, landed_part, with_cut, with_xid}
-use Rattle.write_back.specs.Pieces.{Sent, FilePending, Flown, nothing, fly_at, piece_under}
-use Rattle.write_back.specs.Places.{PutsInFlight, Lands}
+use Rattle.write_back.specs.Changes.{fate}
+use Rattle.write_back.specs.Landing.{acked_by, at_piece}
+use Rattle.write_back.specs.Pieces.{Sent}
+use Rattle.write_back.specs.Places.{Lands}
 use Rattle.write_back.proofs.Adding.{cuts-so}
 use Rattle.write_back.proofs.Landings.{answer-acked, answer-return, lands-one, lands-part}
 use Rattle.write_back.proofs.Sending.{next-is, puts-sent}
 use Rattle.write_back.proofs.SendsOn.{puts-with}
 use Rattle.write_back.proofs.Taking.{under-own}
-use Rattle.write_back.proofs.Xids.{fly-under, renumbers-so}
-use Rattle.commit_verf.specs.declared.commit.Verdict.{Verdict}
-use Rattle.commit_verf.specs.declared.commit.Verdict.TheVariants.{AllStable, SendAgain}
-use Rattle.commit_verf.specs.Decisions.{decided, verdict_of}
+use Rattle.write_back.proofs.Xids.{renumbers-so}
 use Rattle.file_ops.specs.declared.saving.Phase.{Phase}
-use Rattle.file_ops.specs.declared.saving.Phase.TheVariants.{Sending, Committing, Resending, CommittingAgain}
-use Rattle.file_ops.specs.declared.saving.Saving.{Saving}
-use Rattle.file_ops.specs.Judging.{commit_told}
 use Rattle.file_ops.specs.Saves as saves
-use Rattle.step_pending.specs.Cells.{EachSound}
 use Rattle.step_pending.proofs.Leading.{if-true}
 use Rattle.step_pending.proofs.Hearing.{sound-heard}
-use Rattle.step_pending.proofs.Shown.{flown-from}
 use Rattle.step_saves.specs.Accounts.{Reaches}
-use Rattle.step_saves.specs.Saves.{IsClearUpTo}
 use Rattle.step_saves.proofs.Accounting.{on-known}
 use Rattle.core_session.proofs.syncs.Stages.{Stage, known-in, known-adds, known-sent, Falls, falls-return, falls-refuse, falls-ack, falls-store, known-landed, known-renamed, known-decided, known-cut, known-given, known-clear}
 use Rattle.step_saves.proofs.Places.{rests-decided}

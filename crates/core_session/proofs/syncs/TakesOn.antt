@@ -1,147 +1,53 @@
 -- A lane takes what came of its call: what holds of the byte goes on holding.
-use Rattle.std.proofs.Common.{Ok, position, ◌≡◌, ◌≢◌, ◌≤◌, ◌<◌, ◌⊎◌, ◌+◌, inl, inr, ℕ, suc, Bool, true, false, nat_eq, List, [], ◌∷◌, ◌++◌, length, Some, slice_get, refl, sym, ap, subst, ◌∙◌, arith}
-use Rattle.std.proofs.lemmas.Bool.{eqb-true, eqb-false}
-use Rattle.rpc_retry.specs.declared.waiting.Waiting.{Waiting}
-use Rattle.rpc_retry.specs.Held.{next_xid}
+use Rattle.core_session.proofs.Prelude.{Ok, position, ◌≡◌, ◌≢◌, ◌≤◌, ◌<◌, ◌⊎◌, ◌+◌, inl, inr, ℕ, suc, Bool, true, false, nat_eq, List, [], ◌∷◌, ◌++◌, length, Some, slice_get, refl, sym, ap, subst, ◌∙◌, arith, eqb-true, eqb-false, Waiting, next_xid, Value, Entry, Op, IsBusy, UnderWay, AnsweredBefore, Terms, of_file, Mounted, Machine, machine_of, Purpose, State, Busy, Over, Setup, TakesAt, View, turn_at, GoesWith, Known, taker-is, taker-one, quiet-facts, Runs, lanes-under-way, number_of, to-map, Placed, MadeStable, KnowsRoot, PutsNamed, xid_at, waiting_at, Verf, Wcc, Began, Delivered, said_of, Flown, fly_at, EachSound, Saving, is_busy, numbers_of, in_flight, Reaches, HearsRecord, taken_one, waits-late, Opens, IsOpen, Fault, At, IsOf, slot_of, CloseFile, file_at, Lane, AreApart, IsPlain, Kind, plainly, kind_of, IsOwed, IsGuarded, save_in, LetsGo, Answer, list_any, is_other}
 use Rattle.world_model.specs.declared.answer.Answer.TheVariants as answers
-use Rattle.world_model.specs.declared.answer.Value.{Value}
-use Rattle.world_model.specs.declared.entry.Entry.{Entry}
-use Rattle.world_model.specs.declared.op.Op.{Op}
 use Rattle.world_model.specs.declared.op.Op.TheVariants as ops
-use Rattle.world_model.specs.LanesTogether.{IsBusy}
-use Rattle.world_model.specs.Operations.{UnderWay, AnsweredBefore}
-use Rattle.claims.specs.Terms.{Terms}
-use Rattle.write_back.specs.Files.{of_file}
-use Rattle.op_machines.specs.declared.begun.Mounted.{Mounted}
-use Rattle.op_machines.specs.declared.machine.Machine.{Machine}
-use Rattle.op_machines.specs.Begun.{machine_of}
-use Rattle.client_core.specs.declared.lane.Purpose.{Purpose}
-use Rattle.client_core.specs.declared.lane.State.{State}
-use Rattle.client_core.specs.declared.lane.State.TheVariants.{Busy, Over}
-use Rattle.client_core.specs.declared.setup.Setup.{Setup}
-use Rattle.client_core.specs.Steps.{TakesAt}
-use Rattle.client_core.specs.View.{View, turn_at}
-use Rattle.core_facts.specs.SlotAnswers.{GoesWith}
-use Rattle.core_facts.proofs.Keeping.{Known, taker-is, taker-one}
-use Rattle.core_facts.proofs.LaneMarks.{quiet-facts, Runs, lanes-under-way, number_of}
-use Rattle.core_facts.proofs.Lists.{to-map}
-use Rattle.core_facts.proofs.Placing.{Placed}
-use Rattle.core_session.specs.saves.Evidence.{MadeStable}
 use Rattle.core_session.proofs.saves.Evidenced.{stable-grow}
 use Rattle.core_session.proofs.saves.WholeSteps.{Wholly}
-use Rattle.core_session.proofs.drops.LaneIs.{number-is}
-use Rattle.core_facts.specs.Naming.{KnowsRoot}
-use Rattle.core_session.proofs.drops.Laws.{DropsKnown, takes-stepped}
-use Rattle.core_session.proofs.syncs.Leftovers.{left-step}
-use Rattle.core_session.specs.syncs.Synced.{PutsNamed}
+use Rattle.core_session.proofs.drops.LaneIs.{number-is, state-is, answer-is}
+use Rattle.core_session.proofs.drops.Laws.{DropsKnown, takes-stepped, OneStepped, drops-takes}
+use Rattle.core_session.proofs.syncs.Leftovers.{left-step, closer-it}
 use Rattle.core_session.proofs.syncs.PutAdding.{put-adding}
 use Rattle.core_session.proofs.syncs.PutsBring.{PutGiven, puts-bring}
 use Rattle.core_session.proofs.syncs.Aims.{JobAims, AimedAt, takes-aim, aims-own, saves-opens, opens-as}
-use Rattle.core_session.proofs.syncs.AllJobs.{JobOpens}
+use Rattle.core_session.proofs.syncs.AllJobs.{JobOpens, job_save, JobHas}
 use Rattle.core_session.proofs.syncs.Aparts.{Apart, apart-heard}
 use Rattle.core_session.proofs.syncs.PutEnds.{own-last}
 use Rattle.core_session.proofs.syncs.PutGoes.{AtSave, OwnAt, Names, names-keep, at-save, own_save, own-has, takes-at-save, takes-still}
 use Rattle.core_session.proofs.syncs.Carrying.{unused-fresh, calls-takes, wrote-kept}
-use Rattle.core_session.proofs.syncs.Contents.{Common}
-use Rattle.core_session.proofs.syncs.Fate.{Story, Fate, one-under, later, busy, refused, well}
-use Rattle.core_session.proofs.syncs.Fates.{job_kind}
+use Rattle.core_session.proofs.syncs.Contents.{Common, Shows}
+use Rattle.core_session.proofs.syncs.Fate.{Story, Fate, one-under, later, busy, refused, well, story-turns, fate-turns, ready-is}
+use Rattle.core_session.proofs.syncs.Fates.{job_kind, save-is}
 use Rattle.core_session.proofs.syncs.LaneButs.{takes-but}
-use Rattle.core_session.proofs.syncs.Looks.{Touching, touching-on}
-use Rattle.core_session.proofs.syncs.Nexts.{has-map, landed-unsent, landed-since, PlanBefore, PlanAfter, before-next, flown-on, after-fate, after-story, at-on, not-before, ended-back, common-from, known-from, One, Two, Settles, CameS, EndsS, MineIs, before-other, before-write, before-put, to-plan, put-kind}
+use Rattle.core_session.proofs.syncs.Looks.{Touching, touching-on, ClosesIt, IsLeft, owed, was_left, left_, doomed, PutsOn}
+use Rattle.core_session.proofs.syncs.Nexts.{has-map, landed-unsent, landed-since, PlanBefore, PlanAfter, before-next, flown-on, after-fate, after-story, at-on, not-before, ended-back, common-from, known-from, One, Two, Settles, CameS, EndsS, MineIs, before-other, before-write, before-put, to-plan, put-kind, Guarding, evident_, open_, ahead_, loose_, Unmade, Dropped, closes-by, puts-by, closes-none, puts-none, Outcome_, ahead-known, kept-known, PlanOwn, own-tale, saved-ends, saved-goes, PlanPut, put-tale, put-made}
 use Rattle.core_session.proofs.syncs.Nexts as nexts
 use Rattle.core_session.proofs.syncs.Passing.{told}
-use Rattle.core_session.proofs.syncs.Phases.{Across, Family, KnownBy}
-use Rattle.core_session.proofs.syncs.Causes.{Adding}
+use Rattle.core_session.proofs.syncs.Phases.{Across, Family, KnownBy, Evident}
+use Rattle.core_session.proofs.syncs.Causes.{Adding, IsWriter, put-is}
 use Rattle.core_session.proofs.syncs.Plans.{Plan, Came_, takes-came}
 use Rattle.core_session.proofs.syncs.Seen.{bases, Owned}
-use Rattle.core_session.proofs.syncs.Showings.{Fresh, Wrote, Made}
+use Rattle.core_session.proofs.syncs.Showings.{Fresh, Wrote, Made, flown-is, below-next, shows-write, shows-commit}
 use Rattle.core_session.proofs.syncs.Stages.{unsent}
-use Rattle.core_session.proofs.syncs.Stands.{WritesIt, of_slot, of_last, Case, ToldBefore, ToldAfter, after, SinceTwo, Has, Early, IsUnsent, Since_, Phase, before}
+use Rattle.core_session.proofs.syncs.Stands.{WritesIt, of_slot, of_last, Case, ToldBefore, ToldAfter, after, SinceTwo, Has, Early, IsUnsent, Since_, Phase, before, GuardBy, SavesIt, by_slot, by_last, PutRuns, LiveBy}
 use Rattle.core_session.proofs.syncs.Stands as stands
-use Rattle.core_session.proofs.syncs.Turning.{IsFixed, Turns, fixed-turns, turns-take, under-on, under-was}
-use Rattle.rpc_message.specs.Call.{xid_at}
-use Rattle.rpc_retry.specs.Waiting.{waiting_at}
-use Rattle.nfs_types.specs.declared.verf.Verf.{Verf}
-use Rattle.nfs_types.specs.declared.wcc.Wcc.{Wcc}
+use Rattle.core_session.proofs.syncs.Turning.{IsFixed, Turns, fixed-turns, turns-take, under-on, under-was, turns-apart}
 use Rattle.nfs_file_calls.specs.declared.owned.FileKept.TheVariants as kept
-use Rattle.world_model.specs.declared.entry.Entry.TheVariants.{Began, Delivered}
 use Rattle.world_model.specs.declared.message.Reply.TheVariants as replies
-use Rattle.call_replies.specs.Says.{said_of}
-use Rattle.write_back.specs.Pieces.{Flown, fly_at}
-use Rattle.step_pending.specs.Cells.{EachSound}
 use Rattle.step_saves.specs.Accounts.{Reaches as ReachesByte}
-use Rattle.file_ops.specs.declared.saving.Saving.{Saving}
-use Rattle.client_core.specs.Lanes.{is_busy}
-use Rattle.client_core.specs.Numbers.{numbers_of}
-use Rattle.core_facts.specs.InFlight.{in_flight}
-use Rattle.core_facts.specs.Reaches.{Reaches, HearsRecord}
-use Rattle.core_facts.proofs.Cases.{taken_one}
-use Rattle.core_answers.proofs.writes.PiecesCarried.{waits-late}
-use Rattle.core_session.proofs.syncs.AllJobs.{job_save}
-use Rattle.core_session.proofs.syncs.Contents.{Shows}
-use Rattle.core_session.proofs.syncs.Fates.{save-is}
 use Rattle.core_session.proofs.syncs.Grows.{evident-on, SendsNone, BeginsNone, split-on, fresh-none, longer-by, begins-later, low-on, settles-on, two-on}
-use Rattle.core_session.proofs.syncs.Showings.{flown-is, below-next, shows-write, shows-commit}
 use Rattle.core_session.proofs.syncs.StirsOn.{or-come, over-known, soon, both-or, refused-done, busy-one}
-use Rattle.std.proofs.lemmas.Bool.{eqb-true, eqb-false}
-use Rattle.world_model.specs.Operations.{UnderWay, AnsweredBefore}
-use Rattle.write_back.specs.Files.{of_file}
-use Rattle.client_core.specs.View.{View}
-use Rattle.core_facts.proofs.Keeping.{Known}
-use Rattle.core_facts.proofs.LaneMarks.{Runs, lanes-under-way, number_of}
-use Rattle.core_session.proofs.drops.Laws.{DropsKnown}
-use Rattle.core_session.proofs.syncs.Aims.{JobAims}
-use Rattle.core_session.proofs.syncs.AllJobs.{JobHas}
-use Rattle.core_session.proofs.syncs.Aparts.{Apart}
-use Rattle.core_session.proofs.syncs.Carrying.{unused-fresh, wrote-kept}
-use Rattle.core_session.proofs.syncs.Fates.{job_kind}
-use Rattle.core_session.proofs.syncs.Passing.{told}
-use Rattle.core_session.proofs.syncs.Phases.{Across, Family, KnownBy}
-use Rattle.core_session.proofs.syncs.Plans.{Plan, Came_}
-use Rattle.core_session.proofs.syncs.Turning.{Turns, fixed-turns}
-use Rattle.open_files.specs.Slots.{Opens, IsOpen}
-use Rattle.world_model.specs.declared.answer.Fault.{Fault}
-use Rattle.world_model.specs.declared.entry.Entry.TheVariants.{Began}
-use Rattle.world_model.specs.Entries.{At}
-use Rattle.claims.specs.Slots.{IsOf, slot_of}
-use Rattle.file_ops.specs.declared.close_file.CloseFile.{CloseFile}
-use Rattle.file_ops.specs.SlotFiles.{file_at}
 use Rattle.op_machines.specs.declared.file_machine.FileMachine.TheVariants as files
 use Rattle.op_machines.specs.declared.machine.Machine.TheVariants as machines
-use Rattle.client_core.specs.declared.lane.Lane.{Lane}
-use Rattle.core_facts.specs.Lanes.{AreApart}
-use Rattle.core_facts.proofs.OpenSlots.{IsPlain}
-use Rattle.core_facts.proofs.Slots.{Kind, plainly, kind_of}
-use Rattle.core_session.specs.drops.Dropped.{IsOwed}
-use Rattle.core_session.specs.drops.Guarded.{IsGuarded, save_in}
-use Rattle.core_session.specs.drops.Told.{LetsGo}
 use Rattle.core_session.proofs.drops.Along.{GuardsKnown}
 use Rattle.core_session.proofs.drops.Drops.{LaneTold}
 use Rattle.core_session.proofs.drops.GuardLaws.{StepOf, takes-step}
-use Rattle.core_session.proofs.drops.LaneIs.{state-is, answer-is}
-use Rattle.core_session.proofs.drops.Laws.{OneStepped, drops-takes}
 use Rattle.core_session.proofs.drops.SlotKinds.{KindTold}
-use Rattle.core_session.proofs.syncs.AllJobs.{JobHas}
-use Rattle.core_session.proofs.syncs.Causes.{IsWriter, put-is}
-use Rattle.core_session.proofs.syncs.Fate.{story-turns, fate-turns, ready-is}
 use Rattle.core_session.proofs.syncs.Guard.{GuardView, by_slot, by_close, guard-view, guard-step, SavesWell, ends, goes_on, GaveIt, loosed, still-guarded, owed-gave, slot-guard, takes-plain, takes-kind}
-use Rattle.core_session.proofs.syncs.Leftovers.{closer-it}
-use Rattle.core_session.proofs.syncs.Lefts.{left-now, left-shown, settled-or}
-use Rattle.core_session.proofs.syncs.Looks.{ClosesIt, IsLeft, owed, was_left, left_, doomed, PutsOn}
-use Rattle.core_session.proofs.syncs.Nexts.{Guarding, evident_, open_, ahead_, loose_, Unmade, Dropped, closes-by, puts-by, closes-none, puts-none, Outcome_, ahead-known, kept-known, PlanOwn, own-tale, saved-ends, saved-goes}
+use Rattle.core_session.proofs.syncs.Lefts.{left-now, left-shown, settled-or, live-or}
 use Rattle.core_session.proofs.syncs.Pasts.{IsAhead, AheadOf, takes-ahead}
-use Rattle.core_session.proofs.syncs.Phases.{Evident}
 use Rattle.core_session.proofs.syncs.SlotHeld.{HoldsSlot, holds-step}
-use Rattle.core_session.proofs.syncs.Stands.{GuardBy, SavesIt, by_slot, by_last}
-use Rattle.world_model.specs.declared.answer.Answer.{Answer}
-use Rattle.core_session.proofs.syncs.Stands.{PutRuns}
-use Rattle.core_session.proofs.syncs.Stands.{LiveBy}
-use Rattle.std.specs.List.{list_any}
-use Rattle.client_shelf.specs.LaneFiles.{is_other}
-use Rattle.core_session.proofs.syncs.Lefts.{live-or}
 use Rattle.core_session.proofs.syncs.PutPlaced.{PutPlaced, takes-put, crowded, own-at}
-use Rattle.core_session.proofs.syncs.Turning.{turns-apart}
-use Rattle.core_session.proofs.syncs.Nexts.{PlanPut, put-tale, put-made}
 
 module _ (mt : Mounted) (terms : Terms) (setup : Setup) (H : List Entry) (V : View) (g : GoesWith mt terms setup H V) (w y s j p : ℕ) (f : List ℕ) (i byte : ℕ) (c : Case terms H w y s j p f i byte) (roots : KnowsRoot terms.origin H mt.root)
     (puts_named : PutsNamed H) where

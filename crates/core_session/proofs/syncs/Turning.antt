@@ -1,29 +1,5 @@
 -- What a step of one lane leaves of what is under way and of what was answered, and what an entry does that notes an answer, or that isn't of an operation.
-use Rattle.std.proofs.Common.{◌≡◌, ◌≢◌, ℕ, List, [], ◌∷◌, ◌++◌, length, Bool, true, false, nat_eq, Some, slice_get, refl, sym, ap, subst, ◌∙◌, arith}
-use Rattle.std.proofs.lemmas.Bool.{eqb-true, eqb-false}
-use Rattle.world_model.specs.declared.answer.Answer.{Answer}
-use Rattle.world_model.specs.declared.entry.Entry.{Entry}
-use Rattle.world_model.specs.declared.entry.Entry.TheVariants.{Began, Answered, Delivered}
-use Rattle.world_model.specs.declared.op.Op.{Op}
-use Rattle.world_model.specs.Entries.{At}
-use Rattle.world_model.specs.LanesTogether.{IsBusy}
-use Rattle.claims.specs.Modes.{Modes}
-use Rattle.world_model.specs.Operations.{Ended, UnderWay}
-use Rattle.world_model.proofs.Places.{At-last, At-below, At-one, length_last}
-use Rattle.op_machines.specs.declared.machine.Machine.{Machine}
-use Rattle.client_core.specs.declared.lane.Lane.{Lane}
-use Rattle.client_core.specs.declared.lane.State.{State}
-use Rattle.client_core.specs.declared.lane.State.TheVariants.{Busy, Over}
-use Rattle.client_core.specs.declared.setup.Setup.{Setup}
-use Rattle.client_core.specs.Numbers.{IsIdle, numbers_of}
-use Rattle.client_core.specs.Steps.{AnswersAt}
-use Rattle.client_core.specs.View.{View}
-use Rattle.core_facts.specs.Lanes.{AreApart}
-use Rattle.core_facts.specs.Reaches.{IsOpenLine}
-use Rattle.core_facts.proofs.Keeping.{Known}
-use Rattle.core_facts.proofs.LaneMarks.{Runs, lanes-under-way, idle-numbers, number_of}
-use Rattle.core_facts.proofs.Lists.{still-there, to-map}
-use Rattle.core_facts.proofs.Stories.{under-back, ended-grow, some-answer}
+use Rattle.core_session.proofs.Prelude.{◌≡◌, ◌≢◌, ℕ, List, [], ◌∷◌, ◌++◌, length, Bool, true, false, nat_eq, Some, slice_get, refl, sym, ap, subst, ◌∙◌, arith, eqb-true, eqb-false, Answer, Entry, Began, Answered, Delivered, Op, At, IsBusy, Modes, Ended, UnderWay, At-last, At-below, At-one, length_last, Machine, Lane, State, Busy, Over, Setup, IsIdle, numbers_of, AnswersAt, View, AreApart, IsOpenLine, Known, Runs, lanes-under-way, idle-numbers, number_of, still-there, to-map, under-back, ended-grow, some-answer}
 use Rattle.core_session.proofs.drops.Growing.{under-grow}
 use Rattle.core_session.proofs.drops.KnowingAlong.{IsPlain}
 use Rattle.core_session.proofs.drops.LaneIs.{state-is, number-is, answer-is, busy-over}

@@ -1,23 +1,11 @@
 -- A call that came to nothing lets no put open its file.
-use Rattle.std.proofs.Common.{ℕ, Bool, true, false, List, Result, Err}
-use Rattle.world_model.specs.declared.answer.Fault.{Fault}
-use Rattle.world_model.specs.declared.message.Reply.{Reply}
-use Rattle.client_shelf.specs.declared.next.Next.{Next}
-use Rattle.client_shelf.specs.declared.shelf.Shelf.{Shelf}
-use Rattle.client_shelf.specs.declared.turn.Turn.{Turn}
-use Rattle.file_ops.specs.declared.put_file.PutFile.{PutFile}
-use Rattle.file_ops.specs.declared.put_file.Putting.{Putting}
+use Rattle.core_session.proofs.Prelude.{ℕ, Bool, true, false, List, Result, Err, Fault, Reply, Next, Shelf, Turn, PutFile, Putting, FileMachine, Machine, PathMachine, file_of, Takes}
 use Rattle.file_ops.specs.declared.put_file.Putting.TheVariants as putting
 use Rattle.file_ops.specs.PutFile as puts
-use Rattle.op_machines.specs.declared.file_machine.FileMachine.{FileMachine}
 use Rattle.op_machines.specs.declared.file_machine.FileMachine.TheVariants as files
-use Rattle.op_machines.specs.declared.machine.Machine.{Machine}
 use Rattle.op_machines.specs.declared.machine.Machine.TheVariants as machines
-use Rattle.op_machines.specs.declared.path_machine.PathMachine.{PathMachine}
 use Rattle.op_machines.specs.FileSteps as steps
-use Rattle.op_machines.specs.Openers.{file_of}
 use Rattle.op_machines.specs.PathSteps as paths
-use Rattle.op_machines.specs.Steps.{Takes}
 use Rattle.core_session.proofs.order.Adds.{PutHas, FileHas, PathHas, TakesHas}
 use Rattle.core_session.proofs.order.Unmade.{unmade-has}
 use Rattle.core_session.proofs.syncs.AllJobs.{PathOpens, JobOpens}

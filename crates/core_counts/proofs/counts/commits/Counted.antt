@@ -1,34 +1,12 @@
 -- The COMMITs of a file, along a history in which puts find room.
-use Rattle.std.proofs.Common.{◌≡◌, ◌≢◌, ◌⊎◌, inl, inr, ◌+◌, ◌*◌, ◌++◌, ℕ, Bool, true, false, List, [], ◌∷◌, length, All, Result, refl, sym, ap, subst, ◌∙◌, arith}
+use Rattle.core_counts.proofs.Prelude.{◌≡◌, ◌≢◌, ◌⊎◌, inl, inr, ◌+◌, ◌*◌, ◌++◌, ℕ, Bool, true, false, List, [], ◌∷◌, length, All, Result, refl, sym, ap, subst, ◌∙◌, arith, All-weaker, All-nil, All-head, FileCall, same-or, Placed, AreDifferent, HasBegan, count_of, most_pending, IsCommitOf, commit, StableOf, WriterAt, Few, RepliedAt, info_call, Terms, most_tries, Entry, Began, Call, Reply, Fault, Op, Next, Repeat, Turn, Mounted, Machine, machine_of, Setup, View, Notes, IsNfs, GoesFrom}
 use Rattle.std.specs.Prelude.{sum_by}
-use Rattle.std.proofs.lemmas.List.Elements.{All-weaker, All-nil, All-head}
 use Rattle.std.proofs.lemmas.List.Sums.{sum_by-cons}
-use Rattle.nfs_file_calls.specs.declared.call.FileCall.{FileCall}
 use Rattle.nfs_file_calls.specs.declared.call.FileCall.TheVariants as files
-use Rattle.write_back.proofs.WritesByFile.{same-or}
-use Rattle.claims.specs.Asks.{Asks, Acts, Placed, AreDifferent, HasBegan, Stabilizes, NeedsRoom, TakesRoom, count_of, most_pending}
+use Rattle.claims.specs.Asks.{Asks, Acts, Stabilizes, NeedsRoom, TakesRoom}
 use Rattle.claims.specs.Asks as asks
-use Rattle.claims.specs.CallCounts.{IsCommitOf, commit, FewCommits, StableOf, WriterAt, Few, RepliedAt}
-use Rattle.world_model.specs.Mounts.{info_call}
-use Rattle.claims.specs.Terms.{Terms, most_tries}
-use Rattle.world_model.specs.declared.entry.Entry.{Entry}
-use Rattle.world_model.specs.declared.entry.Entry.TheVariants.{Began}
-use Rattle.world_model.specs.declared.message.Call.{Call}
+use Rattle.claims.specs.CallCounts.{FewCommits}
 use Rattle.world_model.specs.declared.message.Call.TheVariants as calls
-use Rattle.world_model.specs.declared.message.Reply.{Reply}
-use Rattle.world_model.specs.declared.answer.Fault.{Fault}
-use Rattle.world_model.specs.declared.op.Op.{Op}
-use Rattle.client_shelf.specs.declared.next.Next.{Next}
-use Rattle.client_shelf.specs.declared.repeats.Repeat.{Repeat}
-use Rattle.client_shelf.specs.declared.turn.Turn.{Turn}
-use Rattle.op_machines.specs.declared.begun.Mounted.{Mounted}
-use Rattle.op_machines.specs.declared.machine.Machine.{Machine}
-use Rattle.op_machines.specs.Begun.{machine_of}
-use Rattle.client_core.specs.declared.setup.Setup.{Setup}
-use Rattle.client_core.specs.View.{View}
-use Rattle.core_facts.specs.Notes.{Notes}
-use Rattle.core_answers.proofs.bonds.OneCall.{IsNfs}
-use Rattle.core_session.specs.calls.Whole.{GoesFrom}
 use Rattle.core_counts.proofs.counts.commits.WithRoom.{HasRoom, FewCommitsWithRoom}
 use Rattle.core_counts.proofs.counts.commits.Laws.{MachineLeft, IsSaver, sync, close, put, machine-starts, machine-resumes, machine-takes}
 use Rattle.core_counts.proofs.counts.commits.Machines.{Step, Taken, repeats, goes}

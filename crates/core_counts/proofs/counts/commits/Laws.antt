@@ -1,46 +1,21 @@
 -- The laws of a count of COMMITs, of a session in which puts find room for their bytes.
-use Rattle.std.proofs.Common.{◌≡◌, ◌≤◌, ◌-◌, ℕ, Bool, true, false, List, Option, Some, None, Result, Ok, Err, refl, sym, ap, subst, ◌∙◌, arith}
-use Rattle.std.specs.Prelude.{if◌then◌else◌}
-use Rattle.world_model.specs.declared.answer.Fault.{Fault}
-use Rattle.world_model.specs.declared.message.Call.{Call}
-use Rattle.world_model.specs.declared.message.Reply.{Reply}
-use Rattle.world_model.specs.declared.op.Op.{Op}
+use Rattle.core_counts.proofs.Prelude.{◌≡◌, ◌≤◌, ◌-◌, ℕ, Bool, true, false, List, Option, Some, None, Result, Ok, Err, refl, sym, ap, subst, ◌∙◌, arith, if◌then◌else◌, Fault, Call, Reply, Op, Next, Repeat, Shelf, Turn, file_at, Closing, PutFile, Putting, Syncing, look_again, found_by, Walk, WalkNext, Mounted, machine_of, put_of, front_of, last_of, file_of, begun_at, Starts, Resumes, Takes, FileMachine, Machine, Opener, PathMachine, of_name, of_walk, in_flight, Going}
 use Rattle.world_model.specs.declared.op.Op.TheVariants as ops
 use Rattle.client_shelf.specs.Repeats.{answered}
-use Rattle.client_shelf.specs.declared.next.Next.{Next}
 use Rattle.client_shelf.specs.declared.next.Next.TheVariants as nexts
-use Rattle.client_shelf.specs.declared.repeats.Repeat.{Repeat}
-use Rattle.client_shelf.specs.declared.shelf.Shelf.{Shelf}
-use Rattle.client_shelf.specs.declared.turn.Turn.{Turn}
-use Rattle.file_ops.specs.SlotFiles.{file_at}
-use Rattle.file_ops.specs.declared.close_file.Closing.{Closing}
 use Rattle.file_ops.specs.declared.close_file.Closing.TheVariants as closing
-use Rattle.file_ops.specs.declared.put_file.PutFile.{PutFile}
-use Rattle.file_ops.specs.declared.put_file.Putting.{Putting}
 use Rattle.file_ops.specs.declared.put_file.Putting.TheVariants as putting
-use Rattle.file_ops.specs.declared.sync_file.Syncing.{Syncing}
 use Rattle.file_ops.specs.declared.sync_file.Syncing.TheVariants as syncing
-use Rattle.name_ops.specs.Looking.{look_again, found_by}
 use Rattle.name_ops.specs.Walking as walking
-use Rattle.name_ops.specs.declared.walk.Walk.{Walk}
-use Rattle.name_ops.specs.declared.walk.WalkNext.{WalkNext}
 use Rattle.name_ops.specs.declared.walk.WalkNext.TheVariants as walks
 use Rattle.op_machines.specs.FileSteps as steps
-use Rattle.op_machines.specs.declared.begun.Mounted.{Mounted}
-use Rattle.op_machines.specs.Begun.{machine_of, put_of, front_of, last_of}
 use Rattle.name_ops.specs.Pairs.{walk_of}
-use Rattle.op_machines.specs.Openers.{file_of, begun_at, placed}
+use Rattle.op_machines.specs.Openers.{placed}
 use Rattle.op_machines.specs.PathSteps as paths
-use Rattle.op_machines.specs.Steps.{Starts, Resumes, Takes}
-use Rattle.op_machines.specs.declared.file_machine.FileMachine.{FileMachine}
 use Rattle.op_machines.specs.declared.file_machine.FileMachine.TheVariants as files
-use Rattle.op_machines.specs.declared.machine.Machine.{Machine}
 use Rattle.op_machines.specs.declared.machine.Machine.TheVariants as machines
-use Rattle.op_machines.specs.declared.opener.Opener.{Opener}
 use Rattle.op_machines.specs.declared.opener.Opener.TheVariants as openers
-use Rattle.op_machines.specs.declared.path_machine.PathMachine.{PathMachine}
-use Rattle.core_facts.specs.InFlight.{of_name, of_walk, of_file, path_by, in_flight}
-use Rattle.core_facts.proofs.Stories.{Going}
+use Rattle.core_facts.specs.InFlight.{of_file, path_by}
 use Rattle.core_answers.proofs.writes.Plain.{IsOther, PlainAsks}
 use Rattle.core_session.proofs.delays.Rests.{resumes-same}
 use Rattle.core_counts.proofs.counts.commits.Machines.{Step, Taken, repeats, goes, done-step, wait-step, plain-step, SyncLeft, CloseLeft, CloseWaits, sync-starts, sync-resumes, sync-takes, close-starts, close-resumes, close-takes}

@@ -1,35 +1,12 @@
 -- A sync, a close or a put asks for two COMMITs at most, where a put finds room for its bytes.
-use Rattle.std.proofs.Common.{◌≡◌, ◌≤◌, ◌+◌, ℕ, Bool, true, false, List, Option, Some, None, Result, refl, sym, ap, subst, ◌∙◌, arith}
-use Rattle.write_back.specs.Files.{of_file}
-use Rattle.write_back.specs.Segments.{last_end}
-use Rattle.claims.specs.CallCounts.{IsCommitOf, commit}
-use Rattle.world_model.specs.declared.answer.Answer.{Answer}
-use Rattle.world_model.specs.declared.answer.Fault.{Fault}
-use Rattle.world_model.specs.declared.message.Call.{Call}
-use Rattle.world_model.specs.declared.message.Reply.{Reply}
-use Rattle.client_shelf.specs.Busy.{goes_again, repeats_after}
-use Rattle.client_shelf.specs.LaneFiles.{is_first}
-use Rattle.client_shelf.specs.Repeats.{ended, repeated, answered}
-use Rattle.client_shelf.specs.declared.next.Next.{Next}
+use Rattle.core_counts.proofs.Prelude.{◌≡◌, ◌≤◌, ◌+◌, ℕ, Bool, true, false, List, Option, Some, None, Result, refl, sym, ap, subst, ◌∙◌, arith, of_file, last_end, IsCommitOf, commit, Answer, Fault, Call, Reply, goes_again, repeats_after, is_first, ended, repeated, Next, Repeat, Shelf, Turn, refusal_of, remove_busy, joined, CloseFile, Closing, Removal, Saving, SyncFile, Syncing, by-step, Going}
+use Rattle.client_shelf.specs.Repeats.{answered}
 use Rattle.client_shelf.specs.declared.next.Next.TheVariants as nexts
-use Rattle.client_shelf.specs.declared.repeats.Repeat.{Repeat}
-use Rattle.client_shelf.specs.declared.shelf.Shelf.{Shelf}
-use Rattle.client_shelf.specs.declared.turn.Turn.{Turn}
 use Rattle.file_ops.specs.Closes as closes
-use Rattle.file_ops.specs.Closings.{refusal_of, remove_busy}
 use Rattle.file_ops.specs.Saves as saves
-use Rattle.file_ops.specs.SlotFiles.{joined}
 use Rattle.file_ops.specs.Syncs as syncs
-use Rattle.file_ops.specs.declared.close_file.CloseFile.{CloseFile}
-use Rattle.file_ops.specs.declared.close_file.Closing.{Closing}
 use Rattle.file_ops.specs.declared.close_file.Closing.TheVariants as closing
-use Rattle.file_ops.specs.declared.closing.Removal.{Removal}
-use Rattle.file_ops.specs.declared.saving.Saving.{Saving}
-use Rattle.file_ops.specs.declared.sync_file.SyncFile.{SyncFile}
-use Rattle.file_ops.specs.declared.sync_file.Syncing.{Syncing}
 use Rattle.file_ops.specs.declared.sync_file.Syncing.TheVariants as syncing
-use Rattle.file_ops.proofs.SaveCounts.{by-step}
-use Rattle.core_facts.proofs.Stories.{Going}
 use Rattle.core_answers.proofs.writes.Plain.{IsOther, PlainAsks}
 use Rattle.core_counts.proofs.counts.commits.Saves.{left_to, Spent, Took, again, on, goes-spent, takes-took}
 

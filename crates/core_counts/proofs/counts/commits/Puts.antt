@@ -1,41 +1,20 @@
 -- A put asks for two COMMITs at most, where it finds room for its bytes.
-use Rattle.std.proofs.Common.{◌≡◌, ◌≤◌, ◌⊎◌, inl, inr, ℕ, Bool, true, false, List, Result, Ok, Err, refl, sym, ap, subst, ◌∙◌, arith}
-use Rattle.nfs_types.specs.declared.mode.Mode.{Mode}
+use Rattle.core_counts.proofs.Prelude.{◌≡◌, ◌≤◌, ◌⊎◌, inl, inr, ℕ, Bool, true, false, List, Result, Ok, Err, refl, sym, ap, subst, ◌∙◌, arith, Mode, Attrs, Pages, Pending, Answer, Fault, Reply, is_first, Next, Shelf, Turn, is_full, joined, Led, Opening, OpeningNext, OpeningStep, PutFile, Putting, Saving, by-step}
 use Rattle.nfs_types.specs.declared.mode.Mode.TheVariants as modes
-use Rattle.attr_cache.specs.Attrs.{Attrs}
-use Rattle.page_cache.specs.Pages.{Pages}
-use Rattle.write_back.specs.Files.{Pending}
-use Rattle.world_model.specs.declared.answer.Answer.{Answer}
 use Rattle.world_model.specs.declared.answer.Answer.TheVariants as answers
-use Rattle.world_model.specs.declared.answer.Fault.{Fault}
-use Rattle.world_model.specs.declared.message.Reply.{Reply}
-use Rattle.client_shelf.specs.LaneFiles.{is_first}
 use Rattle.client_shelf.specs.Repeats.{answered}
-use Rattle.client_shelf.specs.declared.next.Next.{Next}
 use Rattle.client_shelf.specs.declared.next.Next.TheVariants as nexts
-use Rattle.client_shelf.specs.declared.shelf.Shelf.{Shelf}
-use Rattle.client_shelf.specs.declared.turn.Turn.{Turn}
-use Rattle.file_ops.specs.Adding.{is_full}
 use Rattle.file_ops.specs.OpenFile as opens
 use Rattle.file_ops.specs.Opening as opening
 use Rattle.file_ops.specs.PutFile as puts
 use Rattle.file_ops.specs.Saves as saves
-use Rattle.file_ops.specs.SlotFiles.{joined}
 use Rattle.file_ops.specs.Syncs as syncs
 use Rattle.file_ops.specs.WriteFile as writes
 use Rattle.file_ops.specs.WriteFile.{made_bytes}
-use Rattle.file_ops.specs.declared.opening.Led.{Led}
 use Rattle.file_ops.specs.declared.opening.Led.TheVariants as leads
-use Rattle.file_ops.specs.declared.opening.Opening.{Opening}
-use Rattle.file_ops.specs.declared.opening.OpeningNext.{OpeningNext}
 use Rattle.file_ops.specs.declared.opening.OpeningNext.TheVariants as steps
-use Rattle.file_ops.specs.declared.opening.OpeningStep.{OpeningStep}
 use Rattle.file_ops.specs.declared.opening.OpeningStep.TheVariants.{Look, Make, Find, Ask}
-use Rattle.file_ops.specs.declared.put_file.PutFile.{PutFile}
-use Rattle.file_ops.specs.declared.put_file.Putting.{Putting}
 use Rattle.file_ops.specs.declared.put_file.Putting.TheVariants as putting
-use Rattle.file_ops.specs.declared.saving.Saving.{Saving}
-use Rattle.file_ops.proofs.SaveCounts.{by-step}
 use Rattle.core_answers.proofs.writes.Plain.{go-asks, took-asks, opening-plain}
 use Rattle.core_counts.proofs.counts.commits.Machines.{Step, Taken, repeats, goes, done-step, wait-step, plain-step, spent-step, step-as}
 use Rattle.core_counts.proofs.counts.commits.Saves.{left_to, Spent, Took, again, on, goes-spent, takes-took}

@@ -1,39 +1,16 @@
 -- In a session whose writes, fills and puts together have no more bytes than it holds back, each put finds room for its bytes.
-use Rattle.std.proofs.Common.{◌≡◌, ◌<◌, ◌≤◌, inl, inr, ◌+◌, ◌++◌, ℕ, Bool, true, false, List, [], ◌∷◌, length, append_assoc, Result, refl, sym, ap, subst, ◌∙◌, arith}
-use Rattle.std.proofs.lemmas.Bool.{ltb-true}
-use Rattle.write_back.specs.Files.{Pending, all_pending}
+use Rattle.core_counts.proofs.Prelude.{◌≡◌, ◌<◌, ◌≤◌, inl, inr, ◌+◌, ◌++◌, ℕ, Bool, true, false, List, [], ◌∷◌, length, append_assoc, Result, refl, sym, ap, subst, ◌∙◌, arith, ltb-true, Pending, all_pending, Placed, AreDifferent, HasBegan, IsWriter, count_of, most_pending, WriterAt, Fault, Entry, Began, Reply, Op, At, At-grow, Shelf, is_full, PutFile, Putting, Text, Mounted, FileMachine, Machine, PathMachine, file_of, Setup, Entered, Room, reached-room, stage_of, counts-cons, each-map, all-each, different-apart}
 use Rattle.write_back.specs.Sound as backs
-use Rattle.claims.specs.Asks.{Placed, AreDifferent, HasBegan, IsWriter, count_of, most_pending}
 use Rattle.claims.specs.Asks as asks
-use Rattle.claims.specs.CallCounts.{WriterAt}
-use Rattle.world_model.specs.declared.answer.Fault.{Fault}
-use Rattle.world_model.specs.declared.entry.Entry.{Entry}
-use Rattle.world_model.specs.declared.entry.Entry.TheVariants.{Began}
-use Rattle.world_model.specs.declared.message.Reply.{Reply}
-use Rattle.world_model.specs.declared.op.Op.{Op}
 use Rattle.world_model.specs.declared.op.Op.TheVariants as ops
-use Rattle.world_model.specs.Entries.{At}
-use Rattle.world_model.proofs.Places.{At-grow}
-use Rattle.client_shelf.specs.declared.shelf.Shelf.{Shelf}
-use Rattle.file_ops.specs.Adding.{is_full}
 use Rattle.file_ops.specs.WriteFile.{made_bytes, text_bytes}
-use Rattle.file_ops.specs.declared.put_file.PutFile.{PutFile}
-use Rattle.file_ops.specs.declared.put_file.Putting.{Putting}
 use Rattle.file_ops.specs.declared.put_file.Putting.TheVariants as putting
-use Rattle.file_ops.specs.declared.write_file.Text.{Text}
 use Rattle.file_ops.specs.declared.write_file.Text.TheVariants as texts
-use Rattle.op_machines.specs.declared.begun.Mounted.{Mounted}
-use Rattle.op_machines.specs.declared.file_machine.FileMachine.{FileMachine}
 use Rattle.op_machines.specs.declared.file_machine.FileMachine.TheVariants as files
-use Rattle.op_machines.specs.declared.machine.Machine.{Machine}
 use Rattle.op_machines.specs.declared.machine.Machine.TheVariants as machines
-use Rattle.op_machines.specs.declared.path_machine.PathMachine.{PathMachine}
-use Rattle.op_machines.specs.Openers.{file_of}
-use Rattle.client_core.specs.declared.setup.Setup.{Setup}
-use Rattle.core_session.proofs.room.Entered.{IsPut, Entered}
-use Rattle.core_session.proofs.room.Rooms.{Stands, Room, reached-room}
-use Rattle.core_session.proofs.room.Stages.{putting as putting_stage, stage_of, file_stage, path_stage}
-use Rattle.core_session.proofs.room.Writers.{counts-cons, each-map, all-each, different-apart}
+use Rattle.core_session.proofs.room.Entered.{IsPut}
+use Rattle.core_session.proofs.room.Rooms.{Stands}
+use Rattle.core_session.proofs.room.Stages.{putting as putting_stage, file_stage, path_stage}
 use Rattle.core_counts.proofs.counts.commits.WithRoom.{HasRoom}
 use Rattle.core_counts.proofs.counts.commits.Laws.{MachineRoom, PathRoom, FileRoom}
 use Rattle.core_counts.proofs.counts.commits.Puts.{PutRoom}

@@ -1,35 +1,13 @@
 -- A save asks for two COMMITs at most: after what was pending was sent, and after what the first one showed to be lost.
-use Rattle.std.proofs.Common.{◌≡◌, ◌≤◌, inl, inr, ◌+◌, ◌==◌, ◌&&◌, ℕ, Bool, true, false, List, [], ◌∷◌, Option, Some, None, Result, Ok, Err, refl, sym, ap, subst, ◌∙◌, arith}
-use Rattle.std.specs.Prelude.{nat_lt}
-use Rattle.nfs_types.specs.declared.verf.Verf.{Verf}
-use Rattle.commit_verf.specs.declared.commit.Verdict.{Verdict}
-use Rattle.commit_verf.specs.declared.commit.Verdict.TheVariants.{AllStable, SendAgain}
-use Rattle.commit_verf.specs.Decisions.{verdict_of}
-use Rattle.write_back.specs.Changes.{lost}
-use Rattle.write_back.specs.Choice.{chosen, piece_of}
-use Rattle.write_back.specs.Files.{Pending, of_file}
+use Rattle.core_counts.proofs.Prelude.{◌≡◌, ◌≤◌, inl, inr, ◌+◌, ◌==◌, ◌&&◌, ℕ, Bool, true, false, List, [], ◌∷◌, Option, Some, None, Result, Ok, Err, refl, sym, ap, subst, ◌∙◌, arith, nat_lt, Verf, Verdict, AllStable, SendAgain, verdict_of, lost, chosen, piece_of, Pending, of_file, Segments, IsCommitOf, commit, Fault, Memory, Answer, Call, Reply, goes_again, ended, repeated, Next, Repeat, Turn, commit_told, Sending, Committing, Resending, CommittingAgain, Saving}
 use Rattle.write_back.specs.Pieces.{Sent}
-use Rattle.write_back.specs.Segments.{Segments}
-use Rattle.claims.specs.CallCounts.{IsCommitOf, commit}
-use Rattle.world_model.specs.declared.answer.Fault.{Fault}
-use Rattle.world_model.specs.declared.answer.Fault.TheVariants.{Memory}
-use Rattle.world_model.specs.declared.answer.Answer.{Answer}
 use Rattle.world_model.specs.declared.answer.Answer.TheVariants as answers
 use Rattle.world_model.specs.declared.answer.Value.TheVariants as values
-use Rattle.world_model.specs.declared.message.Call.{Call}
-use Rattle.world_model.specs.declared.message.Reply.{Reply}
-use Rattle.client_shelf.specs.Busy.{goes_again}
-use Rattle.client_shelf.specs.Repeats.{ended, repeated, answered}
-use Rattle.client_shelf.specs.declared.next.Next.{Next}
+use Rattle.client_shelf.specs.Repeats.{answered}
 use Rattle.client_shelf.specs.declared.next.Next.TheVariants as nexts
-use Rattle.client_shelf.specs.declared.repeats.Repeat.{Repeat}
-use Rattle.client_shelf.specs.declared.turn.Turn.{Turn}
-use Rattle.file_ops.specs.Judging.{commit_told}
 use Rattle.file_ops.specs.Saves as saves
 use Rattle.file_ops.specs.Syncs as syncs
 use Rattle.file_ops.specs.declared.saving.Phase.{Phase}
-use Rattle.file_ops.specs.declared.saving.Phase.TheVariants.{Sending, Committing, Resending, CommittingAgain}
-use Rattle.file_ops.specs.declared.saving.Saving.{Saving}
 
 -- how many COMMITs may come
 abbrev pub left_in : Phase → ℕ

@@ -1,15 +1,7 @@
 -- Sessions in which no write waits for room, and how many COMMITs they make of a file (RFC 1813, section 3.3.21).
 use Rattle.std.specs.Prelude.{◌≤◌, ℕ, List, All, sum_by}
-use Rattle.world_model.specs.declared.entry.Entry.{Entry}
-use Rattle.claims.specs.Asks.{Placed, AreDifferent, count_of, most_pending}
-use Rattle.claims.specs.CallCounts.{FewCommits, WriterAt}
-use Rattle.claims.specs.Terms.{Terms}
-use Rattle.op_machines.specs.declared.begun.Mounted.{Mounted}
-use Rattle.op_machines.specs.Begun.{machine_of}
-use Rattle.client_core.specs.declared.setup.Setup.{Setup}
-use Rattle.client_core.specs.View.{View}
-use Rattle.core_facts.specs.Notes.{Notes}
-use Rattle.core_session.specs.calls.Whole.{GoesFrom}
+use Rattle.core_counts.proofs.Prelude.{Entry, Placed, AreDifferent, count_of, most_pending, WriterAt, Terms, Mounted, machine_of, Setup, View, Notes, GoesFrom}
+use Rattle.claims.specs.CallCounts.{FewCommits}
 
 -- All writes, fills and puts together have no more bytes than a session holds back.
 abbrev pub HasRoom : List Entry → Type 0

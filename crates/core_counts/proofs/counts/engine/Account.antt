@@ -1,15 +1,5 @@
 -- What an operation was given, and how many calls it may make for it.
-use Rattle.std.proofs.Common.{◌≡◌, ◌≢◌, ◌≤◌, ◌<◌, ◌+◌, ◌⊎◌, inl, inr, ℕ, List, [], ◌∷◌, ◌++◌, length, Some, Result, Ok, Err, sym, subst, ◌∙◌, arith}
-use Rattle.world_model.specs.declared.answer.Fault.{Fault}
-use Rattle.world_model.specs.declared.entry.Entry.{Entry}
-use Rattle.world_model.specs.declared.entry.Entry.TheVariants.{Delivered}
-use Rattle.world_model.specs.declared.message.Call.{Call}
-use Rattle.world_model.specs.declared.message.Reply.{Reply}
-use Rattle.world_model.specs.declared.op.Op.{Op}
-use Rattle.world_model.specs.Entries.{At}
-use Rattle.world_model.specs.Heard.{Heard}
-use Rattle.world_model.specs.Messages.{HasXid}
-use Rattle.world_model.proofs.Places.{At-below, At-cases, length_last}
+use Rattle.core_counts.proofs.Prelude.{◌≡◌, ◌≢◌, ◌≤◌, ◌<◌, ◌+◌, ◌⊎◌, inl, inr, ℕ, List, [], ◌∷◌, ◌++◌, length, Some, Result, Ok, Err, sym, subst, ◌∙◌, arith, Fault, Entry, Delivered, Call, Reply, Op, At, Heard, HasXid, At-below, At-cases, length_last}
 use Rattle.core_session.proofs.delays.Puts.{heard-later}
 use Rattle.core_counts.proofs.counts.engine.Laws.{ToldNow, Gains, nothing, one}
 use Rattle.core_counts.proofs.counts.engine.Lists.{Each, each-map, Apart}

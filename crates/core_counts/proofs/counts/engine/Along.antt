@@ -1,37 +1,13 @@
 -- What holds of a history and the core's view that goes with it, if each step of a lane and each entry keep it, as `core_session.proofs.syncs.WatchingAlong`; but
 -- what a record that is sent keeps is said where it is sent, by whoever goes along the history.
-use Rattle.std.proofs.Common.{◌≡◌, inl, inr, ℕ, List, [], ◌∷◌, ◌++◌, Bool, true, false, Option, Some, None, MatchOption, position, refl, sym, ap, subst, ◌∙◌}
-use Rattle.rpc_message.specs.Call.{xid_at}
-use Rattle.rpc_retry.specs.declared.waiting.Waiting.{Waiting}
-use Rattle.rpc_retry.specs.Fail.{failed_after}
-use Rattle.rpc_retry.specs.Waiting.{waiting_at}
-use Rattle.rpc_retry.specs.Held.{next_xid}
+use Rattle.core_counts.proofs.Prelude.{◌≡◌, inl, inr, ℕ, List, [], ◌∷◌, ◌++◌, Bool, true, false, Option, Some, None, MatchOption, position, refl, sym, ap, subst, ◌∙◌, xid_at, Waiting, failed_after, waiting_at, next_xid, Answer, Entry, Began, Answered, Dialed, Sent, Executed, Foreign, Flushed, Reboot, Delivered, Failed, Clock, Op, said_of, Shelf, Machine, Fits, Purpose, State, Setup, IsFresh, is_busy, IsIdle, numbers_of, Stirs, moves_none, moves_more, counted, StartsLane, BeginsIf, TakesAt, AnswersAt, View, MaySetUp, IsSetUp, StepsTo, HearsRecord, Reaches, goes, last_reading, dropped, replied, FailedNow, goes_on, gives_up, failed_now, answered_now, taken_one, none-busy, Known, purpose_at, reached-all, LanesKnown, quiet-facts, lanes-stay, lanes-begin, lanes-under-way, Rows, rows-stay, same-rows, rows-grow, silent-grow, taken-quiet, not-sent, taken-rows, SameCalls, stirs-stay, starts-stay, steps-stay}
 use Rattle.rpc_retry.proofs.Records.{before_failed}
-use Rattle.world_model.specs.declared.answer.Answer.{Answer}
-use Rattle.world_model.specs.declared.entry.Entry.{Entry}
-use Rattle.world_model.specs.declared.entry.Entry.TheVariants.{Began, Answered, Dialed, Sent, Executed, Foreign, Flushed, Reboot, Delivered, Failed, Clock}
-use Rattle.world_model.specs.declared.op.Op.{Op}
-use Rattle.call_replies.specs.Says.{said_of}
-use Rattle.client_shelf.specs.declared.shelf.Shelf.{Shelf}
-use Rattle.op_machines.specs.declared.machine.Machine.{Machine}
-use Rattle.op_machines.specs.Fits.{Fits}
-use Rattle.client_core.specs.declared.lane.Purpose.{Purpose}
-use Rattle.client_core.specs.declared.lane.State.{State}
-use Rattle.client_core.specs.declared.setup.Setup.{Setup}
-use Rattle.client_core.specs.Fresh.{IsFresh}
-use Rattle.client_core.specs.Lanes.{is_busy}
-use Rattle.client_core.specs.Numbers.{IsIdle, numbers_of}
-use Rattle.client_core.specs.Steps.{Stirs, Moves, moves_none, moves_more, counted, StartsLane, BeginsIf, TakesAt, AnswersAt}
-use Rattle.client_core.specs.View.{View}
+use Rattle.client_core.specs.Steps.{Moves}
 use Rattle.core_facts.specs.InFlight.{IsUnbegun}
-use Rattle.core_facts.specs.Reaches.{MaySetUp, IsSetUp, StepsTo, HearsRecord, IsOpenLine, Reaches, goes, last_reading}
-use Rattle.core_facts.proofs.Cases.{Heard, dropped, replied, heard, FailedNow, goes_on, gives_up, failed_now, answered_now, taken_one}
-use Rattle.core_facts.proofs.Counting.{stirs-count, starts-count, hears-count, none-busy}
-use Rattle.core_facts.proofs.Keeping.{Known, purpose_at, reached-all}
-use Rattle.core_facts.proofs.LaneMarks.{LanesKnown, quiet-facts, lanes-stay, lanes-begin, lanes-under-way}
-use Rattle.core_facts.proofs.Rows.{Rows, rows-stay, same-rows, rows-grow, silent-grow, taken-quiet, not-sent, taken-rows}
-use Rattle.core_answers.proofs.writes.Along.{SameCalls, failed-purposes}
-use Rattle.core_facts.proofs.Walks.{stirs-stay, starts-stay, steps-stay}
+use Rattle.core_facts.specs.Reaches.{IsOpenLine}
+use Rattle.core_facts.proofs.Cases.{Heard, heard}
+use Rattle.core_facts.proofs.Counting.{stirs-count, starts-count, hears-count}
+use Rattle.core_answers.proofs.writes.Along.{failed-purposes}
 
 -- no operation begins or is answered, and nothing is sent
 pub record IsPlain (e : Entry) : Type 0 where

@@ -1,46 +1,8 @@
 -- Along a history each call that is made has its row, and each operation makes no more first calls that are counted than its account has room for.
-use Rattle.std.proofs.Common.{◌≡◌, ◌≢◌, ◌<◌, ◌≤◌, ◌+◌, ◌⊎◌, inl, inr, ℕ, List, [], ◌∷◌, ◌++◌, length, Bool, true, false, nat_eq, Option, Some, slice_get, slice_set, refl, sym, ap, subst, ◌∙◌, arith}
-use Rattle.std.proofs.lemmas.Bool.{eqb-true, eqb-false}
-use Rattle.rpc_retry.specs.declared.waiting.Waiting.{Waiting}
-use Rattle.rpc_retry.specs.Held.{next_xid}
-use Rattle.rpc_retry.specs.Waiting.{made_call, waiting_at}
-use Rattle.rpc_retry.proofs.Lookups.{waits_early, at_made, others_made}
-use Rattle.world_model.specs.declared.entry.Entry.{Entry}
-use Rattle.world_model.specs.declared.entry.Entry.TheVariants.{Began, Sent}
-use Rattle.world_model.specs.declared.message.Call.{Call}
-use Rattle.world_model.specs.declared.op.Op.{Op}
-use Rattle.claims.specs.CallsAsked.{NoneBegan}
-use Rattle.world_model.specs.Entries.{At}
-use Rattle.world_model.specs.Messages.{HasXid, SpellsCall, proc_of}
-use Rattle.world_model.specs.Operations.{UnderWay}
-use Rattle.world_model.proofs.Places.{At-one}
-use Rattle.client_shelf.specs.declared.next.Next.{Next}
-use Rattle.client_shelf.specs.declared.next.Next.TheVariants.{Send}
-use Rattle.client_shelf.specs.declared.repeats.Repeat.{Repeat}
-use Rattle.op_machines.specs.declared.begun.Mounted.{Mounted}
-use Rattle.op_machines.specs.declared.machine.Machine.{Machine}
-use Rattle.op_machines.specs.Begun.{machine_of}
-use Rattle.client_core.specs.declared.lane.Lane.{Lane}
-use Rattle.client_core.specs.declared.lane.Purpose.{Purpose}
-use Rattle.client_core.specs.declared.lane.State.{State}
-use Rattle.client_core.specs.declared.lane.State.TheVariants.{Busy}
-use Rattle.client_core.specs.declared.setup.Setup.{Setup}
-use Rattle.client_core.specs.Steps.{record_of, Makes}
-use Rattle.client_core.specs.View.{View, turn_at}
-use Rattle.core_facts.specs.InFlight.{in_flight}
-use Rattle.core_facts.specs.Tries.{IsMade}
-use Rattle.core_facts.proofs.AllCounts.{begins-unbegun}
-use Rattle.core_facts.proofs.LaneMarks.{Runs}
-use Rattle.core_facts.proofs.Rows.{Rows, made-known, made-asked}
-use Rattle.core_facts.proofs.Steps.{AskedOf}
-use Rattle.core_facts.proofs.Stories.{Going, some-call, set-other}
-use Rattle.core_facts.proofs.Lists.{at-set}
-use Rattle.core_answers.proofs.bonds.OneCall.{one-call}
-use Rattle.core_answers.proofs.refusals.SentCalls.{nfs-of}
-use Rattle.core_session.proofs.calls.Outgoing.{Outgoing}
+use Rattle.core_counts.proofs.Prelude.{◌≡◌, ◌≢◌, ◌<◌, ◌≤◌, ◌+◌, ◌⊎◌, inl, inr, ℕ, List, [], ◌∷◌, ◌++◌, length, Bool, true, false, nat_eq, Option, Some, slice_get, slice_set, refl, sym, ap, subst, ◌∙◌, arith, eqb-true, eqb-false, Waiting, next_xid, made_call, waiting_at, waits_early, at_made, others_made, Entry, Began, Sent, Call, Op, NoneBegan, At, HasXid, SpellsCall, proc_of, UnderWay, At-one, Next, Send, Repeat, Mounted, Machine, machine_of, Lane, Purpose, State, Busy, Setup, record_of, Makes, View, turn_at, in_flight, IsMade, begins-unbegun, Runs, Rows, made-known, made-asked, AskedOf, Going, set-other, at-set, one-call, nfs-of, Outgoing, Calls, count, IsWaiting, Each}
+use Rattle.core_facts.proofs.Stories.{some-call}
 use Rattle.core_session.proofs.calls.TableHeld.{AllNoted}
-use Rattle.core_session.proofs.delays.Delays.{Calls}
-use Rattle.core_session.proofs.delays.Tables.{count, AreApart, IsWaiting, Each, each-map}
+use Rattle.core_session.proofs.delays.Tables.{AreApart, each-map}
 use Rattle.core_session.proofs.room.Onward.{Onward}
 use Rattle.core_session.proofs.syncs.Fate.{one-under}
 use Rattle.core_counts.proofs.counts.engine.Ledger.{Row, In, Room, HasRoot, room-push, room-other, room-wide}

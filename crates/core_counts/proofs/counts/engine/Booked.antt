@@ -1,43 +1,14 @@
 -- The book at the end of a session, or before it was lost: no record was sent after that.
-use Rattle.std.proofs.Common.{◌≡◌, ◌<◌, inl, inr, ℕ, List, [], ◌∷◌, ◌++◌, length, Bool, true, false, Some, None, refl, sym, ap, subst, ◌∙◌, arith, append_assoc, append-nil}
+use Rattle.core_counts.proofs.Prelude.{◌≡◌, ◌<◌, inl, inr, ℕ, List, [], ◌∷◌, ◌++◌, length, Bool, true, false, Some, None, refl, sym, ap, subst, ◌∙◌, arith, append_assoc, append-nil, Waiting, next_xid, waiting_at, at_sent, waits_early, before_sent, Entry, Began, Answered, Sent, Delivered, Call, Op, At, HasXid, SpellsCall, head_of, At-below, At-cases, Mounted, Machine, machine_of, Purpose, Busy, Setup, IsFresh, SendsIf, View, in_flight, Notes, IsSetUp, StepsTo, Reaches, IsMade, begins-unbegun, SentNow, sent_now, heard-lost, Known, purpose_at, reached-all, lanes-under-way, notes-reach, sent-purposes, Outgoing, IsWaiting, Each}
 use Rattle.rpc_message.proofs.CallLaws.{call_xid}
-use Rattle.rpc_retry.specs.declared.waiting.Waiting.{Waiting}
-use Rattle.rpc_retry.specs.Held.{next_xid}
-use Rattle.rpc_retry.specs.Waiting.{waiting_at}
-use Rattle.rpc_retry.proofs.Lookups.{at_sent, waits_early}
-use Rattle.rpc_retry.proofs.Records.{waits_late, before_sent}
-use Rattle.world_model.specs.declared.entry.Entry.{Entry}
-use Rattle.world_model.specs.declared.entry.Entry.TheVariants.{Began, Answered, Sent, Delivered}
-use Rattle.world_model.specs.declared.message.Call.{Call}
-use Rattle.world_model.specs.declared.op.Op.{Op}
-use Rattle.world_model.specs.Entries.{At}
-use Rattle.world_model.specs.Messages.{HasXid, SpellsCall, head_of}
-use Rattle.world_model.proofs.Places.{At-below, At-cases}
-use Rattle.op_machines.specs.declared.begun.Mounted.{Mounted}
-use Rattle.op_machines.specs.declared.machine.Machine.{Machine}
-use Rattle.op_machines.specs.Begun.{machine_of}
-use Rattle.client_core.specs.declared.lane.Purpose.{Purpose}
-use Rattle.client_core.specs.declared.lane.State.TheVariants.{Busy}
-use Rattle.client_core.specs.declared.setup.Setup.{Setup}
-use Rattle.client_core.specs.Fresh.{IsFresh}
-use Rattle.client_core.specs.Steps.{SendsBy, SendsIf}
-use Rattle.client_core.specs.View.{View}
+use Rattle.rpc_retry.proofs.Records.{waits_late}
+use Rattle.client_core.specs.Steps.{SendsBy}
 use Rattle.core_facts.specs.Counted.{calls_for, IsOfOperation}
-use Rattle.core_facts.specs.InFlight.{in_flight}
-use Rattle.core_facts.specs.Notes.{Notes, notes_fresh, notes_step, notes_lost, NoneReady, ComesAfter}
-use Rattle.core_facts.specs.Reaches.{IsSetUp, StepsTo, Reaches}
-use Rattle.core_facts.specs.Tries.{IsMade}
-use Rattle.core_facts.proofs.AllCounts.{begins-unbegun}
-use Rattle.core_facts.proofs.Cases.{SentNow, sent_now}
-use Rattle.core_facts.proofs.Counting.{calls-some, known-only, heard-lost}
-use Rattle.core_facts.proofs.Keeping.{Known, purpose_at, reached-all}
-use Rattle.core_facts.proofs.LaneMarks.{lanes-under-way}
-use Rattle.core_facts.proofs.Noting.{notes-reach}
+use Rattle.core_facts.specs.Notes.{notes_fresh, notes_step, notes_lost, NoneReady, ComesAfter}
+use Rattle.core_facts.proofs.Counting.{calls-some, known-only}
 use Rattle.core_facts.proofs.Owning.{reached-owned}
 use Rattle.core_answers.proofs.asks.Limits.{reached-limit}
-use Rattle.core_answers.proofs.writes.Along.{sent-purposes}
-use Rattle.core_session.proofs.calls.Outgoing.{Outgoing}
-use Rattle.core_session.proofs.delays.Tables.{AreApart, IsWaiting, Each}
+use Rattle.core_session.proofs.delays.Tables.{AreApart}
 use Rattle.core_session.proofs.room.Onward.{Onward, stays, steps, drops}
 use Rattle.core_counts.proofs.counts.engine.Laws.{SeenLaws}
 use Rattle.core_counts.proofs.counts.engine.Ledger.{Row}

@@ -1,6 +1,5 @@
 -- Whether two lists of numbers are one.
-use Rattle.std.proofs.Common.{◌≡◌, ◌&&◌, ℕ, nat_eq, Bool, true, false, List, [], ◌∷◌, refl, ap, ◌∙◌}
-use Rattle.std.proofs.lemmas.Bool.{eqb-true, eq-eqb}
+use Rattle.core_counts.proofs.Prelude.{◌≡◌, ◌&&◌, ℕ, nat_eq, Bool, true, false, List, [], ◌∷◌, refl, ap, ◌∙◌, eqb-true, eq-eqb}
 
 abbrev pub same_list : List ℕ → List ℕ → Bool
 same_list [] [] = true

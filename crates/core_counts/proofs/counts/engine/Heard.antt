@@ -1,64 +1,16 @@
 -- The book is kept where an operation takes what came of its call.
-use Rattle.std.proofs.Common.{◌≡◌, ◌≢◌, ◌<◌, ◌≤◌, ◌+◌, ◌-◌, ◌&&◌, inl, inr, ℕ, List, [], ◌∷◌, ◌++◌, length, Bool, true, false, nat_eq, Some, None, option_map, position, Result, refl, sym, ap, subst, ◌∙◌, arith}
-use Rattle.std.proofs.lemmas.Bool.{eqb-true, eqb-false, ltb-true}
-use Rattle.rpc_message.specs.Call.{xid_at}
-use Rattle.rpc_retry.specs.declared.waiting.Waiting.{Waiting}
-use Rattle.rpc_retry.specs.Held.{next_xid}
-use Rattle.rpc_retry.specs.Waiting.{waiting_at, without}
-use Rattle.rpc_retry.proofs.Lookups.{waits_early, others_taken}
-use Rattle.rpc_retry.proofs.Records.{gone}
-use Rattle.world_model.specs.declared.answer.Fault.{Fault}
-use Rattle.world_model.specs.declared.entry.Entry.{Entry}
-use Rattle.world_model.specs.declared.entry.Entry.TheVariants.{Began, Sent, Delivered}
-use Rattle.world_model.specs.declared.message.Call.{Call}
-use Rattle.world_model.specs.declared.message.Reply.{Reply}
-use Rattle.world_model.specs.declared.op.Op.{Op}
-use Rattle.world_model.specs.Entries.{At}
-use Rattle.world_model.specs.LanesTogether.{IsBusy}
-use Rattle.world_model.specs.Operations.{UnderWay}
-use Rattle.world_model.proofs.Growth.{FirstSent-grow}
-use Rattle.world_model.proofs.Places.{At-grow, At-below, At-back, At-last, length_last}
-use Rattle.call_replies.specs.Says.{said_of, Says}
-use Rattle.client_shelf.specs.declared.next.Next.{Next}
-use Rattle.client_shelf.specs.declared.next.Next.TheVariants.{Send}
-use Rattle.client_shelf.specs.declared.repeats.Repeat.{Repeat}
-use Rattle.client_shelf.specs.Busy.{goes_again}
-use Rattle.client_shelf.specs.Repeats.{times_of, ended, repeated, answered as answered_table}
-use Rattle.op_machines.specs.declared.begun.Mounted.{Mounted}
-use Rattle.op_machines.specs.declared.machine.Machine.{Machine}
-use Rattle.op_machines.specs.Begun.{machine_of}
-use Rattle.client_core.specs.declared.lane.Purpose.{Purpose}
-use Rattle.client_core.specs.declared.lane.State.TheVariants.{Busy}
-use Rattle.client_core.specs.declared.setup.Setup.{Setup}
-use Rattle.client_core.specs.Lanes.{is_busy}
-use Rattle.client_core.specs.Numbers.{numbers_of}
-use Rattle.client_core.specs.Steps.{with_state, TakesAt}
-use Rattle.client_core.specs.View.{View, turn_at}
-use Rattle.core_facts.specs.InFlight.{in_flight, Counts}
+use Rattle.core_counts.proofs.Prelude.{◌≡◌, ◌≢◌, ◌<◌, ◌≤◌, ◌+◌, ◌-◌, ◌&&◌, inl, inr, ℕ, List, [], ◌∷◌, ◌++◌, length, Bool, true, false, nat_eq, Some, None, option_map, position, Result, refl, sym, ap, subst, ◌∙◌, arith, eqb-true, eqb-false, ltb-true, xid_at, Waiting, next_xid, waiting_at, without, waits_early, others_taken, gone, Fault, Entry, Began, Sent, Delivered, Call, Reply, Op, At, IsBusy, UnderWay, FirstSent-grow, At-grow, At-below, At-back, At-last, length_last, said_of, Says, Next, Send, Repeat, goes_again, ended, repeated, Mounted, Machine, machine_of, Purpose, Busy, Setup, is_busy, numbers_of, with_state, TakesAt, View, turn_at, in_flight, Counts, HearsRecord, Reaches, IsMade, IsOutstanding, Tried, counts-calls, begins-unbegun, taken_one, was-sent, says-of, Known, Runs, LanesKnown, number_of, lanes-under-way, lanes-stay, quiet-facts, at-position, at-set, to-map, Rows, same-rows, rows-grow, taken-quiet, not-sent, taken-rows, Going, reached-good, NoCall, NoShelf, NoStory, no-laws, one-call, machine-fits, nfs-of, Calls, calls-laws, count, ended-is, IsWaiting, Each, Calm, took-any}
+use Rattle.client_shelf.specs.Repeats.{times_of, answered as answered_table}
 use Rattle.core_facts.specs.Counted.{calls_for}
-use Rattle.core_facts.specs.Reaches.{HearsRecord, Reaches}
-use Rattle.core_facts.specs.Tries.{IsMade, IsOutstanding, Tried, unsent, runs, ended as tries_ended}
-use Rattle.core_facts.proofs.AllCounts.{counts-calls, begins-unbegun}
-use Rattle.core_facts.proofs.Cases.{taken_one}
+use Rattle.core_facts.specs.Tries.{unsent, runs, ended as tries_ended}
 use Rattle.core_facts.proofs.Counting.{calls-some, known-only}
-use Rattle.core_facts.proofs.Hearing.{was-sent, says-of}
-use Rattle.core_facts.proofs.Keeping.{Known}
-use Rattle.core_facts.proofs.LaneMarks.{Runs, LanesKnown, number_of, lanes-under-way, lanes-stay, quiet-facts}
-use Rattle.core_facts.proofs.Lists.{at-position, at-set, to-map}
 use Rattle.core_facts.proofs.Owning.{reached-since}
-use Rattle.core_facts.proofs.Rows.{Rows, same-rows, rows-grow, taken-quiet, not-sent, taken-rows}
-use Rattle.core_facts.proofs.Stories.{Going}
-use Rattle.core_facts.proofs.Tales.{IsExpected, reached-good}
-use Rattle.core_answers.proofs.asks.Sendings.{NoCall, NoShelf, NoStory, no-laws}
+use Rattle.core_facts.proofs.Tales.{IsExpected}
 use Rattle.core_answers.proofs.answers.PieceSteps.{IsPiece}
 use Rattle.core_answers.proofs.answers.Writing.{written-reached}
-use Rattle.core_answers.proofs.bonds.OneCall.{one-call}
-use Rattle.core_answers.proofs.refusals.Fitting.{machine-fits}
-use Rattle.core_answers.proofs.refusals.SentCalls.{nfs-of}
-use Rattle.core_session.proofs.delays.Delays.{Calls, calls-laws, Off, off-own, off-given, off-evident}
-use Rattle.core_session.proofs.delays.Tables.{left as left_of, count, ended-is, times-is, AreApart, IsFree, IsWaiting, Each, each-map, each-free, free-of, left-apart, left-free, left-each, push-apart, push-each, free-count, left-count, push-count, pushed-count}
+use Rattle.core_session.proofs.delays.Delays.{Off, off-own, off-given, off-evident}
+use Rattle.core_session.proofs.delays.Tables.{left as left_of, times-is, AreApart, IsFree, each-map, each-free, free-of, left-apart, left-free, left-each, push-apart, push-each, free-count, left-count, push-count, pushed-count}
 use Rattle.core_session.proofs.delays.Took.{Took as TookTable}
-use Rattle.core_session.proofs.delays.TookFiles.{Calm, took-any}
 use Rattle.core_session.proofs.room.Entered.{under-early}
 use Rattle.core_counts.proofs.counts.engine.Laws.{ToldNow, told, came_now, Took, again, on, SeenLaws}
 use Rattle.core_counts.proofs.counts.engine.Ledger.{Row, Is, Room}

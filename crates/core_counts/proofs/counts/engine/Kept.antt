@@ -1,46 +1,9 @@
 -- The book is kept along a history.
-use Rattle.std.proofs.Common.{◌≡◌, ◌≢◌, ◌<◌, ◌≤◌, ◌⊎◌, inl, inr, ℕ, List, [], ◌∷◌, ◌++◌, length, Option, Some, None, option_map, remove, slice_get, refl, sym, ap, subst, ◌∙◌, arith, append_assoc}
-use Rattle.rpc_retry.specs.declared.waiting.Waiting.{Waiting}
-use Rattle.rpc_retry.specs.Held.{next_xid}
-use Rattle.rpc_retry.specs.Waiting.{waiting_at}
-use Rattle.rpc_retry.proofs.Lookups.{waits_early}
-use Rattle.world_model.specs.declared.answer.Answer.{Answer}
-use Rattle.world_model.specs.declared.entry.Entry.{Entry}
-use Rattle.world_model.specs.declared.entry.Entry.TheVariants.{Began, Answered, Sent, Delivered}
-use Rattle.world_model.specs.declared.message.Call.{Call}
-use Rattle.world_model.specs.declared.op.Op.{Op}
-use Rattle.claims.specs.CallsAsked.{NoneBegan}
-use Rattle.world_model.specs.Entries.{At}
-use Rattle.world_model.specs.LanesTogether.{IsBusy}
-use Rattle.world_model.specs.Messages.{HasXid, SpellsCallBy}
-use Rattle.world_model.specs.Operations.{UnderWay}
-use Rattle.world_model.proofs.Places.{At-grow, At-below, At-back, At-cases}
-use Rattle.client_shelf.specs.declared.next.Next.{Next}
-use Rattle.client_shelf.specs.declared.next.Next.TheVariants.{Send, Wait, Done}
-use Rattle.client_shelf.specs.declared.repeats.Repeat.{Repeat}
-use Rattle.client_shelf.specs.declared.shelf.Shelf.{Shelf}
-use Rattle.op_machines.specs.declared.begun.Mounted.{Mounted}
-use Rattle.op_machines.specs.declared.machine.Machine.{Machine}
-use Rattle.op_machines.specs.Begun.{machine_of}
-use Rattle.client_core.specs.declared.lane.Lane.{Lane}
-use Rattle.client_core.specs.declared.lane.Purpose.{Purpose}
-use Rattle.client_core.specs.declared.lane.State.TheVariants.{Busy}
-use Rattle.client_core.specs.declared.setup.Setup.{Setup}
-use Rattle.client_core.specs.Numbers.{IsIdle}
-use Rattle.client_core.specs.Steps.{with_state, Stirs, counted, StartsLane, AnswersAt}
-use Rattle.client_core.specs.View.{View, turn_at}
-use Rattle.core_facts.specs.InFlight.{in_flight, Counts}
-use Rattle.core_facts.proofs.AllCounts.{counts-calls, begins-unbegun}
+use Rattle.core_counts.proofs.Prelude.{◌≡◌, ◌≢◌, ◌<◌, ◌≤◌, ◌⊎◌, inl, inr, ℕ, List, [], ◌∷◌, ◌++◌, length, Option, Some, None, option_map, slice_get, refl, sym, ap, subst, ◌∙◌, arith, append_assoc, Waiting, next_xid, waiting_at, waits_early, Answer, Entry, Began, Answered, Sent, Delivered, Call, Op, NoneBegan, At, IsBusy, HasXid, SpellsCallBy, UnderWay, At-grow, At-below, At-back, At-cases, Next, Send, Wait, Done, Repeat, Shelf, Mounted, Machine, machine_of, Lane, Purpose, Busy, Setup, IsIdle, with_state, Stirs, counted, StartsLane, AnswersAt, View, turn_at, in_flight, Counts, counts-calls, begins-unbegun, Known, purpose_at, Runs, LanesKnown, number_of, lanes-under-way, lanes-stay, lanes-begin, at-set, at-push, get-push, get-remove, skip, to-map, Rows, same-rows, silent-grow, under-back, SameCalls, calls-laws, count, IsWaiting, Each}
+use Rattle.std.proofs.Common.{remove}
 use Rattle.core_facts.proofs.Counting.{none-idle}
-use Rattle.core_facts.proofs.Keeping.{Known, purpose_at}
-use Rattle.core_facts.proofs.LaneMarks.{Runs, LanesKnown, number_of, lanes-under-way, lanes-stay, lanes-begin}
-use Rattle.core_facts.proofs.Lists.{at-set, at-push, get-push, get-remove, skip, to-map}
-use Rattle.core_facts.proofs.Rows.{Rows, same-rows, silent-grow}
-use Rattle.core_facts.proofs.Stories.{under-back}
-use Rattle.core_answers.proofs.writes.Along.{SameCalls}
-use Rattle.core_session.proofs.delays.Delays.{calls-laws}
 use Rattle.core_session.proofs.delays.Rests.{starts-same, resumes-same}
-use Rattle.core_session.proofs.delays.Tables.{count, AreApart, IsFree, IsWaiting, Each, each-map, free-of, free-count}
+use Rattle.core_session.proofs.delays.Tables.{AreApart, IsFree, each-map, free-of, free-count}
 use Rattle.core_session.proofs.room.Entered.{under-early}
 use Rattle.core_counts.proofs.counts.engine.Laws.{SeenLaws}
 use Rattle.core_counts.proofs.counts.engine.Ledger.{Row}

@@ -1,33 +1,7 @@
 -- What a count of calls has to show of each step of an operation, for a session to make no more of them than its operations need.
-use Rattle.std.proofs.Common.{◌≡◌, ◌≤◌, ◌+◌, ℕ, List, ◌∷◌, [], ◌++◌, length, Result, Ok, Err, false, Some, slice_get}
-use Rattle.world_model.specs.declared.answer.Fault.{Fault}
+use Rattle.core_counts.proofs.Prelude.{◌≡◌, ◌≤◌, ◌+◌, ℕ, List, ◌∷◌, [], ◌++◌, length, Result, Ok, Err, false, Some, slice_get, Fault, Entry, Began, Call, Reply, Op, Heard, UnderWay, Says, Next, Send, Repeat, Shelf, Turn, ended, repeated, Mounted, Machine, machine_of, Starts, Resumes, Takes, Busy, Setup, View, in_flight, Reaches, Going, Calls}
 use Rattle.world_model.specs.declared.answer.Fault.TheVariants as faults
-use Rattle.world_model.specs.declared.entry.Entry.{Entry}
-use Rattle.world_model.specs.declared.entry.Entry.TheVariants.{Began}
-use Rattle.world_model.specs.declared.message.Call.{Call}
-use Rattle.world_model.specs.declared.message.Reply.{Reply}
-use Rattle.world_model.specs.declared.op.Op.{Op}
-use Rattle.world_model.specs.Heard.{Heard}
-use Rattle.world_model.specs.Operations.{UnderWay}
-use Rattle.call_replies.specs.Says.{Says}
-use Rattle.client_shelf.specs.declared.next.Next.{Next}
-use Rattle.client_shelf.specs.declared.next.Next.TheVariants.{Send}
-use Rattle.client_shelf.specs.declared.repeats.Repeat.{Repeat}
-use Rattle.client_shelf.specs.declared.shelf.Shelf.{Shelf}
-use Rattle.client_shelf.specs.declared.turn.Turn.{Turn}
-use Rattle.client_shelf.specs.Repeats.{ended, repeated}
-use Rattle.op_machines.specs.declared.begun.Mounted.{Mounted}
-use Rattle.op_machines.specs.declared.machine.Machine.{Machine}
-use Rattle.op_machines.specs.Begun.{machine_of}
-use Rattle.op_machines.specs.Steps.{Starts, Resumes, Takes}
-use Rattle.client_core.specs.declared.lane.State.TheVariants.{Busy}
-use Rattle.client_core.specs.declared.setup.Setup.{Setup}
-use Rattle.client_core.specs.View.{View}
-use Rattle.core_facts.specs.InFlight.{in_flight}
-use Rattle.core_facts.specs.Reaches.{Reaches}
-use Rattle.core_facts.proofs.Stories.{Going}
 use Rattle.core_answers.proofs.answers.PieceSteps.{IsPiece}
-use Rattle.core_session.proofs.delays.Delays.{Calls}
 
 -- ---- what came
 

@@ -1,7 +1,5 @@
 -- The calls that a session made, one row for each, and how many of them are of a kind.
-use Rattle.std.proofs.Common.{◌≡◌, ◌≢◌, ◌≤◌, ◌+◌, ◌*◌, ◌⊎◌, inl, inr, ℕ, suc, List, [], ◌∷◌, length, refl, sym, ap, subst, ◌∙◌, arith}
-use Rattle.world_model.specs.declared.message.Call.{Call}
-use Rattle.world_model.specs.declared.op.Op.{Op}
+use Rattle.core_counts.proofs.Prelude.{◌≡◌, ◌≢◌, ◌≤◌, ◌+◌, ◌*◌, ◌⊎◌, inl, inr, ℕ, suc, List, [], ◌∷◌, length, refl, sym, ap, subst, ◌∙◌, arith, Call, Op}
 use Rattle.core_counts.proofs.counts.engine.Lists.{Each, each-map, each-both, Elsewhere, Apart, look, without, without-each, without-apart, without-length, Different, Group, grouped, total, AreApart}
 
 -- A call that was made: under which xid, for which operation, and the xid of the first call that it repeats because the server was busy, or its own.

@@ -1,42 +1,13 @@
 -- The book is kept by each step of a lane, and by each entry.
-use Rattle.std.proofs.Common.{◌≡◌, ◌≢◌, ◌<◌, ◌≤◌, ◌+◌, ◌-◌, ◌&&◌, inl, inr, ℕ, List, [], ◌∷◌, ◌++◌, length, Bool, true, false, nat_eq, nat_lt, Some, slice_set, Result, Ok, Err, refl, sym, ap, subst, ◌∙◌, arith, length-append}
-use Rattle.std.proofs.lemmas.Bool.{eqb-true, eqb-false}
-use Rattle.rpc_retry.specs.declared.waiting.Waiting.{Waiting}
-use Rattle.rpc_retry.specs.Held.{next_xid}
-use Rattle.rpc_retry.specs.Waiting.{waiting_at}
-use Rattle.world_model.specs.declared.answer.Answer.{Answer}
-use Rattle.world_model.specs.declared.answer.Fault.{Fault}
+use Rattle.core_counts.proofs.Prelude.{◌≡◌, ◌≢◌, ◌<◌, ◌≤◌, ◌+◌, ◌-◌, ◌&&◌, inl, inr, ℕ, List, [], ◌∷◌, ◌++◌, length, Bool, true, false, nat_eq, Some, slice_set, Result, Ok, Err, refl, sym, ap, subst, ◌∙◌, arith, length-append, eqb-true, eqb-false, Waiting, next_xid, waiting_at, Answer, Fault, Entry, Began, Call, Reply, Op, At, Next, Send, Wait, Done, Repeat, repeats_after, ended, Mounted, Machine, Lane, Purpose, State, Busy, Over, Setup, with_state, IsRefused, Leads, View, turn_at, unmade_turn, in_flight, Rows, Going, machine-fits, ended-is, IsWaiting, Each, Calm, took-any}
+use Rattle.std.proofs.Common.{nat_lt}
 use Rattle.world_model.specs.declared.answer.Fault.TheVariants as faults
-use Rattle.world_model.specs.declared.entry.Entry.{Entry}
-use Rattle.world_model.specs.declared.entry.Entry.TheVariants.{Began}
-use Rattle.world_model.specs.declared.message.Call.{Call}
-use Rattle.world_model.specs.declared.message.Reply.{Reply}
-use Rattle.world_model.specs.declared.op.Op.{Op}
-use Rattle.world_model.specs.Entries.{At}
 use Rattle.claims.specs.Terms.{jukebox}
-use Rattle.client_shelf.specs.declared.next.Next.{Next}
-use Rattle.client_shelf.specs.declared.next.Next.TheVariants.{Send, Wait, Done}
-use Rattle.client_shelf.specs.declared.repeats.Repeat.{Repeat}
-use Rattle.client_shelf.specs.Busy.{repeats_after}
-use Rattle.client_shelf.specs.Repeats.{ended}
-use Rattle.op_machines.specs.declared.begun.Mounted.{Mounted}
-use Rattle.op_machines.specs.declared.machine.Machine.{Machine}
-use Rattle.client_core.specs.declared.lane.Lane.{Lane}
-use Rattle.client_core.specs.declared.lane.Purpose.{Purpose}
-use Rattle.client_core.specs.declared.lane.State.{State}
-use Rattle.client_core.specs.declared.lane.State.TheVariants.{Busy, Over}
-use Rattle.client_core.specs.declared.setup.Setup.{Setup}
-use Rattle.client_core.specs.Steps.{with_state, IsUnmade, IsRefused, Refuses as RefusesStep, Leads}
-use Rattle.client_core.specs.View.{View, turn_at, unmade_turn}
-use Rattle.core_facts.specs.InFlight.{in_flight}
-use Rattle.core_facts.proofs.Rows.{Rows}
-use Rattle.core_facts.proofs.Stories.{Going}
+use Rattle.client_core.specs.Steps.{IsUnmade, Refuses as RefusesStep}
 use Rattle.core_answers.proofs.answers.SaveFaults.{CallFaults}
-use Rattle.core_answers.proofs.refusals.Fitting.{machine-fits}
 use Rattle.core_answers.proofs.refusals.Replied.{Given}
-use Rattle.core_session.proofs.delays.Tables.{left as left_of, ended-is, AreApart, IsWaiting, Each, each-map, each-free, left-apart, left-each, left-count}
+use Rattle.core_session.proofs.delays.Tables.{left as left_of, AreApart, each-map, each-free, left-apart, left-each, left-count}
 use Rattle.core_session.proofs.delays.Took.{Took as TookTable}
-use Rattle.core_session.proofs.delays.TookFiles.{Calm, took-any}
 use Rattle.core_counts.proofs.counts.engine.Laws.{IsUnmadeFault, unmade, never_made, Took, again, on, SeenLaws}
 use Rattle.core_counts.proofs.counts.engine.Ledger.{Row}
 use Rattle.core_counts.proofs.counts.engine.Account.{Account, account-less, account-still}

@@ -1,39 +1,16 @@
 -- A session makes no more calls of a kind than its operations need: the sum over those that ask for such calls, and over the replies that give one more, of which
 -- each counts as often as a call may be made.
-use Rattle.std.proofs.Common.{◌≡◌, ◌≢◌, ◌<◌, ◌≤◌, ◌+◌, ◌*◌, ◌⊎◌, inl, inr, ℕ, zero, suc, nat_eq, List, [], ◌∷◌, ◌++◌, length, Bool, true, false, All, Option, Some, None, slice_get, fold, sum_by, refl, sym, ap, subst, ◌∙◌, arith, append_assoc, length-append}
-use Rattle.std.proofs.lemmas.Bool.{eqb-true, eqb-false, cases_lt}
+use Rattle.core_counts.proofs.Prelude.{◌≡◌, ◌≢◌, ◌<◌, ◌≤◌, ◌+◌, ◌*◌, ◌⊎◌, inl, inr, ℕ, zero, suc, nat_eq, List, [], ◌∷◌, ◌++◌, length, Bool, true, false, All, Option, Some, None, slice_get, refl, sym, ap, subst, ◌∙◌, arith, append_assoc, length-append, eqb-true, eqb-false, cases_lt, xid_at, Entry, Began, Answered, Dialed, Sent, Executed, Foreign, Flushed, Reboot, Delivered, Failed, Clock, Call, Op, Placed, AreDifferent, HasBegan, Carries, Few, RepliedAt, NoneBegan, IsCaused, IsCause, mounts, informs, asked, At, FirstSent, HasXid, SpellsCall, mount_call, info_call, AnsweredBefore, EndsAt, UnderWay, Terms, most_tries, FirstSent-grow, At-grow, At-back, At-below, At-one, Mounted, Machine, IsAsked, machine_of, Setup, View, Notes, begins-unbegun, Expects, expects-laws, IsNfs, one-call, IsSession, GoesFrom, all-asked, Outgoing, session}
+use Rattle.std.proofs.Common.{fold, sum_by}
 use Rattle.std.proofs.lemmas.List.Kept.{AllPairs-cons}
-use Rattle.rpc_message.specs.Call.{xid_at}
-use Rattle.world_model.specs.declared.entry.Entry.{Entry}
-use Rattle.world_model.specs.declared.entry.Entry.TheVariants.{Began, Answered, Dialed, Sent, Executed, Foreign, Flushed, Reboot, Delivered, Failed, Clock}
-use Rattle.world_model.specs.declared.message.Call.{Call}
-use Rattle.world_model.specs.declared.op.Op.{Op}
-use Rattle.claims.specs.Asks.{Asks, Placed, AreDifferent, HasBegan}
-use Rattle.claims.specs.CallCounts.{Carries, Few, Different as DifferentNumbers, RepliedAt}
-use Rattle.claims.specs.CallsAsked.{NoneBegan, IsCaused, IsCause, mounts, informs, asked}
-use Rattle.world_model.specs.Entries.{At}
-use Rattle.world_model.specs.Waiting.{FirstSent, Answers}
-use Rattle.world_model.specs.Messages.{HasXid, SpellsCall}
-use Rattle.world_model.specs.Mounts.{mount_call, info_call}
-use Rattle.world_model.specs.Operations.{AnsweredBefore, EndsAt, answered, unanswered, UnderWay}
-use Rattle.claims.specs.Terms.{Terms, most_tries}
-use Rattle.world_model.proofs.Growth.{FirstSent-grow, Answers-grow}
-use Rattle.world_model.proofs.Places.{At-grow, At-back, At-below, At-one}
-use Rattle.op_machines.specs.declared.begun.Mounted.{Mounted}
-use Rattle.op_machines.specs.declared.machine.Machine.{Machine}
-use Rattle.op_machines.specs.Begun.{IsAsked, machine_of}
-use Rattle.client_core.specs.declared.setup.Setup.{Setup}
-use Rattle.client_core.specs.View.{View}
-use Rattle.core_facts.specs.Notes.{Notes}
-use Rattle.core_facts.proofs.AllCounts.{begins-unbegun}
-use Rattle.core_answers.proofs.asks.CallsAwaited.{Expects, expects-laws}
-use Rattle.core_answers.proofs.bonds.OneCall.{IsNfs, one-call}
-use Rattle.core_session.specs.calls.Sessions.{IsSession}
-use Rattle.core_session.specs.calls.Whole.{GoesFrom}
-use Rattle.core_session.proofs.asked.Whole.{out-asked, all-asked}
+use Rattle.claims.specs.Asks.{Asks}
+use Rattle.claims.specs.CallCounts.{Different as DifferentNumbers}
+use Rattle.world_model.specs.Waiting.{Answers}
+use Rattle.world_model.specs.Operations.{answered, unanswered}
+use Rattle.world_model.proofs.Growth.{Answers-grow}
+use Rattle.core_session.proofs.asked.Whole.{out-asked}
 use Rattle.core_session.proofs.calls.Causes.{Now, Spelt}
-use Rattle.core_session.proofs.calls.Outgoing.{Outgoing, sent-nfs}
-use Rattle.core_session.proofs.calls.Whole.{session}
+use Rattle.core_session.proofs.calls.Outgoing.{sent-nfs}
 use Rattle.core_session.proofs.order.PutWrites.{ends-at}
 use Rattle.core_counts.proofs.counts.engine.Laws.{CountLaws, SeenLaws, seen-laws}
 use Rattle.core_counts.proofs.counts.engine.Lists.{Each, each-map, each-join, each-all, all-each, Elsewhere, Apart, all-apart, apart-all, apart-join, with_key, others, with-each, others-each, split-length, Different, with-different, others-different}

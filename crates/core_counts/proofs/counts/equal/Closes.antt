@@ -1,32 +1,15 @@
 -- What the steps of a close cost: the REMOVE of a last close. Its save's WRITEs and COMMITs don't count.
-use Rattle.std.proofs.Common.{◌≡◌, ◌≤◌, ◌+◌, inl, inr, ℕ, Bool, true, false, List, Option, Some, None, Result, refl, ap, ◌∙◌, arith}
-use Rattle.write_back.specs.Files.{of_file}
-use Rattle.write_back.specs.Segments.{last_end}
-use Rattle.world_model.specs.declared.answer.Fault.{Fault}
-use Rattle.world_model.specs.declared.message.Call.{Call}
-use Rattle.world_model.specs.declared.message.Reply.{Reply}
-use Rattle.client_shelf.specs.declared.next.Next.{Next}
+use Rattle.core_counts.proofs.Prelude.{◌≡◌, ◌≤◌, ◌+◌, inl, inr, ℕ, Bool, true, false, List, Option, Some, None, Result, refl, ap, ◌∙◌, arith, of_file, last_end, Fault, Call, Reply, Next, Repeat, Shelf, Turn, goes_again, repeats_after, is_first, CloseFile, Closing, Removal, Saving, refusal_of, remove_busy, file_at, joined, by-step, Saves}
 use Rattle.client_shelf.specs.declared.next.Next.TheVariants as nexts
-use Rattle.client_shelf.specs.declared.repeats.Repeat.{Repeat}
-use Rattle.client_shelf.specs.declared.shelf.Shelf.{Shelf}
-use Rattle.client_shelf.specs.declared.turn.Turn.{Turn}
-use Rattle.client_shelf.specs.Busy.{goes_again, repeats_after}
-use Rattle.client_shelf.specs.LaneFiles.{is_first}
-use Rattle.file_ops.specs.declared.close_file.CloseFile.{CloseFile}
-use Rattle.file_ops.specs.declared.close_file.Closing.{Closing}
 use Rattle.file_ops.specs.declared.close_file.Closing.TheVariants as closing
-use Rattle.file_ops.specs.declared.closing.Removal.{Removal}
-use Rattle.file_ops.specs.declared.saving.Saving.{Saving}
 use Rattle.file_ops.specs.Closes as closes
-use Rattle.file_ops.specs.Closings.{remove_of, closed_answer, refusal_of, remove_busy}
+use Rattle.file_ops.specs.Closings.{remove_of, closed_answer}
 use Rattle.file_ops.specs.Saves as saves
-use Rattle.file_ops.specs.SlotFiles.{file_at, joined}
 use Rattle.file_ops.specs.Syncs as syncs
-use Rattle.file_ops.proofs.SaveCounts.{by-step}
 use Rattle.world_model.specs.declared.answer.Answer.TheVariants as answers
 use Rattle.world_model.specs.declared.answer.Fault.TheVariants as faults
 use Rattle.core_facts.specs.InFlight.{of_closing}
-use Rattle.core_answers.proofs.asks.SavedCalls.{Saves, SavesOn, goes-on, takes-on}
+use Rattle.core_answers.proofs.asks.SavedCalls.{SavesOn, goes-on, takes-on}
 use Rattle.core_counts.proofs.counts.equal.Costs.{Costs, costs-as, TakesCosts, repeats_it, goes_on, own-takes}
 use Rattle.core_counts.proofs.counts.equal.Tables.{Tabled}
 use Rattle.core_counts.proofs.counts.listed.Laws.{table-again}

@@ -1,30 +1,11 @@
 -- How many calls of its own a machine may still ask for, and what each of its steps costs.
-use Rattle.std.proofs.Common.{◌≡◌, ◌≤◌, ◌+◌, ◌-◌, ℕ, zero, suc, Bool, true, false, List, [], ◌∷◌, length, Option, Some, None, slice_get, Result, Ok, Err, refl, sym, ap, subst, ◌∙◌, arith}
-use Rattle.std.specs.Prelude.{if◌then◌else◌}
+use Rattle.core_counts.proofs.Prelude.{◌≡◌, ◌≤◌, ◌+◌, ◌-◌, ℕ, zero, suc, Bool, true, false, List, [], ◌∷◌, length, Option, Some, None, slice_get, Result, Ok, Err, refl, sym, ap, subst, ◌∙◌, arith, if◌then◌else◌, Attr, stamp_of, Fault, Entry, Call, Reply, Op, Next, Repeat, Shelf, Turn, fails_busy, goes_again, repeats_after, ended, repeated, Walk, WalkNext, look_up, found_by, look_again, Machine, of_name}
 use Rattle.attr_cache.specs.Attrs as attrs
 use Rattle.name_cache.specs.Names as kept_names
-use Rattle.nfs_types.specs.declared.attr.Attr.{Attr}
-use Rattle.nfs_types.specs.Stamps.{stamp_of}
-use Rattle.world_model.specs.declared.answer.Fault.{Fault}
-use Rattle.world_model.specs.declared.entry.Entry.{Entry}
-use Rattle.world_model.specs.declared.message.Call.{Call}
-use Rattle.world_model.specs.declared.message.Reply.{Reply}
-use Rattle.world_model.specs.declared.op.Op.{Op}
-use Rattle.client_shelf.specs.declared.next.Next.{Next}
 use Rattle.client_shelf.specs.declared.next.Next.TheVariants as nexts
-use Rattle.client_shelf.specs.declared.repeats.Repeat.{Repeat}
-use Rattle.client_shelf.specs.declared.shelf.Shelf.{Shelf}
-use Rattle.client_shelf.specs.declared.turn.Turn.{Turn}
-use Rattle.client_shelf.specs.Busy.{fails_busy, goes_again, repeats_after}
-use Rattle.client_shelf.specs.Repeats.{ended, repeated}
 use Rattle.name_ops.specs.declared.walk.Spot.{Spot}
-use Rattle.name_ops.specs.declared.walk.Walk.{Walk}
-use Rattle.name_ops.specs.declared.walk.WalkNext.{WalkNext}
 use Rattle.name_ops.specs.declared.walk.WalkNext.TheVariants as walks
-use Rattle.name_ops.specs.Looking.{look_up, found_by, look_again}
 use Rattle.name_ops.specs.Walking as walking
-use Rattle.op_machines.specs.declared.machine.Machine.{Machine}
-use Rattle.core_facts.specs.InFlight.{of_name}
 use Rattle.core_counts.proofs.counts.engine.Laws.{Spends, nothing, Took, again, on}
 use Rattle.core_counts.proofs.counts.listed.Laws.{table-again}
 

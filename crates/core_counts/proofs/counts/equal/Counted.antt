@@ -1,34 +1,15 @@
 -- Equal calls, of all plain ones: for each operation that asks for them, 3 and one for each name of its paths.
-use Rattle.std.proofs.Common.{Contains, ◌≡◌, ◌≤◌, inl, inr, ◌&&◌, ℕ, nat_eq, true, List, [], ◌∷◌, length, All, None, refl, sym, ap, subst, ◌∙◌, arith}
-use Rattle.std.proofs.lemmas.Bool.{eqb-true}
-use Rattle.std.proofs.lemmas.List.Elements.{All-weaker}
-use Rattle.nfs_types.specs.declared.mode.Mode.{Mode}
+use Rattle.core_counts.proofs.Prelude.{Contains, ◌≡◌, ◌≤◌, inl, inr, ◌&&◌, ℕ, nat_eq, true, List, [], ◌∷◌, length, All, None, refl, sym, ap, subst, ◌∙◌, arith, eqb-true, All-weaker, Mode, Entry, Call, Op, Carries, RepliedAt, list_call, info_call, Terms, look_up, Mounted, IsAsked, machine_of, Setup, View, Notes, Saves, IsNfs, GoesFrom, all-asked}
 use Rattle.nfs_types.specs.declared.mode.Mode.TheVariants as modes
 use Rattle.nfs_dir_calls.specs.declared.call.DirCall.TheVariants as dirs
 use Rattle.nfs_file_calls.specs.declared.call.FileCall.TheVariants as files
-use Rattle.world_model.specs.declared.entry.Entry.{Entry}
-use Rattle.world_model.specs.declared.message.Call.{Call}
 use Rattle.world_model.specs.declared.message.Call.TheVariants as calls
-use Rattle.world_model.specs.declared.op.Op.{Op}
 use Rattle.world_model.specs.declared.op.Op.TheVariants as ops
 use Rattle.claims.specs.Asks as a
-use Rattle.claims.specs.CallCounts.{Carries, FewEqual, Asking, RepliedAt}
-use Rattle.world_model.specs.Chains.{list_call}
-use Rattle.world_model.specs.Mounts.{info_call}
+use Rattle.claims.specs.CallCounts.{FewEqual, Asking}
 use Rattle.world_model.specs.Commits.{commit_call}
 use Rattle.claims.specs.Paths.{paths_of}
-use Rattle.claims.specs.Terms.{Terms}
-use Rattle.name_ops.specs.Looking.{look_up}
 use Rattle.name_ops.specs.ListDir as listing
-use Rattle.op_machines.specs.declared.begun.Mounted.{Mounted}
-use Rattle.op_machines.specs.Begun.{IsAsked, machine_of}
-use Rattle.client_core.specs.declared.setup.Setup.{Setup}
-use Rattle.client_core.specs.View.{View}
-use Rattle.core_facts.specs.Notes.{Notes}
-use Rattle.core_answers.proofs.asks.SavedCalls.{Saves}
-use Rattle.core_answers.proofs.bonds.OneCall.{IsNfs}
-use Rattle.core_session.specs.calls.Whole.{GoesFrom}
-use Rattle.core_session.proofs.asked.Whole.{all-asked}
 use Rattle.core_counts.specs.counts.Equal.{FewEqualMade}
 use Rattle.core_counts.proofs.counts.engine.Decided.{same_list, first-of, second-of, list-is}
 use Rattle.core_counts.proofs.counts.engine.Sum.{AsksOne, Summed, summed-seen}

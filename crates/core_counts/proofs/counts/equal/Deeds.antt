@@ -1,10 +1,8 @@
 -- The calls that operations ask for, one by one, and whether a call is one of them.
-use Rattle.std.proofs.Common.{◌≡◌, ◌&&◌, ℕ, nat_eq, Bool, true, false, List, Option, Some, None, refl, ap, ◌∙◌}
-use Rattle.std.proofs.lemmas.Bool.{eqb-true, eq-eqb}
+use Rattle.core_counts.proofs.Prelude.{◌≡◌, ◌&&◌, ℕ, nat_eq, Bool, true, false, List, Option, Some, None, refl, ap, ◌∙◌, eqb-true, eq-eqb, Call}
 use Rattle.nfs_dir_calls.specs.declared.call.DirCall.TheVariants as dirs
 use Rattle.nfs_dir_calls.specs.declared.create.Making.TheVariants as makings
 use Rattle.nfs_file_calls.specs.declared.call.FileCall.TheVariants as files
-use Rattle.world_model.specs.declared.message.Call.{Call}
 use Rattle.world_model.specs.declared.message.Call.TheVariants as calls
 use Rattle.claims.specs.Asks as a
 use Rattle.core_counts.proofs.counts.engine.Decided.{same_list, first-of, second-of, both-of, list-is, list-same}

@@ -1,42 +1,22 @@
 -- What the steps of opens and puts cost, with the walk to their directory: LOOKUP, CREATE, LOOKUP and GETATTR once each.
-use Rattle.std.proofs.Common.{◌≡◌, ◌≤◌, ◌+◌, ◌||◌, ◌&&◌, ◌==◌, inl, inr, not, ℕ, Bool, true, false, List, Option, Some, None, Result, Ok, Err, refl, sym, ap, subst, ◌∙◌, arith}
-use Rattle.std.specs.Prelude.{if◌then◌else◌}
+use Rattle.core_counts.proofs.Prelude.{◌≡◌, ◌≤◌, ◌+◌, ◌||◌, ◌&&◌, ◌==◌, inl, inr, not, ℕ, Bool, true, false, List, Option, Some, None, Result, Ok, Err, refl, sym, ap, subst, ◌∙◌, arith, if◌then◌else◌, Attrs, Attr, Mode, Stamp, Opens, stamp_of, Pages, known_of, Answer, Fault, Call, Reply, Next, Shelf, Turn, Led, Opening, OpeningNext, OpeningStep, Putting, got_by, FileMachine, Opener, file_of}
 use Rattle.std.specs.FinMap as finite
-use Rattle.attr_cache.specs.Attrs.{Attrs, looked}
-use Rattle.nfs_types.specs.declared.attr.Attr.{Attr}
-use Rattle.nfs_types.specs.declared.mode.Mode.{Mode}
-use Rattle.nfs_types.specs.declared.wcc.Stamp.{Stamp}
-use Rattle.open_files.specs.Slots.{Opens}
-use Rattle.nfs_types.specs.Stamps.{stamp_of, same_stamp}
-use Rattle.page_cache.specs.Pages.{Pages, known_of}
-use Rattle.world_model.specs.declared.answer.Answer.{Answer}
-use Rattle.world_model.specs.declared.answer.Fault.{Fault}
+use Rattle.attr_cache.specs.Attrs.{looked}
+use Rattle.nfs_types.specs.Stamps.{same_stamp}
 use Rattle.world_model.specs.declared.answer.Fault.TheVariants as faults
-use Rattle.world_model.specs.declared.message.Call.{Call}
-use Rattle.world_model.specs.declared.message.Reply.{Reply}
-use Rattle.client_shelf.specs.declared.next.Next.{Next}
 use Rattle.client_shelf.specs.declared.next.Next.TheVariants as nexts
-use Rattle.client_shelf.specs.declared.shelf.Shelf.{Shelf}
-use Rattle.client_shelf.specs.declared.turn.Turn.{Turn}
 use Rattle.file_ops.specs.declared.open_file.OpenFile.{OpenFile}
-use Rattle.file_ops.specs.declared.opening.Led.{Led}
 use Rattle.file_ops.specs.declared.opening.Led.TheVariants as leads
-use Rattle.file_ops.specs.declared.opening.Opening.{Opening}
-use Rattle.file_ops.specs.declared.opening.OpeningNext.{OpeningNext}
 use Rattle.file_ops.specs.declared.opening.OpeningNext.TheVariants as openings
-use Rattle.file_ops.specs.declared.opening.OpeningStep.{OpeningStep}
 use Rattle.file_ops.specs.declared.opening.OpeningStep.TheVariants as steps
-use Rattle.file_ops.specs.declared.put_file.Putting.{Putting}
 use Rattle.file_ops.specs.declared.put_file.Putting.TheVariants as putting
 use Rattle.file_ops.specs.OpenFile as opens
 use Rattle.file_ops.specs.Opening as opening
-use Rattle.file_ops.specs.Told.{found_by, made_by, got_by}
-use Rattle.op_machines.specs.declared.file_machine.FileMachine.{FileMachine}
+use Rattle.file_ops.specs.Told.{found_by, made_by}
 use Rattle.op_machines.specs.declared.file_machine.FileMachine.TheVariants as files
-use Rattle.op_machines.specs.declared.opener.Opener.{Opener}
 use Rattle.op_machines.specs.declared.opener.Opener.TheVariants as openers
 use Rattle.op_machines.specs.FileSteps as stepping
-use Rattle.op_machines.specs.Openers.{file_of, placed}
+use Rattle.op_machines.specs.Openers.{placed}
 use Rattle.core_facts.specs.InFlight.{one_if, of_file}
 use Rattle.core_answers.proofs.asks.FilesAwaited.{FileNames}
 use Rattle.core_counts.proofs.counts.equal.Costs.{Costs, costs-as, TakesCosts, own-takes}

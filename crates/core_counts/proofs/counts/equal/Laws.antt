@@ -1,75 +1,35 @@
 -- No operation asks for equal calls more often than three times and once for each name of its paths.
-use Rattle.std.proofs.Common.{◌≡◌, ◌≤◌, ◌+◌, ◌-◌, ℕ, zero, suc, Bool, true, false, List, [], ◌∷◌, ◌++◌, length, take, Option, Some, None, Result, Ok, Err, refl, sym, ap, subst, ◌∙◌, arith}
-use Rattle.std.specs.Prelude.{if◌then◌else◌}
+use Rattle.core_counts.proofs.Prelude.{◌≡◌, ◌≤◌, ◌+◌, ◌-◌, ℕ, zero, suc, Bool, true, false, List, [], ◌∷◌, ◌++◌, length, take, Option, Some, None, Result, Ok, Err, refl, sym, ap, subst, ◌∙◌, arith, if◌then◌else◌, Fault, Entry, Began, Call, Reply, Op, Next, Repeat, Shelf, Turn, fails_busy, goes_again, repeats_after, CloseFile, ReadFile, Truncating, joined, Link, ListDir, Pair, Deed, Look, Seek, Move, Remove, RemoveFile, Rename, Stat, SymLink, Visit, access_call, deed_call, TakesLink, look_up, found_by, moved_told, text_call, TakesText, TakesRename, sym_link_call, TakesSymLink, Mounted, Machine, Opener, PathMachine, slot_taken, machine_of, front_of, last_of, put_of, Starts, Resumes, Takes, Busy, Setup, of_walk, visit_by, in_flight, Counts, counts-calls, AskedOf, Expects, expects-laws, Saves}
 use Rattle.std.specs.FinMap as finite
 use Rattle.nfs_file_calls.specs.declared.call.FileCall.TheVariants as of_files
-use Rattle.world_model.specs.declared.answer.Fault.{Fault}
-use Rattle.world_model.specs.declared.entry.Entry.{Entry}
-use Rattle.world_model.specs.declared.entry.Entry.TheVariants.{Began}
-use Rattle.world_model.specs.declared.message.Call.{Call}
 use Rattle.world_model.specs.declared.message.Call.TheVariants as calls
-use Rattle.world_model.specs.declared.message.Reply.{Reply}
-use Rattle.world_model.specs.declared.op.Op.{Op}
 use Rattle.world_model.specs.declared.op.Op.TheVariants as ops
 use Rattle.claims.specs.Paths.{names_in}
-use Rattle.client_shelf.specs.declared.next.Next.{Next}
 use Rattle.client_shelf.specs.declared.next.Next.TheVariants as nexts
-use Rattle.client_shelf.specs.declared.repeats.Repeat.{Repeat}
-use Rattle.client_shelf.specs.declared.shelf.Shelf.{Shelf}
-use Rattle.client_shelf.specs.declared.turn.Turn.{Turn}
-use Rattle.client_shelf.specs.Busy.{fails_busy, goes_again, repeats_after}
-use Rattle.file_ops.specs.declared.close_file.CloseFile.{CloseFile}
 use Rattle.file_ops.specs.declared.close_file.Closing.TheVariants as closing
-use Rattle.file_ops.specs.declared.read_file.ReadFile.{ReadFile}
 use Rattle.file_ops.specs.declared.truncate_file.TruncateFile.{TruncateFile}
-use Rattle.file_ops.specs.declared.truncate_file.Truncating.{Truncating}
 use Rattle.file_ops.specs.declared.truncate_file.Truncating.TheVariants as truncating
-use Rattle.file_ops.specs.SlotFiles.{joined}
 use Rattle.file_ops.specs.TruncateFile as truncates
 use Rattle.name_ops.specs.declared.access.Access.{Access}
 use Rattle.name_ops.specs.declared.dir_change.DirChange.{DirChange}
 use Rattle.name_ops.specs.declared.dir_change.DirDeed.TheVariants as deeds
-use Rattle.name_ops.specs.declared.link.Link.{Link}
-use Rattle.name_ops.specs.declared.list_dir.ListDir.{ListDir}
-use Rattle.name_ops.specs.declared.pair.Pair.{Pair}
 use Rattle.name_ops.specs.declared.read_link.ReadLink.{ReadLink}
-use Rattle.name_ops.specs.declared.remove_file.Deed.{Deed}
-use Rattle.name_ops.specs.declared.remove_file.Deed.TheVariants.{Look, Seek, Move, Remove}
-use Rattle.name_ops.specs.declared.remove_file.RemoveFile.{RemoveFile}
-use Rattle.name_ops.specs.declared.rename.Rename.{Rename}
-use Rattle.name_ops.specs.declared.stat.Stat.{Stat}
-use Rattle.name_ops.specs.declared.sym_link.SymLink.{SymLink}
-use Rattle.name_ops.specs.declared.visit.Visit.{Visit}
-use Rattle.name_ops.specs.Access.{access_call, access_attr, access_told}
+use Rattle.name_ops.specs.Access.{access_attr, access_told}
 use Rattle.name_ops.specs.Changing as changing
-use Rattle.name_ops.specs.DirChange.{deed_call, deed_told}
-use Rattle.name_ops.specs.Link.{link_call, linked_told, TakesLink}
+use Rattle.name_ops.specs.DirChange.{deed_told}
+use Rattle.name_ops.specs.Link.{link_call, linked_told}
 use Rattle.name_ops.specs.ListDir as listing
-use Rattle.name_ops.specs.Looking.{look_up, found_by}
-use Rattle.name_ops.specs.Moving.{moved_told}
 use Rattle.name_ops.specs.Pairs as pairs
-use Rattle.name_ops.specs.ReadLink.{text_call, text_attr, TakesText}
-use Rattle.name_ops.specs.Rename.{rename_call, renamed_next, TakesRename}
+use Rattle.name_ops.specs.ReadLink.{text_attr}
+use Rattle.name_ops.specs.Rename.{rename_call, renamed_next}
 use Rattle.name_ops.specs.Stat as stats
-use Rattle.name_ops.specs.SymLink.{sym_link_call, sym_linked_told, TakesSymLink}
+use Rattle.name_ops.specs.SymLink.{sym_linked_told}
 use Rattle.name_ops.specs.Visiting as visiting
-use Rattle.op_machines.specs.declared.begun.Mounted.{Mounted}
 use Rattle.op_machines.specs.declared.file_machine.FileMachine.TheVariants as files
-use Rattle.op_machines.specs.declared.machine.Machine.{Machine}
 use Rattle.op_machines.specs.declared.machine.Machine.TheVariants as machines
 use Rattle.op_machines.specs.declared.name_machine.NameMachine.TheVariants as names
-use Rattle.op_machines.specs.declared.opener.Opener.{Opener}
-use Rattle.op_machines.specs.declared.path_machine.PathMachine.{PathMachine}
-use Rattle.op_machines.specs.Openers.{slot_taken}
-use Rattle.op_machines.specs.Begun.{machine_of, front_of, last_of, open_of, put_of, path_of}
-use Rattle.op_machines.specs.Steps.{Starts, Resumes, Takes}
-use Rattle.client_core.specs.declared.lane.State.TheVariants.{Busy}
-use Rattle.client_core.specs.declared.setup.Setup.{Setup}
-use Rattle.core_facts.specs.InFlight.{of_walk, visit_by, pair_by, of_truncating, in_flight, Counts}
-use Rattle.core_facts.proofs.AllCounts.{counts-calls}
-use Rattle.core_facts.proofs.Steps.{AskedOf}
-use Rattle.core_answers.proofs.asks.CallsAwaited.{Expects, expects-laws}
-use Rattle.core_answers.proofs.asks.SavedCalls.{Saves}
+use Rattle.op_machines.specs.Begun.{open_of, path_of}
+use Rattle.core_facts.specs.InFlight.{pair_by, of_truncating}
 use Rattle.core_counts.proofs.counts.engine.Laws.{Spends, Took, Seen, came_now, never_made, SeenLaws}
 use Rattle.core_counts.proofs.counts.equal.Closes.{close_left, close-starts, close-resumes, close-takes}
 use Rattle.core_counts.proofs.counts.equal.Paths.{path_left, sends-path, path-starts, path-resumes, path-takes}

@@ -1,32 +1,20 @@
 -- What the steps of opens and puts cost on the way to their directory: LOOKUPs of the names that are left, and then those of the opening.
-use Rattle.std.proofs.Common.{◌≡◌, ◌≤◌, ◌+◌, ◌-◌, ℕ, Bool, true, false, List, Result, refl, sym, ap, subst, ◌∙◌, arith}
+use Rattle.core_counts.proofs.Prelude.{◌≡◌, ◌≤◌, ◌+◌, ◌-◌, ℕ, Bool, true, false, List, Result, refl, sym, ap, subst, ◌∙◌, arith, Fault, Call, Reply, Next, Shelf, Turn, WalkNext, FileMachine, Opener, PathMachine, file_of, begun_at, of_walk, Counts, AskedOf, Expects, Saves}
 use Rattle.world_model.specs.declared.answer.Answer.TheVariants as answers
-use Rattle.world_model.specs.declared.answer.Fault.{Fault}
 use Rattle.world_model.specs.declared.answer.Fault.TheVariants as faults
-use Rattle.world_model.specs.declared.message.Call.{Call}
-use Rattle.world_model.specs.declared.message.Reply.{Reply}
-use Rattle.client_shelf.specs.declared.next.Next.{Next}
 use Rattle.client_shelf.specs.declared.next.Next.TheVariants as nexts
-use Rattle.client_shelf.specs.declared.shelf.Shelf.{Shelf}
-use Rattle.client_shelf.specs.declared.turn.Turn.{Turn}
 use Rattle.file_ops.specs.OpenFile as opens
 use Rattle.file_ops.specs.Opening as opening
-use Rattle.name_ops.specs.declared.walk.WalkNext.{WalkNext}
 use Rattle.name_ops.specs.declared.walk.WalkNext.TheVariants as walks
 use Rattle.name_ops.specs.Walking as walking
-use Rattle.op_machines.specs.declared.file_machine.FileMachine.{FileMachine}
 use Rattle.op_machines.specs.declared.file_machine.FileMachine.TheVariants as files
 use Rattle.op_machines.specs.declared.machine.Machine.TheVariants as machines
-use Rattle.op_machines.specs.declared.opener.Opener.{Opener}
 use Rattle.op_machines.specs.declared.opener.Opener.TheVariants as openers
-use Rattle.op_machines.specs.declared.path_machine.PathMachine.{PathMachine}
 use Rattle.op_machines.specs.FileSteps as stepping
-use Rattle.op_machines.specs.Openers.{file_of, placed, begun_at}
+use Rattle.op_machines.specs.Openers.{placed}
 use Rattle.op_machines.specs.PathSteps as paths
-use Rattle.core_facts.specs.InFlight.{of_walk, of_file, path_by, Counts}
-use Rattle.core_facts.proofs.Steps.{AskedOf}
-use Rattle.core_answers.proofs.asks.CallsAwaited.{PathNames, Expects}
-use Rattle.core_answers.proofs.asks.SavedCalls.{Saves}
+use Rattle.core_facts.specs.InFlight.{of_file, path_by}
+use Rattle.core_answers.proofs.asks.CallsAwaited.{PathNames}
 use Rattle.core_counts.proofs.counts.equal.Costs.{Costs, costs-as, costs-more, TakesCosts, repeats_it, goes_on, names_left, WalkCosts, go-costs as walk-costs, WalkTakes, walk_again, walk_on, walk-takes}
 use Rattle.core_counts.proofs.counts.equal.Files.{SendsOf, opening_left, file_left, placed-left, go-costs, open-takes}
 use Rattle.core_counts.proofs.counts.equal.Puts.{put-resumes, put-takes}

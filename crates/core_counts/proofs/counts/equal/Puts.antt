@@ -1,39 +1,20 @@
 -- What the steps of puts cost: those of their opening. Their WRITEs and COMMITs don't count.
-use Rattle.std.proofs.Common.{◌≡◌, ◌≤◌, ◌+◌, inl, inr, ℕ, Bool, true, false, List, Result, Ok, Err, refl, sym, ap, subst, ◌∙◌, arith}
+use Rattle.core_counts.proofs.Prelude.{◌≡◌, ◌≤◌, ◌+◌, inl, inr, ℕ, Bool, true, false, List, Result, Ok, Err, refl, sym, ap, subst, ◌∙◌, arith, Fault, Call, Reply, Next, Repeat, Shelf, Turn, repeats_after, is_first, Led, Opening, OpeningNext, PutFile, Putting, Saving, Writing, by-step, Saves, joined}
 use Rattle.world_model.specs.declared.answer.Answer.TheVariants as answers
-use Rattle.world_model.specs.declared.answer.Fault.{Fault}
-use Rattle.world_model.specs.declared.message.Call.{Call}
-use Rattle.world_model.specs.declared.message.Reply.{Reply}
-use Rattle.client_shelf.specs.declared.next.Next.{Next}
 use Rattle.client_shelf.specs.declared.next.Next.TheVariants as nexts
-use Rattle.client_shelf.specs.declared.repeats.Repeat.{Repeat}
-use Rattle.client_shelf.specs.declared.shelf.Shelf.{Shelf}
-use Rattle.client_shelf.specs.declared.turn.Turn.{Turn}
-use Rattle.client_shelf.specs.Busy.{repeats_after}
-use Rattle.client_shelf.specs.LaneFiles.{is_first}
-use Rattle.file_ops.specs.declared.opening.Led.{Led}
-use Rattle.file_ops.specs.declared.opening.Opening.{Opening}
-use Rattle.file_ops.specs.declared.opening.OpeningNext.{OpeningNext}
 use Rattle.file_ops.specs.declared.opening.OpeningNext.TheVariants as openings
-use Rattle.file_ops.specs.declared.put_file.PutFile.{PutFile}
-use Rattle.file_ops.specs.declared.put_file.Putting.{Putting}
 use Rattle.file_ops.specs.declared.put_file.Putting.TheVariants as putting
-use Rattle.file_ops.specs.declared.saving.Saving.{Saving}
-use Rattle.file_ops.specs.declared.write_file.Writing.{Writing}
 use Rattle.file_ops.specs.declared.write_file.Writing.TheVariants as writing
 use Rattle.file_ops.specs.OpenFile as opens
 use Rattle.file_ops.specs.Opening as opening
 use Rattle.file_ops.specs.PutFile as puts
 use Rattle.file_ops.specs.Saves as saves
-use Rattle.file_ops.proofs.SaveCounts.{by-step}
 use Rattle.op_machines.specs.declared.file_machine.FileMachine.TheVariants as files
 use Rattle.core_facts.specs.InFlight.{of_putting}
 use Rattle.core_answers.proofs.asks.FilesAwaited.{StateNames}
-use Rattle.core_answers.proofs.asks.SavedCalls.{Saves}
 use Rattle.core_counts.proofs.counts.equal.Costs.{Costs, costs-as, TakesCosts, repeats_it, goes_on}
 use Rattle.core_counts.proofs.counts.equal.Tables.{Tabled}
 use Rattle.core_counts.proofs.counts.listed.Laws.{table-again}
-use Rattle.file_ops.specs.SlotFiles.{joined}
 use Rattle.core_counts.proofs.counts.equal.Files.{SendsOf, rank, opening_left, putting_left, led-fits, go-costs, led-costs, asked-some}
 
 abbrev pub IsQuiet : Putting → Type 0

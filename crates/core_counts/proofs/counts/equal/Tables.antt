@@ -1,27 +1,12 @@
 -- Whether a call is made again, by the table of such calls, of any operation.
-use Rattle.std.proofs.Common.{◌≡◌, ◌≤◌, ◌⊎◌, inl, inr, ℕ, Bool, true, false, List, [], Result, Ok, Err, refl, sym, subst, ◌∙◌}
-use Rattle.world_model.specs.declared.answer.Fault.{Fault}
+use Rattle.core_counts.proofs.Prelude.{◌≡◌, ◌≤◌, ◌⊎◌, inl, inr, ℕ, Bool, true, false, List, [], Result, Ok, Err, refl, sym, subst, ◌∙◌, Fault, Entry, Call, Reply, Next, Repeat, Shelf, Turn, goes_again, ended, repeated, Machine, Takes, in_flight, machine-fits, Calm, took-any}
 use Rattle.world_model.specs.declared.answer.Fault.TheVariants as faults
-use Rattle.world_model.specs.declared.entry.Entry.{Entry}
-use Rattle.world_model.specs.declared.message.Call.{Call}
-use Rattle.world_model.specs.declared.message.Reply.{Reply}
 use Rattle.claims.specs.Terms.{jukebox}
-use Rattle.client_shelf.specs.declared.next.Next.{Next}
 use Rattle.client_shelf.specs.declared.next.Next.TheVariants as nexts
-use Rattle.client_shelf.specs.declared.repeats.Repeat.{Repeat}
-use Rattle.client_shelf.specs.declared.shelf.Shelf.{Shelf}
-use Rattle.client_shelf.specs.declared.turn.Turn.{Turn}
-use Rattle.client_shelf.specs.Busy.{goes_again}
-use Rattle.client_shelf.specs.Repeats.{ended, repeated}
-use Rattle.op_machines.specs.declared.machine.Machine.{Machine}
-use Rattle.op_machines.specs.Steps.{Takes}
-use Rattle.core_facts.specs.InFlight.{in_flight}
 use Rattle.core_answers.proofs.answers.SaveFaults.{CallFaults}
-use Rattle.core_answers.proofs.refusals.Fitting.{machine-fits}
 use Rattle.core_answers.proofs.refusals.Replied.{Given}
 use Rattle.core_session.proofs.delays.Delays.{Off, off-own, off-given, off-evident}
 use Rattle.core_session.proofs.delays.Took.{Took}
-use Rattle.core_session.proofs.delays.TookFiles.{Calm, took-any}
 use Rattle.core_counts.proofs.counts.engine.Laws.{Came, told, unmade, IsUnmadeFault}
 use Rattle.core_counts.proofs.counts.listed.Laws.{table-again}
 

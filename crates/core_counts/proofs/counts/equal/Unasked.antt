@@ -1,25 +1,15 @@
 -- No record of a session carries a plain call that no operation asks for.
-use Rattle.std.proofs.Common.{◌≡◌, ◌≤◌, ℕ, true, List, [], ◌∷◌, length, All, Result, Ok, Err, refl, sym, ap, subst, ◌∙◌, arith}
-use Rattle.std.proofs.lemmas.List.Elements.{All-nil, All-head}
+use Rattle.core_counts.proofs.Prelude.{◌≡◌, ◌≤◌, ℕ, true, List, [], ◌∷◌, length, All, Result, Ok, Err, refl, sym, ap, subst, ◌∙◌, arith, All-nil, All-head, Verf, Entry, Call, Op, Carries, IsCaused, IsCause, mounts, informs, asked, list_call, SpellsCall, head_of, proc_of, mount_call, info_call, Terms, IsNfs, one-call}
 use Rattle.rpc_message.specs.declared.call.CallFault.{CallFault}
 use Rattle.rpc_message.specs.declared.call.CallHead.{CallHead}
 use Rattle.rpc_message.proofs.CallLaws.{call_again}
-use Rattle.nfs_types.specs.declared.verf.Verf.{Verf}
 use Rattle.mount_calls.specs.declared.call.MountCall.{MountCall}
 use Rattle.mount_calls.specs.declared.call.MountCall.TheVariants as mounts_of
 use Rattle.nfs_file_calls.specs.declared.call.FileCall.TheVariants as files
-use Rattle.world_model.specs.declared.entry.Entry.{Entry}
-use Rattle.world_model.specs.declared.message.Call.{Call}
 use Rattle.world_model.specs.declared.message.Call.TheVariants as calls
-use Rattle.world_model.specs.declared.op.Op.{Op}
 use Rattle.claims.specs.Asks as a
-use Rattle.claims.specs.CallCounts.{Asking, Carries, FewEqual, IsPlain}
-use Rattle.claims.specs.CallsAsked.{CallsAsked, IsCaused, IsCause, mounts, informs, asked}
-use Rattle.world_model.specs.Chains.{list_call}
-use Rattle.world_model.specs.Messages.{SpellsCall, head_of, proc_of}
-use Rattle.world_model.specs.Mounts.{mount_call, info_call}
-use Rattle.claims.specs.Terms.{Terms}
-use Rattle.core_answers.proofs.bonds.OneCall.{IsNfs, one-call}
+use Rattle.claims.specs.CallCounts.{Asking, FewEqual, IsPlain}
+use Rattle.claims.specs.CallsAsked.{CallsAsked}
 use Rattle.core_counts.proofs.counts.equal.Deeds.{Deed, call_of, like, like-self, no-way, access_of, cut_of, text_of, dir_of, sym_of, gone_of, unlink_of, name_of, link_of, loose_of, new_of, look_of, attr_of, read_of}
 
 -- ---- one head

@@ -1,29 +1,14 @@
 -- LOOKUPs of hidden names: one for each remove, and for each such name that was found.
-use Rattle.std.proofs.Common.{◌≡◌, ◌+◌, not, ℕ, zero, suc, nat_eq, Bool, true, false, List, [], ◌∷◌, ◌++◌, length, Contains, fold, Some, None, slice_get, refl, sym, ap, subst, ◌∙◌, arith}
-use Rattle.std.specs.Prelude.{if◌then◌else◌}
-use Rattle.std.proofs.lemmas.Bool.{eq-eqb}
-use Rattle.std.proofs.lemmas.List.Elements.{All-weaker, Contains-append_left, Contains-append_right}
+use Rattle.core_counts.proofs.Prelude.{◌≡◌, ◌+◌, not, ℕ, zero, suc, nat_eq, Bool, true, false, List, [], ◌∷◌, ◌++◌, length, Contains, Some, None, slice_get, refl, sym, ap, subst, ◌∙◌, arith, if◌then◌else◌, eq-eqb, All-weaker, Entry, Began, Answered, Dialed, Sent, Executed, Foreign, Flushed, Reboot, Delivered, Failed, Clock, Call, Op, Carries, At, info_call, Terms, Mounted, IsAsked, machine_of, Setup, View, Notes, IsNfs, GoesFrom}
+use Rattle.std.proofs.Common.{fold}
+use Rattle.std.proofs.lemmas.List.Elements.{Contains-append_left, Contains-append_right}
 use Rattle.nfs_dir_calls.specs.declared.call.DirCall.TheVariants as dirs
-use Rattle.world_model.specs.declared.entry.Entry.{Entry}
-use Rattle.world_model.specs.declared.entry.Entry.TheVariants.{Began, Answered, Dialed, Sent, Executed, Foreign, Flushed, Reboot, Delivered, Failed, Clock}
-use Rattle.world_model.specs.declared.message.Call.{Call}
 use Rattle.world_model.specs.declared.message.Call.TheVariants as calls
-use Rattle.world_model.specs.declared.op.Op.{Op}
 use Rattle.world_model.specs.declared.op.Op.TheVariants as ops
 use Rattle.claims.specs.Asks as a
-use Rattle.claims.specs.CallCounts.{FewHidden, RemovesAt, Carries, LooksForHidden, MetHidden, IsInScript}
-use Rattle.world_model.specs.Entries.{At}
+use Rattle.claims.specs.CallCounts.{FewHidden, RemovesAt, LooksForHidden, MetHidden, IsInScript}
 use Rattle.world_model.specs.Follows.{Follows, begun}
-use Rattle.world_model.specs.Mounts.{info_call}
 use Rattle.claims.specs.Paths.{paths_of}
-use Rattle.claims.specs.Terms.{Terms}
-use Rattle.op_machines.specs.declared.begun.Mounted.{Mounted}
-use Rattle.op_machines.specs.Begun.{IsAsked, machine_of}
-use Rattle.client_core.specs.declared.setup.Setup.{Setup}
-use Rattle.client_core.specs.View.{View}
-use Rattle.core_facts.specs.Notes.{Notes}
-use Rattle.core_answers.proofs.bonds.OneCall.{IsNfs}
-use Rattle.core_session.specs.calls.Whole.{GoesFrom}
 use Rattle.core_counts.specs.counts.Hidden.{FewHiddenMade}
 use Rattle.core_counts.proofs.counts.engine.Sum.{AsksOne, Summed, summed}
 use Rattle.core_counts.proofs.counts.hidden.Laws.{IsOther, IsRemove, once, RemoveLeft, remove-laws}

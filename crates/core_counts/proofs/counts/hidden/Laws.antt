@@ -1,48 +1,21 @@
 -- A remove asks for one LOOKUP of a hidden name, and for one more after each that was found.
-use Rattle.std.proofs.Common.{◌≡◌, ◌≤◌, ◌+◌, ◌-◌, ◌⊎◌, inl, inr, ℕ, zero, suc, Bool, true, false, List, [], ◌∷◌, ◌++◌, length, take, Contains, Option, Some, None, Result, Ok, Err, refl, sym, ap, subst, ◌∙◌, arith}
-use Rattle.std.specs.Prelude.{if◌then◌else◌}
+use Rattle.core_counts.proofs.Prelude.{◌≡◌, ◌≤◌, ◌+◌, ◌-◌, ◌⊎◌, inl, inr, ℕ, zero, suc, Bool, true, false, List, [], ◌∷◌, ◌++◌, length, take, Contains, Option, Some, None, Result, Ok, Err, refl, sym, ap, subst, ◌∙◌, arith, if◌then◌else◌, DirKept, Answer, Fault, Entry, Began, Call, Reply, Op, Says, Next, Repeat, Shelf, Turn, fails_busy, goes_again, repeats_after, ended, repeated, Deed, Look, Seek, Move, Remove, RemoveFile, Walk, WalkNext, look_up, found_by, look_again, moved_told, Mounted, Machine, machine_of, front_of, last_of, Starts, Resumes, Takes, of_name, of_walk, in_flight}
 use Rattle.silly_rename.specs.Plans.{plan_of}
-use Rattle.nfs_dir_calls.specs.declared.keeping.DirKept.{DirKept}
 use Rattle.nfs_dir_calls.specs.declared.keeping.DirKept.TheVariants as kept
-use Rattle.world_model.specs.declared.answer.Answer.{Answer}
 use Rattle.world_model.specs.declared.answer.Answer.TheVariants as answers
-use Rattle.world_model.specs.declared.answer.Fault.{Fault}
-use Rattle.world_model.specs.declared.entry.Entry.{Entry}
-use Rattle.world_model.specs.declared.entry.Entry.TheVariants.{Began}
-use Rattle.world_model.specs.declared.message.Call.{Call}
-use Rattle.world_model.specs.declared.message.Reply.{Reply}
 use Rattle.world_model.specs.declared.message.Reply.TheVariants as replies
-use Rattle.world_model.specs.declared.op.Op.{Op}
 use Rattle.world_model.specs.declared.op.Op.TheVariants as ops
 use Rattle.claims.specs.CallCounts.{IsInScript, MetHidden}
 use Rattle.world_model.specs.Heard.{status_of}
 use Rattle.claims.specs.Hidden.{IsHidden}
-use Rattle.call_replies.specs.Says.{Says}
-use Rattle.client_shelf.specs.declared.next.Next.{Next}
 use Rattle.client_shelf.specs.declared.next.Next.TheVariants as nexts
-use Rattle.client_shelf.specs.declared.repeats.Repeat.{Repeat}
-use Rattle.client_shelf.specs.declared.shelf.Shelf.{Shelf}
-use Rattle.client_shelf.specs.declared.turn.Turn.{Turn}
-use Rattle.client_shelf.specs.Busy.{fails_busy, goes_again, repeats_after}
-use Rattle.client_shelf.specs.Repeats.{ended, repeated}
-use Rattle.name_ops.specs.declared.remove_file.Deed.{Deed}
-use Rattle.name_ops.specs.declared.remove_file.Deed.TheVariants.{Look, Seek, Move, Remove}
-use Rattle.name_ops.specs.declared.remove_file.RemoveFile.{RemoveFile}
-use Rattle.name_ops.specs.declared.walk.Walk.{Walk}
-use Rattle.name_ops.specs.declared.walk.WalkNext.{WalkNext}
 use Rattle.name_ops.specs.declared.walk.WalkNext.TheVariants as walks
 use Rattle.name_ops.specs.Changing as changing
-use Rattle.name_ops.specs.Looking.{look_up, found_by, look_again}
-use Rattle.name_ops.specs.Moving.{moved_told}
 use Rattle.name_ops.specs.RemoveFile as removals
 use Rattle.name_ops.specs.Walking as walking
-use Rattle.op_machines.specs.declared.begun.Mounted.{Mounted}
-use Rattle.op_machines.specs.declared.machine.Machine.{Machine}
 use Rattle.op_machines.specs.declared.machine.Machine.TheVariants as machines
 use Rattle.op_machines.specs.declared.name_machine.NameMachine.TheVariants as names
-use Rattle.op_machines.specs.Begun.{machine_of, front_of, last_of}
-use Rattle.op_machines.specs.Steps.{Starts, Resumes, Takes}
-use Rattle.core_facts.specs.InFlight.{of_name, of_walk, one_if, removal_by, in_flight}
+use Rattle.core_facts.specs.InFlight.{one_if, removal_by}
 use Rattle.core_facts.proofs.NamesAwaited.{RemoveAwaits}
 use Rattle.core_answers.proofs.asks.HiddenNames.{silly-hidden}
 use Rattle.core_counts.proofs.counts.engine.Laws.{Came, told, unmade, Spends, nothing, one, Took, again, on, CountLaws}

@@ -1,10 +1,7 @@
 -- Whether a path of a script has a name.
-use Rattle.std.proofs.Common.{◌≡◌, ◌<◌, ◌≤◌, ◌-◌, ◌||◌, ◌⊎◌, inl, inr, ℕ, zero, suc, Bool, true, false, List, [], ◌∷◌, length, take, Contains, Option, Some, None, slice_get, unwrap_or, refl, sym, ap, subst, ◌∙◌, arith}
-use Rattle.world_model.specs.declared.entry.Entry.{Entry}
-use Rattle.world_model.specs.declared.entry.Entry.TheVariants.{Began, Answered, Dialed, Sent, Executed, Foreign, Flushed, Reboot, Delivered, Failed, Clock}
-use Rattle.world_model.specs.declared.op.Op.{Op}
+use Rattle.core_counts.proofs.Prelude.{◌≡◌, ◌<◌, ◌≤◌, ◌-◌, ◌||◌, ◌⊎◌, inl, inr, ℕ, zero, suc, Bool, true, false, List, [], ◌∷◌, length, take, Contains, Option, Some, None, slice_get, refl, sym, ap, subst, ◌∙◌, arith, Entry, Began, Answered, Dialed, Sent, Executed, Foreign, Flushed, Reboot, Delivered, Failed, Clock, Op, At}
+use Rattle.std.proofs.Common.{unwrap_or}
 use Rattle.claims.specs.CallCounts.{IsInScript}
-use Rattle.world_model.specs.Entries.{At}
 use Rattle.claims.specs.Paths.{paths_of}
 use Rattle.core_counts.proofs.counts.engine.Decided.{same_list, list-is, list-same}
 

@@ -1,26 +1,10 @@
 -- Equal READDIRPLUS calls: one for each page that they follow; and from cookie 0 one for each list that asks for them.
-use Rattle.std.proofs.Common.{◌≡◌, ◌+◌, ◌&&◌, inl, inr, ℕ, nat_eq, Bool, true, false, List, [], ◌∷◌, length, fold, refl, sym, ap, subst, ◌∙◌, arith}
-use Rattle.std.specs.Prelude.{if◌then◌else◌}
-use Rattle.std.proofs.lemmas.Bool.{eqb-true, eq-eqb}
-use Rattle.std.proofs.lemmas.List.Elements.{All-nil, All-weaker}
-use Rattle.nfs_types.specs.declared.verf.Verf.{Verf}
+use Rattle.core_counts.proofs.Prelude.{◌≡◌, ◌+◌, ◌&&◌, inl, inr, ℕ, nat_eq, Bool, true, false, List, [], ◌∷◌, length, refl, sym, ap, subst, ◌∙◌, arith, if◌then◌else◌, eqb-true, eq-eqb, All-nil, All-weaker, Verf, Entry, Call, Op, list_call, info_call, Terms, Mounted, machine_of, Setup, View, Notes, IsNfs, GoesFrom}
+use Rattle.std.proofs.Common.{fold}
 use Rattle.nfs_dir_calls.specs.declared.call.DirCall.TheVariants as dirs
-use Rattle.world_model.specs.declared.entry.Entry.{Entry}
-use Rattle.world_model.specs.declared.message.Call.{Call}
 use Rattle.world_model.specs.declared.message.Call.TheVariants as calls
-use Rattle.world_model.specs.declared.op.Op.{Op}
 use Rattle.claims.specs.Asks as a
 use Rattle.claims.specs.CallCounts.{FewPages, Asking}
-use Rattle.world_model.specs.Chains.{list_call}
-use Rattle.world_model.specs.Mounts.{info_call}
-use Rattle.claims.specs.Terms.{Terms}
-use Rattle.op_machines.specs.declared.begun.Mounted.{Mounted}
-use Rattle.op_machines.specs.Begun.{machine_of}
-use Rattle.client_core.specs.declared.setup.Setup.{Setup}
-use Rattle.client_core.specs.View.{View}
-use Rattle.core_facts.specs.Notes.{Notes}
-use Rattle.core_answers.proofs.bonds.OneCall.{IsNfs}
-use Rattle.core_session.specs.calls.Whole.{GoesFrom}
 use Rattle.core_counts.specs.counts.Pages.{FewPagesMade}
 use Rattle.core_counts.proofs.counts.engine.Decided.{same_list, first-of, second-of, both-of, list-is, list-same}
 use Rattle.core_counts.proofs.counts.engine.Sum.{AsksOne, Summed, summed}

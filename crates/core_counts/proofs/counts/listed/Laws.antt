@@ -1,9 +1,6 @@
 -- A listing asks for its first page from cookie 0, and for each next one after the page before it came.
-use Rattle.std.proofs.Common.{◌≡◌, ◌≤◌, ◌+◌, inl, inr, ℕ, zero, suc, nat_eq, nat_lt, Bool, true, false, List, [], ◌∷◌, ◌++◌, length, Option, Some, None, Result, Ok, Err, refl, sym, ap, subst, ◌∙◌, arith}
-use Rattle.std.specs.Prelude.{if◌then◌else◌}
-use Rattle.nfs_types.specs.declared.attr.Attr.{Attr}
-use Rattle.nfs_types.specs.declared.verf.Verf.{Verf}
-use Rattle.nfs_dir_calls.specs.declared.keeping.DirKept.{DirKept}
+use Rattle.core_counts.proofs.Prelude.{◌≡◌, ◌≤◌, ◌+◌, inl, inr, ℕ, zero, suc, nat_eq, Bool, true, false, List, [], ◌∷◌, ◌++◌, length, Option, Some, None, Result, Ok, Err, refl, sym, ap, subst, ◌∙◌, arith, if◌then◌else◌, Attr, Verf, DirKept, Fault, Entry, Began, Call, Reply, Op, list_call, SpellsReply, Says, Next, Repeat, Shelf, Turn, fails_busy, goes_again, repeats_after, ended, ListDir, Visit, Walk, WalkNext, look_up, found_by, look_again, Mounted, Machine, machine_of, Starts, Resumes, Takes, of_name, of_walk, visit_by, in_flight}
+use Rattle.std.proofs.Common.{nat_lt}
 use Rattle.nfs_dir_calls.specs.declared.keeping.DirKept.TheVariants as kept
 use Rattle.nfs_dir_calls.specs.declared.plus_page.PlusRow.{PlusRow}
 use Rattle.dir_list.specs.declared.progress.ListFault.{ListFault}
@@ -12,42 +9,20 @@ use Rattle.dir_list.specs.declared.progress.Step.{Step}
 use Rattle.dir_list.specs.declared.progress.Step.TheVariants.{More, End}
 use Rattle.dir_list.specs.Listings.{counted, page_step, last_cookie, listing_limit}
 use Rattle.world_model.specs.declared.answer.Answer.TheVariants as answers
-use Rattle.world_model.specs.declared.answer.Fault.{Fault}
-use Rattle.world_model.specs.declared.entry.Entry.{Entry}
-use Rattle.world_model.specs.declared.entry.Entry.TheVariants.{Began}
-use Rattle.world_model.specs.declared.message.Call.{Call}
-use Rattle.world_model.specs.declared.message.Reply.{Reply}
 use Rattle.world_model.specs.declared.message.Reply.TheVariants as replies
-use Rattle.world_model.specs.declared.op.Op.{Op}
 use Rattle.world_model.specs.declared.op.Op.TheVariants as ops
 use Rattle.claims.specs.CallCounts.{IsPageBefore}
-use Rattle.world_model.specs.Chains.{list_call, page_reply, LastCookie}
-use Rattle.world_model.specs.Messages.{SpellsReply}
-use Rattle.call_replies.specs.Says.{Says}
-use Rattle.client_shelf.specs.declared.next.Next.{Next}
+use Rattle.world_model.specs.Chains.{page_reply, LastCookie}
 use Rattle.client_shelf.specs.declared.next.Next.TheVariants as nexts
-use Rattle.client_shelf.specs.declared.repeats.Repeat.{Repeat}
-use Rattle.client_shelf.specs.declared.shelf.Shelf.{Shelf}
-use Rattle.client_shelf.specs.declared.turn.Turn.{Turn}
-use Rattle.client_shelf.specs.Busy.{is_busy, fails_busy, goes_again, repeats_after}
-use Rattle.client_shelf.specs.Repeats.{ended, answered}
-use Rattle.name_ops.specs.declared.list_dir.ListDir.{ListDir}
-use Rattle.name_ops.specs.declared.visit.Visit.{Visit}
+use Rattle.client_shelf.specs.Busy.{is_busy}
+use Rattle.client_shelf.specs.Repeats.{answered}
 use Rattle.name_ops.specs.declared.visit.VisitNext.TheVariants as visits
-use Rattle.name_ops.specs.declared.walk.Walk.{Walk}
-use Rattle.name_ops.specs.declared.walk.WalkNext.{WalkNext}
 use Rattle.name_ops.specs.declared.walk.WalkNext.TheVariants as walks
 use Rattle.name_ops.specs.ListDir as listing
-use Rattle.name_ops.specs.Looking.{look_up, found_by, look_again}
 use Rattle.name_ops.specs.Visiting as visiting
 use Rattle.name_ops.specs.Walking as walking
-use Rattle.op_machines.specs.declared.begun.Mounted.{Mounted}
-use Rattle.op_machines.specs.declared.machine.Machine.{Machine}
 use Rattle.op_machines.specs.declared.machine.Machine.TheVariants as machines
 use Rattle.op_machines.specs.declared.name_machine.NameMachine.TheVariants as names
-use Rattle.op_machines.specs.Begun.{machine_of}
-use Rattle.op_machines.specs.Steps.{Starts, Resumes, Takes}
-use Rattle.core_facts.specs.InFlight.{of_name, of_walk, visit_by, in_flight}
 use Rattle.core_facts.proofs.Awaited.{OwnOr, WalkStep, go-step, took-step}
 use Rattle.core_counts.proofs.counts.engine.Laws.{ToldNow, Came, told, unmade, Spends, nothing, one, Took, again, on, CountLaws}
 

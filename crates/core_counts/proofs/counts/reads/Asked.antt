@@ -1,15 +1,10 @@
 -- READ is a call of reads alone, and of the file of their slot.
-use Rattle.std.proofs.Common.{◌≡◌, ℕ, List, refl, sym, subst, ◌∙◌}
+use Rattle.core_counts.proofs.Prelude.{◌≡◌, ℕ, List, refl, sym, subst, ◌∙◌, IsReadOf, IsOf, Terms, Entry, Call, Op}
 use Rattle.nfs_file_calls.specs.declared.call.FileCall.TheVariants as files
 use Rattle.claims.specs.Asks.{Asks, Acts, MakesFile}
 use Rattle.claims.specs.Asks as asks
-use Rattle.claims.specs.CallCounts.{IsReadOf, read, ReadsOf}
-use Rattle.claims.specs.Slots.{IsOf}
-use Rattle.claims.specs.Terms.{Terms}
-use Rattle.world_model.specs.declared.entry.Entry.{Entry}
-use Rattle.world_model.specs.declared.message.Call.{Call}
+use Rattle.claims.specs.CallCounts.{read, ReadsOf}
 use Rattle.world_model.specs.declared.message.Call.TheVariants as calls
-use Rattle.world_model.specs.declared.op.Op.{Op}
 
 -- no READ
 record IsOther (call : Call) : Type 0 where

@@ -1,26 +1,12 @@
 -- The READs of a file, along a history.
-use Rattle.std.proofs.Common.{◌≡◌, ◌≢◌, ◌⊎◌, inl, inr, ℕ, Bool, true, false, List, length, refl, sym, ap, subst, arith}
-use Rattle.std.proofs.lemmas.List.Elements.{All-weaker}
-use Rattle.nfs_file_calls.specs.declared.call.FileCall.{FileCall}
+use Rattle.core_counts.proofs.Prelude.{◌≡◌, ◌≢◌, ◌⊎◌, inl, inr, ℕ, Bool, true, false, List, length, refl, sym, ap, subst, arith, All-weaker, FileCall, same-or, Entry, Call, IsReadOf, Rooted, info_call, Terms, Mounted, machine_of, Setup, View, Notes, IsNfs, GoesFrom}
 use Rattle.nfs_file_calls.specs.declared.call.FileCall.TheVariants as files
-use Rattle.write_back.proofs.WritesByFile.{same-or}
-use Rattle.world_model.specs.declared.entry.Entry.{Entry}
-use Rattle.world_model.specs.declared.message.Call.{Call}
 use Rattle.world_model.specs.declared.message.Call.TheVariants as calls
-use Rattle.claims.specs.CallCounts.{IsReadOf, read, IsShortRead, FewReads, ReadsOf}
-use Rattle.world_model.specs.Mounts.{Rooted, info_call}
+use Rattle.claims.specs.CallCounts.{read, IsShortRead, FewReads, ReadsOf}
 use Rattle.world_model.specs.ReadSize.{ReadSized}
-use Rattle.claims.specs.Terms.{Terms}
 use Rattle.world_model.proofs.Growth.{Rooted-grow}
-use Rattle.op_machines.specs.declared.begun.Mounted.{Mounted}
-use Rattle.op_machines.specs.Begun.{machine_of}
-use Rattle.client_core.specs.declared.setup.Setup.{Setup}
-use Rattle.client_core.specs.View.{View}
-use Rattle.core_facts.specs.Notes.{Notes}
-use Rattle.core_answers.proofs.bonds.OneCall.{IsNfs}
 use Rattle.core_session.proofs.calls.Causes.{sized-grow}
 use Rattle.core_session.proofs.calls.Whole.{calls-asked-but}
-use Rattle.core_session.specs.calls.Whole.{GoesFrom}
 use Rattle.core_counts.proofs.counts.engine.Sum.{Summed, AsksOne, summed}
 use Rattle.core_counts.proofs.counts.reads.Asked.{read-asks}
 use Rattle.core_counts.proofs.counts.reads.Laws.{IsRead, base, Left, read-laws}

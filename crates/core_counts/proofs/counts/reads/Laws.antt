@@ -1,53 +1,25 @@
 -- A read asks for as many READs as the pages that meet its range take, and for one more after each short reply.
-use Rattle.std.proofs.Common.{◌≡◌, ◌≢◌, ◌<◌, ◌≤◌, ◌⊎◌, inl, inr, ◌+◌, ◌-◌, ◌*◌, ℕ, Bool, true, false, if◌then◌else◌, List, [], ◌∷◌, ◌++◌, length, Option, Some, None, Result, Ok, Err, refl, sym, ap, subst, ◌∙◌, arith}
+use Rattle.core_counts.proofs.Prelude.{◌≡◌, ◌≢◌, ◌<◌, ◌≤◌, ◌⊎◌, inl, inr, ◌+◌, ◌-◌, ◌*◌, ℕ, Bool, true, false, List, [], ◌∷◌, ◌++◌, length, Option, Some, None, Result, Ok, Err, refl, sym, ap, subst, ◌∙◌, arith, Attr, Mode, Opened, same-or, IsReadOf, Answer, Fault, Entry, Began, Call, Reply, Op, Says, ended, Next, Repeat, Shelf, Turn, ReadFile, Phase, Reading, place_after, Mounted, Machine, machine_of, Starts, Resumes, Takes, of_phase, of_reading, in_flight, Going, PhaseNames, ReadNames, PhaseAt, ReadAt, Calls}
+use Rattle.std.proofs.Common.{if◌then◌else◌}
 use Rattle.std.specs.FinMap as finite
-use Rattle.nfs_types.specs.declared.attr.Attr.{Attr}
-use Rattle.nfs_types.specs.declared.mode.Mode.{Mode}
 use Rattle.nfs_types.specs.declared.mode.Mode.TheVariants as modes
 use Rattle.nfs_file_calls.specs.declared.call.FileCall.TheVariants as calls_of
 use Rattle.nfs_file_calls.specs.declared.owned.FileKept.TheVariants as kept
-use Rattle.open_files.specs.declared.opened.Opened.{Opened}
-use Rattle.write_back.proofs.WritesByFile.{same-or}
-use Rattle.claims.specs.CallCounts.{IsReadOf, IsShortRead}
+use Rattle.claims.specs.CallCounts.{IsShortRead}
 use Rattle.claims.specs.Pages.{pages_met, reads_a_page}
-use Rattle.world_model.specs.declared.answer.Answer.{Answer}
 use Rattle.world_model.specs.declared.answer.Answer.TheVariants as answers
-use Rattle.world_model.specs.declared.answer.Fault.{Fault}
 use Rattle.world_model.specs.declared.answer.Fault.TheVariants as faults
-use Rattle.world_model.specs.declared.entry.Entry.{Entry}
-use Rattle.world_model.specs.declared.entry.Entry.TheVariants.{Began}
-use Rattle.world_model.specs.declared.message.Call.{Call}
 use Rattle.world_model.specs.declared.message.Call.TheVariants as calls
-use Rattle.world_model.specs.declared.message.Reply.{Reply}
 use Rattle.world_model.specs.declared.message.Reply.TheVariants as replies
-use Rattle.world_model.specs.declared.op.Op.{Op}
 use Rattle.world_model.specs.declared.op.Op.TheVariants as ops
-use Rattle.call_replies.specs.Says.{Says}
-use Rattle.client_shelf.specs.Repeats.{ended}
-use Rattle.client_shelf.specs.declared.next.Next.{Next}
 use Rattle.client_shelf.specs.declared.next.Next.TheVariants as nexts
-use Rattle.client_shelf.specs.declared.repeats.Repeat.{Repeat}
-use Rattle.client_shelf.specs.declared.shelf.Shelf.{Shelf}
-use Rattle.client_shelf.specs.declared.turn.Turn.{Turn}
-use Rattle.file_ops.specs.declared.read_file.ReadFile.{ReadFile}
-use Rattle.file_ops.specs.declared.reading.Phase.{Phase}
 use Rattle.file_ops.specs.declared.reading.Phase.TheVariants as phases
-use Rattle.file_ops.specs.declared.reading.Reading.{Reading}
-use Rattle.file_ops.specs.Base.{nothing_of, place_after}
+use Rattle.file_ops.specs.Base.{nothing_of}
 use Rattle.file_ops.specs.ReadFile as reads
 use Rattle.file_ops.specs.Reading as reading
-use Rattle.op_machines.specs.declared.begun.Mounted.{Mounted}
 use Rattle.op_machines.specs.declared.file_machine.FileMachine.TheVariants as files
-use Rattle.op_machines.specs.declared.machine.Machine.{Machine}
 use Rattle.op_machines.specs.declared.machine.Machine.TheVariants as machines
-use Rattle.op_machines.specs.Begun.{machine_of}
-use Rattle.op_machines.specs.Steps.{Starts, Resumes, Takes}
-use Rattle.core_facts.specs.InFlight.{of_phase, of_reading, in_flight}
-use Rattle.core_facts.proofs.Stories.{Going}
 use Rattle.core_answers.proofs.asks.ReadRanges.{begun-in}
-use Rattle.core_answers.proofs.asks.ReadsAwaited.{PhaseNames, ReadNames}
-use Rattle.core_answers.proofs.asks.ReadSteps.{PhaseAt, ReadAt}
-use Rattle.core_session.proofs.delays.Delays.{Calls}
 use Rattle.core_counts.proofs.counts.engine.Laws.{Came, told, unmade, Spends, Gains, nothing, one, Took, again, on, CountLaws}
 use Rattle.core_counts.proofs.counts.reads.Readings.{StopsIn}
 use Rattle.core_counts.proofs.counts.reads.Takes as steps

@@ -1,6 +1,5 @@
 -- How many READs of one size the rest of a range takes, whose last page is whole: so many a page.
-use Rattle.std.proofs.Common.{◌≡◌, ◌<◌, ◌≤◌, ◌⊎◌, inl, inr, ◌+◌, ◌-◌, ◌*◌, ◌/◌, ◌%◌, ℕ, zero, suc, refl, ap, ◌∙◌, arith}
-use Rattle.std.proofs.lemmas.Bool.{cases_lt}
+use Rattle.core_counts.proofs.Prelude.{◌≡◌, ◌<◌, ◌≤◌, ◌⊎◌, inl, inr, ◌+◌, ◌-◌, ◌*◌, ◌/◌, ◌%◌, ℕ, zero, suc, refl, ap, ◌∙◌, arith, cases_lt}
 use Rattle.std.proofs.lemmas.Nat.{div-add-mod', mul-le, div_below, mod_below}
 use Rattle.claims.specs.Pages.{reads_a_page}
 

@@ -1,31 +1,19 @@
 -- A history tells one root and one READ size.
-use Rattle.std.proofs.Common.{◌≡◌, ◌<◌, ◌≤◌, ◌⊎◌, inl, inr, ℕ, List, Option, Some, None, Result, Ok, Err, refl, sym, ap, subst, ◌∙◌, arith}
-use Rattle.std.proofs.lemmas.Bool.{cases_lt}
-use Rattle.nfs_types.specs.declared.attr.Attr.{Attr}
-use Rattle.nfs_types.specs.declared.time.Time.{Time}
+use Rattle.core_counts.proofs.Prelude.{◌≡◌, ◌<◌, ◌≤◌, ◌⊎◌, inl, inr, ℕ, List, Option, Some, None, Result, Ok, Err, refl, sym, ap, subst, ◌∙◌, arith, cases_lt, Attr, Time, Accepted, At, Heard, SpellsReply, Rooted, mount_call, info_call, Terms, Fault, Entry, Delivered, Call, Reply, At-one}
 use Rattle.nfs_file_calls.specs.declared.owned.FileKept.TheVariants as kept
 use Rattle.mount_calls.specs.declared.reply.MountReply.TheVariants as mounted
 use Rattle.rpc_message.specs.declared.reply.ReplyFault.{ReplyFault}
 use Rattle.rpc_message.specs.declared.reply.ReplyFault.TheVariants.{NotReply}
-use Rattle.rpc_message.specs.Reply.{RpcReply, Accepted, SpellsRefusal, refusal_number}
+use Rattle.rpc_message.specs.Reply.{RpcReply, SpellsRefusal, refusal_number}
 use Rattle.rpc_message.proofs.ReplyLaws.{reply_again}
 use Rattle.claims.specs.CallsAsked.{AreSetUp, mount, inform}
-use Rattle.world_model.specs.Entries.{At}
-use Rattle.world_model.specs.Heard.{Heard, Asked, Refused, Refuses, status_of}
-use Rattle.world_model.specs.Messages.{SpellsReply}
-use Rattle.world_model.specs.Mounts.{Origin, Mounting, Given, Rooted, mount_call, info_call, lesser_size}
+use Rattle.world_model.specs.Heard.{Asked, Refused, Refuses, status_of}
+use Rattle.world_model.specs.Mounts.{Origin, Mounting, Given, lesser_size}
 use Rattle.world_model.specs.ReadSize.{ReadSized, told, untold, whole_pages}
 use Rattle.world_model.specs.Rules.{Breaks, IsNotReply, not_a_reply, unspelled, wrong_committed, wrong_count, too_long}
-use Rattle.claims.specs.Terms.{Terms}
 use Rattle.world_model.specs.Waiting.{Answers}
-use Rattle.world_model.specs.declared.answer.Fault.{Fault}
 use Rattle.world_model.specs.declared.answer.Fault.TheVariants as faults
-use Rattle.world_model.specs.declared.entry.Entry.{Entry}
-use Rattle.world_model.specs.declared.entry.Entry.TheVariants.{Delivered}
-use Rattle.world_model.specs.declared.message.Call.{Call}
-use Rattle.world_model.specs.declared.message.Reply.{Reply}
 use Rattle.world_model.specs.declared.message.Reply.TheVariants as replies
-use Rattle.world_model.proofs.Places.{At-one}
 use Rattle.call_replies.proofs.Readings.{not_reply_read}
 use Rattle.core_session.proofs.outcomes.Served.{one-reply}
 use Rattle.core_session.specs.calls.Whole.{CallsAskedBut}

@@ -1,18 +1,11 @@
 -- A history tells one WRITE size, and that of a session is the one that its set-up found.
-use Rattle.std.proofs.Common.{◌≡◌, ℕ, List, length, Option, sym, ap, subst, refl, ◌∙◌}
-use Rattle.nfs_types.specs.declared.attr.Attr.{Attr}
-use Rattle.nfs_types.specs.declared.time.Time.{Time}
+use Rattle.core_counts.proofs.Prelude.{◌≡◌, ℕ, List, length, Option, sym, ap, subst, refl, ◌∙◌, Attr, Time, Rooted, info_call, Terms, Entry, Mounted, Setup, View, GoesFrom}
 use Rattle.nfs_file_calls.specs.declared.owned.FileKept.TheVariants as kept
 use Rattle.claims.specs.CallsAsked.{inform}
-use Rattle.world_model.specs.Mounts.{Rooted, Sized, told, untold, info_call, lesser_size}
-use Rattle.claims.specs.Terms.{Terms}
-use Rattle.world_model.specs.declared.entry.Entry.{Entry}
+use Rattle.world_model.specs.Mounts.{Sized, told, untold, lesser_size}
 use Rattle.world_model.specs.declared.message.Reply.TheVariants as replies
 use Rattle.world_model.proofs.Growth.{Rooted-grow, Sized-grow}
-use Rattle.op_machines.specs.declared.begun.Mounted.{Mounted}
-use Rattle.client_core.specs.declared.setup.Setup.{Setup}
-use Rattle.client_core.specs.View.{View}
-use Rattle.core_session.specs.calls.Whole.{CallsAskedBut, GoesFrom}
+use Rattle.core_session.specs.calls.Whole.{CallsAskedBut}
 use Rattle.core_counts.proofs.counts.reads.Sizes.{same-asked, told-untold, one-root}
 
 write-max : (a b : Option Attr) (m n p q t u v w aa bb cc_ dd ee ff gg hh : ℕ) (d e : Time) (x y : ℕ)

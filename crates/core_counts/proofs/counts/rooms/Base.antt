@@ -1,77 +1,26 @@
 -- Along a history: which save of a file is under way, what each step makes of the number of the last write and of whether anything of the file is pending, and what the
 -- own save of each operation is good for.
-use Rattle.std.proofs.Common.{◌≡◌, ◌≢◌, ◌≤◌, ◌⊎◌, inl, inr, ◌+◌, ◌-◌, ◌^◌, ℕ, false, List, [], ◌∷◌, ◌++◌, length, replicate, append_assoc, Option, Some, position, slice_get, Result, refl, sym, ap, subst, ◌∙◌, arith}
-use Rattle.std.proofs.lemmas.Bool.{cases_lt}
-use Rattle.rpc_message.specs.Call.{xid_at}
-use Rattle.rpc_retry.specs.declared.waiting.Waiting.{Waiting}
-use Rattle.rpc_retry.specs.Waiting.{waiting_at}
-use Rattle.world_model.specs.declared.answer.Fault.{Fault}
-use Rattle.world_model.specs.declared.entry.Entry.{Entry}
-use Rattle.world_model.specs.declared.entry.Entry.TheVariants.{Began, Answered, Delivered}
-use Rattle.world_model.specs.declared.message.Reply.{Reply}
-use Rattle.world_model.specs.declared.op.Op.{Op}
+use Rattle.core_counts.proofs.Prelude.{◌≡◌, ◌≢◌, ◌≤◌, ◌⊎◌, inl, inr, ◌+◌, ◌-◌, ◌^◌, ℕ, false, List, [], ◌∷◌, ◌++◌, length, append_assoc, Option, Some, position, slice_get, Result, refl, sym, ap, subst, ◌∙◌, arith, cases_lt, xid_at, Waiting, waiting_at, Fault, Entry, Began, Answered, Delivered, Reply, Op, IsWriter, StableOf, At, Rooted, AnsweredBefore, EndsAt, UnderWay, IsOf, Terms, Rooted-wide, At-last, At-one, length_last, said_of, chosen, Pending, of_file, OnFile, with_cut, FilePending, nothing, same-or, LaneFile, Shelf, Turn, Saving, Mounted, Machine, machine_of, Fits, Purpose, State, Busy, Over, Setup, is_busy, IsIdle, StartsLane, Stirs, TakesAt, counted, View, turn_at, KnowsRoot, Reaches, HearsRecord, GoesWith, taken_one, Known, taker-is, LaneLive, AreAsked, IsEmpty, Wholly, JobBegins, JobOpens, Common, Story, job_kind, Job, Content, ContentReplies, Owner, Tale, Owned, bases, ButFor}
+use Rattle.std.proofs.Common.{replicate}
 use Rattle.world_model.specs.declared.op.Op.TheVariants as ops
-use Rattle.claims.specs.Asks.{IsWriter, Stabilizes}
+use Rattle.claims.specs.Asks.{Stabilizes}
 use Rattle.claims.specs.Asks as asks
-use Rattle.claims.specs.CallCounts.{StableOf}
-use Rattle.world_model.specs.Entries.{At}
 use Rattle.world_model.specs.Leads.{Leads}
-use Rattle.world_model.specs.Mounts.{Rooted}
-use Rattle.world_model.specs.Operations.{AnsweredBefore, EndsAt, UnderWay}
-use Rattle.claims.specs.Slots.{IsOf}
-use Rattle.claims.specs.Terms.{Terms}
-use Rattle.world_model.proofs.Growth.{Rooted-wide}
-use Rattle.world_model.proofs.Places.{At-last, At-one, length_last}
-use Rattle.call_replies.specs.Says.{said_of}
-use Rattle.write_back.specs.Choice.{chosen}
-use Rattle.write_back.specs.Files.{Pending, of_file, OnFile}
-use Rattle.write_back.specs.Landing.{with_cut}
-use Rattle.write_back.specs.Pieces.{FilePending, nothing}
-use Rattle.write_back.proofs.WritesByFile.{same-or}
-use Rattle.client_shelf.specs.declared.lane_files.LaneFile.{LaneFile}
-use Rattle.client_shelf.specs.declared.shelf.Shelf.{Shelf}
-use Rattle.client_shelf.specs.declared.turn.Turn.{Turn}
 use Rattle.file_ops.specs.Saves as saves
-use Rattle.file_ops.specs.declared.saving.Saving.{Saving}
-use Rattle.op_machines.specs.declared.begun.Mounted.{Mounted}
-use Rattle.op_machines.specs.declared.machine.Machine.{Machine}
-use Rattle.op_machines.specs.Begun.{machine_of}
-use Rattle.op_machines.specs.Fits.{Fits}
-use Rattle.client_core.specs.declared.lane.Purpose.{Purpose}
-use Rattle.client_core.specs.declared.lane.State.{State}
-use Rattle.client_core.specs.declared.lane.State.TheVariants.{Busy, Over}
-use Rattle.client_core.specs.declared.setup.Setup.{Setup}
-use Rattle.client_core.specs.Lanes.{is_busy}
-use Rattle.client_core.specs.Numbers.{IsIdle}
-use Rattle.client_core.specs.Steps.{StartsLane, Stirs, TakesAt, counted}
-use Rattle.client_core.specs.View.{View, turn_at}
-use Rattle.core_facts.specs.Naming.{KnowsRoot}
-use Rattle.core_facts.specs.Reaches.{Reaches, HearsRecord}
-use Rattle.core_facts.specs.SlotAnswers.{GoesWith}
-use Rattle.core_facts.proofs.Cases.{taken_one}
-use Rattle.core_facts.proofs.Keeping.{Known, taker-is}
 use Rattle.core_facts.proofs.Leading.{LeadsTo}
-use Rattle.core_facts.proofs.Placing.{Placed, LaneLive}
+use Rattle.core_facts.proofs.Placing.{Placed}
 use Rattle.core_answers.proofs.asks.WalkAsks.{leads-on}
-use Rattle.core_session.specs.calls.Sessions.{AreAsked}
-use Rattle.core_session.proofs.asked.Empty.{IsEmpty, takes-empty}
+use Rattle.core_session.proofs.asked.Empty.{takes-empty}
 use Rattle.core_session.proofs.order.PutWrites.{ends-at}
 use Rattle.core_session.proofs.pending.Begins.{begins-of}
 use Rattle.core_session.proofs.pending.Moments.{ended-in}
-use Rattle.core_session.proofs.saves.WholeSteps.{Wholly}
-use Rattle.core_session.proofs.syncs.AllJobs.{JobBegins, JobOpens}
-use Rattle.core_session.proofs.syncs.Contents.{Common, Anything, common, common-replies, common-adds, common-cuts, common-gives}
-use Rattle.core_session.proofs.syncs.Fate.{Story}
-use Rattle.core_session.proofs.syncs.Fates.{job_kind}
-use Rattle.core_session.proofs.syncs.Jobs.{Job}
-use Rattle.core_session.proofs.syncs.Levels.{Content, ContentReplies, Owner}
+use Rattle.core_session.proofs.syncs.Contents.{Anything, common, common-replies, common-adds, common-cuts, common-gives}
 use Rattle.core_session.proofs.syncs.Nexts.{at-on, common-from, tale-map}
-use Rattle.core_session.proofs.syncs.Passing.{Tale, job-in, Shown}
+use Rattle.core_session.proofs.syncs.Passing.{job-in, Shown}
 use Rattle.core_session.proofs.syncs.Plans.{Plan, Came_, stirs-came, takes-came, starts-came}
 use Rattle.core_session.proofs.syncs.PutAdding.{began-fits}
 use Rattle.core_session.proofs.syncs.PutsBring.{PutGiven, puts-bring}
 use Rattle.core_session.proofs.syncs.SaveMoves.{IsKept, goes-kept}
-use Rattle.core_session.proofs.syncs.Seen.{Owned, bases, ButFor}
 use Rattle.core_session.proofs.syncs.Stands.{Has}
 use Rattle.core_counts.proofs.counts.engine.Sum.{ends-late}
 use Rattle.core_counts.proofs.counts.engine.Wider.{leads-wide}

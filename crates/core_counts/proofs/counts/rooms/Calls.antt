@@ -1,40 +1,13 @@
 -- The COMMITs of a file that a session has made, by their xids, and how often those that wait may still be made again.
-use Rattle.std.proofs.Common.{◌≡◌, ◌≢◌, ◌<◌, ◌≤◌, ◌+◌, ◌-◌, ◌*◌, ◌⊎◌, inl, inr, ℕ, nat_eq, Bool, true, false, List, [], ◌∷◌, ◌++◌, length, Option, Some, None, Result, Err, refl, sym, ap, subst, ◌∙◌, arith}
-use Rattle.std.proofs.lemmas.Bool.{eqb-true}
-use Rattle.rpc_retry.specs.declared.waiting.Waiting.{Waiting}
-use Rattle.rpc_retry.specs.Held.{Held, next_xid}
-use Rattle.rpc_retry.specs.Waiting.{made_call, waiting_at}
-use Rattle.rpc_retry.proofs.Lookups.{at_made, others_made}
-use Rattle.world_model.specs.declared.answer.Fault.{Fault}
+use Rattle.core_counts.proofs.Prelude.{◌≡◌, ◌≢◌, ◌<◌, ◌≤◌, ◌+◌, ◌-◌, ◌*◌, ◌⊎◌, inl, inr, ℕ, nat_eq, Bool, true, false, List, [], ◌∷◌, ◌++◌, length, Option, Some, None, Result, Err, refl, sym, ap, subst, ◌∙◌, arith, eqb-true, Waiting, Held, next_xid, made_call, waiting_at, at_made, others_made, Fault, Call, Reply, IsCommitOf, SpellsCall, proc_of, ended, Next, Send, Repeat, Shelf, Turn, Machine, Takes, Purpose, Setup, record_of, Makes, View, turn_at, in_flight, Rows, made-known, made-asked, AskedOf, one-call, machine-fits, Calls, count, ended-is, Calm, took-any}
 use Rattle.world_model.specs.declared.answer.Fault.TheVariants as faults
-use Rattle.world_model.specs.declared.message.Call.{Call}
-use Rattle.world_model.specs.declared.message.Reply.{Reply}
-use Rattle.claims.specs.CallCounts.{IsCommitOf}
-use Rattle.world_model.specs.Messages.{SpellsCall, proc_of}
 use Rattle.claims.specs.Terms.{jukebox}
-use Rattle.client_shelf.specs.Repeats.{answered, ended, times_of}
-use Rattle.client_shelf.specs.declared.next.Next.{Next}
-use Rattle.client_shelf.specs.declared.next.Next.TheVariants.{Send}
-use Rattle.client_shelf.specs.declared.repeats.Repeat.{Repeat}
-use Rattle.client_shelf.specs.declared.shelf.Shelf.{Shelf}
-use Rattle.client_shelf.specs.declared.turn.Turn.{Turn}
-use Rattle.op_machines.specs.declared.machine.Machine.{Machine}
-use Rattle.op_machines.specs.Steps.{Takes}
-use Rattle.client_core.specs.declared.lane.Purpose.{Purpose}
-use Rattle.client_core.specs.declared.setup.Setup.{Setup}
-use Rattle.client_core.specs.Steps.{record_of, Makes, IsUnmade}
-use Rattle.client_core.specs.View.{View, turn_at}
-use Rattle.core_facts.specs.InFlight.{in_flight}
-use Rattle.core_facts.proofs.Rows.{Rows, made-known, made-asked}
-use Rattle.core_facts.proofs.Steps.{AskedOf}
+use Rattle.client_shelf.specs.Repeats.{answered, times_of}
+use Rattle.client_core.specs.Steps.{IsUnmade}
 use Rattle.core_answers.proofs.answers.SaveFaults.{CallFaults}
-use Rattle.core_answers.proofs.bonds.OneCall.{one-call}
-use Rattle.core_answers.proofs.refusals.Fitting.{machine-fits}
 use Rattle.core_answers.proofs.refusals.Replied.{Given}
-use Rattle.core_session.proofs.delays.Delays.{Calls}
-use Rattle.core_session.proofs.delays.Tables.{count, ended-is, left-count, push-count}
+use Rattle.core_session.proofs.delays.Tables.{left-count, push-count}
 use Rattle.core_session.proofs.delays.Took.{Took as TookTable}
-use Rattle.core_session.proofs.delays.TookFiles.{Calm, took-any}
 use Rattle.core_counts.proofs.counts.commits.Counted.{is-nfs}
 use Rattle.core_counts.proofs.counts.engine.Steps.{err-ok}
 use Rattle.core_counts.proofs.counts.rooms.Numbers.{In, pot, pot_if, pot-most, sum_of, sum-less}

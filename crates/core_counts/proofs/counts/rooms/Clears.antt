@@ -1,45 +1,17 @@
 -- A save that ends well leaves nothing of its file pending, unless bytes came in since it began.
-use Rattle.std.proofs.Common.{◌≡◌, ◌≤◌, ◌<◌, ◌⊎◌, inl, inr, ℕ, true, false, List, [], ◌∷◌, length, Option, Some, None, position, Ok, refl, sym, ap, subst, ◌∙◌, arith}
+use Rattle.core_counts.proofs.Prelude.{◌≡◌, ◌≤◌, ◌<◌, ◌⊎◌, inl, inr, ℕ, true, false, List, [], ◌∷◌, length, Option, Some, None, position, Ok, refl, sym, ap, subst, ◌∙◌, arith, cases_lt, Waiting, waiting_at, Entry, said_of, Pending, of_file, HasNoPiece, FilePending, nothing, piece_under, Segments, Cell, cell_at, cell_in, covers, LaneFile, Turn, ends_as, Saving, Mounted, machine_of, Purpose, Setup, is_busy, TakesAt, View, turn_at, in_flight, Reaches, taken_one, Known, taker-is, taker-one, unused-next, IsEmpty, sent-piece, Wholly, job_save, Common, save-is, Owner, SaveSo, EachSound, IsAwaited, IsUnderWay}
 use Rattle.std.specs.Prelude.{IsSome}
-use Rattle.std.proofs.lemmas.Bool.{cases_lt}
-use Rattle.rpc_retry.specs.declared.waiting.Waiting.{Waiting}
-use Rattle.rpc_retry.specs.Waiting.{waiting_at}
-use Rattle.world_model.specs.declared.entry.Entry.{Entry}
-use Rattle.call_replies.specs.Says.{said_of}
-use Rattle.write_back.specs.Files.{Pending, of_file, HasNoPiece}
 use Rattle.write_back.specs.Numbers.{AllUpTo, SegmentsUpTo}
-use Rattle.write_back.specs.Pieces.{FilePending, Sent, nothing, piece_under}
-use Rattle.write_back.specs.Segments.{Segments, AreApart, Cell, cell_at, cell_in, covers}
+use Rattle.write_back.specs.Pieces.{Sent}
+use Rattle.write_back.specs.Segments.{AreApart}
 use Rattle.write_back.proofs.ByPlace.{covered}
-use Rattle.client_shelf.specs.declared.lane_files.LaneFile.{LaneFile}
-use Rattle.client_shelf.specs.declared.turn.Turn.{Turn}
-use Rattle.file_ops.proofs.SaveCounts.{ends_as}
 use Rattle.file_ops.specs.Saves as saves
-use Rattle.file_ops.specs.declared.saving.Saving.{Saving}
-use Rattle.op_machines.specs.declared.begun.Mounted.{Mounted}
-use Rattle.op_machines.specs.Begun.{machine_of}
-use Rattle.client_core.specs.declared.lane.Purpose.{Purpose}
-use Rattle.client_core.specs.declared.setup.Setup.{Setup}
-use Rattle.client_core.specs.Lanes.{is_busy}
-use Rattle.client_core.specs.Steps.{TakesAt}
-use Rattle.client_core.specs.View.{View, turn_at}
-use Rattle.core_facts.specs.InFlight.{in_flight, of_saving}
-use Rattle.core_facts.specs.Reaches.{Reaches}
-use Rattle.core_facts.proofs.Cases.{taken_one}
-use Rattle.core_facts.proofs.Keeping.{Known, taker-is, taker-one}
-use Rattle.core_answers.proofs.writes.PiecesCarried.{unused-next}
-use Rattle.core_session.proofs.asked.Empty.{IsEmpty}
+use Rattle.core_facts.specs.InFlight.{of_saving}
 use Rattle.core_session.proofs.pending.Above.{clear-above}
 use Rattle.core_session.proofs.pending.Newest.{cell-of}
-use Rattle.core_session.proofs.saves.Taking.{sent-piece}
-use Rattle.core_session.proofs.saves.WholeSteps.{Wholly}
-use Rattle.core_session.proofs.syncs.AllJobs.{job_save}
-use Rattle.core_session.proofs.syncs.Contents.{Common}
-use Rattle.core_session.proofs.syncs.Fates.{save-is}
-use Rattle.core_session.proofs.syncs.Levels.{Owner, SaveSo, queued, elsewhere, under}
+use Rattle.core_session.proofs.syncs.Levels.{queued, elsewhere, under}
 use Rattle.core_session.proofs.syncs.SaveMoves.{takes-upto}
-use Rattle.step_pending.specs.Cells.{EachSound}
-use Rattle.step_saves.specs.Saves.{IsAwaited, IsClearUpTo, IsSaved, IsUnderWay}
+use Rattle.step_saves.specs.Saves.{IsClearUpTo, IsSaved}
 use Rattle.step_saves.proofs.Taking.{takes-leaves, takes-sound}
 use Rattle.core_counts.proofs.counts.rooms.Writes.{EndsAbove}
 

@@ -1,31 +1,9 @@
 -- The COMMITs of a file in a whole session: 2 for each sync, close and put of it, and 32 for each write, fill and put where writes may have waited for room.
-use Rattle.std.proofs.Common.{◌≡◌, ◌≢◌, ◌<◌, ◌≤◌, ◌+◌, ◌*◌, inl, inr, ℕ, suc, List, [], ◌∷◌, ◌++◌, length, refl, sym, subst, ◌∙◌, arith, length-append}
+use Rattle.core_counts.proofs.Prelude.{◌≡◌, ◌≢◌, ◌<◌, ◌≤◌, ◌+◌, ◌*◌, inl, inr, ℕ, suc, List, [], ◌∷◌, ◌++◌, length, refl, sym, subst, ◌∙◌, arith, length-append, cases_lt, Placed, AreDifferent, count_of, most_pending, IsCommitOf, Carries, Few, StableOf, WriterAt, IsCaused, IsCause, NoneBegan, mounts, informs, asked, At, SpellsCall, mount_call, Terms, most_tries, Entry, Began, Sent, Call, At-back, At-below, At-grow, Mounted, machine_of, Setup, View, Notes, one-call, IsSession, GoesFrom, all-asked, session, different-apart}
 use Rattle.std.specs.Prelude.{sum_by}
-use Rattle.std.proofs.lemmas.Bool.{cases_lt}
 use Rattle.std.proofs.lemmas.List.Sums.{sum_by-cons}
-use Rattle.claims.specs.Asks.{Placed, AreDifferent, count_of, most_pending}
-use Rattle.claims.specs.CallCounts.{IsCommitOf, Carries, Few, FewCommits, StableOf, WriterAt}
-use Rattle.claims.specs.CallsAsked.{IsCaused, IsCause, NoneBegan, mounts, informs, asked}
-use Rattle.world_model.specs.Entries.{At}
-use Rattle.world_model.specs.Messages.{SpellsCall}
-use Rattle.world_model.specs.Mounts.{mount_call}
-use Rattle.claims.specs.Terms.{Terms, most_tries}
-use Rattle.world_model.specs.declared.entry.Entry.{Entry}
-use Rattle.world_model.specs.declared.entry.Entry.TheVariants.{Began, Sent}
-use Rattle.world_model.specs.declared.message.Call.{Call}
-use Rattle.world_model.proofs.Places.{At-back, At-below, At-grow}
-use Rattle.op_machines.specs.declared.begun.Mounted.{Mounted}
-use Rattle.op_machines.specs.Begun.{machine_of}
-use Rattle.client_core.specs.declared.setup.Setup.{Setup}
-use Rattle.client_core.specs.View.{View}
-use Rattle.core_facts.specs.Notes.{Notes}
-use Rattle.core_answers.proofs.bonds.OneCall.{one-call}
-use Rattle.core_session.specs.calls.Sessions.{IsSession}
-use Rattle.core_session.specs.calls.Whole.{GoesFrom}
-use Rattle.core_session.proofs.asked.Whole.{all-asked}
-use Rattle.core_session.proofs.calls.Whole.{session}
+use Rattle.claims.specs.CallCounts.{FewCommits}
 use Rattle.core_session.proofs.room.Writers as writers
-use Rattle.core_session.proofs.room.Writers.{different-apart}
 use Rattle.core_counts.specs.counts.Commits.{FewCommitsMade}
 use Rattle.core_counts.proofs.counts.commits.WithRoom.{HasRoom}
 use Rattle.core_counts.proofs.counts.commits.Counted.{is-nfs, not-info, few-commits-with-room}

@@ -1,69 +1,15 @@
 -- An operation hears of its call: what the session may still make of the COMMITs of the file after it. A COMMIT that was put off is made again of what was held for it.
-use Rattle.std.proofs.Common.{◌≡◌, ◌≢◌, ◌<◌, ◌≤◌, ◌+◌, ◌-◌, ◌&&◌, ℕ, nat_eq, Bool, true, false, List, [], ◌∷◌, ◌++◌, length, Option, Some, None, option_map, position, Result, refl, sym, ap, subst, ◌∙◌, arith}
-use Rattle.std.proofs.lemmas.Bool.{eqb-true, eqb-false, ltb-true}
-use Rattle.rpc_message.specs.Call.{xid_at}
-use Rattle.rpc_retry.specs.declared.waiting.Waiting.{Waiting}
-use Rattle.rpc_retry.specs.Held.{next_xid}
-use Rattle.rpc_retry.specs.Waiting.{waiting_at, without}
-use Rattle.rpc_retry.proofs.Lookups.{waits_early, others_taken}
-use Rattle.rpc_retry.proofs.Records.{gone}
-use Rattle.world_model.specs.declared.answer.Fault.{Fault}
-use Rattle.world_model.specs.declared.entry.Entry.{Entry}
-use Rattle.world_model.specs.declared.entry.Entry.TheVariants.{Sent, Delivered}
-use Rattle.world_model.specs.declared.message.Call.{Call}
-use Rattle.world_model.specs.declared.message.Reply.{Reply}
-use Rattle.world_model.specs.declared.op.Op.{Op}
-use Rattle.claims.specs.CallCounts.{IsCommitOf}
-use Rattle.world_model.specs.LanesTogether.{IsBusy}
-use Rattle.world_model.specs.Operations.{UnderWay}
-use Rattle.claims.specs.Terms.{Terms}
-use Rattle.world_model.proofs.Places.{length_last}
-use Rattle.call_replies.specs.Says.{said_of, Says}
-use Rattle.client_shelf.specs.declared.next.Next.TheVariants.{Send}
-use Rattle.client_shelf.specs.declared.repeats.Repeat.{Repeat}
-use Rattle.client_shelf.specs.Busy.{goes_again}
-use Rattle.client_shelf.specs.Repeats.{times_of, ended, answered as answered_table}
-use Rattle.op_machines.specs.declared.begun.Mounted.{Mounted}
-use Rattle.op_machines.specs.Begun.{machine_of}
-use Rattle.client_core.specs.declared.lane.Purpose.{Purpose}
-use Rattle.client_core.specs.declared.lane.State.TheVariants.{Busy}
-use Rattle.client_core.specs.declared.setup.Setup.{Setup}
-use Rattle.client_core.specs.Lanes.{is_busy}
-use Rattle.client_core.specs.Numbers.{numbers_of}
-use Rattle.client_core.specs.Steps.{with_state, TakesAt}
-use Rattle.client_core.specs.View.{View, turn_at}
-use Rattle.core_facts.specs.InFlight.{in_flight, Counts}
-use Rattle.core_facts.specs.Naming.{KnowsRoot}
-use Rattle.core_facts.specs.Reaches.{HearsRecord, Reaches}
-use Rattle.core_facts.specs.SlotAnswers.{GoesWith}
-use Rattle.core_facts.proofs.AllCounts.{counts-calls, begins-unbegun}
-use Rattle.core_facts.proofs.Cases.{taken_one}
-use Rattle.core_facts.proofs.Hearing.{says-of}
-use Rattle.core_facts.proofs.Keeping.{Known}
-use Rattle.core_facts.proofs.LaneMarks.{Runs, LanesKnown, number_of, lanes-under-way, quiet-facts}
-use Rattle.core_facts.proofs.Lists.{at-position, at-set, to-map}
-use Rattle.core_facts.proofs.Placing.{LaneLive, keeps-placed}
-use Rattle.core_facts.proofs.Rows.{Rows, same-rows, rows-grow, taken-quiet, not-sent, taken-rows}
-use Rattle.core_facts.proofs.Tales.{IsExpected, reached-good}
-use Rattle.core_facts.proofs.Walks.{steps-stay}
-use Rattle.core_answers.proofs.asks.Sendings.{NoCall, NoShelf, NoStory, no-laws}
+use Rattle.core_counts.proofs.Prelude.{◌≡◌, ◌≢◌, ◌<◌, ◌≤◌, ◌+◌, ◌-◌, ◌&&◌, ℕ, nat_eq, Bool, true, false, List, [], ◌∷◌, ◌++◌, length, Option, Some, None, option_map, position, Result, refl, sym, ap, subst, ◌∙◌, arith, eqb-true, eqb-false, ltb-true, xid_at, Waiting, next_xid, waiting_at, without, waits_early, others_taken, gone, Fault, Entry, Sent, Delivered, Call, Reply, Op, IsCommitOf, IsBusy, UnderWay, Terms, length_last, said_of, Says, Send, Repeat, goes_again, ended, Mounted, machine_of, Purpose, Busy, Setup, is_busy, numbers_of, with_state, TakesAt, View, turn_at, in_flight, Counts, KnowsRoot, HearsRecord, Reaches, GoesWith, counts-calls, begins-unbegun, taken_one, says-of, Known, Runs, LanesKnown, number_of, lanes-under-way, quiet-facts, at-position, at-set, to-map, LaneLive, keeps-placed, Rows, same-rows, rows-grow, taken-quiet, not-sent, taken-rows, reached-good, steps-stay, NoCall, NoShelf, NoStory, no-laws, one-call, machine-fits, nfs-of, Asks, AreAsked, Calls, calls-laws, count, ended-is, IsWaiting, Calm, took-any, keeps-wholly, job_save, story-turns, take-kind, bases, Turns}
+use Rattle.client_shelf.specs.Repeats.{times_of, answered as answered_table}
+use Rattle.core_facts.proofs.Tales.{IsExpected}
 use Rattle.core_answers.proofs.answers.PieceSteps.{IsPiece}
 use Rattle.core_answers.proofs.answers.Writing.{written-reached}
-use Rattle.core_answers.proofs.bonds.OneCall.{one-call}
-use Rattle.core_answers.proofs.refusals.Fitting.{machine-fits}
-use Rattle.core_answers.proofs.refusals.SentCalls.{nfs-of}
-use Rattle.core_answers.proofs.writes.AllFits.{Asks, all-takes}
-use Rattle.core_session.specs.calls.Sessions.{AreAsked}
-use Rattle.core_session.proofs.delays.Delays.{Calls, calls-laws, Off, off-own, off-given, off-evident, Delayed, reached-delayed}
-use Rattle.core_session.proofs.delays.Tables.{left as left_of, count, ended-is, times-is, IsFree, IsWaiting, free-of, left-free, pushed-count}
+use Rattle.core_answers.proofs.writes.AllFits.{all-takes}
+use Rattle.core_session.proofs.delays.Delays.{Off, off-own, off-given, off-evident, Delayed, reached-delayed}
+use Rattle.core_session.proofs.delays.Tables.{left as left_of, times-is, IsFree, free-of, left-free, pushed-count}
 use Rattle.core_session.proofs.delays.Took.{Took as TookTable}
-use Rattle.core_session.proofs.delays.TookFiles.{Calm, took-any}
-use Rattle.core_session.proofs.saves.WholeSteps.{keeps-wholly}
-use Rattle.core_session.proofs.syncs.AllJobs.{job_save}
-use Rattle.core_session.proofs.syncs.Fate.{story-turns}
-use Rattle.core_session.proofs.syncs.Fates.{take-kind}
-use Rattle.core_session.proofs.syncs.Seen.{Sees, bases, sees}
-use Rattle.core_session.proofs.syncs.Turning.{Turns, turns-take, under-was}
+use Rattle.core_session.proofs.syncs.Seen.{Sees, sees}
+use Rattle.core_session.proofs.syncs.Turning.{turns-take, under-was}
 use Rattle.core_counts.proofs.counts.commits.Counted.{test, test-sound, test-complete}
 use Rattle.core_counts.proofs.counts.engine.Steps.{few-times}
 use Rattle.core_counts.proofs.counts.rooms.Base.{Base, Told, Stepped, takes-stepped}

@@ -1,52 +1,8 @@
 -- The step of a lane leads to the call that it asks for, to a refusal, or to its answer: what the session may still make of the COMMITs of the file after it.
-use Rattle.std.proofs.Common.{◌≡◌, ◌<◌, ◌≤◌, ◌+◌, ◌-◌, ◌*◌, ◌⊎◌, inl, inr, ℕ, Bool, true, false, List, length, Some, Err, slice_get, refl, sym, ap, subst, ◌∙◌, arith}
-use Rattle.write_back.specs.Files.{Pending}
-use Rattle.rpc_retry.specs.declared.waiting.Waiting.{Waiting}
-use Rattle.rpc_retry.specs.Held.{next_xid}
-use Rattle.rpc_retry.specs.Waiting.{waiting_at}
-use Rattle.rpc_retry.proofs.Lookups.{waits_early}
-use Rattle.world_model.specs.declared.answer.Answer.{Answer}
-use Rattle.world_model.specs.declared.entry.Entry.{Entry}
-use Rattle.world_model.specs.declared.entry.Entry.TheVariants.{Sent}
-use Rattle.world_model.specs.declared.message.Call.{Call}
-use Rattle.world_model.specs.declared.op.Op.{Op}
+use Rattle.core_counts.proofs.Prelude.{◌≡◌, ◌<◌, ◌≤◌, ◌+◌, ◌-◌, ◌*◌, ◌⊎◌, inl, inr, ℕ, Bool, true, false, List, length, Some, Err, slice_get, refl, sym, ap, subst, ◌∙◌, arith, Pending, Waiting, next_xid, waiting_at, waits_early, Answer, Entry, Sent, Call, Op, IsWriter, Placed, IsCommitOf, StableOf, NoneBegan, At, HasXid, Terms, Next, Send, Wait, Done, Repeat, Shelf, Mounted, Machine, Lane, Purpose, State, Busy, Over, Setup, with_state, IsRefused, Makes, Refuses, Leads, View, turn_at, unmade_turn, in_flight, KnowsRoot, GoesWith, Runs, at-set, Rows, AskedOf, Going, Asks, AreAsked, Calls, count, state-is, job_kind, told, Turns}
 use Rattle.world_model.specs.declared.op.Op.TheVariants as ops
-use Rattle.claims.specs.Asks.{IsWriter, Placed}
-use Rattle.claims.specs.CallCounts.{IsCommitOf, StableOf}
-use Rattle.claims.specs.CallsAsked.{NoneBegan}
-use Rattle.world_model.specs.Entries.{At}
-use Rattle.world_model.specs.Messages.{HasXid}
-use Rattle.claims.specs.Terms.{Terms}
 use Rattle.client_shelf.specs.Repeats.{answered}
-use Rattle.client_shelf.specs.declared.next.Next.{Next}
-use Rattle.client_shelf.specs.declared.next.Next.TheVariants.{Send, Wait, Done}
-use Rattle.client_shelf.specs.declared.repeats.Repeat.{Repeat}
-use Rattle.client_shelf.specs.declared.shelf.Shelf.{Shelf}
-use Rattle.op_machines.specs.declared.begun.Mounted.{Mounted}
-use Rattle.op_machines.specs.declared.machine.Machine.{Machine}
-use Rattle.client_core.specs.declared.lane.Lane.{Lane}
-use Rattle.client_core.specs.declared.lane.Purpose.{Purpose}
-use Rattle.client_core.specs.declared.lane.State.{State}
-use Rattle.client_core.specs.declared.lane.State.TheVariants.{Busy, Over}
-use Rattle.client_core.specs.declared.setup.Setup.{Setup}
-use Rattle.client_core.specs.Steps.{with_state, IsRefused, Makes, Refuses, Leads}
-use Rattle.client_core.specs.View.{View, turn_at, unmade_turn}
-use Rattle.core_facts.specs.InFlight.{in_flight}
-use Rattle.core_facts.specs.Naming.{KnowsRoot}
-use Rattle.core_facts.specs.SlotAnswers.{GoesWith}
-use Rattle.core_facts.proofs.LaneMarks.{Runs}
-use Rattle.core_facts.proofs.Lists.{at-set}
-use Rattle.core_facts.proofs.Rows.{Rows}
-use Rattle.core_facts.proofs.Steps.{AskedOf}
-use Rattle.core_facts.proofs.Stories.{Going}
-use Rattle.core_answers.proofs.writes.AllFits.{Asks, all-takes}
-use Rattle.core_session.specs.calls.Sessions.{AreAsked}
-use Rattle.core_session.proofs.delays.Delays.{Calls}
-use Rattle.core_session.proofs.delays.Tables.{count}
-use Rattle.core_session.proofs.drops.LaneIs.{state-is}
-use Rattle.core_session.proofs.syncs.Fates.{job_kind}
-use Rattle.core_session.proofs.syncs.Passing.{told}
-use Rattle.core_session.proofs.syncs.Turning.{Turns}
+use Rattle.core_answers.proofs.writes.AllFits.{all-takes}
 use Rattle.core_counts.proofs.counts.commits.Counted.{test, test-sound, test-complete}
 use Rattle.core_counts.proofs.counts.rooms.Base.{IsKeeper, Stepped, tale}
 use Rattle.core_counts.proofs.counts.rooms.Calls as calls

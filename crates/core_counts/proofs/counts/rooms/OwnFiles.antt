@@ -1,26 +1,15 @@
 -- An operation whose own save waits for a COMMIT of a file: what is told of that save.
-use Rattle.std.proofs.Common.{◌≡◌, ℕ, Bool, true, false, List, Some, None}
-use Rattle.write_back.specs.Files.{Pending}
-use Rattle.client_shelf.specs.declared.lane_files.LaneFile.{LaneFile}
+use Rattle.core_counts.proofs.Prelude.{◌≡◌, ℕ, Bool, true, false, List, Some, None, Pending, LaneFile, Closing, PutFile, Putting, Saving, Syncing, file_of, FileMachine, Machine, Opener, commits_of, JobHas, Job}
 use Rattle.file_ops.specs.Saves as saves
-use Rattle.file_ops.specs.declared.close_file.Closing.{Closing}
 use Rattle.file_ops.specs.declared.close_file.Closing.TheVariants as closing
-use Rattle.file_ops.specs.declared.put_file.PutFile.{PutFile}
-use Rattle.file_ops.specs.declared.put_file.Putting.{Putting}
 use Rattle.file_ops.specs.declared.put_file.Putting.TheVariants as putting
-use Rattle.file_ops.specs.declared.saving.Saving.{Saving}
-use Rattle.file_ops.specs.declared.sync_file.Syncing.{Syncing}
 use Rattle.file_ops.specs.declared.sync_file.Syncing.TheVariants as syncing
-use Rattle.op_machines.specs.Openers.{file_of}
-use Rattle.op_machines.specs.declared.file_machine.FileMachine.{FileMachine}
 use Rattle.op_machines.specs.declared.file_machine.FileMachine.TheVariants as files
-use Rattle.op_machines.specs.declared.machine.Machine.{Machine}
 use Rattle.op_machines.specs.declared.machine.Machine.TheVariants as machines
-use Rattle.op_machines.specs.declared.opener.Opener.{Opener}
-use Rattle.core_answers.proofs.writes.AllFits.{commits_of, commits_path}
+use Rattle.core_answers.proofs.writes.AllFits.{commits_path}
 use Rattle.core_answers.proofs.writes.CallFits.{commits_if, commits_save, commits_sync, commits_close, commits_put, commits_file}
-use Rattle.core_session.proofs.syncs.AllJobs.{JobHas, PathHas}
-use Rattle.core_session.proofs.syncs.Jobs.{Job, FileHas, SyncHas, CloseHas, PutHas}
+use Rattle.core_session.proofs.syncs.AllJobs.{PathHas}
+use Rattle.core_session.proofs.syncs.Jobs.{FileHas, SyncHas, CloseHas, PutHas}
 use Rattle.core_counts.proofs.counts.rooms.Roles.{put_role, file_role, path_role, role_of, OwnLeft}
 
 none-is : {X : Type 0} → (f : List ℕ) → None ≡ Some f → X

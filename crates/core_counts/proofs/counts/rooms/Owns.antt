@@ -1,50 +1,20 @@
 -- The steps of a save of an operation's own file, a sync's, a close's or a put's: it asks for two COMMITs at most. And how each operation begins.
-use Rattle.std.proofs.Common.{◌≡◌, ◌≤◌, inl, ◌-◌, ℕ, Bool, true, false, List, Some, None, Result, refl, sym, ap, subst, ◌∙◌, arith}
-use Rattle.write_back.specs.Files.{Pending}
-use Rattle.claims.specs.CallCounts.{IsCommitOf, commit}
-use Rattle.world_model.specs.declared.answer.Fault.{Fault}
-use Rattle.world_model.specs.declared.message.Call.{Call}
-use Rattle.world_model.specs.declared.message.Reply.{Reply}
-use Rattle.world_model.specs.declared.op.Op.{Op}
+use Rattle.core_counts.proofs.Prelude.{◌≡◌, ◌≤◌, inl, ◌-◌, ℕ, Bool, true, false, List, Some, None, Result, refl, sym, ap, subst, ◌∙◌, arith, Pending, IsCommitOf, commit, Fault, Call, Reply, Op, ended, is_first, Next, Repeat, Shelf, Turn, file_at, Closing, PutFile, Putting, Saving, Syncing, by-step, machine_of, put_of, front_of, last_of, file_of, begun_at, Starts, Resumes, Takes, Mounted, FileMachine, Machine, Opener, PathMachine, in_flight, Going, commits_of, Asks, job_kind, take-kind}
 use Rattle.world_model.specs.declared.op.Op.TheVariants as ops
-use Rattle.client_shelf.specs.Repeats.{ended}
-use Rattle.client_shelf.specs.LaneFiles.{is_first}
-use Rattle.client_shelf.specs.declared.next.Next.{Next}
 use Rattle.client_shelf.specs.declared.next.Next.TheVariants as nexts
-use Rattle.client_shelf.specs.declared.repeats.Repeat.{Repeat}
-use Rattle.client_shelf.specs.declared.shelf.Shelf.{Shelf}
-use Rattle.client_shelf.specs.declared.turn.Turn.{Turn}
 use Rattle.file_ops.specs.PutFile as puts
-use Rattle.file_ops.specs.SlotFiles.{file_at}
 use Rattle.file_ops.specs.Syncs as syncs
-use Rattle.file_ops.specs.declared.close_file.Closing.{Closing}
 use Rattle.file_ops.specs.declared.close_file.Closing.TheVariants as closing
-use Rattle.file_ops.specs.declared.put_file.PutFile.{PutFile}
-use Rattle.file_ops.specs.declared.put_file.Putting.{Putting}
 use Rattle.file_ops.specs.declared.put_file.Putting.TheVariants as putting
-use Rattle.file_ops.specs.declared.saving.Saving.{Saving}
-use Rattle.file_ops.specs.declared.sync_file.Syncing.{Syncing}
 use Rattle.file_ops.specs.declared.sync_file.Syncing.TheVariants as syncing
-use Rattle.file_ops.proofs.SaveCounts.{by-step}
 use Rattle.name_ops.specs.Pairs.{walk_of}
-use Rattle.op_machines.specs.Begun.{machine_of, put_of, front_of, last_of}
 use Rattle.op_machines.specs.FileSteps as steps
-use Rattle.op_machines.specs.Openers.{file_of, begun_at}
 use Rattle.op_machines.specs.PathSteps as paths
-use Rattle.op_machines.specs.Steps.{Starts, Resumes, Takes}
-use Rattle.op_machines.specs.declared.begun.Mounted.{Mounted}
-use Rattle.op_machines.specs.declared.file_machine.FileMachine.{FileMachine}
 use Rattle.op_machines.specs.declared.file_machine.FileMachine.TheVariants as files
-use Rattle.op_machines.specs.declared.machine.Machine.{Machine}
 use Rattle.op_machines.specs.declared.machine.Machine.TheVariants as machines
-use Rattle.op_machines.specs.declared.opener.Opener.{Opener}
 use Rattle.op_machines.specs.declared.opener.Opener.TheVariants as openers
-use Rattle.op_machines.specs.declared.path_machine.PathMachine.{PathMachine}
-use Rattle.core_facts.specs.InFlight.{in_flight}
-use Rattle.core_facts.proofs.Stories.{Going}
 use Rattle.core_answers.specs.writes.Alone.{committed_file}
-use Rattle.core_answers.proofs.writes.AllFits.{commits_of, Asks}
-use Rattle.core_session.proofs.syncs.Fates.{job_kind, start-kind, resume-kind, take-kind}
+use Rattle.core_session.proofs.syncs.Fates.{start-kind, resume-kind}
 use Rattle.core_counts.proofs.counts.commits.Laws.{MachineLeft, machine-resumes, machine-takes}
 use Rattle.core_counts.proofs.counts.commits.Machines.{Step, Taken, repeats, goes, SyncLeft, CloseLeft, sync-starts, close-starts}
 use Rattle.core_counts.proofs.counts.commits.Saves.{Took, again, on, takes-took}

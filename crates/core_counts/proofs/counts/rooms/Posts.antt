@@ -1,47 +1,20 @@
 -- What a step of an operation leaves it of the COMMITs of a file, by what it was about.
-use Rattle.std.proofs.Common.{◌≡◌, ◌≤◌, ◌⊎◌, inl, inr, ◌+◌, ℕ, Bool, true, false, List, Some, None, Result, Err, refl, sym, ap, subst, ◌∙◌, arith}
-use Rattle.write_back.specs.Files.{Pending}
-use Rattle.claims.specs.Asks.{Placed, IsWriter}
+use Rattle.core_counts.proofs.Prelude.{◌≡◌, ◌≤◌, ◌⊎◌, inl, inr, ◌+◌, ℕ, Bool, true, false, List, Some, None, Result, Err, refl, sym, ap, subst, ◌∙◌, arith, Pending, Placed, IsWriter, IsCommitOf, Fault, Call, Reply, Op, Next, Repeat, Shelf, Turn, Closing, Putting, Saving, Syncing, Writing, machine_of, file_of, Starts, Resumes, Takes, Mounted, Machine, Opener, in_flight, Going, commits_of, Asks, Elsewhere, job_save, job_kind}
 use Rattle.claims.specs.Asks as asks
-use Rattle.claims.specs.CallCounts.{IsCommitOf}
-use Rattle.world_model.specs.declared.answer.Fault.{Fault}
-use Rattle.world_model.specs.declared.message.Call.{Call}
-use Rattle.world_model.specs.declared.message.Reply.{Reply}
-use Rattle.world_model.specs.declared.op.Op.{Op}
 use Rattle.world_model.specs.declared.op.Op.TheVariants as ops
-use Rattle.client_shelf.specs.declared.next.Next.{Next}
 use Rattle.client_shelf.specs.declared.next.Next.TheVariants as nexts
-use Rattle.client_shelf.specs.declared.repeats.Repeat.{Repeat}
-use Rattle.client_shelf.specs.declared.shelf.Shelf.{Shelf}
-use Rattle.client_shelf.specs.declared.turn.Turn.{Turn}
-use Rattle.file_ops.specs.declared.close_file.Closing.{Closing}
 use Rattle.file_ops.specs.declared.close_file.Closing.TheVariants as closing
-use Rattle.file_ops.specs.declared.put_file.Putting.{Putting}
 use Rattle.file_ops.specs.declared.put_file.Putting.TheVariants as putting
 use Rattle.file_ops.specs.declared.saving.Phase.{Phase}
 use Rattle.file_ops.specs.declared.saving.Phase.TheVariants as phases
-use Rattle.file_ops.specs.declared.saving.Saving.{Saving}
-use Rattle.file_ops.specs.declared.sync_file.Syncing.{Syncing}
 use Rattle.file_ops.specs.declared.sync_file.Syncing.TheVariants as syncing
-use Rattle.file_ops.specs.declared.write_file.Writing.{Writing}
 use Rattle.file_ops.specs.declared.write_file.Writing.TheVariants as writing
-use Rattle.op_machines.specs.Begun.{machine_of}
-use Rattle.op_machines.specs.Openers.{file_of}
-use Rattle.op_machines.specs.Steps.{Starts, Resumes, Takes}
-use Rattle.op_machines.specs.declared.begun.Mounted.{Mounted}
 use Rattle.op_machines.specs.declared.file_machine.FileMachine.TheVariants as files
-use Rattle.op_machines.specs.declared.machine.Machine.{Machine}
 use Rattle.op_machines.specs.declared.machine.Machine.TheVariants as machines
-use Rattle.op_machines.specs.declared.opener.Opener.{Opener}
 use Rattle.op_machines.specs.declared.opener.Opener.TheVariants as openers
-use Rattle.core_facts.specs.InFlight.{in_flight}
-use Rattle.core_facts.proofs.Stories.{Going}
 use Rattle.core_answers.proofs.paths.Endings.{takes-not}
-use Rattle.core_answers.proofs.writes.AllFits.{commits_of, commits_path, Asks}
+use Rattle.core_answers.proofs.writes.AllFits.{commits_path}
 use Rattle.core_answers.proofs.writes.CallFits.{commits_put, commits_write}
-use Rattle.core_session.proofs.room.Writers.{Elsewhere}
-use Rattle.core_session.proofs.syncs.AllJobs.{job_save}
-use Rattle.core_session.proofs.syncs.Fates.{job_kind}
 use Rattle.core_counts.proofs.counts.commits.Saves.{left_to, left_in}
 use Rattle.core_counts.proofs.counts.rooms.Owns.{asks-commits, all-owns, all-own-takes, Begun, all-begun}
 use Rattle.core_counts.proofs.counts.rooms.Roles.{Role, neither, storing, own, sync_role, close_role, put_role, path_role, role_of, as-going, done-none, StoreLeft, OwnLeft, OwnStep, StoreStep, stays, early, over, settles, all-stores, all-takes, AllEnds, PathEnds, PutEnds}

@@ -1,29 +1,8 @@
 -- What a session may still make of the COMMITs of a file, over all its lanes: it never makes more than the syncs, closes and puts of the file and the writes, fills
 -- and puts that began allow.
-use Rattle.std.proofs.Common.{◌≡◌, ◌≢◌, ◌<◌, ◌≤◌, ◌+◌, ◌*◌, ◌⊎◌, inl, inr, ℕ, List, ◌∷◌, length, refl, sym, subst, ◌∙◌, arith}
-use Rattle.write_back.specs.Files.{Pending}
-use Rattle.world_model.specs.declared.entry.Entry.{Entry}
-use Rattle.world_model.specs.declared.entry.Entry.TheVariants.{Began, Sent}
-use Rattle.world_model.specs.declared.op.Op.{Op}
-use Rattle.claims.specs.Asks.{IsWriter, Placed}
-use Rattle.claims.specs.CallCounts.{StableOf}
-use Rattle.claims.specs.CallsAsked.{NoneBegan}
-use Rattle.world_model.specs.Entries.{At}
-use Rattle.world_model.specs.Messages.{HasXid}
-use Rattle.world_model.specs.Operations.{UnderWay}
-use Rattle.claims.specs.Terms.{Terms}
-use Rattle.world_model.proofs.Places.{At-one}
-use Rattle.file_ops.specs.declared.write_file.Writing.{Writing}
+use Rattle.core_counts.proofs.Prelude.{◌≡◌, ◌≢◌, ◌<◌, ◌≤◌, ◌+◌, ◌*◌, ◌⊎◌, inl, inr, ℕ, List, ◌∷◌, length, refl, sym, subst, ◌∙◌, arith, Pending, Entry, Began, Sent, Op, IsWriter, Placed, StableOf, NoneBegan, At, HasXid, UnderWay, Terms, At-one, Writing, Machine, State, Busy, View, Runs, IsEmpty, each-map, Elsewhere, Story, story-turns, Turns}
 use Rattle.file_ops.specs.declared.write_file.Writing.TheVariants as writing
-use Rattle.op_machines.specs.declared.machine.Machine.{Machine}
-use Rattle.client_core.specs.declared.lane.State.{State}
-use Rattle.client_core.specs.declared.lane.State.TheVariants.{Busy}
-use Rattle.client_core.specs.View.{View}
-use Rattle.core_facts.proofs.LaneMarks.{Runs}
-use Rattle.core_session.proofs.asked.Empty.{IsEmpty}
-use Rattle.core_session.proofs.room.Writers.{Each, each-map, Elsewhere, Apart}
-use Rattle.core_session.proofs.syncs.Fate.{Story, story-turns}
-use Rattle.core_session.proofs.syncs.Turning.{Turns}
+use Rattle.core_session.proofs.room.Writers.{Each, Apart}
 use Rattle.core_counts.proofs.counts.rooms.Base.{Effect}
 use Rattle.core_counts.proofs.counts.rooms.Calls.{Such, Waiting_, Ends, pots}
 use Rattle.core_counts.proofs.counts.rooms.Numbers.{total, sets, sets-here, sets-other, sixteen-sets, sixteen-more, In, many}

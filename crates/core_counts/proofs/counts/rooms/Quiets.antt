@@ -1,26 +1,5 @@
 -- An entry at which no operation makes a step: what the session may still make of the COMMITs of the file is as it was.
-use Rattle.std.proofs.Common.{◌≡◌, ◌<◌, ◌≤◌, ◌-◌, ◌⊎◌, inl, inr, ℕ, List, [], ◌∷◌, ◌++◌, length, Option, Some, None, refl, sym, ap, subst, arith}
-use Rattle.rpc_retry.specs.declared.waiting.Waiting.{Waiting}
-use Rattle.rpc_retry.specs.Held.{next_xid}
-use Rattle.rpc_retry.specs.Waiting.{waiting_at}
-use Rattle.world_model.specs.declared.entry.Entry.{Entry}
-use Rattle.world_model.specs.declared.entry.Entry.TheVariants.{Began, Answered, Sent, Delivered, Failed, Dialed, Executed, Foreign, Flushed, Reboot, Clock}
-use Rattle.world_model.specs.declared.op.Op.{Op}
-use Rattle.claims.specs.Asks.{Placed}
-use Rattle.claims.specs.CallsAsked.{NoneBegan}
-use Rattle.world_model.specs.Entries.{At}
-use Rattle.world_model.specs.Messages.{HasXid}
-use Rattle.claims.specs.Terms.{Terms}
-use Rattle.world_model.proofs.Places.{At-back, At-below, At-cases, length_last}
-use Rattle.client_shelf.specs.declared.repeats.Repeat.{Repeat}
-use Rattle.client_shelf.specs.declared.shelf.Shelf.{Shelf}
-use Rattle.op_machines.specs.declared.machine.Machine.{Machine}
-use Rattle.client_core.specs.declared.lane.Purpose.{Purpose}
-use Rattle.client_core.specs.View.{View}
-use Rattle.core_answers.proofs.writes.Along.{SameCalls}
-use Rattle.core_session.proofs.delays.Tables.{count}
-use Rattle.core_session.proofs.room.Writers.{each-map}
-use Rattle.core_session.proofs.syncs.Fate.{Story}
+use Rattle.core_counts.proofs.Prelude.{◌≡◌, ◌<◌, ◌≤◌, ◌-◌, ◌⊎◌, inl, inr, ℕ, List, [], ◌∷◌, ◌++◌, length, Option, Some, None, refl, sym, ap, subst, arith, Waiting, next_xid, waiting_at, Entry, Began, Answered, Sent, Delivered, Failed, Dialed, Executed, Foreign, Flushed, Reboot, Clock, Op, Placed, NoneBegan, At, HasXid, Terms, At-back, At-below, At-cases, length_last, Repeat, Shelf, Machine, Purpose, View, SameCalls, count, each-map, Story}
 use Rattle.core_counts.proofs.counts.rooms.Calls.{Such, pots}
 use Rattle.core_counts.proofs.counts.rooms.Numbers.{In, pot, pot_if, sum_of, sum-less, many-more, writer_here}
 use Rattle.core_counts.proofs.counts.rooms.Posts.{Holds}

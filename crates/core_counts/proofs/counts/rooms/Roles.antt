@@ -1,52 +1,25 @@
 -- What each step of any operation makes of the COMMITs of a file that it may still ask for: one that writes and whose bytes aren't pending yet, and the save of its own
 -- file of a sync, a close or a put.
-use Rattle.std.proofs.Common.{◌≡◌, ◌≤◌, inl, inr, ◌+◌, ℕ, Bool, true, false, List, [], Result, Ok, Err, refl, sym, ap, subst, ◌∙◌, arith}
-use Rattle.write_back.specs.Files.{Pending}
-use Rattle.claims.specs.CallCounts.{IsCommitOf}
-use Rattle.world_model.specs.declared.answer.Answer.{Answer}
-use Rattle.world_model.specs.declared.answer.Fault.{Fault}
-use Rattle.world_model.specs.declared.message.Call.{Call}
-use Rattle.world_model.specs.declared.message.Reply.{Reply}
-use Rattle.client_shelf.specs.LaneFiles.{is_first}
-use Rattle.client_shelf.specs.declared.next.Next.{Next}
+use Rattle.core_counts.proofs.Prelude.{◌≡◌, ◌≤◌, inl, inr, ◌+◌, ℕ, Bool, true, false, List, [], Result, Ok, Err, refl, sym, ap, subst, ◌∙◌, arith, Pending, IsCommitOf, Answer, Fault, Call, Reply, is_first, Next, Repeat, Shelf, Turn, joined, Closing, OpeningNext, PutFile, Putting, Saving, Syncing, Writing, by-step, WalkNext, file_of, Resumes, Takes, FileMachine, Machine, Opener, PathMachine, Going}
 use Rattle.client_shelf.specs.declared.next.Next.TheVariants as nexts
-use Rattle.client_shelf.specs.declared.repeats.Repeat.{Repeat}
-use Rattle.client_shelf.specs.declared.shelf.Shelf.{Shelf}
-use Rattle.client_shelf.specs.declared.turn.Turn.{Turn}
 use Rattle.file_ops.specs.PutFile as puts
 use Rattle.file_ops.specs.Saves as saves
-use Rattle.file_ops.specs.SlotFiles.{joined}
 use Rattle.file_ops.specs.Syncs as syncs
 use Rattle.file_ops.specs.WriteFile as writes
-use Rattle.file_ops.specs.declared.close_file.Closing.{Closing}
 use Rattle.file_ops.specs.declared.close_file.Closing.TheVariants as closing
-use Rattle.file_ops.specs.declared.opening.OpeningNext.{OpeningNext}
 use Rattle.file_ops.specs.declared.opening.OpeningNext.TheVariants as openings
-use Rattle.file_ops.specs.declared.put_file.PutFile.{PutFile}
-use Rattle.file_ops.specs.declared.put_file.Putting.{Putting}
 use Rattle.file_ops.specs.declared.put_file.Putting.TheVariants as putting
-use Rattle.file_ops.specs.declared.saving.Saving.{Saving}
-use Rattle.file_ops.specs.declared.sync_file.Syncing.{Syncing}
 use Rattle.file_ops.specs.declared.sync_file.Syncing.TheVariants as syncing
-use Rattle.file_ops.specs.declared.write_file.Writing.{Writing}
 use Rattle.file_ops.specs.declared.write_file.Writing.TheVariants as writing
-use Rattle.file_ops.proofs.SaveCounts.{by-step}
 use Rattle.name_ops.specs.Walking as walking
-use Rattle.name_ops.specs.declared.walk.WalkNext.{WalkNext}
 use Rattle.name_ops.specs.declared.walk.WalkNext.TheVariants as walks
 use Rattle.name_ops.proofs.Keeps.{walk-takes-kept}
 use Rattle.op_machines.specs.FileSteps as steps
-use Rattle.op_machines.specs.Openers.{file_of, placed}
+use Rattle.op_machines.specs.Openers.{placed}
 use Rattle.op_machines.specs.PathSteps as paths
-use Rattle.op_machines.specs.Steps.{Resumes, Takes}
-use Rattle.op_machines.specs.declared.file_machine.FileMachine.{FileMachine}
 use Rattle.op_machines.specs.declared.file_machine.FileMachine.TheVariants as files
-use Rattle.op_machines.specs.declared.machine.Machine.{Machine}
 use Rattle.op_machines.specs.declared.machine.Machine.TheVariants as machines
-use Rattle.op_machines.specs.declared.opener.Opener.{Opener}
 use Rattle.op_machines.specs.declared.opener.Opener.TheVariants as openers
-use Rattle.op_machines.specs.declared.path_machine.PathMachine.{PathMachine}
-use Rattle.core_facts.proofs.Stories.{Going}
 use Rattle.core_session.proofs.room.Stages.{IsGoing}
 use Rattle.core_counts.proofs.counts.commits.Saves.{left_to, goes-spent}
 use Rattle.core_counts.proofs.counts.rooms.Writes as w

@@ -1,46 +1,12 @@
 -- A lane goes on, or its operation begins: what the session may still make of the COMMITs of the file after it.
-use Rattle.std.proofs.Common.{◌≡◌, ◌<◌, ◌≤◌, ◌*◌, inl, inr, ℕ, false, List, [], ◌∷◌, ◌++◌, length, refl, sym, subst, ◌∙◌, arith}
-use Rattle.world_model.specs.declared.entry.Entry.{Entry}
-use Rattle.world_model.specs.declared.entry.Entry.TheVariants.{Began, Sent}
-use Rattle.world_model.specs.declared.message.Call.{Call}
-use Rattle.world_model.specs.declared.op.Op.{Op}
+use Rattle.core_counts.proofs.Prelude.{◌≡◌, ◌<◌, ◌≤◌, ◌*◌, inl, inr, ℕ, false, List, [], ◌∷◌, ◌++◌, length, refl, sym, subst, ◌∙◌, arith, Entry, Began, Sent, Call, Op, Placed, IsBusy, Terms, length_last, Next, Send, Wait, Done, Repeat, Mounted, Machine, machine_of, Fits, Busy, Setup, IsIdle, with_state, Stirs, counted, StartsLane, View, turn_at, in_flight, Counts, KnowsRoot, Reaches, GoesWith, counts-calls, begins-unbegun, Known, Runs, LanesKnown, number_of, lanes-under-way, lanes-begin, at-set, at-push, to-map, LaneLive, keeps-placed, Rows, same-rows, silent-grow, stirs-stay, starts-stay, Asks, AreAsked, calls-laws, Elsewhere, keeps-wholly, starts-wholly, story-turns, Turns}
 use Rattle.world_model.specs.declared.op.Op.TheVariants as ops
-use Rattle.claims.specs.Asks.{Placed}
-use Rattle.world_model.specs.LanesTogether.{IsBusy}
-use Rattle.claims.specs.Terms.{Terms}
-use Rattle.world_model.proofs.Places.{length_last}
-use Rattle.client_shelf.specs.declared.next.Next.{Next}
-use Rattle.client_shelf.specs.declared.next.Next.TheVariants.{Send, Wait, Done}
-use Rattle.client_shelf.specs.declared.repeats.Repeat.{Repeat}
-use Rattle.op_machines.specs.declared.begun.Mounted.{Mounted}
-use Rattle.op_machines.specs.declared.machine.Machine.{Machine}
-use Rattle.op_machines.specs.Begun.{machine_of}
-use Rattle.op_machines.specs.Fits.{Fits}
-use Rattle.client_core.specs.declared.lane.State.TheVariants.{Busy}
-use Rattle.client_core.specs.declared.setup.Setup.{Setup}
-use Rattle.client_core.specs.Numbers.{IsIdle}
-use Rattle.client_core.specs.Steps.{with_state, Stirs, counted, StartsLane}
-use Rattle.client_core.specs.View.{View, turn_at}
-use Rattle.core_facts.specs.InFlight.{in_flight, Counts}
-use Rattle.core_facts.specs.Naming.{KnowsRoot}
-use Rattle.core_facts.specs.Reaches.{Reaches}
-use Rattle.core_facts.specs.SlotAnswers.{GoesWith}
-use Rattle.core_facts.proofs.AllCounts.{counts-calls, begins-unbegun}
-use Rattle.core_facts.proofs.Keeping.{Known}
-use Rattle.core_facts.proofs.LaneMarks.{Runs, LanesKnown, number_of, lanes-under-way, lanes-begin}
-use Rattle.core_facts.proofs.Lists.{at-set, at-push, to-map}
-use Rattle.core_facts.proofs.Placing.{LaneLive, keeps-placed}
-use Rattle.core_facts.proofs.Rows.{Rows, same-rows, silent-grow}
-use Rattle.core_facts.proofs.Walks.{stirs-stay, starts-stay, Stays}
-use Rattle.core_answers.proofs.writes.AllFits.{Asks, all-resumes, all-starts}
-use Rattle.core_session.specs.calls.Sessions.{AreAsked}
-use Rattle.core_session.proofs.delays.Delays.{calls-laws}
+use Rattle.core_facts.proofs.Walks.{Stays}
+use Rattle.core_answers.proofs.writes.AllFits.{all-resumes, all-starts}
 use Rattle.core_session.proofs.delays.Rests.{starts-same, resumes-same}
-use Rattle.core_session.proofs.room.Writers.{Elsewhere, elsewhere-by}
-use Rattle.core_session.proofs.saves.WholeSteps.{keeps-wholly, starts-wholly}
+use Rattle.core_session.proofs.room.Writers.{elsewhere-by}
 use Rattle.core_session.proofs.syncs.Fates.{resume-kind, start-kind}
-use Rattle.core_session.proofs.syncs.Fate.{story-turns}
-use Rattle.core_session.proofs.syncs.Turning.{Turns, turns-stir, turns-starts}
+use Rattle.core_session.proofs.syncs.Turning.{turns-stir, turns-starts}
 use Rattle.core_counts.proofs.counts.rooms.Base.{Base, Told, Stepped, stirs-stepped, starts-stepped}
 use Rattle.core_counts.proofs.counts.rooms.Calls.{Waiting_, pots, fresh}
 use Rattle.core_counts.proofs.counts.rooms.Leads.{lead}

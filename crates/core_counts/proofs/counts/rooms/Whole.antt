@@ -1,53 +1,14 @@
 -- What a session may still make of the COMMITs of a file, along the whole session.
-use Rattle.std.proofs.Common.{◌≡◌, ◌≢◌, ◌≤◌, inl, ℕ, nat_eq, List, [], ◌∷◌, ◌++◌, Bool, true, false, Some, None, slice_get, remove, refl, sym, ap, subst, ◌∙◌, arith, append_assoc}
-use Rattle.std.proofs.lemmas.Bool.{eqb-true, eqb-false}
+use Rattle.core_counts.proofs.Prelude.{◌≡◌, ◌≢◌, ◌≤◌, inl, ℕ, nat_eq, List, [], ◌∷◌, ◌++◌, Bool, true, false, Some, None, slice_get, refl, sym, ap, subst, ◌∙◌, arith, append_assoc, eqb-true, eqb-false, Held, next_xid, waiting_at, at_sent, before_sent, Pending, Answer, Entry, Began, Answered, Sent, Delivered, Op, HasXid, head_of, Terms, LaneFile, Shelf, Mounted, Machine, machine_of, Lane, Purpose, Busy, Over, Setup, IsFresh, AnswersAt, View, AreApart, KnowsRoot, Notes, IsSetUp, MaySetUp, StepsTo, Reaches, GoesWith, IsMade, begins-unbegun, SentNow, sent_now, heard-lost, Known, purpose_at, reached-all, lanes-under-way, get-remove, skip, notes-reach, keeps-placed, SameCalls, sent-purposes, AreAsked, IsPlain, state-is, keeps-wholly, Common, Owned}
+use Rattle.std.proofs.Common.{remove}
 use Rattle.rpc_message.proofs.CallLaws.{call_xid}
-use Rattle.rpc_retry.specs.Held.{Held, next_xid}
-use Rattle.rpc_retry.specs.Waiting.{waiting_at}
-use Rattle.rpc_retry.proofs.Lookups.{at_sent}
-use Rattle.rpc_retry.proofs.Records.{before_sent}
-use Rattle.write_back.specs.Files.{Pending}
-use Rattle.world_model.specs.declared.answer.Answer.{Answer}
-use Rattle.world_model.specs.declared.entry.Entry.{Entry}
-use Rattle.world_model.specs.declared.entry.Entry.TheVariants.{Began, Answered, Sent, Delivered}
-use Rattle.world_model.specs.declared.op.Op.{Op}
-use Rattle.world_model.specs.Messages.{HasXid, head_of}
-use Rattle.claims.specs.Terms.{Terms}
-use Rattle.client_shelf.specs.declared.lane_files.LaneFile.{LaneFile}
-use Rattle.client_shelf.specs.declared.shelf.Shelf.{Shelf}
-use Rattle.op_machines.specs.declared.begun.Mounted.{Mounted}
-use Rattle.op_machines.specs.declared.machine.Machine.{Machine}
-use Rattle.op_machines.specs.Begun.{machine_of}
-use Rattle.client_core.specs.declared.lane.Lane.{Lane}
-use Rattle.client_core.specs.declared.lane.Purpose.{Purpose}
-use Rattle.client_core.specs.declared.lane.State.TheVariants.{Busy, Over}
-use Rattle.client_core.specs.declared.setup.Setup.{Setup}
-use Rattle.client_core.specs.Fresh.{IsFresh}
-use Rattle.client_core.specs.Steps.{AnswersAt, SendsBy}
-use Rattle.client_core.specs.View.{View}
-use Rattle.core_facts.specs.Lanes.{AreApart}
-use Rattle.core_facts.specs.Naming.{KnowsRoot}
-use Rattle.core_facts.specs.Notes.{Notes, notes_fresh, notes_step, notes_lost}
-use Rattle.core_facts.specs.Reaches.{IsSetUp, MaySetUp, StepsTo, Reaches}
-use Rattle.core_facts.specs.SlotAnswers.{GoesWith}
-use Rattle.core_facts.specs.Tries.{IsMade}
-use Rattle.core_facts.proofs.AllCounts.{begins-unbegun}
-use Rattle.core_facts.proofs.Cases.{SentNow, sent_now}
-use Rattle.core_facts.proofs.Counting.{heard-lost}
-use Rattle.core_facts.proofs.Keeping.{Known, purpose_at, reached-all}
-use Rattle.core_facts.proofs.LaneMarks.{lanes-under-way}
-use Rattle.core_facts.proofs.Lists.{get-remove, skip, still-there}
-use Rattle.core_facts.proofs.Noting.{notes-reach}
-use Rattle.core_facts.proofs.Placing.{keeps-placed}
-use Rattle.core_answers.proofs.writes.Along.{SameCalls, sent-purposes}
-use Rattle.core_session.specs.calls.Sessions.{AreAsked}
-use Rattle.core_session.proofs.drops.KnowingAlong.{IsPlain}
-use Rattle.core_session.proofs.drops.LaneIs.{state-is, busy-over}
+use Rattle.client_core.specs.Steps.{SendsBy}
+use Rattle.core_facts.specs.Notes.{notes_fresh, notes_step, notes_lost}
+use Rattle.core_facts.proofs.Lists.{still-there}
+use Rattle.core_session.proofs.drops.LaneIs.{busy-over}
 use Rattle.core_session.proofs.pending.Entries.{fresh-phase}
-use Rattle.core_session.proofs.saves.WholeSteps.{keeps-wholly}
-use Rattle.core_session.proofs.syncs.Contents.{Common}
 use Rattle.core_session.proofs.syncs.Fate.{story-answers, story-same}
-use Rattle.core_session.proofs.syncs.Seen.{StateRested, Owned, free, taken}
+use Rattle.core_session.proofs.syncs.Seen.{StateRested, free, taken}
 use Rattle.core_counts.proofs.counts.engine.Along.{KeepsSteps, kept-step}
 use Rattle.core_counts.proofs.counts.rooms.Base.{Base, Told}
 use Rattle.core_counts.proofs.counts.rooms.Calls.{Such}

@@ -1,36 +1,18 @@
 -- What each step of a write makes of the COMMITs of a file that it may still ask for: those of the save by which it makes room now, and two for each further save.
-use Rattle.std.proofs.Common.{◌≡◌, ◌≢◌, ◌≤◌, ◌<◌, ◌⊎◌, inl, inr, ◌+◌, ◌*◌, ◌-◌, ℕ, Bool, true, false, List, Result, Ok, Err, refl, sym, ap, subst, ◌∙◌, arith}
-use Rattle.write_back.specs.Files.{Pending, of_file}
-use Rattle.write_back.proofs.WritesByFile.{same-or}
-use Rattle.claims.specs.CallCounts.{IsCommitOf, commit}
+use Rattle.core_counts.proofs.Prelude.{◌≡◌, ◌≢◌, ◌≤◌, ◌<◌, ◌⊎◌, inl, inr, ◌+◌, ◌*◌, ◌-◌, ℕ, Bool, true, false, List, Result, Ok, Err, refl, sym, ap, subst, ◌∙◌, arith, Pending, of_file, same-or, IsCommitOf, commit, Fault, Call, Reply, ended, is_first, Next, Repeat, Shelf, Turn, is_full, file_to_write, joined, Saving, WriteFile, Writing, by-step, ends_as, Saves, IsEmpty}
 use Rattle.world_model.specs.declared.answer.Answer.TheVariants as answers
-use Rattle.world_model.specs.declared.answer.Fault.{Fault}
 use Rattle.world_model.specs.declared.answer.Value.TheVariants as values
-use Rattle.world_model.specs.declared.message.Call.{Call}
-use Rattle.world_model.specs.declared.message.Reply.{Reply}
-use Rattle.client_shelf.specs.Repeats.{ended}
-use Rattle.client_shelf.specs.LaneFiles.{left as left_order, is_first}
-use Rattle.client_shelf.specs.declared.next.Next.{Next}
+use Rattle.client_shelf.specs.LaneFiles.{left as left_order}
 use Rattle.client_shelf.specs.declared.next.Next.TheVariants as nexts
-use Rattle.client_shelf.specs.declared.repeats.Repeat.{Repeat}
-use Rattle.client_shelf.specs.declared.shelf.Shelf.{Shelf}
-use Rattle.client_shelf.specs.declared.turn.Turn.{Turn}
-use Rattle.file_ops.specs.Adding.{is_full}
-use Rattle.file_ops.specs.Opens.{file_to_write}
 use Rattle.file_ops.specs.Saves as saves
-use Rattle.file_ops.specs.SlotFiles.{joined}
 use Rattle.file_ops.specs.Syncs as syncs
 use Rattle.file_ops.specs.WriteFile as writes
-use Rattle.file_ops.specs.declared.saving.Saving.{Saving}
-use Rattle.file_ops.specs.declared.write_file.WriteFile.{WriteFile}
-use Rattle.file_ops.specs.declared.write_file.Writing.{Writing}
 use Rattle.file_ops.specs.declared.write_file.Writing.TheVariants as writing
-use Rattle.file_ops.proofs.SaveCounts.{by-step, ends_as}
 use Rattle.core_facts.proofs.NamesAwaited.{Sends}
 use Rattle.core_facts.proofs.SaveCommits.{EndsSo}
-use Rattle.core_answers.proofs.asks.SavedCalls.{Saves, goes-on, takes-on}
+use Rattle.core_answers.proofs.asks.SavedCalls.{goes-on, takes-on}
 use Rattle.core_answers.proofs.paths.Endings.{goes-not}
-use Rattle.core_session.proofs.asked.Empty.{IsEmpty, oldest-some}
+use Rattle.core_session.proofs.asked.Empty.{oldest-some}
 use Rattle.core_session.proofs.drops.SaveFiles.{IsSave, goes-save, takes-save}
 use Rattle.core_session.proofs.room.Stages.{IsGoing}
 use Rattle.core_session.proofs.syncs.SaveMoves.{goes-frame, takes-frame}

@@ -1,23 +1,8 @@
 -- What a step of a close leaves of the number of the next hidden name: it stays.
-use Rattle.std.proofs.Common.{◌≡◌, ℕ, Bool, true, false, List, Option, Some, None, Result, ap, ◌∙◌}
-use Rattle.world_model.specs.declared.answer.Fault.{Fault}
-use Rattle.world_model.specs.declared.message.Reply.{Reply}
-use Rattle.write_back.specs.Files.{of_file}
-use Rattle.write_back.specs.Segments.{last_end}
-use Rattle.client_shelf.specs.declared.next.Next.{Next}
-use Rattle.client_shelf.specs.declared.shelf.Shelf.{Shelf}
-use Rattle.client_shelf.specs.declared.turn.Turn.{Turn}
-use Rattle.client_shelf.specs.LaneFiles.{is_first}
-use Rattle.client_shelf.specs.Busy.{goes_again}
-use Rattle.file_ops.specs.declared.close_file.CloseFile.{CloseFile}
-use Rattle.file_ops.specs.declared.close_file.Closing.{Closing}
+use Rattle.core_counts.proofs.Prelude.{◌≡◌, ℕ, Bool, true, false, List, Option, Some, None, Result, ap, ◌∙◌, Fault, Reply, of_file, last_end, Next, Shelf, Turn, is_first, goes_again, CloseFile, Closing, Saving, remove_busy, refusal_of, file_at, joined, by-step}
 use Rattle.file_ops.specs.declared.close_file.Closing.TheVariants as closing
-use Rattle.file_ops.specs.declared.saving.Saving.{Saving}
 use Rattle.file_ops.specs.Closes as closes
-use Rattle.file_ops.specs.Closings.{remove_busy, refusal_of}
 use Rattle.file_ops.specs.Saves as saves
-use Rattle.file_ops.specs.SlotFiles.{file_at, joined}
-use Rattle.file_ops.proofs.SaveCounts.{by-step}
 
 ends-at : (place : Option (List ℕ × List ℕ)) (lane : ℕ) (room : Bool) (file : List ℕ) (refusal : Option Fault) (old : Shelf) (next : Next) (state : Closing) (new : Shelf)
     → closes.EndsAt place lane room file refusal old next state new → new.counter ≡ old.counter

@@ -1,43 +1,16 @@
 -- The number of the next hidden name never passes the number of calls that were made, so it never begins anew; and the names that removes look for have lower ones.
-use Rattle.std.proofs.Common.{◌≡◌, ◌<◌, ◌≤◌, ◌+◌, ◌-◌, ◌^◌, ◌⊎◌, ◌==◌, inl, inr, ℕ, zero, suc, nat_eq, cond, List, [], ◌∷◌, ◌++◌, length, map, remove, Bool, true, false, Option, Some, None, MatchOption, position, slice_get, slice_set, Result, Ok, Err, refl, sym, ap, subst, ◌∙◌, length-append, arith}
-use Rattle.std.specs.Prelude.{if◌then◌else◌}
-use Rattle.std.proofs.lemmas.Bool.{eqb-true}
-use Rattle.rpc_retry.specs.declared.waiting.Waiting.{Waiting}
-use Rattle.rpc_retry.specs.Fail.{failed_after}
-use Rattle.rpc_retry.specs.Waiting.{waiting_at, without, sent, first_given_up}
+use Rattle.core_counts.proofs.Prelude.{◌≡◌, ◌<◌, ◌≤◌, ◌+◌, ◌-◌, ◌^◌, ◌⊎◌, ◌==◌, inl, inr, ℕ, zero, suc, nat_eq, cond, List, [], ◌∷◌, ◌++◌, length, map, Bool, true, false, Option, Some, None, MatchOption, position, slice_get, slice_set, Result, Ok, Err, refl, sym, ap, subst, ◌∙◌, length-append, arith, if◌then◌else◌, eqb-true, Waiting, failed_after, waiting_at, without, Fault, Entry, Began, Answered, Dialed, Sent, Executed, Foreign, Flushed, Reboot, Delivered, Failed, Clock, Reply, Op, said_of, Next, Send, Wait, Done, Shelf, Turn, Deed, Look, Seek, Move, Remove, Mounted, Machine, NameMachine, machine_of, Lane, Purpose, State, Busy, Over, Setup, IsFresh, is_busy, with_state, IsRefused, Leads, Stirs, moves_none, moves_more, counted, StartsLane, BeginsIf, TakesAt, View, turn_at, StepsTo, Reaches, begins, goes, loses, last_reading, dropped, replied, sent_now, FailedNow, goes_on, gives_up, failed_now, answered_now, taken_one, get-push, get-remove, skip}
+use Rattle.std.proofs.Common.{remove}
+use Rattle.rpc_retry.specs.Waiting.{sent, first_given_up}
 use Rattle.rpc_retry.proofs.Dues.{length-sent}
 use Rattle.rpc_retry.proofs.Failing.{length-failed}
-use Rattle.world_model.specs.declared.answer.Fault.{Fault}
-use Rattle.world_model.specs.declared.entry.Entry.{Entry}
-use Rattle.world_model.specs.declared.entry.Entry.TheVariants.{Began, Answered, Dialed, Sent, Executed, Foreign, Flushed, Reboot, Delivered, Failed, Clock}
-use Rattle.world_model.specs.declared.message.Reply.{Reply}
-use Rattle.world_model.specs.declared.op.Op.{Op}
-use Rattle.call_replies.specs.Says.{said_of}
-use Rattle.client_shelf.specs.declared.next.Next.{Next}
-use Rattle.client_shelf.specs.declared.next.Next.TheVariants.{Send, Wait, Done}
-use Rattle.client_shelf.specs.declared.shelf.Shelf.{Shelf}
-use Rattle.client_shelf.specs.declared.turn.Turn.{Turn}
-use Rattle.name_ops.specs.declared.remove_file.Deed.{Deed}
-use Rattle.name_ops.specs.declared.remove_file.Deed.TheVariants.{Look, Seek, Move, Remove}
 use Rattle.name_ops.specs.RemoveFile.{next_number}
-use Rattle.op_machines.specs.declared.begun.Mounted.{Mounted}
-use Rattle.op_machines.specs.declared.machine.Machine.{Machine}
 use Rattle.op_machines.specs.declared.machine.Machine.TheVariants as machines
-use Rattle.op_machines.specs.declared.name_machine.NameMachine.{NameMachine}
 use Rattle.op_machines.specs.declared.name_machine.NameMachine.TheVariants as names
-use Rattle.op_machines.specs.Begun.{machine_of}
-use Rattle.client_core.specs.declared.lane.Lane.{Lane}
-use Rattle.client_core.specs.declared.lane.Purpose.{Purpose}
-use Rattle.client_core.specs.declared.lane.State.{State}
-use Rattle.client_core.specs.declared.lane.State.TheVariants.{Busy, Over}
-use Rattle.client_core.specs.declared.setup.Setup.{Setup}
-use Rattle.client_core.specs.Fresh.{IsFresh}
-use Rattle.client_core.specs.Lanes.{is_busy, lost_lane, lost_state}
-use Rattle.client_core.specs.Steps.{with_state, IsRefused, Leads, Stirs, Moves, moves_none, moves_more, counted, StartsLane, BeginsIf, TakesAt, failed_view, lost}
-use Rattle.client_core.specs.View.{View, turn_at}
-use Rattle.core_facts.specs.Reaches.{StepsTo, Reaches, begins, goes, loses, last_reading}
-use Rattle.core_facts.proofs.Cases.{Heard, dropped, replied, heard, sent_now, FailedNow, goes_on, gives_up, failed_now, answered_now, taken_one}
-use Rattle.core_facts.proofs.Lists.{get-push, get-remove, skip, in-map}
+use Rattle.client_core.specs.Lanes.{lost_lane, lost_state}
+use Rattle.client_core.specs.Steps.{Moves, failed_view, lost}
+use Rattle.core_facts.proofs.Cases.{Heard, heard}
+use Rattle.core_facts.proofs.Lists.{in-map}
 use Rattle.core_facts.proofs.Sound.{Sound, reached-sound}
 use Rattle.core_counts.proofs.counts.sought.Names.{DeedBelow, NameBelow, stays, looks}
 use Rattle.core_counts.proofs.counts.sought.Steps.{SeeksBelow, starts-on, resumes-on, TookOn, takes-on, begins-below}

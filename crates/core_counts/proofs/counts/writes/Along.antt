@@ -1,35 +1,8 @@
 -- The tally of a place is kept along a history.
-use Rattle.std.proofs.Common.{◌≡◌, ◌≤◌, ◌<◌, ◌+◌, inl, ℕ, List, [], ◌∷◌, ◌++◌, length, Some, None, slice_get, sym, ap, subst, ◌∙◌, arith}
+use Rattle.core_counts.proofs.Prelude.{◌≡◌, ◌≤◌, ◌<◌, ◌+◌, inl, ℕ, List, [], ◌∷◌, ◌++◌, length, Some, None, slice_get, sym, ap, subst, ◌∙◌, arith, next_xid, waiting_at, Answer, Entry, Began, Sent, Call, Op, CoversPlace, HasXid, SpellsCall, SpellsCallBy, head_of, Modes, Pending, of_file, rest_at, Shelf, Mounted, machine_of, Lane, Setup, IsFresh, AnswersAt, View, MaySetUp, IsSetUp, StepsTo, Known, get-remove, skip, one-call, SameCalls, keeps-bytes, keeps-basis, keeps-wholly}
 use Rattle.rpc_message.proofs.CallLaws.{call_xid}
-use Rattle.rpc_retry.specs.Held.{next_xid}
-use Rattle.rpc_retry.specs.Waiting.{waiting_at}
-use Rattle.world_model.specs.declared.answer.Answer.{Answer}
-use Rattle.world_model.specs.declared.entry.Entry.{Entry}
-use Rattle.world_model.specs.declared.entry.Entry.TheVariants.{Began, Answered as Noted, Sent}
-use Rattle.world_model.specs.declared.message.Call.{Call}
-use Rattle.world_model.specs.declared.op.Op.{Op}
-use Rattle.claims.specs.CallCounts.{CoversPlace}
-use Rattle.world_model.specs.Messages.{HasXid, SpellsCall, SpellsCallBy, head_of}
-use Rattle.claims.specs.Modes.{Modes}
-use Rattle.write_back.specs.Files.{Pending, of_file}
-use Rattle.write_back.specs.Pieces.{rest_at}
-use Rattle.client_shelf.specs.declared.shelf.Shelf.{Shelf}
-use Rattle.op_machines.specs.declared.begun.Mounted.{Mounted}
-use Rattle.op_machines.specs.Begun.{machine_of}
-use Rattle.client_core.specs.declared.lane.Lane.{Lane}
-use Rattle.client_core.specs.declared.setup.Setup.{Setup}
-use Rattle.client_core.specs.Fresh.{IsFresh}
-use Rattle.client_core.specs.Steps.{AnswersAt}
-use Rattle.client_core.specs.View.{View}
-use Rattle.core_facts.specs.Reaches.{MaySetUp, IsSetUp, StepsTo}
-use Rattle.core_facts.proofs.Keeping.{Known}
-use Rattle.core_facts.proofs.Lists.{get-remove, skip}
-use Rattle.core_answers.proofs.bonds.OneCall.{one-call}
-use Rattle.core_answers.proofs.writes.Along.{SameCalls}
-use Rattle.core_session.proofs.calls.GivenBytes.{keeps-bytes}
-use Rattle.core_session.proofs.order.Basis.{keeps-basis}
+use Rattle.world_model.specs.declared.entry.Entry.TheVariants.{Answered as Noted}
 use Rattle.core_session.proofs.saves.HearingAlong.{IsPlain}
-use Rattle.core_session.proofs.saves.WholeSteps.{keeps-wholly}
 use Rattle.core_counts.proofs.coarse.Going.{IsSeen, KeepsGoing}
 use Rattle.core_counts.proofs.counts.engine.Lists.{Each}
 use Rattle.core_counts.proofs.counts.writes.Tally.{In, Writer, Waits, Spent, Tally, total, lists-later, sents-later, spent-later}

@@ -1,31 +1,9 @@
 -- Before a step: what is due, and who wrote.
-use Rattle.std.proofs.Common.{◌≡◌, ◌<◌, ◌+◌, ◌-◌, inl, inr, ℕ, true, List, [], ◌∷◌, length, Some, refl, sym, subst, arith}
-use Rattle.std.specs.Prelude.{slice_index}
-use Rattle.world_model.specs.declared.entry.Entry.{Entry}
-use Rattle.world_model.specs.declared.entry.Entry.TheVariants.{Began}
-use Rattle.world_model.specs.declared.message.Call.{Call}
-use Rattle.world_model.specs.declared.op.Op.{Op}
-use Rattle.claims.specs.CallCounts.{CoversPlace}
-use Rattle.world_model.specs.Entries.{At}
-use Rattle.claims.specs.Modes.{Modes}
-use Rattle.world_model.specs.Operations.{UnderWay}
-use Rattle.world_model.proofs.Places.{At-below, At-one}
-use Rattle.write_back.specs.Files.{Pending, of_file, IsNewest}
-use Rattle.write_back.specs.Pieces.{rest_at}
-use Rattle.write_back.specs.Segments.{covers}
-use Rattle.client_shelf.specs.declared.next.Next.{Next}
-use Rattle.open_files.specs.Slots.{Opens}
-use Rattle.file_ops.specs.SlotFiles.{IsUnused}
-use Rattle.op_machines.specs.declared.begun.Mounted.{Mounted}
+use Rattle.core_counts.proofs.Prelude.{◌≡◌, ◌<◌, ◌+◌, ◌-◌, inl, inr, ℕ, true, List, [], ◌∷◌, length, Some, refl, sym, subst, arith, slice_index, Entry, Began, Call, Op, CoversPlace, At, Modes, UnderWay, At-below, At-one, Pending, of_file, IsNewest, rest_at, covers, Next, Opens, IsUnused, Mounted, Machine, Setup, View, IsNfs, StartsHas, EachSound}
 use Rattle.op_machines.specs.declared.file_machine.FileMachine.TheVariants as file_machines
-use Rattle.op_machines.specs.declared.machine.Machine.{Machine}
 use Rattle.op_machines.specs.declared.machine.Machine.TheVariants as machines
-use Rattle.client_core.specs.declared.setup.Setup.{Setup}
-use Rattle.client_core.specs.View.{View}
-use Rattle.core_answers.proofs.bonds.OneCall.{IsNfs}
 use Rattle.core_session.proofs.calls.GivenBytes.{Gives}
-use Rattle.core_session.proofs.order.Adds.{StartsHas, EndsWell}
-use Rattle.step_pending.specs.Cells.{EachSound}
+use Rattle.core_session.proofs.order.Adds.{EndsWell}
 use Rattle.core_counts.proofs.counts.engine.Lists.{Each}
 use Rattle.core_counts.proofs.counts.writes.Landing.{unflown}
 use Rattle.core_counts.proofs.counts.writes.Stepped.{Held}

@@ -1,41 +1,8 @@
 -- The tally is kept where an operation begins.
-use Rattle.std.proofs.Common.{◌≡◌, ◌≢◌, ◌<◌, ◌+◌, ◌⊎◌, inl, inr, ℕ, false, List, [], ◌∷◌, ◌++◌, length, Some, slice_get, refl, sym, ap, subst, ◌∙◌, arith}
-use Rattle.rpc_retry.specs.Held.{next_xid}
-use Rattle.world_model.specs.declared.entry.Entry.{Entry}
-use Rattle.world_model.specs.declared.entry.Entry.TheVariants.{Began, Sent}
-use Rattle.world_model.specs.declared.op.Op.{Op}
-use Rattle.claims.specs.Modes.{Modes}
-use Rattle.world_model.specs.Operations.{UnderWay}
-use Rattle.world_model.proofs.Places.{At-last, At-one}
-use Rattle.write_back.specs.Files.{of_file}
-use Rattle.write_back.specs.Pieces.{rest_at}
-use Rattle.client_shelf.specs.declared.turn.Turn.{Turn}
-use Rattle.file_ops.specs.SlotFiles.{IsUnused}
-use Rattle.op_machines.specs.declared.begun.Mounted.{Mounted}
-use Rattle.op_machines.specs.Begun.{machine_of}
-use Rattle.op_machines.specs.Fits.{Fits}
+use Rattle.core_counts.proofs.Prelude.{◌≡◌, ◌≢◌, ◌<◌, ◌+◌, ◌⊎◌, inl, inr, ℕ, false, List, [], ◌∷◌, ◌++◌, length, Some, slice_get, refl, sym, ap, subst, ◌∙◌, arith, next_xid, Entry, Began, Sent, Op, Modes, UnderWay, At-last, At-one, of_file, rest_at, Turn, IsUnused, Mounted, machine_of, Fits, Lane, Busy, Setup, IsIdle, numbers_of, counted, StartsLane, View, turn_at, Reaches, last_reading, Given, is-given, Known, lanes-under-way, idle-numbers, number_of, at-push, get-push, to-map, same-rows, unused-next, keeps-bytes, StartsHas, basis-ready, starts-basis, NearAs, stage_of, starts-has, starts-wholly, EachSound}
 use Rattle.op_machines.proofs.AllLaws as laws
-use Rattle.client_core.specs.declared.lane.Lane.{Lane}
-use Rattle.client_core.specs.declared.lane.State.TheVariants.{Busy}
-use Rattle.client_core.specs.declared.setup.Setup.{Setup}
-use Rattle.client_core.specs.Numbers.{IsIdle, numbers_of}
-use Rattle.client_core.specs.Steps.{counted, StartsLane}
-use Rattle.client_core.specs.View.{View, turn_at}
-use Rattle.core_facts.specs.Reaches.{Reaches, last_reading}
-use Rattle.core_facts.proofs.HeldSlots.{Given, is-given}
-use Rattle.core_facts.proofs.Keeping.{Known}
-use Rattle.core_facts.proofs.LaneMarks.{lanes-under-way, idle-numbers, number_of}
-use Rattle.core_facts.proofs.Lists.{at-push, get-push, to-map}
-use Rattle.core_facts.proofs.Rows.{same-rows}
-use Rattle.core_answers.proofs.writes.PiecesCarried.{unused-next}
-use Rattle.core_session.proofs.calls.GivenBytes.{Gives, begun-has, keeps-bytes}
-use Rattle.core_session.proofs.order.Adds.{StartsHas}
-use Rattle.core_session.proofs.order.Basis.{basis-ready, starts-basis}
-use Rattle.core_session.proofs.order.Sounds.{NearAs}
+use Rattle.core_session.proofs.calls.GivenBytes.{Gives, begun-has}
 use Rattle.core_session.proofs.room.Entered.{under-early}
-use Rattle.core_session.proofs.room.Stages.{stage_of}
-use Rattle.core_session.proofs.saves.WholeSteps.{starts-has, starts-wholly}
-use Rattle.step_pending.specs.Cells.{EachSound}
 use Rattle.core_counts.proofs.coarse.Near.{near-starts}
 use Rattle.core_counts.proofs.counts.engine.Lists.{each-map, Elsewhere}
 use Rattle.core_counts.proofs.counts.writes.Once.{Gone}

@@ -1,29 +1,8 @@
 -- The WRITEs of a place, along a history.
-use Rattle.std.proofs.Common.{◌≡◌, ◌≢◌, ◌≤◌, ◌+◌, ◌*◌, inl, inr, ℕ, List, [], ◌∷◌, ◌++◌, length, sym, ap, subst, ◌∙◌, arith, length-append, append_assoc, append-nil}
-use Rattle.world_model.specs.declared.entry.Entry.{Entry}
-use Rattle.world_model.specs.declared.entry.Entry.TheVariants.{Began, Sent}
-use Rattle.world_model.specs.declared.message.Call.{Call}
-use Rattle.claims.specs.CallCounts.{Carries, Few, RepliedAt, CoversPlace, IsPoor, IsCommitOf, WritesPlace, FewWrites}
-use Rattle.claims.specs.CallsAsked.{NoneBegan, IsCaused, IsCause, mounts, informs, asked}
-use Rattle.world_model.specs.Entries.{At}
-use Rattle.world_model.specs.Messages.{SpellsCall}
-use Rattle.claims.specs.Terms.{Terms, most_tries}
-use Rattle.claims.specs.Touched.{WritesByte}
-use Rattle.world_model.specs.Waiting.{FirstSent, Answers}
-use Rattle.world_model.proofs.Growth.{FirstSent-grow, Answers-grow}
-use Rattle.world_model.proofs.Places.{At-grow, At-back, At-below}
-use Rattle.op_machines.specs.declared.begun.Mounted.{Mounted}
-use Rattle.op_machines.specs.Begun.{machine_of}
-use Rattle.client_core.specs.declared.setup.Setup.{Setup}
-use Rattle.client_core.specs.View.{View}
-use Rattle.core_facts.specs.Notes.{Notes}
-use Rattle.core_facts.proofs.AllCounts.{begins-unbegun}
-use Rattle.core_facts.proofs.Noting.{notes-reach}
-use Rattle.core_answers.proofs.bonds.OneCall.{IsNfs, one-call}
-use Rattle.core_session.specs.calls.Sessions.{IsSession}
-use Rattle.core_session.specs.calls.Whole.{GoesFrom}
-use Rattle.core_session.proofs.asked.Whole.{all-asked}
-use Rattle.core_session.proofs.calls.Whole.{session}
+use Rattle.core_counts.proofs.Prelude.{◌≡◌, ◌≢◌, ◌≤◌, ◌+◌, ◌*◌, inl, inr, ℕ, List, [], ◌∷◌, ◌++◌, length, sym, ap, subst, ◌∙◌, arith, length-append, append_assoc, append-nil, Entry, Began, Sent, Call, Carries, Few, RepliedAt, CoversPlace, IsCommitOf, NoneBegan, IsCaused, IsCause, mounts, informs, asked, At, SpellsCall, Terms, most_tries, WritesByte, FirstSent, FirstSent-grow, At-grow, At-back, At-below, Mounted, machine_of, Setup, View, Notes, begins-unbegun, notes-reach, IsNfs, one-call, IsSession, GoesFrom, all-asked, session}
+use Rattle.claims.specs.CallCounts.{IsPoor, WritesPlace, FewWrites}
+use Rattle.world_model.specs.Waiting.{Answers}
+use Rattle.world_model.proofs.Growth.{Answers-grow}
 use Rattle.core_counts.proofs.coarse.Going.{reached-going}
 use Rattle.core_counts.proofs.counts.engine.Booked.{Unlost, unlost}
 use Rattle.core_counts.proofs.counts.engine.Lists.{Each, each-map, each-both, each-all, all-each, Apart, apart-all, all-apart, without, without-each, without-apart, without-length}

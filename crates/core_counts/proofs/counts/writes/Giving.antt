@@ -1,28 +1,15 @@
 -- An operation that gave a place its byte writes it, as a whole history sees it.
-use Rattle.std.proofs.Common.{◌≡◌, ◌<◌, ◌≤◌, ◌-◌, ◌⊎◌, inl, inr, ℕ, zero, suc, List, [], length, Bool, Some, None, slice_get, replicate, refl, sym, ap, subst, ◌∙◌, arith, append-nil}
-use Rattle.std.specs.Prelude.{if◌then◌else◌}
-use Rattle.std.proofs.lemmas.Bool.{cases_lt, le-ltb, lt-ltb}
-use Rattle.world_model.specs.declared.entry.Entry.{Entry}
-use Rattle.world_model.specs.declared.entry.Entry.TheVariants.{Began}
-use Rattle.world_model.specs.declared.op.Op.{Op}
+use Rattle.core_counts.proofs.Prelude.{◌≡◌, ◌<◌, ◌≤◌, ◌-◌, ◌⊎◌, inl, inr, ℕ, zero, suc, List, [], length, Bool, Some, None, slice_get, refl, sym, ap, subst, ◌∙◌, arith, append-nil, if◌then◌else◌, cases_lt, lt-ltb, Entry, Began, Op, At, Rooted, AnsweredBefore, EndsAt, IsOf, Terms, WritesByte, Rooted-wide, At-below, Mounted, IsAsked, Setup, View, IsSession}
+use Rattle.std.proofs.Common.{replicate}
+use Rattle.std.proofs.lemmas.Bool.{le-ltb}
 use Rattle.world_model.specs.declared.op.Op.TheVariants as ops
-use Rattle.world_model.specs.Entries.{At}
 use Rattle.world_model.specs.Leads.{Leads}
-use Rattle.world_model.specs.Mounts.{Rooted}
-use Rattle.world_model.specs.Operations.{AnsweredBefore, EndsAt, answered, unanswered}
-use Rattle.claims.specs.Slots.{IsOf}
-use Rattle.claims.specs.Terms.{Terms}
-use Rattle.claims.specs.Touched.{WritesByte, Covers}
+use Rattle.world_model.specs.Operations.{answered, unanswered}
+use Rattle.claims.specs.Touched.{Covers}
 use Rattle.claims.specs.Touched as touched
-use Rattle.world_model.proofs.Growth.{Rooted-wide}
-use Rattle.world_model.proofs.Places.{At-below}
-use Rattle.op_machines.specs.declared.begun.Mounted.{Mounted}
-use Rattle.op_machines.specs.Begun.{IsAsked, IsNamed}
-use Rattle.client_core.specs.declared.setup.Setup.{Setup}
-use Rattle.client_core.specs.View.{View}
+use Rattle.op_machines.specs.Begun.{IsNamed}
 use Rattle.core_facts.proofs.Leading.{leads-from}
 use Rattle.core_answers.specs.writes.Written.{byte_from, byte_by}
-use Rattle.core_session.specs.calls.Sessions.{IsSession}
 use Rattle.core_session.proofs.calls.GivenBytes.{IsGiven, LeadsInTime}
 use Rattle.core_session.proofs.calls.WriteCause.{IsStore}
 use Rattle.core_session.proofs.order.PutWrites.{ends-at}

@@ -1,31 +1,8 @@
 -- The tally is kept where an operation goes on.
-use Rattle.std.proofs.Common.{◌≡◌, ◌≢◌, ◌+◌, ◌⊎◌, ℕ, List, length, Some, slice_get, slice_set, refl, sym, subst, ◌∙◌}
-use Rattle.rpc_retry.specs.Held.{next_xid}
-use Rattle.world_model.specs.declared.entry.Entry.{Entry}
-use Rattle.world_model.specs.LanesTogether.{IsBusy}
-use Rattle.claims.specs.Modes.{Modes}
-use Rattle.write_back.specs.Files.{of_file, all_pending}
-use Rattle.write_back.specs.Pieces.{rest_at}
-use Rattle.file_ops.specs.SlotFiles.{IsUnused}
-use Rattle.op_machines.specs.declared.begun.Mounted.{Mounted}
+use Rattle.core_counts.proofs.Prelude.{◌≡◌, ◌≢◌, ◌+◌, ◌⊎◌, ℕ, List, length, Some, slice_get, slice_set, refl, sym, subst, ◌∙◌, next_xid, Entry, IsBusy, Modes, of_file, all_pending, rest_at, IsUnused, Mounted, Lane, Busy, Setup, with_state, Stirs, View, turn_at, Known, lanes-under-way, at-set, same-rows, set-other, unused-next, keeps-bytes, basis-ready, stirs-basis, Stage, stage_of, resumes-has, stirs-wholly, EachSound}
 use Rattle.op_machines.proofs.AllLaws as laws
-use Rattle.client_core.specs.declared.lane.Lane.{Lane}
-use Rattle.client_core.specs.declared.lane.State.TheVariants.{Busy}
-use Rattle.client_core.specs.declared.setup.Setup.{Setup}
-use Rattle.client_core.specs.Steps.{with_state, Stirs}
-use Rattle.client_core.specs.View.{View, turn_at}
-use Rattle.core_facts.proofs.Keeping.{Known}
-use Rattle.core_facts.proofs.LaneMarks.{lanes-under-way}
-use Rattle.core_facts.proofs.Lists.{at-set}
-use Rattle.core_facts.proofs.Rows.{same-rows}
-use Rattle.core_facts.proofs.Stories.{set-other}
-use Rattle.core_answers.proofs.writes.PiecesCarried.{unused-next}
-use Rattle.core_session.proofs.calls.GivenBytes.{keeps-bytes}
-use Rattle.core_session.proofs.order.Basis.{basis-ready, stirs-basis}
 use Rattle.core_session.proofs.room.Machines as verdicts
-use Rattle.core_session.proofs.room.Stages.{Stage, stage_of, Verdict, outcome}
-use Rattle.core_session.proofs.saves.WholeSteps.{resumes-has, stirs-wholly}
-use Rattle.step_pending.specs.Cells.{EachSound}
+use Rattle.core_session.proofs.room.Stages.{Verdict, outcome}
 use Rattle.core_counts.proofs.counts.engine.Lists.{Elsewhere}
 use Rattle.core_counts.proofs.counts.writes.Once.{Gone}
 use Rattle.core_counts.proofs.counts.writes.Stepped.{Held, never-adds, resumes-held}

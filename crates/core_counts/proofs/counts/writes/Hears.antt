@@ -1,87 +1,23 @@
 -- The tally is kept where an operation takes what came of its call.
-use Rattle.std.proofs.Common.{◌≡◌, ◌≢◌, ◌≤◌, ◌<◌, ◌+◌, ◌-◌, ◌⊎◌, inl, inr, ℕ, nat_eq, Bool, true, false, List, [], ◌∷◌, ◌++◌, length, Option, Some, None, position, slice_get, slice_set, Result, refl, sym, ap, subst, ◌∙◌, arith}
+use Rattle.core_counts.proofs.Prelude.{◌≡◌, ◌≢◌, ◌≤◌, ◌<◌, ◌+◌, ◌-◌, ◌⊎◌, inl, inr, ℕ, nat_eq, Bool, true, false, List, [], ◌∷◌, ◌++◌, length, Option, Some, None, position, slice_get, slice_set, Result, refl, sym, ap, subst, ◌∙◌, arith, eqb-true, xid_at, Waiting, next_xid, waiting_at, without, others_taken, gone, Answer, Fault, Entry, Began, Sent, Delivered, Call, Reply, Op, CoversPlace, IsCommitOf, commit, RepliedAt, At, Heard, IsBusy, HasXid, Modes, AnsweredBefore, UnderWay, FirstSent-grow, At-grow, At-below, At-back, At-last, At-cases, length_last, said_of, Says, Pending, of_file, all_pending, rest_at, piece_under, covers, low-of, high-of, same-or, Repeat, Turn, Saving, write_told, IsUnused, Mounted, machine_of, Lane, Purpose, Busy, Setup, is_busy, with_state, TakesAt, View, turn_at, in_flight, HearsRecord, Reaches, IsMade, IsOutstanding, Tried, begins-unbegun, taken_one, flies_of, was-sent, says-of, Known, taker-one, lanes-under-way, at-set, at-position, same-rows, taken-rows, set-other, under-back, reached-good, written_file, Expects, expects-laws, NoCall, NoShelf, NoStory, no-laws, one-call, nfs-of, CallFits, commits_of, fits-laws, tales, unused-next, keeps-bytes, TakesHas, basis-ready, takes-basis, NearAs, Stage, stage_of, sent-piece, takes-has, takes-wholly, EachSound}
 use Rattle.std.specs.Prelude.{unwrap_or}
-use Rattle.std.proofs.lemmas.Bool.{eqb-true}
 use Rattle.nfs_file_calls.specs.declared.call.FileCall.TheVariants as files
-use Rattle.rpc_message.specs.Call.{xid_at}
-use Rattle.rpc_retry.specs.declared.waiting.Waiting.{Waiting}
-use Rattle.rpc_retry.specs.Held.{next_xid}
-use Rattle.rpc_retry.specs.Waiting.{waiting_at, without}
-use Rattle.rpc_retry.proofs.Lookups.{others_taken}
-use Rattle.rpc_retry.proofs.Records.{gone}
-use Rattle.world_model.specs.declared.answer.Answer.{Answer}
-use Rattle.world_model.specs.declared.answer.Fault.{Fault}
-use Rattle.world_model.specs.declared.entry.Entry.{Entry}
-use Rattle.world_model.specs.declared.entry.Entry.TheVariants.{Began, Answered as Noted, Sent, Delivered}
-use Rattle.world_model.specs.declared.message.Call.{Call}
+use Rattle.world_model.specs.declared.entry.Entry.TheVariants.{Answered as Noted}
 use Rattle.world_model.specs.declared.message.Call.TheVariants as calls
-use Rattle.world_model.specs.declared.message.Reply.{Reply}
-use Rattle.world_model.specs.declared.op.Op.{Op}
-use Rattle.claims.specs.CallCounts.{CoversPlace, IsCommitOf, commit, IsPoor, LeavesUnwritten, RepliedAt}
-use Rattle.world_model.specs.Entries.{At}
-use Rattle.world_model.specs.Heard.{Heard}
-use Rattle.world_model.specs.LanesTogether.{IsBusy}
-use Rattle.world_model.specs.Messages.{HasXid}
-use Rattle.claims.specs.Modes.{Modes}
-use Rattle.world_model.specs.Operations.{AnsweredBefore, UnderWay}
-use Rattle.world_model.proofs.Growth.{FirstSent-grow}
-use Rattle.world_model.proofs.Places.{At-grow, At-below, At-back, At-last, At-cases, length_last}
-use Rattle.call_replies.specs.Says.{said_of, Says}
-use Rattle.write_back.specs.Files.{Pending, of_file, all_pending}
-use Rattle.write_back.specs.Pieces.{Sent as Piece, rest_at, piece_under}
-use Rattle.write_back.specs.Segments.{covers}
-use Rattle.write_back.proofs.Keys.{low-of, high-of}
-use Rattle.write_back.proofs.WritesByFile.{same-or}
-use Rattle.client_shelf.specs.declared.repeats.Repeat.{Repeat}
-use Rattle.client_shelf.specs.declared.turn.Turn.{Turn}
-use Rattle.file_ops.specs.declared.saving.Saving.{Saving}
-use Rattle.file_ops.specs.Judging.{write_told}
+use Rattle.claims.specs.CallCounts.{IsPoor, LeavesUnwritten}
+use Rattle.write_back.specs.Pieces.{Sent as Piece}
 use Rattle.file_ops.specs.Saves as saves
-use Rattle.file_ops.specs.SlotFiles.{IsUnused}
-use Rattle.op_machines.specs.declared.begun.Mounted.{Mounted}
-use Rattle.op_machines.specs.Begun.{machine_of}
 use Rattle.op_machines.proofs.AllLaws as laws
-use Rattle.client_core.specs.declared.lane.Lane.{Lane}
-use Rattle.client_core.specs.declared.lane.Purpose.{Purpose}
-use Rattle.client_core.specs.declared.lane.State.TheVariants.{Busy}
-use Rattle.client_core.specs.declared.setup.Setup.{Setup}
-use Rattle.client_core.specs.Lanes.{is_busy}
-use Rattle.client_core.specs.Steps.{with_state, TakesAt}
-use Rattle.client_core.specs.View.{View, turn_at}
-use Rattle.core_facts.specs.InFlight.{in_flight}
-use Rattle.core_facts.specs.Reaches.{HearsRecord, Reaches}
-use Rattle.core_facts.specs.Tries.{IsMade, IsOutstanding, Tried, unsent, runs, ended as tries_ended}
-use Rattle.core_facts.proofs.AllCounts.{begins-unbegun}
-use Rattle.core_facts.proofs.Cases.{taken_one}
-use Rattle.core_facts.proofs.Flights.{flies_of}
-use Rattle.core_facts.proofs.Hearing.{was-sent, says-of}
-use Rattle.core_facts.proofs.Keeping.{Known, taker-one}
-use Rattle.core_facts.proofs.LaneMarks.{lanes-under-way}
-use Rattle.core_facts.proofs.Lists.{at-set, at-position}
-use Rattle.core_facts.proofs.Rows.{same-rows, taken-rows}
+use Rattle.core_facts.specs.Tries.{unsent, runs, ended as tries_ended}
 use Rattle.core_facts.proofs.SlotGrowth.{ended-back}
-use Rattle.core_facts.proofs.Stories.{set-other, under-back}
-use Rattle.core_facts.proofs.Tales.{reached-good}
-use Rattle.core_answers.specs.writes.Alone.{written_file}
-use Rattle.core_answers.proofs.asks.CallsAwaited.{Names, Expects, expects-laws}
+use Rattle.core_answers.proofs.asks.CallsAwaited.{Names}
 use Rattle.core_answers.proofs.asks.SavedCalls.{Saves as SavesCall}
-use Rattle.core_answers.proofs.asks.Sendings.{NoCall, NoShelf, NoStory, no-laws}
-use Rattle.core_answers.proofs.bonds.OneCall.{one-call}
-use Rattle.core_answers.proofs.refusals.SentCalls.{nfs-of}
-use Rattle.core_answers.proofs.writes.AllFits.{CallFits, commits_of, fits-laws}
-use Rattle.core_answers.proofs.writes.CommitsAlone.{tales}
-use Rattle.core_answers.proofs.writes.PiecesCarried.{unused-next}
 use Rattle.core_session.proofs.calls.Brought.{has-both}
-use Rattle.core_session.proofs.calls.GivenBytes.{Gives, brings-later, has-all, keeps-bytes}
-use Rattle.core_session.proofs.order.Adds.{TakesHas}
-use Rattle.core_session.proofs.order.Basis.{basis-ready, takes-basis}
-use Rattle.core_session.proofs.order.Sounds.{NearAs}
+use Rattle.core_session.proofs.calls.GivenBytes.{Gives, brings-later, has-all}
 use Rattle.core_session.proofs.room.Machines as verdicts
-use Rattle.core_session.proofs.room.Stages.{Stage, stage_of, Verdict, outcome}
-use Rattle.core_session.proofs.saves.Taking.{sent-is, sent-piece}
-use Rattle.core_session.proofs.saves.WholeSteps.{takes-has, takes-wholly}
+use Rattle.core_session.proofs.room.Stages.{Verdict, outcome}
+use Rattle.core_session.proofs.saves.Taking.{sent-is}
 use Rattle.core_session.proofs.syncs.Showings as showings
-use Rattle.step_pending.specs.Cells.{EachSound}
 use Rattle.core_counts.proofs.coarse.Near.{near-has}
 use Rattle.core_counts.proofs.coarse.OfSaves.{IsOfSave, never-both, of-machine}
 use Rattle.core_counts.proofs.counts.engine.Lists.{Each, each-map, Elsewhere}

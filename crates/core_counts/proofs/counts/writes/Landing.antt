@@ -1,35 +1,21 @@
 -- What becomes of how often a place may still be sent, where a piece takes off or lands, and where a COMMIT is answered.
-use Rattle.std.proofs.Common.{◌≡◌, ◌≢◌, ◌≤◌, ◌+◌, ◌-◌, ◌&&◌, ◌⊎◌, inl, inr, ℕ, Bool, true, false, List, ◌∷◌, length, Option, Some, None, IfSome, refl, sym, ap, subst, ◌∙◌, arith}
-use Rattle.std.specs.Prelude.{if◌then◌else◌, nat_eq, nat_lt}
+use Rattle.core_counts.proofs.Prelude.{◌≡◌, ◌≢◌, ◌≤◌, ◌+◌, ◌-◌, ◌&&◌, ◌⊎◌, inl, inr, ℕ, Bool, true, false, List, ◌∷◌, length, Option, Some, None, refl, sym, ap, subst, ◌∙◌, arith, if◌then◌else◌, nat_lt, eqb-true, lt-ltb, decided, Verf, Change, InFlight, Acked, fate, piece_of, IsAnswer, Pending, of_file, OnFile, acked_by, at_piece, at_xid, landed, landed_part, with_xid, Flown, FilePending, flown_in, rest_at, fly_at, piece_under, PutsInFlight, Lands, cell_landed, newer_or, Segment, Segments, covers, Cell, IsSound, is_in_flight, flown_as_of, low-of, high-of, answer-return, answer-acked, lands-one-at, under-own, same-or, renumbers-so, EachSound, if-true}
+use Rattle.std.proofs.Common.{IfSome}
+use Rattle.std.specs.Prelude.{nat_eq}
 use Rattle.std.specs.Option.{option_map}
-use Rattle.std.proofs.lemmas.Bool.{eqb-true, ne_eqb, lt-ltb}
-use Rattle.commit_verf.specs.Decisions.{decided}
-use Rattle.nfs_types.specs.declared.verf.Verf.{Verf}
-use Rattle.write_back.specs.declared.change.Change.{Change}
+use Rattle.std.proofs.lemmas.Bool.{ne_eqb}
 use Rattle.write_back.specs.declared.change.Change.TheVariants as by_change
 use Rattle.write_back.specs.declared.state.State.{State}
-use Rattle.write_back.specs.declared.state.State.TheVariants.{Waiting, InFlight, Acked}
+use Rattle.write_back.specs.declared.state.State.TheVariants.{Waiting}
 use Rattle.write_back.specs.declared.state.Ready.TheVariants.{Refused as was_refused}
-use Rattle.write_back.specs.Changes.{fate, cell_changed}
-use Rattle.write_back.specs.Choice.{piece_of}
-use Rattle.write_back.specs.Effects.{IsAnswer}
-use Rattle.write_back.specs.Files.{Pending, of_file, IsFree, OnFile, PutsPiece}
-use Rattle.write_back.specs.Landing.{acked_by, at_piece, at_xid, landed, landed_part, with_change, with_xid}
-use Rattle.write_back.specs.Pieces.{Sent, Flown, FilePending, flown_in, rest_at, fly_at, piece_under}
-use Rattle.write_back.specs.Places.{PutsInFlight, Lands, cell_landed, newer_or}
-use Rattle.write_back.specs.Segments.{Segment, Segments, covers, Cell}
-use Rattle.write_back.specs.Sound.{IsSound}
-use Rattle.write_back.specs.States.{is_in_flight}
-use Rattle.write_back.specs.Waits.{flown_as_of, Renumbers}
-use Rattle.write_back.proofs.Keys.{low-of, high-of}
-use Rattle.write_back.proofs.Landings.{answer-return, answer-acked}
+use Rattle.write_back.specs.Changes.{cell_changed}
+use Rattle.write_back.specs.Files.{IsFree, PutsPiece}
+use Rattle.write_back.specs.Landing.{with_change}
+use Rattle.write_back.specs.Pieces.{Sent}
+use Rattle.write_back.specs.Waits.{Renumbers}
 use Rattle.write_back.proofs.Marking.{held-settle, held-mark, changes-held, sound-held}
-use Rattle.write_back.proofs.Replying.{lands-one-at, lands-part-at}
-use Rattle.write_back.proofs.Taking.{under-own}
-use Rattle.write_back.proofs.WritesByFile.{same-or}
-use Rattle.write_back.proofs.Xids.{fly-under, renumbers-so}
-use Rattle.step_pending.specs.Cells.{EachSound}
-use Rattle.step_pending.proofs.Leading.{if-true}
+use Rattle.write_back.proofs.Replying.{lands-part-at}
+use Rattle.write_back.proofs.Xids.{fly-under}
 use Rattle.step_pending.proofs.Shown.{flown-from, has-piece, not-under}
 use Rattle.core_counts.proofs.counts.writes.Weights.{Class, one_if, due_of, flown_of, weight, low, high, due-most, flown-most, Below, due-low, flown-low, below-high, puts-weight, lands-out as elsewhere, lands-in, left-number, landed-number, newer-number, back-weight, acked-weight}
 

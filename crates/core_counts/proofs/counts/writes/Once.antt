@@ -1,40 +1,20 @@
 -- Each operation adds its bytes once at most: where a step adds them, the operation is over then, or is a put whose bytes are pending, which never adds any.
-use Rattle.std.proofs.Common.{◌≡◌, ◌≢◌, ◌⊎◌, inl, inr, ℕ, Bool, true, false, List, length, Result, Ok, Err, refl, sym, ap, subst, ◌∙◌}
-use Rattle.world_model.specs.declared.answer.Answer.{Answer}
+use Rattle.core_counts.proofs.Prelude.{◌≡◌, ◌≢◌, ◌⊎◌, inl, inr, ℕ, Bool, true, false, List, length, Result, Ok, Err, refl, sym, ap, subst, ◌∙◌, Answer, Fault, Reply, is_first, Next, Shelf, Turn, OpeningNext, PutFile, Putting, Saving, WriteFile, Writing, is_full, joined, by-step, ends_as, FileMachine, Machine, PathMachine, file_of, Takes, PutHas, FileHas, PathHas, TakesHas, Stage, stage_of}
 use Rattle.world_model.specs.declared.answer.Answer.TheVariants as answers
-use Rattle.world_model.specs.declared.answer.Fault.{Fault}
-use Rattle.world_model.specs.declared.message.Reply.{Reply}
-use Rattle.client_shelf.specs.LaneFiles.{left, is_first}
-use Rattle.client_shelf.specs.declared.next.Next.{Next}
+use Rattle.client_shelf.specs.LaneFiles.{left}
 use Rattle.client_shelf.specs.declared.next.Next.TheVariants as nexts
-use Rattle.client_shelf.specs.declared.shelf.Shelf.{Shelf}
-use Rattle.client_shelf.specs.declared.turn.Turn.{Turn}
-use Rattle.file_ops.specs.declared.opening.OpeningNext.{OpeningNext}
 use Rattle.file_ops.specs.declared.opening.OpeningNext.TheVariants as openings
-use Rattle.file_ops.specs.declared.put_file.PutFile.{PutFile}
-use Rattle.file_ops.specs.declared.put_file.Putting.{Putting}
 use Rattle.file_ops.specs.declared.put_file.Putting.TheVariants as putting
-use Rattle.file_ops.specs.declared.saving.Saving.{Saving}
-use Rattle.file_ops.specs.declared.write_file.WriteFile.{WriteFile}
-use Rattle.file_ops.specs.declared.write_file.Writing.{Writing}
 use Rattle.file_ops.specs.declared.write_file.Writing.TheVariants as writing
-use Rattle.file_ops.specs.Adding.{is_full}
 use Rattle.file_ops.specs.PutFile as puts
 use Rattle.file_ops.specs.Saves as saves
-use Rattle.file_ops.specs.SlotFiles.{joined}
 use Rattle.file_ops.specs.WriteFile as writes
-use Rattle.file_ops.proofs.SaveCounts.{by-step, ends_as}
-use Rattle.op_machines.specs.declared.file_machine.FileMachine.{FileMachine}
 use Rattle.op_machines.specs.declared.file_machine.FileMachine.TheVariants as files
-use Rattle.op_machines.specs.declared.machine.Machine.{Machine}
 use Rattle.op_machines.specs.declared.machine.Machine.TheVariants as machines
-use Rattle.op_machines.specs.declared.path_machine.PathMachine.{PathMachine}
 use Rattle.op_machines.specs.FileSteps as steps
-use Rattle.op_machines.specs.Openers.{file_of}
 use Rattle.op_machines.specs.PathSteps as paths
-use Rattle.op_machines.specs.Steps.{Takes}
-use Rattle.core_session.proofs.order.Adds.{RoomHas, PutHas, FileHas, PathHas, TakesHas, EndsWell}
-use Rattle.core_session.proofs.room.Stages.{Stage, storing, putting as puts_still, settling, put_stage, file_stage, path_stage, stage_of}
+use Rattle.core_session.proofs.order.Adds.{RoomHas, EndsWell}
+use Rattle.core_session.proofs.room.Stages.{storing, putting as puts_still, settling, put_stage, file_stage, path_stage}
 
 -- the number of the last write is the same
 abbrev pub Level : Shelf → Shelf → Type 0

@@ -1,23 +1,15 @@
 -- A reply to a WRITE says that the server has all of its bytes, or leaves them unwritten.
-use Rattle.std.proofs.Common.{◌≡◌, ◌≢◌, ◌<◌, ◌||◌, ◌==◌, ◌⊎◌, inl, inr, ℕ, Bool, true, false, List, length, Result, Ok, Err, refl, arith}
-use Rattle.std.specs.Prelude.{nat_lt}
-use Rattle.std.proofs.lemmas.Bool.{eqb-true, ltb-true, ltb-false}
-use Rattle.nfs_types.specs.declared.verf.Verf.{Verf}
-use Rattle.nfs_types.specs.declared.wcc.Wcc.{Wcc}
+use Rattle.core_counts.proofs.Prelude.{◌≡◌, ◌≢◌, ◌<◌, ◌||◌, ◌==◌, ◌⊎◌, inl, inr, ℕ, Bool, true, false, List, length, Result, Ok, Err, refl, arith, nat_lt, eqb-true, ltb-true, ltb-false, Verf, Wcc, FileKept, Fault, Call, Reply, Says, write_told}
 use Rattle.nfs_file_calls.specs.declared.call.FileCall.TheVariants as files
-use Rattle.nfs_file_calls.specs.declared.owned.FileKept.{FileKept}
 use Rattle.nfs_file_calls.specs.declared.owned.FileKept.TheVariants as kept
-use Rattle.world_model.specs.declared.answer.Fault.{Fault}
 use Rattle.world_model.specs.declared.answer.Fault.TheVariants as faults
-use Rattle.world_model.specs.declared.message.Call.{Call}
 use Rattle.world_model.specs.declared.message.Call.TheVariants as calls
-use Rattle.world_model.specs.declared.message.Reply.{Reply}
 use Rattle.world_model.specs.declared.message.Reply.TheVariants as replies
 use Rattle.claims.specs.CallCounts.{LeavesUnwritten, refused, short}
 use Rattle.claims.specs.PageRules.{refuses}
 use Rattle.world_model.specs.Rules.{wrong_committed, wrong_count}
-use Rattle.call_replies.specs.Says.{Says, SpellsOne}
-use Rattle.file_ops.specs.Judging.{write_told, written_by}
+use Rattle.call_replies.specs.Says.{SpellsOne}
+use Rattle.file_ops.specs.Judging.{written_by}
 use Rattle.file_ops.specs.Saves as saves
 
 or-either : (a b : Bool) → (a || b) ≡ true → (a ≡ true) ⊎ (b ≡ true)

@@ -1,34 +1,14 @@
 -- What a step of a save makes of how often a place may still be sent: no step lets it be sent more often, but a reply to a WRITE that leaves it unwritten, and one to
 -- a COMMIT, by one.
-use Rattle.std.proofs.Common.{◌≡◌, ◌≤◌, ◌&&◌, ◌||◌, ◌==◌, ◌⊎◌, inl, inr, ℕ, Bool, true, false, List, [], ◌∷◌, length, Option, Some, None, IfSome, Result, Ok, Err, refl, sym, ap, subst}
-use Rattle.std.specs.Prelude.{nat_lt}
-use Rattle.commit_verf.specs.declared.commit.Verdict.{Verdict}
-use Rattle.commit_verf.specs.declared.commit.Verdict.TheVariants.{AllStable, SendAgain}
-use Rattle.commit_verf.specs.Decisions.{verdict_of}
-use Rattle.nfs_types.specs.declared.verf.Verf.{Verf}
-use Rattle.nfs_types.specs.declared.wcc.Wcc.{Wcc}
+use Rattle.core_counts.proofs.Prelude.{◌≡◌, ◌≤◌, ◌&&◌, ◌||◌, ◌==◌, ◌⊎◌, inl, inr, ℕ, Bool, true, false, List, [], ◌∷◌, length, Option, Some, None, Result, Ok, Err, refl, sym, ap, subst, nat_lt, Verdict, AllStable, SendAgain, verdict_of, Verf, Wcc, Fault, Memory, Reply, lost, chosen, Pending, of_file, OnFile, acked_by, at_xid, landed, landed_part, with_xid, piece_under, Segments, Repeat, Turn, goes_again, Sending, Committing, Resending, CommittingAgain, Saving, write_told, commit_told, IsUnused, EachSound}
+use Rattle.std.proofs.Common.{IfSome}
 use Rattle.nfs_file_calls.specs.declared.owned.FileKept.TheVariants as kept
-use Rattle.world_model.specs.declared.answer.Fault.{Fault}
-use Rattle.world_model.specs.declared.answer.Fault.TheVariants.{Memory, Bad}
-use Rattle.world_model.specs.declared.message.Reply.{Reply}
+use Rattle.world_model.specs.declared.answer.Fault.TheVariants.{Bad}
 use Rattle.world_model.specs.declared.message.Reply.TheVariants as replies
 use Rattle.write_back.specs.declared.change.Change.TheVariants as by_change
-use Rattle.write_back.specs.Changes.{lost}
-use Rattle.write_back.specs.Choice.{chosen}
-use Rattle.write_back.specs.Files.{Pending, of_file, OnFile}
-use Rattle.write_back.specs.Landing.{acked_by, at_xid, landed, landed_part, with_xid}
-use Rattle.write_back.specs.Pieces.{Sent, piece_under}
-use Rattle.write_back.specs.Segments.{Segments}
-use Rattle.client_shelf.specs.declared.repeats.Repeat.{Repeat}
-use Rattle.client_shelf.specs.declared.turn.Turn.{Turn}
-use Rattle.client_shelf.specs.Busy.{goes_again}
+use Rattle.write_back.specs.Pieces.{Sent}
 use Rattle.file_ops.specs.declared.saving.Phase.{Phase}
-use Rattle.file_ops.specs.declared.saving.Phase.TheVariants.{Sending, Committing, Resending, CommittingAgain}
-use Rattle.file_ops.specs.declared.saving.Saving.{Saving}
-use Rattle.file_ops.specs.Judging.{write_told, commit_told}
 use Rattle.file_ops.specs.Saves as saves
-use Rattle.file_ops.specs.SlotFiles.{IsUnused}
-use Rattle.step_pending.specs.Cells.{EachSound}
 use Rattle.core_counts.proofs.counts.writes.Landing.{the-piece, W, Fewer, same-fewer, fewer-then, puts-fewer, returned-fewer, Gain, Covered, FineBack, fine-then, fine-same, returns-fine, refuses-fine, acks-fine, renews-fine, decides-fine}
 use Rattle.core_counts.proofs.counts.writes.Weights.{low, Below}
 

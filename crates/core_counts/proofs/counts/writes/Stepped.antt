@@ -1,36 +1,16 @@
 -- What a step of any operation makes of how often a place may still be sent.
-use Rattle.std.proofs.Common.{◌≡◌, ◌≢◌, ◌≤◌, ◌<◌, ◌+◌, ◌⊎◌, inl, inr, ℕ, Bool, true, false, List, length, Result, Err, refl, sym, ap, subst, ◌∙◌, arith}
-use Rattle.std.proofs.lemmas.Bool.{false_from_ne_true, leb-true}
+use Rattle.core_counts.proofs.Prelude.{◌≡◌, ◌≢◌, ◌≤◌, ◌<◌, ◌+◌, ◌⊎◌, inl, inr, ℕ, Bool, true, false, List, length, Result, Err, refl, sym, ap, subst, ◌∙◌, arith, leb-true, Fault, Call, Reply, Pending, of_file, with_bytes, IsNewest, OnFile, with_cut, FilePending, nothing, rest_at, fly_at, PutsBytes, covers, puts-with, same-or, Next, Repeat, Shelf, Turn, Saving, IsUnused, Machine, Starts, Resumes, Takes, After, TakesHas, StartsHas, NearAs, unmade-has, EachSound}
+use Rattle.std.proofs.lemmas.Bool.{false_from_ne_true}
 use Rattle.std.specs.Prelude.{nat_le}
-use Rattle.world_model.specs.declared.answer.Fault.{Fault}
-use Rattle.world_model.specs.declared.message.Call.{Call}
-use Rattle.world_model.specs.declared.message.Reply.{Reply}
-use Rattle.write_back.specs.Files.{Pending, of_file, with_bytes, IsNewest, OnFile}
-use Rattle.write_back.specs.Landing.{with_cut}
-use Rattle.write_back.specs.Pieces.{FilePending, nothing, rest_at, fly_at}
-use Rattle.write_back.specs.Places.{PutsBytes}
-use Rattle.write_back.specs.Segments.{covers}
 use Rattle.write_back.proofs.Adding.{cuts-so}
-use Rattle.write_back.proofs.SendsOn.{puts-with}
-use Rattle.write_back.proofs.WritesByFile.{same-or}
-use Rattle.client_shelf.specs.declared.next.Next.{Next}
 use Rattle.client_shelf.specs.declared.next.Next.TheVariants as nexts
-use Rattle.client_shelf.specs.declared.repeats.Repeat.{Repeat}
-use Rattle.client_shelf.specs.declared.shelf.Shelf.{Shelf}
-use Rattle.client_shelf.specs.declared.turn.Turn.{Turn}
-use Rattle.file_ops.specs.declared.saving.Saving.{Saving}
 use Rattle.file_ops.specs.Saves as saves
-use Rattle.file_ops.specs.SlotFiles.{IsUnused}
 use Rattle.file_ops.specs.Syncs as syncs
-use Rattle.op_machines.specs.declared.machine.Machine.{Machine}
-use Rattle.op_machines.specs.Steps.{Starts, Resumes, Takes}
 use Rattle.core_answers.proofs.writes.AllBacks.{Saves}
-use Rattle.core_answers.proofs.writes.Backs.{After, CarriesReply}
+use Rattle.core_answers.proofs.writes.Backs.{CarriesReply}
 use Rattle.core_answers.proofs.writes.Mapped.{any-saves}
-use Rattle.core_session.proofs.order.Adds.{Bears, TakesHas, StartsHas, all-starts, all-resumes, all-takes}
-use Rattle.core_session.proofs.order.Sounds.{Sounds, SoundsFirst, SoundCall, NearAs, bears-sounds, replies-sounds}
-use Rattle.core_session.proofs.order.Unmade.{unmade-has}
-use Rattle.step_pending.specs.Cells.{EachSound}
+use Rattle.core_session.proofs.order.Adds.{Bears, all-starts, all-resumes, all-takes}
+use Rattle.core_session.proofs.order.Sounds.{Sounds, SoundsFirst, SoundCall, bears-sounds, replies-sounds}
 use Rattle.core_counts.proofs.counts.writes.Landing.{W, Fewer, on-fewer}
 use Rattle.core_counts.proofs.counts.writes.Saved.{goes-fewer, takes-err}
 use Rattle.core_counts.proofs.counts.writes.Weights.{one_if, one-most, due_of, weight, low, high, Below, flown-low, below-high, newest-below, cut-due, laid-out, laid-in}

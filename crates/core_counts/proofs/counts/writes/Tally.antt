@@ -1,61 +1,22 @@
 -- What is known along a history of the WRITEs that cover a place: no more were made, and no more may still be, than operations wrote it, replies left it unwritten,
 -- and COMMITs of its file were answered.
-use Rattle.std.proofs.Common.{◌≡◌, ◌≢◌, ◌≤◌, ◌<◌, ◌+◌, ◌⊎◌, inl, inr, ℕ, zero, suc, nat_eq, Bool, true, false, List, [], ◌∷◌, ◌++◌, length, Some, slice_get, slice_set, Err, refl, sym, ap, subst, ◌∙◌, arith}
-use Rattle.std.specs.Prelude.{◌&&◌, nat_le, nat_lt}
-use Rattle.std.proofs.lemmas.Bool.{eqb-true, eqb-false, eq-eqb, leb-true, ltb-true, and_parts}
+use Rattle.core_counts.proofs.Prelude.{◌≡◌, ◌≢◌, ◌≤◌, ◌<◌, ◌+◌, ◌⊎◌, inl, inr, ℕ, zero, suc, nat_eq, Bool, true, false, List, [], ◌∷◌, ◌++◌, length, Some, slice_get, slice_set, Err, refl, sym, ap, subst, ◌∙◌, arith, nat_lt, eqb-true, eqb-false, eq-eqb, leb-true, ltb-true, Waiting, next_xid, made_call, waiting_at, waits_early, at_made, others_made, Entry, Began, Sent, Call, Op, CoversPlace, IsCommitOf, RepliedAt, NoneBegan, At, Heard, HasXid, SpellsCall, SpellsCallBy, proc_of, Modes, UnderWay, At-below, At-cases, length_last, Pending, of_file, all_pending, flown_in, rest_at, fly_at, covers, under-own, same-or, Next, IsReady, Mounted, Machine, Lane, Purpose, State, Busy, Over, Setup, record_of, Makes, IsRefused, Leads, View, turn_at, unmade_turn, at-set, Rows, made-known, made-asked, set-other, under-back, written_file, one-call, nfs-of, After, Free, Basis, Stage, stage_of, Has, Wholly, EachSound}
+use Rattle.std.specs.Prelude.{◌&&◌, nat_le}
+use Rattle.std.proofs.lemmas.Bool.{and_parts}
 use Rattle.nfs_file_calls.specs.declared.call.FileCall.TheVariants as files
-use Rattle.rpc_retry.specs.declared.waiting.Waiting.{Waiting}
-use Rattle.rpc_retry.specs.Held.{next_xid}
-use Rattle.rpc_retry.specs.Waiting.{made_call, waiting_at}
-use Rattle.rpc_retry.proofs.Lookups.{waits_early, at_made, others_made}
-use Rattle.world_model.specs.declared.entry.Entry.{Entry}
-use Rattle.world_model.specs.declared.entry.Entry.TheVariants.{Began, Sent}
-use Rattle.world_model.specs.declared.message.Call.{Call}
 use Rattle.world_model.specs.declared.message.Call.TheVariants as calls
-use Rattle.world_model.specs.declared.op.Op.{Op}
-use Rattle.claims.specs.CallCounts.{CoversPlace, IsCommitOf, IsPoor, RepliedAt}
-use Rattle.claims.specs.CallsAsked.{NoneBegan}
-use Rattle.world_model.specs.Entries.{At}
-use Rattle.world_model.specs.Heard.{Heard}
-use Rattle.world_model.specs.Messages.{HasXid, SpellsCall, SpellsCallBy, proc_of}
-use Rattle.claims.specs.Modes.{Modes}
-use Rattle.world_model.specs.Operations.{UnderWay}
-use Rattle.world_model.proofs.Places.{At-below, At-cases, length_last}
-use Rattle.write_back.specs.Files.{Pending, of_file, all_pending}
-use Rattle.write_back.specs.Pieces.{flown_in, rest_at, fly_at}
-use Rattle.write_back.specs.Segments.{covers}
+use Rattle.claims.specs.CallCounts.{IsPoor}
 use Rattle.write_back.proofs.ByPlace.{covered}
 use Rattle.write_back.proofs.Flying.{flown-some, under-whole}
-use Rattle.write_back.proofs.Taking.{under-own}
-use Rattle.write_back.proofs.WritesByFile.{same-or}
 use Rattle.write_back.proofs.Xids.{fly-under}
-use Rattle.client_shelf.specs.declared.next.Next.{Next}
 use Rattle.client_shelf.specs.declared.next.Next.TheVariants as nexts
-use Rattle.file_ops.specs.Ready.{IsReady}
-use Rattle.op_machines.specs.declared.begun.Mounted.{Mounted}
-use Rattle.op_machines.specs.declared.machine.Machine.{Machine}
-use Rattle.client_core.specs.declared.lane.Lane.{Lane}
-use Rattle.client_core.specs.declared.lane.Purpose.{Purpose}
-use Rattle.client_core.specs.declared.lane.State.{State}
-use Rattle.client_core.specs.declared.lane.State.TheVariants.{Busy, Over}
-use Rattle.client_core.specs.declared.setup.Setup.{Setup}
-use Rattle.client_core.specs.Steps.{record_of, put_view, Makes, IsRefused, Leads}
-use Rattle.client_core.specs.View.{View, turn_at, unmade_turn}
-use Rattle.core_facts.proofs.Lists.{at-set}
-use Rattle.core_facts.proofs.Rows.{Rows, made-known, made-asked}
-use Rattle.core_facts.proofs.Stories.{by-place, set-other, under-back}
-use Rattle.core_answers.specs.writes.Alone.{written_file}
-use Rattle.core_answers.proofs.bonds.OneCall.{one-call}
-use Rattle.core_answers.proofs.refusals.SentCalls.{nfs-of}
-use Rattle.core_answers.proofs.writes.Backs.{After}
-use Rattle.core_answers.proofs.writes.OwnPieces.{Free}
+use Rattle.client_core.specs.Steps.{put_view}
+use Rattle.core_facts.proofs.Stories.{by-place}
 use Rattle.core_session.proofs.calls.GivenBytes.{IsGiven, Bytes, given-later}
 use Rattle.core_session.proofs.delays.Puts.{heard-later}
-use Rattle.core_session.proofs.order.Basis.{Basis}
 use Rattle.core_session.proofs.room.Machines as verdicts
-use Rattle.core_session.proofs.room.Stages.{Stage, settling, stage_of, going, over, outcome, Verdict, rests, ends, stores, puts, puts_over, crowds_store, crowds_put}
-use Rattle.core_session.proofs.saves.WholeSteps.{HasPiece, Has, Wholly}
-use Rattle.step_pending.specs.Cells.{EachSound}
+use Rattle.core_session.proofs.room.Stages.{settling, going, over, outcome, Verdict, rests, ends, stores, puts, puts_over, crowds_store, crowds_put}
+use Rattle.core_session.proofs.saves.WholeSteps.{HasPiece}
 use Rattle.step_pending.proofs.Shown.{some-of, flown-from}
 use Rattle.core_counts.proofs.counts.engine.Lists.{Each, each-map, Elsewhere, Apart}
 use Rattle.core_counts.proofs.counts.writes.Landing.{W}

@@ -1,25 +1,17 @@
 -- How often a place of a file may still be sent without a further cause: once where its pending byte waits to be sent, and once where it has just taken off
 -- under an xid; of the writes whose numbers are of a class.
-use Rattle.std.proofs.Common.{◌≡◌, ◌≤◌, ◌<◌, ◌+◌, ◌-◌, ◌&&◌, ℕ, zero, suc, Bool, true, false, List, [], ◌∷◌, length, map, Option, Some, None, refl, sym, ap, subst, ◌∙◌, arith}
-use Rattle.std.specs.Prelude.{if◌then◌else◌, nat_eq, nat_le, nat_lt, slice_index, Contains}
+use Rattle.core_counts.proofs.Prelude.{◌≡◌, ◌≤◌, ◌<◌, ◌+◌, ◌-◌, ◌&&◌, ℕ, zero, suc, Bool, true, false, List, [], ◌∷◌, length, map, Option, Some, None, refl, sym, ap, subst, ◌∙◌, arith, if◌then◌else◌, nat_lt, slice_index, eq-eqb, ltb-true, ltb-false, leb-true, Verf, Change, InFlight, Unsent, fate, Pending, of_file, IsNewest, acked_by, Flown, FilePending, flown_in, rest_of, rest_at, fly_at, PutsBytes, PutsInFlight, Lands, cell_landed, newer_or, Cell, Segments, cell_at, cell_in, covers, is_ready, is_in_flight, if-true, if-false}
+use Rattle.std.specs.Prelude.{nat_eq, nat_le, Contains}
 use Rattle.std.specs.List.{concat}
-use Rattle.std.proofs.lemmas.Bool.{eq-eqb, ltb-true, ltb-false, leb-true, leb-false}
+use Rattle.std.proofs.lemmas.Bool.{leb-false}
 use Rattle.std.proofs.lemmas.List.Elements.{Contains-append_left, Contains-append_right, Contains-push}
-use Rattle.nfs_types.specs.declared.verf.Verf.{Verf}
-use Rattle.write_back.specs.declared.change.Change.{Change}
 use Rattle.write_back.specs.declared.change.Change.TheVariants as by_change
 use Rattle.write_back.specs.declared.state.State.{State}
-use Rattle.write_back.specs.declared.state.State.TheVariants.{Waiting, InFlight}
-use Rattle.write_back.specs.declared.state.Ready.TheVariants.{Unsent}
-use Rattle.write_back.specs.Changes.{fate, cell_left}
-use Rattle.write_back.specs.Files.{Pending, of_file, IsNewest}
-use Rattle.write_back.specs.Landing.{acked_by}
-use Rattle.write_back.specs.Pieces.{Sent, Flown, FilePending, flown_in, rest_of, rest_at, fly_at}
-use Rattle.write_back.specs.Places.{PutsBytes, PutsInFlight, Lands, cell_flown, cell_landed, newer_or, cell_cut}
-use Rattle.write_back.specs.Segments.{Cell, Segments, cell_at, cell_in, covers}
-use Rattle.write_back.specs.States.{is_ready, is_in_flight}
+use Rattle.write_back.specs.declared.state.State.TheVariants.{Waiting}
+use Rattle.write_back.specs.Changes.{cell_left}
+use Rattle.write_back.specs.Pieces.{Sent}
+use Rattle.write_back.specs.Places.{cell_flown, cell_cut}
 use Rattle.write_back.proofs.Newest.{newest-above}
-use Rattle.step_pending.proofs.Leading.{if-true, if-false}
 
 -- ---- of one place
 

@@ -1,93 +1,38 @@
 -- Along a history: of each file, what is to be sent again has older numbers than what was never sent.
-use Rattle.std.proofs.Common.{◌≡◌, ◌≤◌, ◌<◌, inl, inr, ◌+◌, ◌-◌, ◌^◌, ◌++◌, ℕ, nat_eq, Bool, true, false, List, [], ◌∷◌, length, Option, Some, None, position, slice_get, Result, Ok, Err, refl, sym, ap, subst, ◌∙◌, arith}
-use Rattle.std.proofs.lemmas.Bool.{eqb-true, eqb-false}
-use Rattle.rpc_retry.specs.declared.waiting.Waiting.{Waiting}
-use Rattle.rpc_retry.specs.Waiting.{waiting_at}
-use Rattle.world_model.specs.declared.answer.Answer.{Answer}
-use Rattle.world_model.specs.declared.answer.Fault.{Fault}
-use Rattle.world_model.specs.declared.entry.Entry.{Entry}
-use Rattle.world_model.specs.declared.entry.Entry.TheVariants.{Began, Answered, Delivered}
-use Rattle.world_model.specs.declared.message.Reply.{Reply}
-use Rattle.world_model.specs.declared.op.Op.{Op}
-use Rattle.call_replies.specs.Says.{said_of}
+use Rattle.core_counts.proofs.Prelude.{◌≡◌, ◌≤◌, ◌<◌, inl, inr, ◌+◌, ◌-◌, ◌^◌, ◌++◌, ℕ, nat_eq, Bool, true, false, List, [], ◌∷◌, length, Option, Some, None, position, slice_get, Result, Ok, Err, refl, sym, ap, subst, ◌∙◌, arith, eqb-true, eqb-false, Waiting, waiting_at, Answer, Fault, Entry, Began, Answered, Delivered, Reply, Op, said_of, InFlight, Acked, is_in_flight, how_of, ready_of, if-true, if-false, Ready, Unsent, Pending, of_file, HasNoPiece, OnFile, Flown, nothing, rest_of, rest_at, fly_at, Cell, cell_at, Opens, Next, Shelf, Turn, is_first, PutFile, Putting, Saving, Text, Mounted, FileMachine, Machine, PathMachine, machine_of, Fits, file_of, Takes, Lane, Purpose, State, Busy, Over, Setup, is_busy, IsIdle, Leads, Stirs, counted, StartsLane, TakesAt, AnswersAt, View, turn_at, AreApart, IsFresh, in_flight, MaySetUp, IsSetUp, Reaches, begins-unbegun, taken_one, Known, taker-one, reached-all, lanes-under-way, get-remove, skip, look-at, LaneLive, keeps-placed, Basis, stirs-basis, starts-basis, takes-basis, keeps-basis, Wholly, keeps-wholly, stirs-wholly, starts-wholly, takes-wholly, JobBegins, JobOpens, job_save, Common, job_kind, save-is, Job, Content, ContentReplies, SaveSo, Tale, Owned, bases, ButFor, EachSound, IsUnderWay}
 use Rattle.write_back.specs.declared.state.State.{State as Kept}
-use Rattle.write_back.specs.declared.state.State.TheVariants.{Waiting as Waits, InFlight, Acked}
-use Rattle.write_back.specs.States.{is_in_flight, how_of, ready_of}
-use Rattle.step_pending.proofs.Leading.{if-true, if-false}
-use Rattle.write_back.specs.declared.state.Ready.{Ready}
-use Rattle.write_back.specs.declared.state.Ready.TheVariants.{Unsent, Again, Refused}
-use Rattle.write_back.specs.Files.{Pending, of_file, HasNoPiece, OnFile}
-use Rattle.write_back.specs.Pieces.{Flown, nothing, rest_of, rest_at, fly_at}
-use Rattle.write_back.specs.Segments.{Cell, cell_at}
-use Rattle.open_files.specs.Slots.{Opens}
-use Rattle.client_shelf.specs.declared.next.Next.{Next}
+use Rattle.write_back.specs.declared.state.State.TheVariants.{Waiting as Waits}
+use Rattle.write_back.specs.declared.state.Ready.TheVariants.{Again, Refused}
 use Rattle.client_shelf.specs.declared.next.Next.TheVariants as nexts
-use Rattle.client_shelf.specs.declared.shelf.Shelf.{Shelf}
-use Rattle.client_shelf.specs.declared.turn.Turn.{Turn}
-use Rattle.client_shelf.specs.LaneFiles.{is_first}
-use Rattle.file_ops.specs.declared.put_file.PutFile.{PutFile}
-use Rattle.file_ops.specs.declared.put_file.Putting.{Putting}
 use Rattle.file_ops.specs.declared.put_file.Putting.TheVariants as putting
-use Rattle.file_ops.specs.declared.saving.Saving.{Saving}
-use Rattle.file_ops.specs.declared.write_file.Text.{Text}
 use Rattle.file_ops.specs.declared.write_file.Text.TheVariants as texts
 use Rattle.file_ops.specs.PutFile as puts
 use Rattle.file_ops.specs.Saves as saves
 use Rattle.file_ops.specs.WriteFile as writes
-use Rattle.op_machines.specs.declared.begun.Mounted.{Mounted}
-use Rattle.op_machines.specs.declared.file_machine.FileMachine.{FileMachine}
 use Rattle.op_machines.specs.declared.file_machine.FileMachine.TheVariants as files
-use Rattle.op_machines.specs.declared.machine.Machine.{Machine}
 use Rattle.op_machines.specs.declared.machine.Machine.TheVariants as machines
-use Rattle.op_machines.specs.declared.path_machine.PathMachine.{PathMachine}
-use Rattle.op_machines.specs.Begun.{machine_of}
 use Rattle.op_machines.specs.FileFits.{FileFits}
 use Rattle.op_machines.specs.FileSteps as steps
-use Rattle.op_machines.specs.Fits.{Fits}
-use Rattle.op_machines.specs.Openers.{file_of}
 use Rattle.op_machines.specs.PathSteps as paths
-use Rattle.op_machines.specs.Steps.{Takes}
-use Rattle.client_core.specs.declared.lane.Lane.{Lane}
-use Rattle.client_core.specs.declared.lane.Purpose.{Purpose}
-use Rattle.client_core.specs.declared.lane.State.{State}
-use Rattle.client_core.specs.declared.lane.State.TheVariants.{Busy, Over}
-use Rattle.client_core.specs.declared.setup.Setup.{Setup}
-use Rattle.client_core.specs.Lanes.{is_busy}
-use Rattle.client_core.specs.Numbers.{IsIdle}
-use Rattle.client_core.specs.Steps.{Leads, Stirs, counted, StartsLane, TakesAt, AnswersAt}
-use Rattle.client_core.specs.View.{View, turn_at}
-use Rattle.core_facts.specs.Lanes.{AreApart}
-use Rattle.client_core.specs.Fresh.{IsFresh}
-use Rattle.core_facts.specs.InFlight.{in_flight, of_saving}
-use Rattle.core_facts.specs.Reaches.{MaySetUp, IsSetUp, Reaches}
-use Rattle.core_facts.proofs.AllCounts.{begins-unbegun}
+use Rattle.core_facts.specs.InFlight.{of_saving}
 use Rattle.core_facts.proofs.AllSeats.{seat_of, path_seat}
-use Rattle.core_facts.proofs.Cases.{taken_one}
 use Rattle.core_facts.proofs.FileSeats.{seat_file, seat_put}
-use Rattle.core_facts.proofs.Keeping.{Known, taker-one, reached-all}
-use Rattle.core_facts.proofs.LaneMarks.{lanes-under-way}
-use Rattle.core_facts.proofs.Lists.{get-remove, skip}
-use Rattle.core_facts.proofs.Looks.{look-at}
-use Rattle.core_facts.proofs.Placing.{Placed, LaneLive, seat_state, seat_in, keeps-placed}
-use Rattle.core_session.proofs.order.Basis.{Basis, stirs-basis, starts-basis, takes-basis, keeps-basis}
+use Rattle.core_facts.proofs.Placing.{Placed, seat_state, seat_in}
 use Rattle.core_session.proofs.drops.KnowingAlong.{StepsKnowing, reached-knowing}
-use Rattle.core_session.proofs.saves.WholeSteps.{Wholly, keeps-wholly, stirs-wholly, starts-wholly, takes-wholly}
-use Rattle.core_session.proofs.syncs.AllJobs.{JobBegins, JobOpens, PathOpens, job_save, job_lane}
-use Rattle.core_session.proofs.syncs.Contents.{Common, common, common-replies, common-adds, common-cuts, common-gives}
-use Rattle.core_session.proofs.syncs.Fates.{job_kind, live-lane, save-is}
-use Rattle.core_session.proofs.syncs.Jobs.{Job, PutOpens, FileOpens, file_lane}
-use Rattle.core_session.proofs.syncs.Levels.{Content, ContentReplies, SaveSo, queued, elsewhere, under, not-seated}
+use Rattle.core_session.proofs.syncs.AllJobs.{PathOpens, job_lane}
+use Rattle.core_session.proofs.syncs.Contents.{common, common-replies, common-adds, common-cuts, common-gives}
+use Rattle.core_session.proofs.syncs.Fates.{live-lane}
+use Rattle.core_session.proofs.syncs.Jobs.{PutOpens, FileOpens, file_lane}
+use Rattle.core_session.proofs.syncs.Levels.{queued, elsewhere, under, not-seated}
 use Rattle.core_session.proofs.syncs.Nexts.{common-from, tale-map}
-use Rattle.core_session.proofs.syncs.Passing.{Tale, job-in, Shown}
+use Rattle.core_session.proofs.syncs.Passing.{job-in, Shown}
 use Rattle.core_session.proofs.syncs.Plans.{Plan, Came_, stirs-came, takes-came, starts-came}
-use Rattle.core_session.proofs.syncs.Seen.{Owned, free, bases, ButFor, sees}
+use Rattle.core_session.proofs.syncs.Seen.{free, sees}
 use Rattle.core_session.proofs.syncs.Stands.{Has}
-use Rattle.step_pending.specs.Cells.{EachSound}
 use Rattle.step_pending.proofs.Cutting.{nothing-sound}
 use Rattle.write_back.specs.Numbers.{AllUpTo}
 use Rattle.write_back.proofs.Numbers.{upto-nothing}
 use Rattle.core_counts.proofs.counts.rooms.Whole.{owned-removed}
-use Rattle.step_saves.specs.Saves.{IsUnderWay}
 use Rattle.core_counts.proofs.thrift.short.AgainSaves.{Parts, PartsAt, nothing-parts, goes-parts, takes-parts, unmade-parts, cuts-parts, gives-parts, adds-parts}
 
 -- ---- the bytes of an operation end within all places

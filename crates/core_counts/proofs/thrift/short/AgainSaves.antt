@@ -1,53 +1,25 @@
 -- Of one file: what is to be sent again has older numbers than what was never sent. What a step of a save makes of that.
-use Rattle.std.proofs.Common.{◌≡◌, ◌≢◌, ◌≤◌, ◌<◌, ◌+◌, ◌&&◌, ◌||◌, ◌==◌, ◌-◌, ◌⊎◌, inl, inr, ℕ, Bool, true, false, List, [], ◌∷◌, length, Option, Some, None, Result, Ok, Err, refl, sym, ap, subst, ◌∙◌, arith}
-use Rattle.std.specs.Prelude.{if◌then◌else◌, nat_le, nat_lt, nat_eq, slice_index}
+use Rattle.core_counts.proofs.Prelude.{◌≡◌, ◌≢◌, ◌≤◌, ◌<◌, ◌+◌, ◌&&◌, ◌||◌, ◌==◌, ◌-◌, ◌⊎◌, inl, inr, ℕ, Bool, true, false, List, [], ◌∷◌, length, Option, Some, None, Result, Ok, Err, refl, sym, ap, subst, ◌∙◌, arith, if◌then◌else◌, nat_lt, slice_index, Verdict, AllStable, SendAgain, decided, verdict_of, Verf, Fault, Memory, Reply, Wcc, Change, InFlight, Acked, Ready, Unsent, IsAnswer, is_in_flight, fate, lost, chosen, piece_of, Pending, of_file, with_bytes, OnFile, acked_by, at_piece, at_xid, landed, landed_part, with_cut, with_xid, Flown, FilePending, nothing, flown_in, fly_in, rest_at, fly_at, piece_under, PutsInFlight, PutsBytes, Lands, cell_landed, newer_or, Segments, covers, Cell, IsSound, flown_as_of, answer-return, answer-acked, lands-one-at, puts-with, same-or, renumbers-so, Repeat, Turn, goes_again, Sending, Committing, Resending, CommittingAgain, Saving, write_told, commit_told, cases_lt, leb-true, EachSound, IsUnderWay, if-true, if-false}
+use Rattle.std.specs.Prelude.{nat_le, nat_eq}
 use Rattle.std.specs.Option.{option_map}
-use Rattle.commit_verf.specs.declared.commit.Verdict.{Verdict}
-use Rattle.commit_verf.specs.declared.commit.Verdict.TheVariants.{AllStable, SendAgain}
-use Rattle.commit_verf.specs.Decisions.{decided, verdict_of}
-use Rattle.nfs_types.specs.declared.verf.Verf.{Verf}
-use Rattle.world_model.specs.declared.answer.Fault.{Fault}
-use Rattle.world_model.specs.declared.answer.Fault.TheVariants.{Memory, Bad}
-use Rattle.world_model.specs.declared.message.Reply.{Reply}
+use Rattle.world_model.specs.declared.answer.Fault.TheVariants.{Bad}
 use Rattle.world_model.specs.declared.message.Reply.TheVariants as replies
-use Rattle.nfs_types.specs.declared.wcc.Wcc.{Wcc}
 use Rattle.nfs_file_calls.specs.declared.owned.FileKept.TheVariants as kept
-use Rattle.write_back.specs.declared.change.Change.{Change}
 use Rattle.write_back.specs.declared.change.Change.TheVariants as by_change
 use Rattle.write_back.specs.declared.state.State.{State}
-use Rattle.write_back.specs.declared.state.State.TheVariants.{Waiting, InFlight, Acked}
-use Rattle.write_back.specs.declared.state.Ready.{Ready}
-use Rattle.write_back.specs.declared.state.Ready.TheVariants.{Unsent, Again, Refused as was_refused}
-use Rattle.write_back.specs.Effects.{IsAnswer}
-use Rattle.write_back.specs.States.{is_in_flight, same_verf}
-use Rattle.write_back.specs.Changes.{fate, lost, cell_left, cell_changed}
-use Rattle.write_back.specs.Choice.{chosen, piece_of}
-use Rattle.write_back.specs.Files.{Pending, of_file, with_bytes, OnFile}
-use Rattle.write_back.specs.Landing.{acked_by, at_piece, at_xid, landed, landed_part, with_change, with_cut, with_xid}
-use Rattle.write_back.specs.Pieces.{Sent, Flown, FilePending, nothing, flown_in, fly_in, rest_at, fly_at, piece_under}
-use Rattle.write_back.specs.Places.{PutsInFlight, PutsBytes, Lands, cell_landed, cell_cut, newer_or}
-use Rattle.write_back.specs.Segments.{Segments, covers, Cell}
-use Rattle.write_back.specs.Sound.{IsSound}
-use Rattle.write_back.specs.Waits.{flown_as_of}
+use Rattle.write_back.specs.declared.state.State.TheVariants.{Waiting}
+use Rattle.write_back.specs.declared.state.Ready.TheVariants.{Again, Refused as was_refused}
+use Rattle.write_back.specs.States.{same_verf}
+use Rattle.write_back.specs.Changes.{cell_left, cell_changed}
+use Rattle.write_back.specs.Landing.{with_change}
+use Rattle.write_back.specs.Pieces.{Sent}
+use Rattle.write_back.specs.Places.{cell_cut}
 use Rattle.write_back.proofs.Adding.{cuts-so}
-use Rattle.write_back.proofs.Landings.{answer-return, answer-acked}
 use Rattle.write_back.proofs.Marking.{held-settle, held-mark, changes-held, sound-held}
-use Rattle.write_back.proofs.Replying.{lands-one-at, lands-part-at}
-use Rattle.write_back.proofs.SendsOn.{puts-with}
-use Rattle.write_back.proofs.WritesByFile.{same-or}
-use Rattle.write_back.proofs.Xids.{renumbers-so}
-use Rattle.client_shelf.specs.declared.repeats.Repeat.{Repeat}
-use Rattle.client_shelf.specs.declared.turn.Turn.{Turn}
-use Rattle.client_shelf.specs.Busy.{goes_again}
+use Rattle.write_back.proofs.Replying.{lands-part-at}
 use Rattle.file_ops.specs.declared.saving.Phase.{Phase}
-use Rattle.file_ops.specs.declared.saving.Phase.TheVariants.{Sending, Committing, Resending, CommittingAgain}
-use Rattle.file_ops.specs.declared.saving.Saving.{Saving}
-use Rattle.file_ops.specs.Judging.{write_told, commit_told}
 use Rattle.file_ops.specs.Saves as saves
-use Rattle.std.proofs.lemmas.Bool.{cases_lt, leb-true}
-use Rattle.step_pending.specs.Cells.{EachSound}
-use Rattle.step_saves.specs.Saves.{EachUpTo, IsHeld, IsUnderWay, PhaseHas, PhaseCounts}
-use Rattle.step_pending.proofs.Leading.{if-true, if-false}
+use Rattle.step_saves.specs.Saves.{EachUpTo, IsHeld, PhaseHas, PhaseCounts}
 use Rattle.core_counts.proofs.counts.writes.Landing.{the-piece}
 
 some-cell : (a b : Cell) → Some a ≡ Some b → a ≡ b

@@ -1,36 +1,14 @@
 -- In one lane WRITEs of puts, syncs and closes are long, in the words of the model: by what is pending as the operation begins.
-use Rattle.std.proofs.Common.{◌≡◌, ◌<◌, ◌≤◌, ◌⊎◌, inl, inr, ◌+◌, ◌-◌, ◌++◌, nat_eq, ℕ, Bool, true, false, List, length, get_or, slice_get, Some, refl, sym, ap, subst, ◌∙◌, arith}
-use Rattle.std.proofs.lemmas.Bool.{eqb-true, eqb-false, le-leb, lt-ltb}
-use Rattle.std.proofs.lemmas.Option.{slice_get_within, slice_get-get_or}
-use Rattle.world_model.specs.declared.entry.Entry.{Entry}
-use Rattle.world_model.specs.declared.entry.Entry.TheVariants.{Began, Sent}
-use Rattle.world_model.specs.declared.op.Op.{Op}
+use Rattle.core_counts.proofs.Prelude.{◌≡◌, ◌<◌, ◌≤◌, ◌⊎◌, inl, inr, ◌+◌, ◌-◌, ◌++◌, nat_eq, ℕ, Bool, true, false, List, length, get_or, slice_get, Some, refl, sym, ap, subst, ◌∙◌, arith, eqb-true, eqb-false, le-leb, lt-ltb, slice_get-get_or, Entry, Began, Sent, Op, At, UnderWay, Terms, OneLane, NeverFull, CoveredEarlier, Wrote, At-grow, Unsent, of_file, HasNoPiece, FilePending, rest_at, Cell, covers, is_ready, how_of, ready_of, low-of, high-of, Mounted, machine_of, Lane, Setup, View, Notes, Reaches, GoesFrom, NotAsStable, BeganOtherwise}
+use Rattle.std.proofs.lemmas.Option.{slice_get_within}
 use Rattle.world_model.specs.declared.op.Op.TheVariants as ops
-use Rattle.world_model.specs.Entries.{At}
-use Rattle.world_model.specs.Operations.{UnderWay}
-use Rattle.claims.specs.Terms.{Terms}
-use Rattle.claims.specs.Thrifty.{OneLane, NeverFull, IsSync, IsPut, sync, close, Uncut, IsLatest, CoveredEarlier, ShortWrite, WritesAt, earlier, itself}
-use Rattle.claims.specs.Touched.{Covers, Wrote}
+use Rattle.claims.specs.Thrifty.{IsSync, IsPut, sync, close, Uncut, IsLatest, ShortWrite, WritesAt, earlier, itself}
+use Rattle.claims.specs.Touched.{Covers}
 use Rattle.claims.specs.Touched as touched_by
-use Rattle.world_model.proofs.Places.{At-grow}
 use Rattle.write_back.specs.declared.state.State.{State}
 use Rattle.write_back.specs.declared.state.State.TheVariants.{Waiting}
-use Rattle.write_back.specs.declared.state.Ready.TheVariants.{Unsent}
-use Rattle.write_back.specs.Files.{of_file, HasNoPiece}
-use Rattle.write_back.specs.Pieces.{FilePending, rest_at}
-use Rattle.write_back.specs.Segments.{Cell, covers}
-use Rattle.write_back.specs.States.{is_ready, how_of, ready_of}
-use Rattle.write_back.proofs.Keys.{low-of, high-of}
-use Rattle.op_machines.specs.declared.begun.Mounted.{Mounted}
-use Rattle.op_machines.specs.Begun.{machine_of}
-use Rattle.client_core.specs.declared.lane.Lane.{Lane}
-use Rattle.client_core.specs.declared.setup.Setup.{Setup}
-use Rattle.client_core.specs.View.{View}
-use Rattle.core_facts.specs.Notes.{Notes}
-use Rattle.core_facts.specs.Reaches.{Reaches}
-use Rattle.core_session.specs.calls.Whole.{GoesFrom}
 use Rattle.core_session.proofs.calls.Whole.{calls-asked-but}
-use Rattle.core_counts.specs.thrift.Writes.{NotAsStable, BeganOtherwise, WritesLong}
+use Rattle.core_counts.specs.thrift.Writes.{WritesLong}
 use Rattle.core_counts.proofs.counts.reads.WriteSizes.{session-write-size}
 use Rattle.core_counts.proofs.thrift.short.PutsLong.{PutWrite, put-covered}
 use Rattle.core_counts.proofs.thrift.short.SavedLong.{saved-long}

@@ -1,62 +1,24 @@
 -- What a lane's whole step leads to: its machine's step, and the one at a call that isn't made.
-use Rattle.std.proofs.Common.{◌≡◌, ◌≢◌, ◌≤◌, inl, inr, ℕ, Bool, true, false, nat_eq, List, Option, Some, None, option_map, Err, slice_get, refl, sym, ap, subst, ◌∙◌, arith}
-use Rattle.std.proofs.lemmas.Bool.{eqb-true, eqb-false}
-use Rattle.rpc_retry.specs.declared.waiting.Waiting.{Waiting}
-use Rattle.rpc_retry.specs.Held.{next_xid}
-use Rattle.rpc_retry.specs.Waiting.{waiting_at}
+use Rattle.core_counts.proofs.Prelude.{◌≡◌, ◌≢◌, ◌≤◌, inl, inr, ℕ, Bool, true, false, nat_eq, List, Option, Some, None, option_map, Err, slice_get, refl, sym, ap, subst, ◌∙◌, arith, eqb-true, eqb-false, Waiting, next_xid, waiting_at, Fault, Entry, Call, Pending, Turn, Next, Saving, IsUnused, FileMachine, Machine, Opener, file_of, Takes, Lane, Purpose, State, Busy, Over, Setup, Leads, View, turn_at, unmade_turn, in_flight, AreApart, flies_of, Flies, sender, look_at, purpose_at, at-set, look-at, SitsWith, Rows, set-other, After, Free, waits-late, SameUnder, IsSent, Has, save-is, job_kind, take-kind, Owner, ContentReplies, Tale, Shelf}
 use Rattle.world_model.specs.declared.answer.Answer.TheVariants as answers
 use Rattle.world_model.specs.declared.answer.Value.TheVariants.{Nothing}
-use Rattle.world_model.specs.declared.answer.Fault.{Fault}
-use Rattle.world_model.specs.declared.entry.Entry.{Entry}
-use Rattle.world_model.specs.declared.message.Call.{Call}
-use Rattle.write_back.specs.Files.{Pending, IsFree}
-use Rattle.client_shelf.specs.declared.turn.Turn.{Turn}
-use Rattle.client_shelf.specs.declared.next.Next.{Next}
+use Rattle.write_back.specs.Files.{IsFree}
 use Rattle.client_shelf.specs.declared.next.Next.TheVariants as nexts
-use Rattle.file_ops.specs.declared.saving.Saving.{Saving}
-use Rattle.file_ops.specs.SlotFiles.{IsUnused}
-use Rattle.op_machines.specs.declared.file_machine.FileMachine.{FileMachine}
 use Rattle.op_machines.specs.declared.file_machine.FileMachine.TheVariants as files
-use Rattle.op_machines.specs.declared.machine.Machine.{Machine}
-use Rattle.op_machines.specs.declared.opener.Opener.{Opener}
 use Rattle.op_machines.specs.declared.opener.Opener.TheVariants as openers
-use Rattle.op_machines.specs.Openers.{file_of}
 use Rattle.op_machines.specs.declared.machine.Machine.TheVariants as machines
-use Rattle.op_machines.specs.Steps.{Takes}
-use Rattle.client_core.specs.declared.lane.Lane.{Lane}
-use Rattle.client_core.specs.declared.lane.Purpose.{Purpose}
-use Rattle.client_core.specs.declared.lane.State.{State}
-use Rattle.client_core.specs.declared.lane.State.TheVariants.{Busy, Over}
-use Rattle.client_core.specs.declared.setup.Setup.{Setup}
-use Rattle.client_core.specs.Steps.{Leads}
-use Rattle.client_core.specs.View.{View, turn_at, unmade_turn}
-use Rattle.core_facts.specs.InFlight.{in_flight}
-use Rattle.core_facts.specs.Lanes.{AreApart}
 use Rattle.core_facts.proofs.AllSeats.{seat_of, IsLive}
-use Rattle.core_facts.proofs.Flights.{flies_of, Flies}
-use Rattle.core_facts.proofs.Flown.{Flown, sender, look_at}
-use Rattle.core_facts.proofs.Keeping.{purpose_at}
-use Rattle.core_facts.proofs.Lists.{at-set}
-use Rattle.core_facts.proofs.Looks.{look-at}
-use Rattle.core_facts.proofs.Orders.{Sits, SitsWith, seat_with, seat-own, seat-other, same-sits}
+use Rattle.core_facts.proofs.Flown.{Flown}
+use Rattle.core_facts.proofs.Orders.{Sits, seat_with, seat-own, seat-other, same-sits}
 use Rattle.core_facts.proofs.Placing.{seat_state, seat_in}
-use Rattle.core_facts.proofs.Rows.{Rows}
-use Rattle.core_facts.proofs.Stories.{set-other}
 use Rattle.core_answers.proofs.writes.AllFits as fitting
-use Rattle.core_answers.proofs.writes.Backs.{After}
-use Rattle.core_answers.proofs.writes.OwnPieces.{Free}
-use Rattle.core_answers.proofs.writes.PiecesCarried.{waits-late}
-use Rattle.core_answers.proofs.writes.Under.{SameUnder}
-use Rattle.core_session.proofs.saves.WholeSteps.{IsSent, Has}
 use Rattle.core_session.proofs.syncs.AllJobs.{JobFin, JobKnown, all-takes}
-use Rattle.core_session.proofs.syncs.Fates.{file_kind, save-is, job_kind, take-kind, live-lane}
+use Rattle.core_session.proofs.syncs.Fates.{file_kind, live-lane}
 use Rattle.core_session.proofs.syncs.Jobs.{WriteKnown, JobLaws}
-use Rattle.core_session.proofs.syncs.Levels.{Owner, ContentReplies, SaveNow}
+use Rattle.core_session.proofs.syncs.Levels.{SaveNow}
 use Rattle.core_counts.proofs.thrift.short.EvPassing.{Ways, Shown, job-in, shown, goes-on, again}
-use Rattle.core_session.proofs.syncs.Passing.{Tale}
 use Rattle.core_session.proofs.syncs.UnmadeOpens.{unmade-opens}
 use Rattle.core_counts.proofs.thrift.short.EvWorking.{Moves, GivesPut, Alone, job-laws, job-replies}
-use Rattle.client_shelf.specs.declared.shelf.Shelf.{Shelf}
 
 -- how the end of a write is known
 abbrev pub EndKnown : ℕ → Next → Type 0

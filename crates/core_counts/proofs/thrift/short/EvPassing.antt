@@ -1,40 +1,19 @@
 -- A lane's whole step: its machine's, and that at a call which can't be made.
-use Rattle.std.proofs.Common.{Bool, true, false, arith, ◌≡◌, ◌≢◌, ◌≤◌, ◌⊎◌, inl, inr, ℕ, List, Option, Some, None, refl, sym, subst}
-use Rattle.world_model.specs.declared.answer.Answer.{Answer}
+use Rattle.core_counts.proofs.Prelude.{Bool, true, false, arith, ◌≡◌, ◌≢◌, ◌≤◌, ◌⊎◌, inl, inr, ℕ, List, Option, Some, None, refl, sym, subst, Answer, Fault, Value, Pending, of_file, LaneFile, Turn, Next, Saving, PutFile, Putting, Writing, FileMachine, Machine, Opener, file_of, State, Busy, Over, IsRefused, SitsWith, Free, JobHas, job_save, job_kind, Job, Owner, Content, SaveSo, own_save, Tale, told}
 use Rattle.world_model.specs.declared.answer.Answer.TheVariants as answers
-use Rattle.world_model.specs.declared.answer.Fault.{Fault}
-use Rattle.world_model.specs.declared.answer.Value.{Value}
-use Rattle.write_back.specs.Files.{Pending, of_file}
-use Rattle.client_shelf.specs.declared.lane_files.LaneFile.{LaneFile}
-use Rattle.client_shelf.specs.declared.turn.Turn.{Turn}
-use Rattle.client_shelf.specs.declared.next.Next.{Next}
 use Rattle.client_shelf.specs.declared.next.Next.TheVariants as nexts
-use Rattle.file_ops.specs.declared.saving.Saving.{Saving}
-use Rattle.file_ops.specs.declared.put_file.PutFile.{PutFile}
-use Rattle.file_ops.specs.declared.put_file.Putting.{Putting}
 use Rattle.file_ops.specs.declared.put_file.Putting.TheVariants as putting
-use Rattle.file_ops.specs.declared.write_file.Writing.{Writing}
 use Rattle.file_ops.specs.declared.write_file.Writing.TheVariants as writing
 use Rattle.file_ops.specs.WriteFile as writes
-use Rattle.op_machines.specs.declared.file_machine.FileMachine.{FileMachine}
 use Rattle.op_machines.specs.declared.file_machine.FileMachine.TheVariants as files
-use Rattle.op_machines.specs.declared.machine.Machine.{Machine}
 use Rattle.op_machines.specs.declared.machine.Machine.TheVariants as machines
-use Rattle.op_machines.specs.declared.opener.Opener.{Opener}
-use Rattle.op_machines.specs.Openers.{file_of}
-use Rattle.client_core.specs.declared.lane.State.{State}
-use Rattle.client_core.specs.declared.lane.State.TheVariants.{Busy, Over}
-use Rattle.client_core.specs.Steps.{IsRefused}
-use Rattle.core_facts.proofs.Orders.{SitsWith}
-use Rattle.core_answers.proofs.writes.OwnPieces.{Free}
 use Rattle.step_saves.specs.Saves.{IsClearUpTo}
-use Rattle.core_session.proofs.syncs.AllJobs.{PathHas, JobHas, JobGood, JobBad, JobFin, job_save}
-use Rattle.core_session.proofs.syncs.Fates.{file_kind, job-says, Part, none, room, own, job-part, job_kind, good-write, good-save, good-path, good-any, bad-write, bad-any, WritePart, before, in_room, write-part}
-use Rattle.core_session.proofs.syncs.Jobs.{Job, ended, RoomHas, PutHas, FileHas}
-use Rattle.core_session.proofs.syncs.Levels.{Owner, Content, Before, BesideSo, SaveSo}
-use Rattle.core_session.proofs.syncs.PutGoes.{put_own, file_own, path_own, own_save, own-has}
+use Rattle.core_session.proofs.syncs.AllJobs.{PathHas, JobGood, JobBad, JobFin}
+use Rattle.core_session.proofs.syncs.Fates.{file_kind, job-says, Part, none, room, own, job-part, good-write, good-save, good-path, good-any, bad-write, bad-any, WritePart, before, in_room, write-part}
+use Rattle.core_session.proofs.syncs.Jobs.{ended, RoomHas, PutHas, FileHas}
+use Rattle.core_session.proofs.syncs.Levels.{Before, BesideSo}
+use Rattle.core_session.proofs.syncs.PutGoes.{put_own, file_own, path_own, own-has}
 use Rattle.core_session.proofs.syncs.Seen.{Came, bare, saving}
-use Rattle.core_session.proofs.syncs.Passing.{Tale, told}
 use Rattle.core_counts.proofs.thrift.short.EvWorking.{job}
 
 -- a put before its own save

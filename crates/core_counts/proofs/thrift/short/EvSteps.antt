@@ -1,64 +1,23 @@
 -- Each step of a lane, in the view: where an operation begins, goes on, or takes what came of a call.
-use Rattle.std.proofs.Common.{◌≡◌, ◌≤◌, ◌+◌, ◌-◌, ◌⊎◌, inl, inr, ℕ, Bool, true, false, nat_eq, List, [], ◌∷◌, ◌++◌, length, Option, Some, None, option_map, position, Result, refl, sym, ap, subst, ◌∙◌, arith}
-use Rattle.rpc_retry.specs.declared.waiting.Waiting.{Waiting}
-use Rattle.rpc_retry.specs.Held.{next_xid}
-use Rattle.rpc_retry.specs.Waiting.{waiting_at}
-use Rattle.world_model.specs.declared.answer.Fault.{Fault}
-use Rattle.world_model.specs.declared.entry.Entry.{Entry}
-use Rattle.world_model.specs.declared.message.Call.{Call}
-use Rattle.world_model.specs.declared.message.Reply.{Reply}
-use Rattle.world_model.specs.declared.op.Op.{Op}
-use Rattle.call_replies.specs.Says.{said_of}
-use Rattle.write_back.specs.Files.{Pending}
+use Rattle.core_counts.proofs.Prelude.{◌≡◌, ◌≤◌, ◌+◌, ◌-◌, ◌⊎◌, inl, inr, ℕ, Bool, true, false, nat_eq, List, [], ◌∷◌, ◌++◌, length, Option, Some, None, option_map, position, Result, refl, sym, ap, subst, ◌∙◌, arith, Waiting, next_xid, waiting_at, Fault, Entry, Call, Reply, Op, said_of, Pending, LaneFile, Turn, Next, Saving, IsUnused, Mounted, Machine, machine_of, Purpose, Busy, Setup, is_busy, IsIdle, with_state, Stirs, counted, StartsLane, TakesAt, View, turn_at, in_flight, Counts, AreApart, counts-calls, begins-unbegun, Reaches, taken_one, flies_of, eqb-true, eqb-false, Known, taker-is, taker-one, lanes-under-way, at-set, at-push, SitsWith, LaneLive, set-other, unused-next, waits-late, IsSent, Wholly, starts-has, resumes-has, takes-has, sent-piece, JobHas, JobBegins, JobOpens, job_save, save-is, job_kind, take-kind, Job, Owner, Content, SaveSo, ContentReplies, Tale, told, bases, Shelf}
 use Rattle.world_model.specs.declared.answer.Answer.TheVariants as answers
-use Rattle.client_shelf.specs.declared.lane_files.LaneFile.{LaneFile}
-use Rattle.client_shelf.specs.declared.turn.Turn.{Turn}
-use Rattle.client_shelf.specs.declared.next.Next.{Next}
 use Rattle.client_shelf.specs.declared.next.Next.TheVariants as nexts
-use Rattle.file_ops.specs.declared.saving.Saving.{Saving}
-use Rattle.file_ops.specs.SlotFiles.{IsUnused}
-use Rattle.op_machines.specs.declared.begun.Mounted.{Mounted}
 use Rattle.op_machines.specs.declared.file_machine.FileMachine.TheVariants as files
-use Rattle.op_machines.specs.declared.machine.Machine.{Machine}
 use Rattle.op_machines.specs.declared.machine.Machine.TheVariants as machines
-use Rattle.op_machines.specs.Begun.{machine_of}
-use Rattle.client_core.specs.declared.lane.Purpose.{Purpose}
-use Rattle.client_core.specs.declared.lane.State.TheVariants.{Busy}
-use Rattle.client_core.specs.declared.setup.Setup.{Setup}
-use Rattle.client_core.specs.Lanes.{is_busy}
-use Rattle.client_core.specs.Numbers.{IsIdle}
-use Rattle.client_core.specs.Steps.{with_state, Stirs, counted, StartsLane, TakesAt}
-use Rattle.client_core.specs.View.{View, turn_at}
-use Rattle.core_facts.specs.InFlight.{in_flight, Counts}
-use Rattle.core_facts.specs.Lanes.{AreApart}
-use Rattle.core_facts.proofs.AllCounts.{counts-calls, begins-unbegun}
 use Rattle.core_facts.proofs.AllSeats.{seat_of, IsLive, IsFreshFor, OfMachine, begins-fresh}
 use Rattle.core_facts.proofs.AllSeats as seats
-use Rattle.core_facts.specs.Reaches.{Reaches}
-use Rattle.core_facts.proofs.Cases.{taken_one}
-use Rattle.core_facts.proofs.Flights.{flies_of}
-use Rattle.std.proofs.lemmas.Bool.{eqb-true, eqb-false}
-use Rattle.core_facts.proofs.Keeping.{Known, taker-is, taker-one}
-use Rattle.core_facts.proofs.LaneMarks.{lanes-under-way}
-use Rattle.core_facts.proofs.Lists.{at-set, at-push}
 use Rattle.core_facts.proofs.Looks.{look-idle}
-use Rattle.core_facts.proofs.Orders.{SitsWith, seat_with, seat-own, seat-other, same-sits, leaves, joins}
-use Rattle.core_facts.proofs.Placing.{Placed, LaneLive, seat_state, seat_in}
-use Rattle.core_facts.proofs.Stories.{set-other}
+use Rattle.core_facts.proofs.Orders.{seat_with, seat-own, seat-other, same-sits, leaves, joins}
+use Rattle.core_facts.proofs.Placing.{Placed, seat_state, seat_in}
 use Rattle.core_answers.proofs.writes.AllFits as fitting
-use Rattle.core_answers.proofs.writes.PiecesCarried.{unused-next, waits-late, starts-under, resumes-under, takes-under}
-use Rattle.core_session.proofs.saves.WholeSteps.{IsSent, Wholly, starts-has, resumes-has, takes-has}
-use Rattle.core_session.proofs.saves.Taking.{sent-piece}
-use Rattle.core_session.proofs.syncs.AllJobs.{BeginsFirst, JobHas, JobFin, JobBegins, JobOpens, JobEnters, job_save, all-starts, all-resumes, all-takes}
-use Rattle.core_session.proofs.syncs.Fates.{save-is, job_kind, start-kind, resume-kind, take-kind, live-lane, fresh-lane}
-use Rattle.core_session.proofs.syncs.Jobs.{Job, JobLaws}
+use Rattle.core_answers.proofs.writes.PiecesCarried.{starts-under, resumes-under, takes-under}
+use Rattle.core_session.proofs.syncs.AllJobs.{BeginsFirst, JobFin, JobEnters, all-starts, all-resumes, all-takes}
+use Rattle.core_session.proofs.syncs.Fates.{start-kind, resume-kind, live-lane, fresh-lane}
+use Rattle.core_session.proofs.syncs.Jobs.{JobLaws}
 use Rattle.core_counts.proofs.thrift.short.EvLanes.{EndKnown, GivesBy, end-known, leads-opens, unused-zero, free-after, asked-piece, own-seat, Landed, IsAsked, Unmade, leads}
-use Rattle.core_session.proofs.syncs.Levels.{Owner, Content, Before, BesideSo, SaveSo, ContentReplies, SaveNow}
+use Rattle.core_session.proofs.syncs.Levels.{Before, BesideSo, SaveNow}
 use Rattle.core_counts.proofs.thrift.short.EvPassing.{Ways, Shown, job-in, enters}
-use Rattle.core_session.proofs.syncs.Passing.{Tale, told}
-use Rattle.core_session.proofs.syncs.Seen.{bases}
 use Rattle.core_counts.proofs.thrift.short.EvWorking.{Moves, job-laws, job-replies}
-use Rattle.client_shelf.specs.declared.shelf.Shelf.{Shelf}
 
 -- ---- what is read off the engines below
 

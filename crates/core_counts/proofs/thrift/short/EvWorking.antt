@@ -1,33 +1,19 @@
 -- What each step of an operation keeps, beside the other operations of one file, of what is known of all that is pending.
-use Rattle.std.proofs.Common.{◌≡◌, ◌≢◌, ◌≤◌, ◌+◌, ◌⊎◌, inl, inr, ℕ, Bool, true, false, List, Option, Some, None, Result, refl, sym, subst, arith}
+use Rattle.core_counts.proofs.Prelude.{◌≡◌, ◌≢◌, ◌≤◌, ◌+◌, ◌⊎◌, inl, inr, ℕ, Bool, true, false, List, Option, Some, None, Result, refl, sym, subst, arith, Fault, Reply, Pending, of_file, with_bytes, OnFile, with_cut, nothing, same-or, LaneFile, Turn, Next, Saving, is_full, SitsWith, IsUnderWay, Job, Owner, Content, ContentReplies, Shelf}
 use Rattle.open_files.specs.Slots.{IsOpen}
 use Rattle.world_model.specs.declared.answer.Answer.TheVariants as answers
-use Rattle.world_model.specs.declared.answer.Fault.{Fault}
-use Rattle.world_model.specs.declared.message.Reply.{Reply}
-use Rattle.write_back.specs.Files.{Pending, of_file, with_bytes, OnFile}
-use Rattle.write_back.specs.Landing.{with_cut}
-use Rattle.write_back.specs.Pieces.{nothing}
-use Rattle.write_back.proofs.WritesByFile.{same-or}
-use Rattle.client_shelf.specs.declared.lane_files.LaneFile.{LaneFile}
-use Rattle.client_shelf.specs.declared.turn.Turn.{Turn}
-use Rattle.client_shelf.specs.LaneFiles.{added, left}
-use Rattle.client_shelf.specs.declared.next.Next.{Next}
+use Rattle.client_shelf.specs.LaneFiles.{added, left, is_other}
 use Rattle.client_shelf.specs.declared.next.Next.TheVariants as nexts
-use Rattle.file_ops.specs.declared.saving.Saving.{Saving}
-use Rattle.file_ops.specs.Adding.{is_full}
 use Rattle.file_ops.specs.Quiet.{is_quiet}
 use Rattle.file_ops.proofs.Walks.{SamePieces, added-pieces, cut-pieces, given-pieces}
-use Rattle.core_facts.proofs.Orders.{joins, SitsWith}
+use Rattle.core_facts.proofs.Orders.{joins}
 use Rattle.core_answers.proofs.writes.Firsts.{first-left, first-added}
-use Rattle.step_saves.specs.Saves.{IsClearUpTo, IsUnderWay}
+use Rattle.step_saves.specs.Saves.{IsClearUpTo}
 use Rattle.step_saves.proofs.Staying.{later-on, others-on}
 use Rattle.core_session.proofs.syncs.Contents.{same-free, same-quiet}
-use Rattle.core_session.proofs.syncs.Jobs.{Fact, NoFile, Job, JobLaws, JobReplies}
-use Rattle.core_session.proofs.syncs.Levels.{Owner, Content, ContentReplies, SaveNow, Before, Ends, Holds, BesideSo, level, level-replies, stands-it, out-it, alone-first, way-given, way-cut}
-use Rattle.client_shelf.specs.declared.shelf.Shelf.{Shelf}
-use Rattle.client_shelf.specs.LaneFiles.{is_other}
+use Rattle.core_session.proofs.syncs.Jobs.{Fact, NoFile, JobLaws, JobReplies}
+use Rattle.core_session.proofs.syncs.Levels.{SaveNow, Before, Ends, Holds, BesideSo, level, level-replies, stands-it, out-it, alone-first, way-given, way-cut}
 use Rattle.std.specs.List.{list_any}
-use Rattle.std.proofs.Common.{false}
 
 -- What else a step makes of what is known: C before bytes come in, D afterwards, and E at a refusal, or where the file was cut.
 pub record Moves (C D E : ℕ → Pending → Type 0) (A : List ℕ → ℕ → List ℕ → Type 0) (W : Type 0) (Z : Bool → Shelf → Type 0) (Cut : List ℕ → ℕ → ℕ → Type 0) (B : List ℕ → Type 0) (next : Next) : Type 0 where

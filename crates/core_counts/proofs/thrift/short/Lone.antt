@@ -1,53 +1,11 @@
 -- Where all operations are of one lane: what its machine has in flight.
-use Rattle.std.proofs.Common.{◌≡◌, ◌<◌, ◌≤◌, ◌⊎◌, inl, inr, ◌+◌, ◌++◌, nat_eq, ℕ, Bool, true, false, List, [], ◌∷◌, length, get_or, Option, Some, None, option_map, position, slice_get, refl, sym, ap, subst, ◌∙◌, arith}
-use Rattle.std.specs.Prelude.{if◌then◌else◌}
-use Rattle.std.proofs.lemmas.Bool.{eq-eqb, cases_lt}
-use Rattle.std.proofs.lemmas.List.Quantifiers.{position-Some}
-use Rattle.std.proofs.lemmas.Option.{slice_get-get_or}
-use Rattle.rpc_retry.specs.declared.waiting.Waiting.{Waiting}
-use Rattle.rpc_retry.specs.Waiting.{waiting_at}
-use Rattle.world_model.specs.declared.entry.Entry.{Entry}
-use Rattle.world_model.specs.declared.entry.Entry.TheVariants.{Began, Sent}
-use Rattle.world_model.specs.declared.message.Call.{Call}
-use Rattle.claims.specs.Asks.{Placed}
-use Rattle.claims.specs.CallCounts.{WriterAt, CoversPlace}
-use Rattle.world_model.specs.Messages.{SpellsCall}
-use Rattle.claims.specs.Thrifty.{OneLane, CoveredEarlier}
-use Rattle.world_model.proofs.Places.{At-grow, At-below}
-use Rattle.write_back.specs.Files.{of_file, HasNoPiece}
-use Rattle.write_back.specs.Pieces.{Sent as Piece, Flown as InAir, fly_at, fly_in, piece_under}
-use Rattle.write_back.proofs.Keys.{low-of, high-of}
-use Rattle.file_ops.specs.declared.saving.Saving.{Saving}
+use Rattle.core_counts.proofs.Prelude.{◌≡◌, ◌<◌, ◌≤◌, ◌⊎◌, inl, inr, ◌+◌, ◌++◌, nat_eq, ℕ, Bool, true, false, List, [], ◌∷◌, length, get_or, Option, Some, None, option_map, position, slice_get, refl, sym, ap, subst, ◌∙◌, arith, if◌then◌else◌, eq-eqb, cases_lt, position-Some, slice_get-get_or, Waiting, waiting_at, Entry, Began, Sent, Call, Placed, WriterAt, CoversPlace, SpellsCall, OneLane, CoveredEarlier, NeverFull, At-grow, At-below, of_file, HasNoPiece, fly_at, fly_in, piece_under, low-of, high-of, Saving, IsUnused, Mounted, Machine, machine_of, Lane, Purpose, Busy, Setup, is_busy, View, Reaches, IsOutstanding, Tried, begins-unbegun, none-busy, Flies, flies_of, flies_if, sender, look_at, Known, taker-is, lanes-under-way, look-at, reached-rows, reached-good, written_file, one-call, CallFits, fits-laws, tales, Basis, Wholly}
+use Rattle.write_back.specs.Pieces.{Sent as Piece, Flown as InAir}
 use Rattle.file_ops.specs.Saves as saves
-use Rattle.file_ops.specs.SlotFiles.{IsUnused}
-use Rattle.op_machines.specs.declared.begun.Mounted.{Mounted}
-use Rattle.op_machines.specs.declared.machine.Machine.{Machine}
-use Rattle.op_machines.specs.Begun.{machine_of}
-use Rattle.client_core.specs.declared.lane.Lane.{Lane}
-use Rattle.client_core.specs.declared.lane.Purpose.{Purpose}
-use Rattle.client_core.specs.declared.lane.State.TheVariants.{Busy}
-use Rattle.client_core.specs.declared.setup.Setup.{Setup}
-use Rattle.client_core.specs.Lanes.{is_busy}
-use Rattle.client_core.specs.View.{View}
-use Rattle.core_facts.specs.Reaches.{Reaches}
-use Rattle.core_facts.specs.Tries.{IsOutstanding, Tried, unsent, runs, ended}
-use Rattle.core_facts.proofs.AllCounts.{begins-unbegun}
-use Rattle.core_facts.proofs.Counting.{none-busy}
-use Rattle.core_facts.proofs.Flights.{Flies, flies_of, flies_if}
-use Rattle.core_facts.proofs.Flown.{sender, look_at, flies_state}
-use Rattle.core_facts.proofs.Keeping.{Known, taker-is}
-use Rattle.core_facts.proofs.LaneMarks.{lanes-under-way}
-use Rattle.core_facts.proofs.Looks.{look-at}
-use Rattle.core_facts.proofs.Rows.{reached-rows}
-use Rattle.core_facts.proofs.Tales.{reached-good}
-use Rattle.core_answers.specs.writes.Alone.{written_file}
-use Rattle.core_answers.proofs.bonds.OneCall.{one-call}
-use Rattle.core_answers.proofs.writes.AllFits.{CallFits, fits-laws}
-use Rattle.core_answers.proofs.writes.CommitsAlone.{tales, nfs-write}
+use Rattle.core_facts.specs.Tries.{unsent, runs, ended}
+use Rattle.core_facts.proofs.Flown.{flies_state}
+use Rattle.core_answers.proofs.writes.CommitsAlone.{nfs-write}
 use Rattle.step_pending.proofs.Shown.{HasPiece, has-piece}
-use Rattle.core_session.proofs.order.Basis.{Basis}
-use Rattle.core_session.proofs.saves.WholeSteps.{Wholly}
-use Rattle.claims.specs.Thrifty.{NeverFull}
 use Rattle.core_counts.proofs.thrift.short.Ends.{Each}
 
 -- ---- pieces and the xids that were given out

@@ -1,27 +1,8 @@
 -- In one lane WRITEs of puts, syncs and closes are long, in the words of the model.
-use Rattle.std.proofs.Common.{◌≡◌, ◌<◌, ◌⊎◌, inl, inr, ◌+◌, ◌++◌, ℕ, false, List, length, slice_get, Some, arith}
+use Rattle.core_counts.proofs.Prelude.{◌≡◌, ◌<◌, ◌⊎◌, inl, inr, ◌+◌, ◌++◌, ℕ, false, List, length, slice_get, Some, arith, Entry, Terms, OneLane, NeverFull, CoveredEarlier, Unsent, of_file, rest_at, Mounted, Machine, machine_of, Busy, Setup, View, Reaches, GoesFrom, session, Answer, Began, Answered, At, Op}
 use Rattle.world_model.specs.declared.answer.Answer.TheVariants as answers
-use Rattle.world_model.specs.declared.entry.Entry.{Entry}
-use Rattle.claims.specs.Terms.{Terms}
-use Rattle.claims.specs.Thrifty.{OneLane, NeverFull, CoveredEarlier}
 use Rattle.write_back.specs.declared.state.State.TheVariants.{Waiting}
-use Rattle.write_back.specs.declared.state.Ready.TheVariants.{Unsent}
-use Rattle.write_back.specs.Files.{of_file}
-use Rattle.write_back.specs.Pieces.{rest_at}
-use Rattle.op_machines.specs.declared.begun.Mounted.{Mounted}
-use Rattle.op_machines.specs.declared.machine.Machine.{Machine}
-use Rattle.op_machines.specs.Begun.{machine_of}
-use Rattle.client_core.specs.declared.lane.State.TheVariants.{Busy}
-use Rattle.client_core.specs.declared.setup.Setup.{Setup}
-use Rattle.client_core.specs.View.{View}
-use Rattle.core_facts.specs.Reaches.{Reaches}
-use Rattle.core_session.specs.calls.Whole.{GoesFrom}
-use Rattle.core_session.proofs.calls.Whole.{session}
 use Rattle.core_session.proofs.syncs.Stages.{cell_of, unsent}
-use Rattle.world_model.specs.declared.answer.Answer.{Answer}
-use Rattle.world_model.specs.declared.entry.Entry.TheVariants.{Began, Answered}
-use Rattle.world_model.specs.Entries.{At}
-use Rattle.world_model.specs.declared.op.Op.{Op}
 use Rattle.world_model.specs.declared.op.Op.TheVariants as ops
 use Rattle.core_counts.proofs.thrift.short.PutsEarlier.{was-covered}
 use Rattle.core_counts.specs.thrift.Writes.{WritesLong}

@@ -1,72 +1,23 @@
 -- One place of a file along a history: from a moment at which a byte is known there, it stays pending under its number or is covered by a WRITE, or a later operation took it away.
-use Rattle.std.proofs.Common.{◌≡◌, ◌≤◌, ◌<◌, ◌⊎◌, inl, inr, ℕ, false, List, [], ◌∷◌, ◌++◌, length, Some, None, position, slice_get, refl, sym, ap, subst, ◌∙◌, arith}
-use Rattle.rpc_message.specs.Call.{xid_at}
-use Rattle.rpc_retry.specs.declared.waiting.Waiting.{Waiting}
-use Rattle.rpc_retry.specs.Waiting.{waiting_at}
-use Rattle.world_model.specs.declared.answer.Answer.{Answer}
+use Rattle.core_counts.proofs.Prelude.{◌≡◌, ◌≤◌, ◌<◌, ◌⊎◌, inl, inr, ℕ, false, List, [], ◌∷◌, ◌++◌, length, Some, None, position, slice_get, refl, sym, ap, subst, ◌∙◌, arith, xid_at, Waiting, waiting_at, Answer, Fault, Value, Entry, Began, Answered, Delivered, Op, At, IsBusy, EndsAt, UnderWay, IsOf, Terms, CoveredEarlier, At-grow, length_last, said_of, Shelf, Mounted, Machine, machine_of, Fits, Lane, Purpose, State, Busy, Over, Setup, IsFresh, is_busy, IsIdle, numbers_of, AnswersAt, StartsLane, Stirs, TakesAt, counted, View, AreApart, KnowsRoot, MaySetUp, Reaches, HearsRecord, GoesWith, taken_one, Known, taker-is, Runs, LanesKnown, number_of, lanes-under-way, lanes-begin, quiet-facts, at-push, to-map, keeps-placed, stirs-stay, starts-stay, steps-stay, SameCalls, AreAsked, IsPlain, keeps-wholly, starts-wholly, Common, own_save, state-is, Saving, Story, story-turns, job_kind, Owned, Turns, Pending, of_file}
 use Rattle.world_model.specs.declared.answer.Answer.TheVariants as answers
-use Rattle.world_model.specs.declared.answer.Fault.{Fault}
-use Rattle.world_model.specs.declared.answer.Value.{Value}
-use Rattle.world_model.specs.declared.entry.Entry.{Entry}
-use Rattle.world_model.specs.declared.entry.Entry.TheVariants.{Began, Answered, Delivered}
-use Rattle.world_model.specs.declared.op.Op.{Op}
 use Rattle.world_model.specs.declared.op.Op.TheVariants as ops
-use Rattle.world_model.specs.Entries.{At}
-use Rattle.world_model.specs.LanesTogether.{IsBusy}
 use Rattle.world_model.specs.Leads.{Leads}
-use Rattle.world_model.specs.Operations.{EndsAt, UnderWay}
-use Rattle.claims.specs.Slots.{IsOf}
-use Rattle.claims.specs.Terms.{Terms}
-use Rattle.claims.specs.Thrifty.{CoveredEarlier}
 use Rattle.claims.specs.Touched.{Cuts}
-use Rattle.world_model.proofs.Places.{At-grow, length_last}
-use Rattle.call_replies.specs.Says.{said_of}
-use Rattle.client_shelf.specs.declared.shelf.Shelf.{Shelf}
-use Rattle.op_machines.specs.declared.begun.Mounted.{Mounted}
-use Rattle.op_machines.specs.declared.machine.Machine.{Machine}
-use Rattle.op_machines.specs.Begun.{machine_of}
-use Rattle.op_machines.specs.Fits.{Fits}
-use Rattle.client_core.specs.declared.lane.Lane.{Lane}
-use Rattle.client_core.specs.declared.lane.Purpose.{Purpose}
-use Rattle.client_core.specs.declared.lane.State.{State}
-use Rattle.client_core.specs.declared.lane.State.TheVariants.{Busy, Over}
-use Rattle.client_core.specs.declared.setup.Setup.{Setup}
-use Rattle.client_core.specs.Fresh.{IsFresh}
-use Rattle.client_core.specs.Lanes.{is_busy}
-use Rattle.client_core.specs.Numbers.{IsIdle, numbers_of}
-use Rattle.client_core.specs.Steps.{AnswersAt, StartsLane, Stirs, TakesAt, counted}
-use Rattle.client_core.specs.View.{View}
-use Rattle.core_facts.specs.Lanes.{AreApart}
-use Rattle.core_facts.specs.Naming.{KnowsRoot}
-use Rattle.core_facts.specs.Reaches.{MaySetUp, Reaches, HearsRecord, IsOpenLine}
-use Rattle.core_facts.specs.SlotAnswers.{GoesWith}
-use Rattle.core_facts.proofs.Cases.{taken_one}
-use Rattle.core_facts.proofs.Keeping.{Known, taker-is}
-use Rattle.core_facts.proofs.LaneMarks.{Runs, LanesKnown, number_of, lanes-under-way, lanes-begin, quiet-facts}
-use Rattle.core_facts.proofs.Lists.{at-push, to-map}
-use Rattle.core_facts.proofs.Placing.{keeps-placed}
-use Rattle.core_facts.proofs.Walks.{stirs-stay, starts-stay, steps-stay}
-use Rattle.core_answers.proofs.writes.Along.{SameCalls}
-use Rattle.core_session.specs.calls.Sessions.{AreAsked}
-use Rattle.core_session.proofs.drops.KnowingAlong.{IsPlain, NotedBefore}
+use Rattle.core_facts.specs.Reaches.{IsOpenLine}
+use Rattle.core_session.proofs.drops.KnowingAlong.{NotedBefore}
 use Rattle.core_session.proofs.pending.Entries.{fresh-phase}
-use Rattle.core_session.proofs.saves.WholeSteps.{keeps-wholly, starts-wholly}
 use Rattle.core_session.proofs.syncs.Causes.{IsWriter as IsWrite}
-use Rattle.core_session.proofs.syncs.Contents.{Common}
 use Rattle.core_session.proofs.syncs.Aparts.{names-next}
 use Rattle.core_session.proofs.syncs.Looks.{OpView, view-of, writes, syncs, closes, puts, others}
 use Rattle.core_session.proofs.syncs.PutEnds.{LastNames, last-names-later, own-last}
-use Rattle.core_session.proofs.syncs.PutGoes.{OwnAt, own_save, stirs-not, starts-not, stirs-at-save, takes-at-save, takes-still}
-use Rattle.core_session.proofs.drops.LaneIs.{state-is, number-is}
-use Rattle.file_ops.specs.declared.saving.Saving.{Saving}
+use Rattle.core_session.proofs.syncs.PutGoes.{OwnAt, stirs-not, starts-not, stirs-at-save, takes-at-save, takes-still}
+use Rattle.core_session.proofs.drops.LaneIs.{number-is}
 use Rattle.core_counts.proofs.thrift.short.PutsOwn.{OfFile, Follows, file-keeps, saves, went_well, was_refused, follows-turns, follows-same, follows-answers, save-kind}
-use Rattle.core_session.proofs.syncs.Fate.{Story, story-answers, story-same, story-turns}
-use Rattle.core_session.proofs.syncs.Fates.{job_kind}
+use Rattle.core_session.proofs.syncs.Fate.{story-answers, story-same}
 use Rattle.core_session.proofs.syncs.Phases.{KnownBy}
-use Rattle.core_session.proofs.syncs.Seen.{Owned}
 use Rattle.core_session.proofs.syncs.Stages.{known-more}
-use Rattle.core_session.proofs.syncs.Turning.{under-plain, IsFixed, ready, fixed-turns, fixed-answers, fixed-same, Turns, turns-stir, turns-starts, turns-take, under-was}
-use Rattle.write_back.specs.Files.{Pending, of_file}
+use Rattle.core_session.proofs.syncs.Turning.{under-plain, IsFixed, ready, fixed-turns, fixed-answers, fixed-same, turns-stir, turns-starts, turns-take, under-was}
 use Rattle.core_counts.proofs.counts.rooms.Steps.{has-some, some-stays}
 use Rattle.core_counts.proofs.counts.rooms.Whole.{owned-removed}
 use Rattle.core_counts.proofs.thrift.short.PendsSteps.{busy-same, none-past, settled, Comes, Base, Told, Stepped, Loss, lost_came, lost_cut, lost_closed, lost_dropped, stirs-stepped, takes-stepped, starts-stepped}

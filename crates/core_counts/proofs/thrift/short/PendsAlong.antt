@@ -1,26 +1,6 @@
 -- From an operation's answer on, two places of a file along a history.
-use Rattle.std.proofs.Common.{◌≡◌, ◌≤◌, ◌<◌, ◌⊎◌, inl, inr, ◌+◌, ℕ, false, List, [], ◌∷◌, ◌++◌, length, append_assoc, sym, ap, subst, ◌∙◌, arith}
-use Rattle.std.proofs.lemmas.Bool.{cases_lt}
-use Rattle.world_model.specs.declared.answer.Answer.{Answer}
-use Rattle.world_model.specs.declared.entry.Entry.{Entry}
-use Rattle.world_model.specs.declared.entry.Entry.TheVariants.{Began, Answered, Delivered}
-use Rattle.world_model.specs.declared.op.Op.{Op}
-use Rattle.world_model.specs.Entries.{At}
-use Rattle.claims.specs.Terms.{Terms}
-use Rattle.world_model.proofs.Places.{At-grow, At-back, At-last, At-one, length_last}
-use Rattle.op_machines.specs.declared.begun.Mounted.{Mounted}
-use Rattle.op_machines.specs.Begun.{machine_of}
-use Rattle.client_core.specs.declared.setup.Setup.{Setup}
-use Rattle.client_core.specs.View.{View}
-use Rattle.core_facts.specs.Naming.{KnowsRoot}
-use Rattle.core_facts.specs.Reaches.{Reaches}
-use Rattle.core_facts.specs.SlotAnswers.{GoesWith}
-use Rattle.core_facts.proofs.AllCounts.{begins-unbegun}
-use Rattle.core_facts.proofs.Keeping.{reached-all}
-use Rattle.core_facts.proofs.LaneMarks.{lanes-under-way}
-use Rattle.core_answers.proofs.writes.Along.{SameCalls}
-use Rattle.core_session.specs.calls.Sessions.{AreAsked}
-use Rattle.core_session.proofs.drops.KnowingAlong.{IsPlain, NotedBefore}
+use Rattle.core_counts.proofs.Prelude.{◌≡◌, ◌≤◌, ◌<◌, ◌⊎◌, inl, inr, ◌+◌, ℕ, false, List, [], ◌∷◌, ◌++◌, length, append_assoc, sym, ap, subst, ◌∙◌, arith, cases_lt, Answer, Entry, Began, Answered, Delivered, Op, At, Terms, At-grow, At-back, At-last, At-one, length_last, Mounted, machine_of, Setup, View, KnowsRoot, Reaches, GoesWith, begins-unbegun, reached-all, lanes-under-way, SameCalls, AreAsked, IsPlain}
+use Rattle.core_session.proofs.drops.KnowingAlong.{NotedBefore}
 use Rattle.core_session.proofs.syncs.WatchingAlong.{KeepsWatching, reached-watching}
 use Rattle.core_counts.proofs.thrift.short.Pends as one
 use Rattle.core_counts.proofs.thrift.short.Pends.{Cov, covered-on}

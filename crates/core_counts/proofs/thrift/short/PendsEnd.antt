@@ -1,39 +1,15 @@
 -- What an operation did to a byte that was written before it, as another operation begins in the only lane: in the words of the model.
-use Rattle.std.proofs.Common.{◌≡◌, ◌<◌, ◌++◌, ℕ, false, List, [], ◌∷◌, length, slice_get, Some, None, refl, sym, ap, subst, ◌∙◌, arith, get_or, ◌-◌, true, ◌+◌}
-use Rattle.world_model.specs.declared.answer.Answer.{Answer}
+use Rattle.core_counts.proofs.Prelude.{◌≡◌, ◌<◌, ◌++◌, ℕ, false, List, [], ◌∷◌, length, slice_get, Some, None, refl, sym, ap, subst, ◌∙◌, arith, get_or, ◌-◌, true, ◌+◌, Answer, Value, Fault, Entry, Began, Answered, Op, At, AnsweredBefore, EndsAt, Terms, WritesByte, At-grow, At-one, At-below, Mounted, machine_of, Lane, Setup, numbers_of, View, KnowsRoot, Reaches, GoesWith, begins-unbegun, Known, reached-all, AreAsked, slice_get-get_or, PutsTo, covers}
 use Rattle.world_model.specs.declared.answer.Answer.TheVariants as answers
-use Rattle.world_model.specs.declared.answer.Value.{Value}
-use Rattle.world_model.specs.declared.answer.Fault.{Fault}
-use Rattle.world_model.specs.declared.entry.Entry.{Entry}
-use Rattle.world_model.specs.declared.entry.Entry.TheVariants.{Began, Answered}
-use Rattle.world_model.specs.declared.op.Op.{Op}
 use Rattle.world_model.specs.declared.op.Op.TheVariants as ops
-use Rattle.world_model.specs.Entries.{At}
 use Rattle.world_model.specs.Leads.{Leads}
-use Rattle.world_model.specs.Operations.{AnsweredBefore, Ended, EndsAt, answered as ends_answered}
-use Rattle.claims.specs.Terms.{Terms}
-use Rattle.claims.specs.Touched.{Cuts, WritesByte, Covers}
+use Rattle.world_model.specs.Operations.{Ended, answered as ends_answered}
+use Rattle.claims.specs.Touched.{Cuts, Covers}
 use Rattle.claims.specs.Touched as touched_by
-use Rattle.world_model.proofs.Places.{At-grow, At-one, At-below}
-use Rattle.op_machines.specs.declared.begun.Mounted.{Mounted}
-use Rattle.op_machines.specs.Begun.{machine_of}
-use Rattle.client_core.specs.declared.lane.Lane.{Lane}
-use Rattle.client_core.specs.declared.setup.Setup.{Setup}
-use Rattle.client_core.specs.Numbers.{numbers_of}
-use Rattle.client_core.specs.View.{View}
-use Rattle.core_facts.specs.Naming.{KnowsRoot}
-use Rattle.core_facts.specs.Reaches.{Reaches}
-use Rattle.core_facts.specs.SlotAnswers.{GoesWith}
-use Rattle.core_facts.proofs.AllCounts.{begins-unbegun}
 use Rattle.core_facts.proofs.HeldSlots.{always-later}
-use Rattle.core_facts.proofs.Keeping.{Known, reached-all}
 use Rattle.core_facts.proofs.Stories.{ended-grow}
-use Rattle.core_session.specs.calls.Sessions.{AreAsked}
 use Rattle.core_session.proofs.syncs.Causes.{IsWriter as IsWrite}
 use Rattle.core_session.proofs.syncs.Turning.{IsFixed, ready, gone}
-use Rattle.std.proofs.lemmas.Option.{slice_get-get_or}
-use Rattle.claims.specs.Slots.{PutsTo}
-use Rattle.write_back.specs.Segments.{covers}
 use Rattle.write_back.proofs.Keys.{low-of as key-low, high-of as key-high}
 use Rattle.core_session.proofs.syncs.PutEnds.{LastNames, last-names-later}
 use Rattle.core_counts.proofs.thrift.short.PutsOwn.{Follows, puts-to}

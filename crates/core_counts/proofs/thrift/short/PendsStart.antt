@@ -1,25 +1,12 @@
 -- The write or fill that was the last to write two places next to each other; and what waits there as it was answered, in the only lane.
-use Rattle.std.proofs.Common.{◌≡◌, ◌<◌, ◌+◌, ◌++◌, ℕ, false, List, length, refl, sym, ap, subst, arith, inl, inr, ◌⊎◌}
+use Rattle.core_counts.proofs.Prelude.{◌≡◌, ◌<◌, ◌+◌, ◌++◌, ℕ, false, List, length, refl, sym, ap, subst, arith, inl, inr, ◌⊎◌, Value, Entry, Began, Op, IsOf, PutsTo, Terms, OneLane, NeverFull, Wrote, At-one, Mounted, machine_of, Setup, View, Reaches, GoesWith}
 use Rattle.std.proofs.lemmas.Option.{slice_get_within}
 use Rattle.world_model.specs.declared.answer.Answer.TheVariants as answers
-use Rattle.world_model.specs.declared.answer.Value.{Value}
-use Rattle.world_model.specs.declared.entry.Entry.{Entry}
-use Rattle.world_model.specs.declared.entry.Entry.TheVariants.{Began}
-use Rattle.world_model.specs.declared.op.Op.{Op}
 use Rattle.world_model.specs.declared.op.Op.TheVariants as ops
 use Rattle.world_model.specs.Operations.{Ended}
-use Rattle.claims.specs.Slots.{IsOf, PutsTo}
-use Rattle.claims.specs.Terms.{Terms}
-use Rattle.claims.specs.Thrifty.{OneLane, NeverFull, WritesAt, earlier, itself}
-use Rattle.claims.specs.Touched.{Covers, Wrote}
+use Rattle.claims.specs.Thrifty.{WritesAt, earlier, itself}
+use Rattle.claims.specs.Touched.{Covers}
 use Rattle.claims.specs.Touched as touched_by
-use Rattle.world_model.proofs.Places.{At-one}
-use Rattle.op_machines.specs.declared.begun.Mounted.{Mounted}
-use Rattle.op_machines.specs.Begun.{machine_of}
-use Rattle.client_core.specs.declared.setup.Setup.{Setup}
-use Rattle.client_core.specs.View.{View}
-use Rattle.core_facts.specs.Reaches.{Reaches}
-use Rattle.core_facts.specs.SlotAnswers.{GoesWith}
 use Rattle.core_session.proofs.syncs.Ends.{ended-back}
 use Rattle.core_counts.specs.thrift.Writes.{WritesBoth, write, fill}
 use Rattle.core_counts.proofs.thrift.short.PutsLong.{one-before, room-before}

@@ -1,91 +1,35 @@
 -- One place of a file through the steps of operations: what was pending there under a number goes on, or was covered by a WRITE, or the operation took it away.
-use Rattle.std.proofs.Common.{Err, ◌≡◌, ◌≤◌, ◌⊎◌, inl, inr, ◌+◌, ◌-◌, ◌^◌, ℕ, false, List, [], ◌∷◌, ◌++◌, length, append_assoc, Option, Some, position, slice_get, Result, refl, sym, ap, subst, ◌∙◌, arith, None}
-use Rattle.std.proofs.lemmas.Bool.{cases_lt}
-use Rattle.rpc_message.specs.Call.{xid_at}
-use Rattle.rpc_retry.specs.declared.waiting.Waiting.{Waiting}
-use Rattle.rpc_retry.specs.Waiting.{waiting_at}
-use Rattle.world_model.specs.declared.answer.Fault.{Fault}
-use Rattle.world_model.specs.declared.entry.Entry.{Entry}
-use Rattle.world_model.specs.declared.entry.Entry.TheVariants.{Began, Answered, Delivered}
-use Rattle.world_model.specs.declared.message.Reply.{Reply}
-use Rattle.world_model.specs.declared.op.Op.{Op}
+use Rattle.core_counts.proofs.Prelude.{Err, ◌≡◌, ◌≤◌, ◌⊎◌, inl, inr, ◌+◌, ◌-◌, ◌^◌, ℕ, false, List, [], ◌∷◌, ◌++◌, length, append_assoc, Option, Some, position, slice_get, Result, refl, sym, ap, subst, ◌∙◌, arith, None, cases_lt, eqb-true, eqb-false, xid_at, Waiting, waiting_at, Fault, Entry, Began, Answered, Delivered, Reply, Op, At, Rooted, AnsweredBefore, EndsAt, UnderWay, IsOf, Terms, Rooted-wide, At-last, At-one, length_last, said_of, Pending, of_file, LaneFile, Shelf, Turn, Saving, Mounted, Machine, machine_of, Fits, Purpose, State, Busy, Over, Setup, is_busy, IsIdle, StartsLane, Stirs, TakesAt, counted, View, turn_at, KnowsRoot, Reaches, HearsRecord, GoesWith, taken_one, Known, taker-is, LaneLive, AreAsked, Wholly, JobBegins, JobOpens, job_save, Story, job_kind, Job, Content, ContentReplies, Owner, state-is, own_save, Tale, told, Lane, Answer, Owned, bases, ButFor, slice_index, Value, WritesByte, covers, Common, CoveredEarlier, low-of, high-of}
 use Rattle.world_model.specs.declared.op.Op.TheVariants as ops
-use Rattle.world_model.specs.Entries.{At}
 use Rattle.world_model.specs.Leads.{Leads}
-use Rattle.world_model.specs.Mounts.{Rooted}
-use Rattle.world_model.specs.Operations.{AnsweredBefore, EndsAt, UnderWay}
-use Rattle.claims.specs.Slots.{IsOf}
-use Rattle.claims.specs.Terms.{Terms}
-use Rattle.world_model.proofs.Growth.{Rooted-wide}
-use Rattle.world_model.proofs.Places.{At-last, At-one, length_last}
-use Rattle.call_replies.specs.Says.{said_of}
-use Rattle.write_back.specs.Files.{Pending, of_file}
-use Rattle.client_shelf.specs.declared.lane_files.LaneFile.{LaneFile}
-use Rattle.client_shelf.specs.declared.shelf.Shelf.{Shelf}
-use Rattle.client_shelf.specs.declared.turn.Turn.{Turn}
-use Rattle.file_ops.specs.declared.saving.Saving.{Saving}
-use Rattle.op_machines.specs.declared.begun.Mounted.{Mounted}
-use Rattle.op_machines.specs.declared.machine.Machine.{Machine}
-use Rattle.op_machines.specs.Begun.{machine_of}
-use Rattle.op_machines.specs.Fits.{Fits}
-use Rattle.client_core.specs.declared.lane.Purpose.{Purpose}
-use Rattle.client_core.specs.declared.lane.State.{State}
-use Rattle.client_core.specs.declared.lane.State.TheVariants.{Busy, Over}
-use Rattle.client_core.specs.declared.setup.Setup.{Setup}
-use Rattle.client_core.specs.Lanes.{is_busy}
-use Rattle.client_core.specs.Numbers.{IsIdle}
-use Rattle.client_core.specs.Steps.{StartsLane, Stirs, TakesAt, counted}
-use Rattle.client_core.specs.View.{View, turn_at}
-use Rattle.core_facts.specs.Naming.{KnowsRoot}
-use Rattle.core_facts.specs.Reaches.{Reaches, HearsRecord}
-use Rattle.core_facts.specs.SlotAnswers.{GoesWith}
-use Rattle.core_facts.proofs.Cases.{taken_one}
-use Rattle.core_facts.proofs.Keeping.{Known, taker-is}
 use Rattle.core_facts.proofs.Leading.{LeadsTo}
-use Rattle.core_facts.proofs.Placing.{Placed, LaneLive}
+use Rattle.core_facts.proofs.Placing.{Placed}
 use Rattle.core_answers.proofs.asks.WalkAsks.{leads-on}
-use Rattle.core_session.specs.calls.Sessions.{AreAsked}
 use Rattle.core_session.proofs.pending.Moments.{ended-in}
-use Rattle.core_session.proofs.saves.WholeSteps.{Wholly}
-use Rattle.core_session.proofs.syncs.AllJobs.{JobBegins, JobOpens}
-use Rattle.core_session.proofs.syncs.Fate.{Story}
-use Rattle.core_session.proofs.syncs.Fates.{job_kind}
-use Rattle.core_session.proofs.syncs.Jobs.{Job}
-use Rattle.core_session.proofs.syncs.Levels.{Content, ContentReplies, Owner}
 use Rattle.core_session.proofs.syncs.Nexts.{at-on, common-from, tale-map}
-use Rattle.core_session.proofs.drops.LaneIs.{state-is, busy-over}
+use Rattle.core_session.proofs.drops.LaneIs.{busy-over}
 use Rattle.core_session.proofs.syncs.Aims.{JobAims, aimed, some-aim, takes-aim, aimed-has, aims-own}
-use Rattle.core_session.proofs.syncs.PutGoes.{OwnAt, own_save, own-has}
-use Rattle.core_session.proofs.syncs.Passing.{Tale, told}
-use Rattle.client_core.specs.declared.lane.Lane.{Lane}
-use Rattle.world_model.specs.declared.answer.Answer.{Answer}
+use Rattle.core_session.proofs.syncs.PutGoes.{OwnAt, own-has}
 use Rattle.core_counts.proofs.thrift.short.EvPassing.{job-in, Shown}
 use Rattle.core_counts.proofs.thrift.short.EvPlans.{Plan, Came_, stirs-came, takes-came, starts-came}
 use Rattle.core_session.proofs.syncs.PutAdding.{began-fits}
 use Rattle.core_session.proofs.syncs.PutsBring.{PutGiven, puts-bring}
-use Rattle.core_session.proofs.syncs.Seen.{Owned, bases, ButFor}
 use Rattle.core_session.proofs.syncs.Stands.{Has}
 use Rattle.core_counts.proofs.counts.engine.Sum.{ends-late}
 use Rattle.core_counts.proofs.counts.engine.Wider.{leads-wide}
-use Rattle.std.specs.Prelude.{nat_eq, Bool, true, slice_index}
-use Rattle.std.proofs.lemmas.Bool.{eqb-true, eqb-false}
+use Rattle.std.specs.Prelude.{nat_eq, Bool, true}
 use Rattle.world_model.specs.declared.answer.Answer.TheVariants as answers
-use Rattle.world_model.specs.declared.answer.Value.{Value}
-use Rattle.claims.specs.Touched.{Cuts, WritesByte}
+use Rattle.claims.specs.Touched.{Cuts}
 use Rattle.claims.specs.Touched as touched
-use Rattle.write_back.specs.Segments.{covers}
 use Rattle.core_session.proofs.syncs.Causes.{IsWriter as IsWrite, IsSaver}
-use Rattle.core_session.proofs.syncs.Contents.{Common, Shows, common, common-replies, common-adds, common-cuts, common-gives, known, known-replies, known-adds, known-cuts, known-gives}
+use Rattle.core_session.proofs.syncs.Contents.{Shows, common, common-replies, common-adds, common-cuts, common-gives, known, known-replies, known-adds, known-cuts, known-gives}
 use Rattle.core_session.proofs.syncs.Looks.{OpView, view-of, writes, syncs, closes, puts, others}
 use Rattle.core_session.proofs.syncs.Phases.{Family, KnownBy, StageBy, over-more, split}
 use Rattle.nfs_file_calls.specs.declared.call.FileCall.TheVariants as files
 use Rattle.world_model.specs.declared.message.Call.TheVariants as calls
-use Rattle.claims.specs.Thrifty.{CoveredEarlier}
 use Rattle.core_session.specs.saves.Evidence.{IsHeldBy}
 use Rattle.core_session.proofs.pending.Begins.{begins}
-use Rattle.core_session.proofs.syncs.AllJobs.{job_save}
 use Rattle.core_session.proofs.syncs.Showings.{shows-write}
-use Rattle.write_back.proofs.Keys.{low-of, high-of}
 
 -- ---- how far the byte has come: nothing is asked of its xids, and once it is settled a WRITE covers its place
 

@@ -1,30 +1,12 @@
 -- Two places of a file as an operation begins, of which what was written there last is pending or was made stable; or an operation took it away that the words
 -- of the model exclude.
-use Rattle.std.proofs.Common.{◌≡◌, ◌<◌, ◌≤◌, ◌⊎◌, inl, inr, ◌+◌, ◌++◌, ℕ, false, List, [], length, Some, None, sym, ap, ◌∙◌, arith}
-use Rattle.world_model.specs.declared.answer.Answer.{Answer}
+use Rattle.core_counts.proofs.Prelude.{◌≡◌, ◌<◌, ◌≤◌, ◌⊎◌, inl, inr, ◌+◌, ◌++◌, ℕ, false, List, [], length, Some, None, sym, ap, ◌∙◌, arith, Answer, Fault, Entry, Began, Op, At, IsOf, Terms, OneLane, NeverFull, CoveredEarlier, Wrote, of_file, HasNoPiece, FilePending, Flown, rest_at, fly_at, fly_in, Cell, Mounted, machine_of, Setup, View, Notes, Reaches, GoesFrom}
 use Rattle.world_model.specs.declared.answer.Answer.TheVariants.{Refused}
-use Rattle.world_model.specs.declared.answer.Fault.{Fault}
-use Rattle.world_model.specs.declared.entry.Entry.{Entry}
-use Rattle.world_model.specs.declared.entry.Entry.TheVariants.{Began}
-use Rattle.world_model.specs.declared.op.Op.{Op}
 use Rattle.world_model.specs.declared.op.Op.TheVariants as ops
-use Rattle.world_model.specs.Entries.{At}
 use Rattle.world_model.specs.Leads.{Leads}
 use Rattle.world_model.specs.Operations.{Ended}
-use Rattle.claims.specs.Slots.{IsOf}
-use Rattle.claims.specs.Terms.{Terms}
-use Rattle.claims.specs.Thrifty.{OneLane, NeverFull, Uncut, IsLatest, CoveredEarlier, earlier}
-use Rattle.claims.specs.Touched.{Wrote}
-use Rattle.write_back.specs.Files.{of_file, HasNoPiece}
-use Rattle.write_back.specs.Pieces.{Sent as Piece, FilePending, Flown, rest_at, fly_at, fly_in}
-use Rattle.write_back.specs.Segments.{Cell}
-use Rattle.op_machines.specs.declared.begun.Mounted.{Mounted}
-use Rattle.op_machines.specs.Begun.{machine_of}
-use Rattle.client_core.specs.declared.setup.Setup.{Setup}
-use Rattle.client_core.specs.View.{View}
-use Rattle.core_facts.specs.Notes.{Notes}
-use Rattle.core_facts.specs.Reaches.{Reaches}
-use Rattle.core_session.specs.calls.Whole.{GoesFrom}
+use Rattle.claims.specs.Thrifty.{Uncut, IsLatest, earlier}
+use Rattle.write_back.specs.Pieces.{Sent as Piece}
 use Rattle.core_session.proofs.syncs.Phases.{Family, StageBy}
 use Rattle.core_session.proofs.syncs.Stages.{unsent, flies, again, held, stable, over}
 use Rattle.core_counts.proofs.thrift.short.Assembled.{Pends, PendsSo, NoLane}

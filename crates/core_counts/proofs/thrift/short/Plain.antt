@@ -1,76 +1,20 @@
 -- Along a history: as long as no WRITE that covers a place of a file was sent, what is pending there was never sent, but that it may be on its way for the first time.
-use Rattle.std.proofs.Common.{◌≡◌, ◌≤◌, ◌⊎◌, inl, inr, ◌+◌, ◌++◌, ℕ, Bool, true, false, List, [], ◌∷◌, length, Option, Some, None, option_map, position, Result, Err, refl, sym, ap, subst, ◌∙◌, arith}
-use Rattle.rpc_message.specs.Call.{xid_at}
-use Rattle.rpc_retry.specs.declared.waiting.Waiting.{Waiting}
-use Rattle.rpc_retry.specs.Held.{next_xid}
-use Rattle.rpc_retry.specs.Waiting.{waiting_at}
-use Rattle.world_model.specs.declared.answer.Fault.{Fault}
-use Rattle.world_model.specs.declared.entry.Entry.{Entry}
-use Rattle.world_model.specs.declared.entry.Entry.TheVariants.{Began, Answered, Sent, Delivered}
-use Rattle.world_model.specs.declared.message.Call.{Call}
-use Rattle.world_model.specs.declared.message.Reply.{Reply}
-use Rattle.world_model.specs.declared.op.Op.{Op}
-use Rattle.claims.specs.CallCounts.{CoversPlace}
-use Rattle.world_model.specs.Messages.{SpellsCall}
-use Rattle.claims.specs.Thrifty.{CoveredEarlier}
-use Rattle.world_model.proofs.Places.{At-grow, At-below, length_last}
-use Rattle.call_replies.specs.Says.{said_of}
+use Rattle.core_counts.proofs.Prelude.{◌≡◌, ◌≤◌, ◌⊎◌, inl, inr, ◌+◌, ◌++◌, ℕ, Bool, true, false, List, [], ◌∷◌, length, Option, Some, None, option_map, position, Result, Err, refl, sym, ap, subst, ◌∙◌, arith, xid_at, Waiting, next_xid, waiting_at, Fault, Entry, Began, Answered, Sent, Delivered, Call, Reply, Op, CoversPlace, SpellsCall, CoveredEarlier, At-grow, At-below, length_last, said_of, Unsent, Pending, of_file, IsNewest, rest_at, piece_under, Cell, covers, low-of, high-of, same-or, Next, Shelf, Turn, Saving, IsReady, IsUnused, Mounted, Machine, machine_of, Fits, Starts, Resumes, Takes, Purpose, Busy, Setup, is_busy, with_state, Leads, Stirs, counted, StartsLane, TakesAt, View, turn_at, unmade_turn, HearsRecord, Reaches, IsOutstanding, Tried, begins-unbegun, taken_one, Flies, flies_of, sender, look_at, was-sent, Known, taker-is, lanes-under-way, look-at, reached-rows, reached-good, written_file, one-call, CallFits, fits-laws, After, tales, unused-next, TakesHas, Basis, basis-ready, stirs-basis, starts-basis, takes-basis, keeps-basis, NearAs, unmade-has, KeepsHearing, reached-hearing, Wholly, keeps-wholly, stirs-wholly, starts-wholly, takes-wholly, EachSound}
 use Rattle.write_back.specs.declared.state.State.TheVariants.{Waiting as Rests}
-use Rattle.write_back.specs.declared.state.Ready.TheVariants.{Unsent}
-use Rattle.write_back.specs.Files.{Pending, of_file, IsNewest}
-use Rattle.write_back.specs.Pieces.{Sent as Piece, rest_at, piece_under}
-use Rattle.write_back.specs.Segments.{Cell, covers}
-use Rattle.write_back.proofs.Keys.{low-of, high-of}
-use Rattle.write_back.proofs.WritesByFile.{same-or}
-use Rattle.client_shelf.specs.declared.next.Next.{Next}
+use Rattle.write_back.specs.Pieces.{Sent as Piece}
 use Rattle.client_shelf.specs.declared.next.Next.TheVariants as nexts
-use Rattle.client_shelf.specs.declared.shelf.Shelf.{Shelf}
-use Rattle.client_shelf.specs.declared.turn.Turn.{Turn}
-use Rattle.file_ops.specs.declared.saving.Saving.{Saving}
-use Rattle.file_ops.specs.Ready.{IsReady}
 use Rattle.file_ops.specs.Saves as saves
-use Rattle.file_ops.specs.SlotFiles.{IsUnused}
 use Rattle.file_ops.specs.Syncs as syncs
-use Rattle.op_machines.specs.declared.begun.Mounted.{Mounted}
-use Rattle.op_machines.specs.declared.machine.Machine.{Machine}
-use Rattle.op_machines.specs.Begun.{machine_of}
-use Rattle.op_machines.specs.Fits.{Fits}
-use Rattle.op_machines.specs.Steps.{Starts, Resumes, Takes}
 use Rattle.op_machines.proofs.AllLaws as laws
-use Rattle.client_core.specs.declared.lane.Purpose.{Purpose}
-use Rattle.client_core.specs.declared.lane.State.TheVariants.{Busy}
-use Rattle.client_core.specs.declared.setup.Setup.{Setup}
-use Rattle.client_core.specs.Lanes.{is_busy}
-use Rattle.client_core.specs.Steps.{with_state, Leads, Stirs, counted, StartsLane, TakesAt}
-use Rattle.client_core.specs.View.{View, turn_at, unmade_turn}
-use Rattle.core_facts.specs.Reaches.{HearsRecord, Reaches}
-use Rattle.core_facts.specs.Tries.{IsOutstanding, Tried, unsent, runs, ended}
-use Rattle.core_facts.proofs.AllCounts.{begins-unbegun}
-use Rattle.core_facts.proofs.Cases.{taken_one}
-use Rattle.core_facts.proofs.Flights.{Flies, flies_of}
-use Rattle.core_facts.proofs.Flown.{sender, look_at, flies_state}
-use Rattle.core_facts.proofs.Hearing.{was-sent}
-use Rattle.core_facts.proofs.Keeping.{Known, taker-is}
-use Rattle.core_facts.proofs.LaneMarks.{lanes-under-way}
-use Rattle.core_facts.proofs.Looks.{look-at}
-use Rattle.core_facts.proofs.Rows.{reached-rows}
-use Rattle.core_facts.proofs.Tales.{reached-good}
-use Rattle.core_answers.specs.writes.Alone.{written_file}
-use Rattle.core_answers.proofs.bonds.OneCall.{one-call}
+use Rattle.core_facts.specs.Tries.{unsent, runs, ended}
+use Rattle.core_facts.proofs.Flown.{flies_state}
 use Rattle.core_answers.proofs.writes.AllBacks.{Saves}
-use Rattle.core_answers.proofs.writes.AllFits.{CallFits, fits-laws}
-use Rattle.core_answers.proofs.writes.Backs.{After, CarriesReply}
-use Rattle.core_answers.proofs.writes.CommitsAlone.{tales, nfs-write}
+use Rattle.core_answers.proofs.writes.Backs.{CarriesReply}
+use Rattle.core_answers.proofs.writes.CommitsAlone.{nfs-write}
 use Rattle.core_answers.proofs.writes.Mapped.{any-saves}
-use Rattle.core_answers.proofs.writes.PiecesCarried.{unused-next}
-use Rattle.core_session.proofs.order.Adds.{Bears, TakesHas, all-starts, all-resumes, all-takes}
-use Rattle.core_session.proofs.order.Basis.{Basis, basis-ready, stirs-basis, starts-basis, takes-basis, keeps-basis}
-use Rattle.core_session.proofs.order.Sounds.{Sounds, SoundsFirst, SoundCall, NearAs, bears-sounds, replies-sounds}
-use Rattle.core_session.proofs.order.Unmade.{unmade-has}
-use Rattle.core_session.proofs.saves.HearingAlong.{KeepsHearing, reached-hearing}
+use Rattle.core_session.proofs.order.Adds.{Bears, all-starts, all-resumes, all-takes}
+use Rattle.core_session.proofs.order.Sounds.{Sounds, SoundsFirst, SoundCall, bears-sounds, replies-sounds}
 use Rattle.core_session.proofs.saves.Taking.{sent-is}
-use Rattle.core_session.proofs.saves.WholeSteps.{Wholly, keeps-wholly, stirs-wholly, starts-wholly, takes-wholly}
-use Rattle.step_pending.specs.Cells.{EachSound}
 use Rattle.core_counts.proofs.coarse.Near.{near-has, near-starts}
 use Rattle.core_counts.proofs.coarse.OfSaves.{of-machine}
 use Rattle.core_counts.proofs.thrift.short.PlainSaves.{Plain, Apart, PlainAt, adds-plain, cuts-plain, gives-plain, goes-plain, takes-plain, unmade-plain, nothing-plain}

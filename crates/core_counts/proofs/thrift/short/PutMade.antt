@@ -1,31 +1,13 @@
 -- Where all operations are of one lane: as a put has gone well, a WRITE that covers each of its places was sent.
-use Rattle.std.proofs.Common.{false, ◌≡◌, ◌≢◌, ◌<◌, inl, inr, ◌+◌, ℕ, suc, List, length, refl, sym, subst, arith}
-use Rattle.std.proofs.lemmas.Bool.{cases_lt}
-use Rattle.nfs_types.specs.declared.verf.Verf.{Verf}
+use Rattle.core_counts.proofs.Prelude.{false, ◌≡◌, ◌≢◌, ◌<◌, inl, inr, ◌+◌, ℕ, suc, List, length, refl, sym, subst, arith, cases_lt, Verf, Answer, Entry, Began, Sent, Op, At, AnsweredBefore, PutsTo, Terms, OneLane, CoveredEarlier, Wrote, WritesByte, At-below, low-of, high-of, Mounted, machine_of, Setup, View, KnowsRoot, GoesWith}
 use Rattle.nfs_file_calls.specs.declared.call.FileCall.TheVariants as files
-use Rattle.world_model.specs.declared.answer.Answer.{Answer}
 use Rattle.world_model.specs.declared.answer.Answer.TheVariants as answers
-use Rattle.world_model.specs.declared.entry.Entry.{Entry}
-use Rattle.world_model.specs.declared.entry.Entry.TheVariants.{Began, Sent}
 use Rattle.world_model.specs.declared.message.Call.TheVariants as calls
-use Rattle.world_model.specs.declared.op.Op.{Op}
 use Rattle.world_model.specs.declared.op.Op.TheVariants as ops
-use Rattle.world_model.specs.Entries.{At}
-use Rattle.world_model.specs.Operations.{AnsweredBefore, Ended}
-use Rattle.claims.specs.Slots.{PutsTo}
+use Rattle.world_model.specs.Operations.{Ended}
 use Rattle.claims.specs.Settled.{itself}
-use Rattle.claims.specs.Terms.{Terms}
-use Rattle.claims.specs.Thrifty.{OneLane, CoveredEarlier}
-use Rattle.claims.specs.Touched.{Wrote, WritesByte, RefusedWrite}
+use Rattle.claims.specs.Touched.{RefusedWrite}
 use Rattle.claims.specs.Touched as touched
-use Rattle.world_model.proofs.Places.{At-below}
-use Rattle.write_back.proofs.Keys.{low-of, high-of}
-use Rattle.op_machines.specs.declared.begun.Mounted.{Mounted}
-use Rattle.op_machines.specs.Begun.{machine_of}
-use Rattle.client_core.specs.declared.setup.Setup.{Setup}
-use Rattle.client_core.specs.View.{View}
-use Rattle.core_facts.specs.Naming.{KnowsRoot}
-use Rattle.core_facts.specs.SlotAnswers.{GoesWith}
 use Rattle.core_session.specs.saves.Evidence.{WroteByte, MadeStable, at_once, by_commit}
 use Rattle.core_session.specs.syncs.Synced.{PutsNamed}
 use Rattle.core_session.specs.syncs.Until.{TouchedUntil, written, cut, given_up}

@@ -1,27 +1,10 @@
 -- A put that was the last to write a place, as it was answered: a WRITE that covers the place was sent.
-use Rattle.std.proofs.Common.{◌≡◌, ◌<◌, ◌≤◌, inl, inr, ◌+◌, ◌++◌, ℕ, false, List, [], ◌∷◌, length, refl, sym, ap, subst, ◌∙◌, arith}
-use Rattle.std.proofs.lemmas.Bool.{cases_lt}
-use Rattle.world_model.specs.declared.entry.Entry.{Entry}
+use Rattle.core_counts.proofs.Prelude.{◌≡◌, ◌<◌, ◌≤◌, inl, inr, ◌+◌, ◌++◌, ℕ, false, List, [], ◌∷◌, length, refl, sym, ap, subst, ◌∙◌, arith, cases_lt, Entry, Began, Sent, Delivered, Op, At, Rooted, PutsTo, Terms, OneLane, CoveredEarlier, Rooted-wide, At-grow, At-back, Mounted, machine_of, Setup, View, KnowsRoot, Reaches, GoesFrom}
 use Rattle.world_model.specs.declared.answer.Answer.TheVariants as answers
-use Rattle.world_model.specs.declared.entry.Entry.TheVariants.{Began, Sent, Delivered}
-use Rattle.world_model.specs.declared.op.Op.{Op}
 use Rattle.world_model.specs.declared.op.Op.TheVariants as ops
-use Rattle.world_model.specs.Entries.{At}
-use Rattle.world_model.specs.Mounts.{Rooted}
-use Rattle.claims.specs.Slots.{PutsTo}
-use Rattle.claims.specs.Terms.{Terms}
-use Rattle.claims.specs.Thrifty.{OneLane, CoveredEarlier}
 use Rattle.claims.specs.Touched.{Covers}
 use Rattle.claims.specs.Touched as touched_by
-use Rattle.world_model.proofs.Growth.{Rooted-grow, Rooted-wide}
-use Rattle.world_model.proofs.Places.{At-grow, At-back}
-use Rattle.op_machines.specs.declared.begun.Mounted.{Mounted}
-use Rattle.op_machines.specs.Begun.{machine_of}
-use Rattle.client_core.specs.declared.setup.Setup.{Setup}
-use Rattle.client_core.specs.View.{View}
-use Rattle.core_facts.specs.Naming.{KnowsRoot}
-use Rattle.core_facts.specs.Reaches.{Reaches}
-use Rattle.core_session.specs.calls.Whole.{GoesFrom}
+use Rattle.world_model.proofs.Growth.{Rooted-grow}
 use Rattle.core_session.specs.syncs.Synced.{PutsNamed}
 use Rattle.core_session.proofs.syncs.Ends.{ended-back}
 use Rattle.core_counts.proofs.thrift.short.PutMade.{put-covered}

@@ -1,70 +1,17 @@
 -- In one lane each WRITE of a put is long, or ends where an earlier WRITE went on.
-use Rattle.std.proofs.Common.{◌≡◌, ◌<◌, ◌≤◌, ◌⊎◌, inl, inr, ◌+◌, ◌++◌, nat_eq, ℕ, Bool, true, false, List, [], ◌∷◌, length, get_or, Option, Some, None, position, slice_get, cond, refl, sym, ap, subst, ◌∙◌, arith, append_assoc}
-use Rattle.std.proofs.lemmas.Bool.{eqb-true, cases_lt, le-leb, lt-ltb}
-use Rattle.std.proofs.lemmas.List.Quantifiers.{position-Some}
-use Rattle.std.proofs.lemmas.Option.{slice_get-get_or}
+use Rattle.core_counts.proofs.Prelude.{◌≡◌, ◌<◌, ◌≤◌, ◌⊎◌, inl, inr, ◌+◌, ◌++◌, nat_eq, ℕ, Bool, true, false, List, [], ◌∷◌, length, get_or, Option, Some, None, position, slice_get, cond, refl, sym, ap, subst, ◌∙◌, arith, append_assoc, eqb-true, cases_lt, le-leb, lt-ltb, position-Some, slice_get-get_or, Waiting, next_xid, AreSound, waiting_at, at_sent, Answer, Entry, Began, Answered, Sent, Op, Placed, WriterAt, NoneBegan, At, SpellsCall, AnsweredBefore, UnderWay, OneLane, NeverFull, CoveredEarlier, FirstSent, At-grow, At-back, of_file, Flown, fly_at, piece_under, covers, under-own, same-or, PutFile, Putting, Saving, IsUnused, Mounted, Machine, Opener, machine_of, file_of, Lane, Purpose, State, Busy, Over, Setup, is_busy, SendsIf, View, Notes, Reaches, begins-unbegun, SentNow, sent_now, none-busy, Flies, flies_of, flies_path, flies_file, flies_put, flies_if, Known, reached-all, Runs, number_of, to-map, notes-reach, written_file, one-call, waits-late}
 use Rattle.rpc_message.specs.declared.cred.Cred.{Cred}
-use Rattle.rpc_retry.specs.declared.waiting.Waiting.{Waiting}
-use Rattle.rpc_retry.specs.Held.{next_xid}
-use Rattle.rpc_retry.specs.Sound.{AreSound}
-use Rattle.rpc_retry.specs.Waiting.{first_due, waiting_at}
-use Rattle.rpc_retry.proofs.Lookups.{at_sent}
-use Rattle.world_model.specs.declared.answer.Answer.{Answer}
+use Rattle.rpc_retry.specs.Waiting.{first_due}
 use Rattle.world_model.specs.declared.answer.Answer.TheVariants as answers
 use Rattle.world_model.specs.declared.answer.Fault.TheVariants as faults
-use Rattle.world_model.specs.declared.entry.Entry.{Entry}
-use Rattle.world_model.specs.declared.entry.Entry.TheVariants.{Began, Answered, Sent}
-use Rattle.world_model.specs.declared.op.Op.{Op}
 use Rattle.world_model.specs.declared.op.Op.TheVariants as ops
-use Rattle.claims.specs.Asks.{Placed}
-use Rattle.claims.specs.CallCounts.{WriterAt}
-use Rattle.claims.specs.CallsAsked.{NoneBegan}
-use Rattle.world_model.specs.Entries.{At}
-use Rattle.world_model.specs.Messages.{SpellsCall}
-use Rattle.world_model.specs.Operations.{AnsweredBefore, UnderWay}
-use Rattle.claims.specs.Thrifty.{OneLane, NeverFull, CoveredEarlier}
-use Rattle.world_model.specs.Waiting.{FirstSent}
-use Rattle.world_model.proofs.Places.{At-grow, At-back}
-use Rattle.write_back.specs.Files.{of_file}
-use Rattle.write_back.specs.Pieces.{Flown, fly_at, piece_under}
-use Rattle.write_back.specs.Segments.{covers}
-use Rattle.write_back.proofs.Taking.{under-own}
-use Rattle.write_back.proofs.WritesByFile.{same-or}
-use Rattle.file_ops.specs.declared.put_file.PutFile.{PutFile}
-use Rattle.file_ops.specs.declared.put_file.Putting.{Putting}
 use Rattle.file_ops.specs.declared.put_file.Putting.TheVariants as putting
-use Rattle.file_ops.specs.declared.saving.Saving.{Saving}
 use Rattle.file_ops.specs.Saves as saves
-use Rattle.file_ops.specs.SlotFiles.{IsUnused}
-use Rattle.op_machines.specs.declared.begun.Mounted.{Mounted}
-use Rattle.op_machines.specs.declared.machine.Machine.{Machine}
 use Rattle.op_machines.specs.declared.machine.Machine.TheVariants as machines
-use Rattle.op_machines.specs.declared.opener.Opener.{Opener}
 use Rattle.op_machines.specs.declared.opener.Opener.TheVariants as openers
-use Rattle.op_machines.specs.Begun.{machine_of}
-use Rattle.op_machines.specs.Openers.{file_of}
-use Rattle.client_core.specs.declared.lane.Lane.{Lane}
-use Rattle.client_core.specs.declared.lane.Purpose.{Purpose}
-use Rattle.client_core.specs.declared.lane.State.{State}
-use Rattle.client_core.specs.declared.lane.State.TheVariants.{Busy, Over}
-use Rattle.client_core.specs.declared.setup.Setup.{Setup}
-use Rattle.client_core.specs.Lanes.{is_busy}
-use Rattle.client_core.specs.Steps.{SendsIf}
-use Rattle.client_core.specs.View.{View}
-use Rattle.core_facts.specs.Notes.{IsAfterAnswers, Notes}
-use Rattle.core_facts.specs.Reaches.{Reaches}
-use Rattle.core_facts.proofs.AllCounts.{begins-unbegun}
-use Rattle.core_facts.proofs.Cases.{SentNow, sent_now}
-use Rattle.core_facts.proofs.Counting.{none-busy}
-use Rattle.core_facts.proofs.Flights.{Flies, flies_of, flies_path, flies_file, flies_put, flies_if}
-use Rattle.core_facts.proofs.Keeping.{Known, reached-all}
-use Rattle.core_facts.proofs.LaneMarks.{Runs, number_of}
-use Rattle.core_facts.proofs.Lists.{to-map}
-use Rattle.core_facts.proofs.Noting.{notes-reach, answers-first}
-use Rattle.core_answers.specs.writes.Alone.{written_file}
+use Rattle.core_facts.specs.Notes.{IsAfterAnswers}
+use Rattle.core_facts.proofs.Noting.{answers-first}
 use Rattle.core_answers.specs.writes.Flights.{IsInFlight}
-use Rattle.core_answers.proofs.bonds.OneCall.{one-call}
-use Rattle.core_answers.proofs.writes.PiecesCarried.{waits-late}
 use Rattle.core_session.proofs.saves.WholeSteps.{Whole}
 use Rattle.core_counts.specs.coarse.WereLong.{write_call}
 use Rattle.core_counts.specs.thrift.Writes.{PutWritesLong}

@@ -1,61 +1,29 @@
 -- A put whose bytes have both places, or neither: so through each of its steps, its path among them.
-use Rattle.std.proofs.Common.{◌≡◌, ◌<◌, ◌≤◌, ◌^◌, ◌⊎◌, inl, inr, ◌+◌, ◌-◌, ℕ, Bool, true, false, List, [], ◌∷◌, length, Some, None, Result, Ok, Err, refl, sym, ap, subst, ◌∙◌, arith}
-use Rattle.std.specs.Prelude.{slice_index}
-use Rattle.std.proofs.lemmas.Bool.{ltb-false}
+use Rattle.core_counts.proofs.Prelude.{◌≡◌, ◌<◌, ◌≤◌, ◌^◌, ◌⊎◌, inl, inr, ◌+◌, ◌-◌, ℕ, Bool, true, false, List, [], ◌∷◌, length, Some, None, Result, Ok, Err, refl, sym, ap, subst, ◌∙◌, arith, slice_index, ltb-false, Fault, Reply, Next, Shelf, Turn, is_first, Unsent, Pending, of_file, all_pending, with_bytes, OnFile, HasNoPiece, IsNewest, FilePending, Flown, rest_at, fly_at, fly_in, PutsBytes, Cell, covers, how_of, ready_of, puts-with, OpeningNext, PutFile, Putting, Saving, Writing, is_full, refusal_of, joined, by-step, ends_as, WalkNext, Machine, Opener, PathMachine, file_of, slot_taken, begun_at, Starts, Resumes, Takes, EachSound, if-true, if-false, IsAwaited, TakesHas, PathHas, FileHas, PutHas, WaitsPlain, NotAsStable}
 use Rattle.world_model.specs.declared.answer.Answer.TheVariants as answers
-use Rattle.world_model.specs.declared.answer.Fault.{Fault}
-use Rattle.world_model.specs.declared.message.Reply.{Reply}
-use Rattle.client_shelf.specs.declared.next.Next.{Next}
 use Rattle.client_shelf.specs.declared.next.Next.TheVariants as nexts
-use Rattle.client_shelf.specs.declared.shelf.Shelf.{Shelf}
-use Rattle.client_shelf.specs.declared.turn.Turn.{Turn}
-use Rattle.client_shelf.specs.LaneFiles.{is_first}
 use Rattle.write_back.specs.declared.state.State.TheVariants.{Waiting}
-use Rattle.write_back.specs.declared.state.Ready.TheVariants.{Unsent}
-use Rattle.write_back.specs.Files.{Pending, of_file, all_pending, with_bytes, OnFile, HasNoPiece, IsNewest}
-use Rattle.write_back.specs.Pieces.{Sent, FilePending, Flown, rest_at, fly_at, fly_in}
-use Rattle.write_back.specs.Places.{PutsBytes}
-use Rattle.write_back.specs.Segments.{Cell, covers}
+use Rattle.write_back.specs.Pieces.{Sent}
 use Rattle.write_back.specs.Sound.{most_pending}
-use Rattle.write_back.specs.States.{how_of, ready_of}
-use Rattle.write_back.proofs.SendsOn.{puts-with}
-use Rattle.file_ops.specs.declared.opening.OpeningNext.{OpeningNext}
 use Rattle.file_ops.specs.declared.opening.OpeningNext.TheVariants as openings
-use Rattle.file_ops.specs.declared.put_file.PutFile.{PutFile}
-use Rattle.file_ops.specs.declared.put_file.Putting.{Putting}
 use Rattle.file_ops.specs.declared.put_file.Putting.TheVariants as putting
-use Rattle.file_ops.specs.declared.saving.Saving.{Saving}
-use Rattle.file_ops.specs.declared.write_file.Writing.{Writing}
-use Rattle.file_ops.specs.Adding.{is_full}
-use Rattle.file_ops.specs.Closings.{closed_answer, refusal_of}
+use Rattle.file_ops.specs.Closings.{closed_answer}
 use Rattle.file_ops.specs.PutFile as puts
-use Rattle.file_ops.specs.SlotFiles.{joined}
 use Rattle.file_ops.specs.Saves as saves
 use Rattle.file_ops.specs.Syncs.{sync_next}
 use Rattle.file_ops.specs.WriteFile as writes
-use Rattle.file_ops.proofs.SaveCounts.{by-step, ends_as}
-use Rattle.name_ops.specs.declared.walk.WalkNext.{WalkNext}
 use Rattle.name_ops.specs.declared.walk.WalkNext.TheVariants as walks
 use Rattle.name_ops.specs.Walking as walking
 use Rattle.name_ops.proofs.Keeps.{walk-takes-kept}
-use Rattle.op_machines.specs.declared.machine.Machine.{Machine}
 use Rattle.op_machines.specs.declared.machine.Machine.TheVariants as machines
-use Rattle.op_machines.specs.declared.opener.Opener.{Opener}
 use Rattle.op_machines.specs.declared.opener.Opener.TheVariants as openers
-use Rattle.op_machines.specs.declared.path_machine.PathMachine.{PathMachine}
 use Rattle.op_machines.specs.FileSteps as steps
-use Rattle.op_machines.specs.Openers.{file_of, slot_taken, begun_at, placed}
+use Rattle.op_machines.specs.Openers.{placed}
 use Rattle.op_machines.specs.PathSteps as paths
-use Rattle.op_machines.specs.Steps.{Starts, Resumes, Takes}
-use Rattle.step_pending.specs.Cells.{EachSound}
 use Rattle.step_pending.proofs.ComingIn.{sound-in}
-use Rattle.step_pending.proofs.Leading.{if-true, if-false}
-use Rattle.step_saves.specs.Saves.{IsAwaited}
 use Rattle.step_saves.proofs.Going.{begins}
 use Rattle.core_facts.proofs.Expecting.{some-put, no-open}
 use Rattle.core_session.proofs.drops.SaveFiles.{goes-save, takes-save}
-use Rattle.core_session.proofs.order.Adds.{TakesHas, PathHas, FileHas, PutHas}
-use Rattle.core_counts.specs.thrift.Writes.{WaitsPlain, NotAsStable}
 use Rattle.core_counts.proofs.counts.writes.Weights.{newest-below}
 use Rattle.core_counts.proofs.thrift.short.Ends.{Each, Second, waits, flies, EndsLong}
 use Rattle.core_counts.proofs.thrift.short.Holding.{Hold, Early, HoldsOn, hold-goes, hold-takes, hold-unmade}

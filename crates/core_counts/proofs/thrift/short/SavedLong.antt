@@ -1,56 +1,17 @@
 -- In one lane each WRITE of a sync or close is long, or ends where an earlier WRITE went on, where bytes of both places waited as it began.
-use Rattle.std.proofs.Common.{append_assoc, ◌≡◌, ◌<◌, ◌≤◌, ◌⊎◌, inl, inr, ◌+◌, ◌++◌, ℕ, Bool, true, false, List, ◌∷◌, length, get_or, Option, Some, None, position, slice_get, refl, sym, ap, subst, ◌∙◌, arith}
-use Rattle.std.proofs.lemmas.List.Quantifiers.{position-Some}
-use Rattle.std.proofs.lemmas.Option.{slice_get-get_or}
-use Rattle.rpc_retry.specs.Held.{next_xid}
-use Rattle.rpc_retry.specs.Sound.{AreSound}
-use Rattle.rpc_retry.specs.Waiting.{waiting_at}
-use Rattle.rpc_retry.proofs.Lookups.{at_sent}
+use Rattle.core_counts.proofs.Prelude.{append_assoc, ◌≡◌, ◌<◌, ◌≤◌, ◌⊎◌, inl, inr, ◌+◌, ◌++◌, ℕ, Bool, true, false, List, ◌∷◌, length, get_or, Option, Some, None, position, slice_get, refl, sym, ap, subst, ◌∙◌, arith, position-Some, slice_get-get_or, next_xid, AreSound, waiting_at, at_sent, Entry, Began, Sent, NoneBegan, At, SpellsCall, AnsweredBefore, UnderWay, OneLane, CoveredEarlier, At-grow, At-back, of_file, Flown, fly_at, piece_under, under-own, same-or, Saving, IsUnused, Mounted, Machine, machine_of, Lane, State, Busy, Over, Setup, is_busy, SendsIf, Reaches, begins-unbegun, SentNow, sent_now, none-busy, Flies, flies_of, flies_if, Known, reached-all, Runs, number_of, to-map, notes-reach, written_file, one-call, BeganOtherwise}
 use Rattle.world_model.specs.declared.answer.Answer.TheVariants as answers
 use Rattle.world_model.specs.declared.answer.Fault.TheVariants as faults
-use Rattle.world_model.specs.declared.entry.Entry.{Entry}
-use Rattle.world_model.specs.declared.entry.Entry.TheVariants.{Began, Sent}
-use Rattle.claims.specs.CallsAsked.{NoneBegan}
-use Rattle.world_model.specs.Entries.{At}
-use Rattle.world_model.specs.Messages.{SpellsCall}
-use Rattle.world_model.specs.Operations.{AnsweredBefore, UnderWay}
-use Rattle.claims.specs.Thrifty.{OneLane, CoveredEarlier}
-use Rattle.world_model.proofs.Places.{At-grow, At-back}
-use Rattle.write_back.specs.Files.{of_file}
-use Rattle.write_back.specs.Pieces.{Flown, fly_at, piece_under}
-use Rattle.write_back.proofs.Taking.{under-own}
-use Rattle.write_back.proofs.WritesByFile.{same-or}
-use Rattle.file_ops.specs.declared.saving.Saving.{Saving}
 use Rattle.file_ops.specs.Saves as saves
-use Rattle.file_ops.specs.SlotFiles.{IsUnused}
-use Rattle.op_machines.specs.declared.begun.Mounted.{Mounted}
-use Rattle.op_machines.specs.declared.machine.Machine.{Machine}
-use Rattle.op_machines.specs.Begun.{machine_of}
-use Rattle.client_core.specs.declared.lane.Lane.{Lane}
-use Rattle.client_core.specs.declared.lane.State.{State}
-use Rattle.client_core.specs.declared.lane.State.TheVariants.{Busy, Over}
-use Rattle.client_core.specs.declared.setup.Setup.{Setup}
-use Rattle.client_core.specs.Lanes.{is_busy}
-use Rattle.client_core.specs.Steps.{SendsIf}
 use Rattle.core_facts.specs.Notes.{IsAfterAnswers}
-use Rattle.core_facts.specs.Reaches.{Reaches}
-use Rattle.core_facts.proofs.AllCounts.{begins-unbegun}
-use Rattle.core_facts.proofs.Cases.{SentNow, sent_now}
-use Rattle.core_facts.proofs.Counting.{none-busy}
-use Rattle.core_facts.proofs.Flights.{Flies, flies_of, flies_if}
-use Rattle.core_facts.proofs.Keeping.{Known, reached-all}
-use Rattle.core_facts.proofs.LaneMarks.{Runs, number_of}
-use Rattle.core_facts.proofs.Lists.{to-map}
-use Rattle.core_facts.proofs.Noting.{notes-reach, answers-first}
-use Rattle.core_answers.specs.writes.Alone.{written_file}
+use Rattle.core_facts.proofs.Noting.{answers-first}
 use Rattle.core_answers.specs.writes.Flights.{IsInFlight}
-use Rattle.core_answers.proofs.bonds.OneCall.{one-call}
 use Rattle.core_session.proofs.saves.WholeSteps.{Whole}
 use Rattle.core_counts.specs.coarse.WereLong.{write_call}
 use Rattle.core_counts.proofs.thrift.short.Ends.{each-under, EndsAfter, EndsLong, Second, waits, flies}
 use Rattle.core_counts.proofs.thrift.short.Holding.{Hold}
 use Rattle.core_counts.proofs.thrift.short.Lone.{covered-now, its-flight}
-use Rattle.core_counts.specs.thrift.Writes.{ShortSavedWrite, BeganOtherwise, SavedWritesLong}
+use Rattle.core_counts.specs.thrift.Writes.{ShortSavedWrite, SavedWritesLong}
 use Rattle.core_counts.proofs.thrift.short.PutsLong.{early-tried, one-before, answered-on}
 use Rattle.core_counts.proofs.thrift.short.Syncing.{SaveIs, flies-save}
 use Rattle.core_counts.proofs.thrift.short.SyncTracks.{Cov, Running, Tracked, reached-tracked}

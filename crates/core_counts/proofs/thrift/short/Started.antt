@@ -1,78 +1,29 @@
 -- Where all operations are of one lane and find room: as a write or fill was answered, its bytes wait, under the last number.
-use Rattle.std.proofs.Common.{◌≡◌, ◌≢◌, ◌<◌, ◌≤◌, ◌⊎◌, inl, inr, ◌+◌, ◌-◌, ◌++◌, nat_eq, ℕ, Bool, true, false, List, [], ◌∷◌, length, Option, Some, None, Result, Ok, Err, slice_get, slice_set, refl, sym, ap, subst, ◌∙◌, arith, append_assoc, remove}
-use Rattle.std.specs.Prelude.{slice_index, replicate}
-use Rattle.std.proofs.lemmas.Bool.{eqb-true, eqb-false, le-leb, lt-ltb}
+use Rattle.core_counts.proofs.Prelude.{◌≡◌, ◌≢◌, ◌<◌, ◌≤◌, ◌⊎◌, inl, inr, ◌+◌, ◌-◌, ◌++◌, nat_eq, ℕ, Bool, true, false, List, [], ◌∷◌, length, Option, Some, None, Result, Ok, Err, slice_get, slice_set, refl, sym, ap, subst, ◌∙◌, arith, append_assoc, slice_index, eqb-true, eqb-false, le-leb, lt-ltb, Mode, Answer, Fault, Value, Entry, Began, Answered, Delivered, Op, Placed, count_of, most_pending, WriterAt, At, AnsweredBefore, UnderWay, OneLane, NeverFull, At-grow, At-back, At-below, At-cases, At-last, At-one, length_last, Unsent, of_file, all_pending, rest_at, PutsBytes, Cell, covers, puts-with, Opened, Next, Shelf, Turn, WriteFile, is_full, file_to_write, Mounted, Machine, machine_of, Starts, Lane, Busy, Over, Setup, numbers_of, IsIdle, with_state, Leads, counted, StartsLane, AnswersAt, View, turn_at, Reaches, begins-unbegun, Known, lanes-under-way, idle-numbers, number_of, at-set, at-push, get-push, get-remove, skip, to-map, answered-grow, set-other, under-back, EachSound, if-true, Basis, stirs-basis, starts-basis, takes-basis, keeps-basis, Entered, Room, reached-room, Elsewhere, counts-cons, each-map, all-each, different-apart, KeepsHearing, reached-hearing, IsOf, Given, is-given, Terms, GoesWith}
+use Rattle.std.proofs.Common.{remove}
+use Rattle.std.specs.Prelude.{replicate}
 use Rattle.std.proofs.lemmas.List.{length-replicate}
-use Rattle.nfs_types.specs.declared.mode.Mode.{Mode}
 use Rattle.nfs_types.specs.declared.mode.Mode.TheVariants as modes
-use Rattle.world_model.specs.declared.answer.Answer.{Answer}
 use Rattle.world_model.specs.declared.answer.Answer.TheVariants as answers
-use Rattle.world_model.specs.declared.answer.Fault.{Fault}
 use Rattle.world_model.specs.declared.answer.Fault.TheVariants as faults
-use Rattle.world_model.specs.declared.answer.Value.{Value}
 use Rattle.world_model.specs.declared.answer.Value.TheVariants.{Nothing}
-use Rattle.world_model.specs.declared.entry.Entry.{Entry}
-use Rattle.world_model.specs.declared.entry.Entry.TheVariants.{Began, Answered, Delivered}
-use Rattle.world_model.specs.declared.op.Op.{Op}
 use Rattle.world_model.specs.declared.op.Op.TheVariants as ops
-use Rattle.claims.specs.Asks.{Placed, count_of, most_pending}
 use Rattle.claims.specs.Asks as asks
-use Rattle.claims.specs.CallCounts.{WriterAt}
-use Rattle.world_model.specs.Entries.{At}
-use Rattle.world_model.specs.Operations.{AnsweredBefore, Ended, UnderWay}
-use Rattle.claims.specs.Thrifty.{OneLane, NeverFull}
-use Rattle.world_model.proofs.Places.{At-grow, At-back, At-below, At-cases, At-last, At-one, length_last}
+use Rattle.world_model.specs.Operations.{Ended}
 use Rattle.write_back.specs.declared.state.State.TheVariants.{Waiting as Waits}
-use Rattle.write_back.specs.declared.state.Ready.TheVariants.{Unsent}
-use Rattle.write_back.specs.Files.{of_file, all_pending}
-use Rattle.write_back.specs.Pieces.{rest_at}
-use Rattle.write_back.specs.Places.{PutsBytes}
-use Rattle.write_back.specs.Segments.{Cell, covers}
-use Rattle.write_back.proofs.SendsOn.{puts-with}
-use Rattle.open_files.specs.declared.opened.Opened.{Opened}
-use Rattle.client_shelf.specs.declared.next.Next.{Next}
 use Rattle.client_shelf.specs.declared.next.Next.TheVariants as nexts
-use Rattle.client_shelf.specs.declared.shelf.Shelf.{Shelf}
-use Rattle.client_shelf.specs.declared.turn.Turn.{Turn}
-use Rattle.file_ops.specs.declared.write_file.WriteFile.{WriteFile}
 use Rattle.file_ops.specs.declared.write_file.Writing.TheVariants as writing
 use Rattle.file_ops.specs.declared.write_file.Text.TheVariants as texts
-use Rattle.file_ops.specs.Adding.{is_full}
-use Rattle.file_ops.specs.Opens.{in_mode, of_open, file_to_write}
+use Rattle.file_ops.specs.Opens.{in_mode, of_open}
 use Rattle.file_ops.specs.WriteFile as writes
 use Rattle.std.specs.FinMap as finite
-use Rattle.op_machines.specs.declared.begun.Mounted.{Mounted}
-use Rattle.op_machines.specs.declared.machine.Machine.{Machine}
-use Rattle.op_machines.specs.Begun.{machine_of}
-use Rattle.op_machines.specs.Steps.{Starts}
-use Rattle.client_core.specs.declared.lane.Lane.{Lane}
-use Rattle.client_core.specs.declared.lane.State.TheVariants.{Busy, Over}
-use Rattle.client_core.specs.declared.setup.Setup.{Setup}
-use Rattle.client_core.specs.Numbers.{numbers_of, IsIdle}
-use Rattle.client_core.specs.Steps.{with_state, Leads, counted, StartsLane, AnswersAt}
-use Rattle.client_core.specs.View.{View, turn_at}
-use Rattle.core_facts.specs.Reaches.{Reaches}
-use Rattle.core_facts.proofs.AllCounts.{begins-unbegun}
-use Rattle.core_facts.proofs.Keeping.{Known}
-use Rattle.core_facts.proofs.LaneMarks.{lanes-under-way, idle-numbers, number_of}
-use Rattle.core_facts.proofs.Lists.{at-set, at-push, get-push, get-remove, skip, to-map}
-use Rattle.core_facts.proofs.Marks.{answered-grow}
-use Rattle.core_facts.proofs.Stories.{set-other, under-back}
-use Rattle.step_pending.specs.Cells.{EachSound}
-use Rattle.step_pending.proofs.Leading.{if-true}
-use Rattle.core_session.proofs.order.Basis.{Basis, stirs-basis, starts-basis, takes-basis, keeps-basis}
-use Rattle.core_session.proofs.room.Entered.{Entered}
-use Rattle.core_session.proofs.room.Rooms.{Room, reached-room}
-use Rattle.core_session.proofs.room.Writers.{Each, Elsewhere, counts-cons, each-map, all-each, different-apart}
-use Rattle.core_session.proofs.saves.HearingAlong.{KeepsHearing, reached-hearing}
+use Rattle.core_session.proofs.room.Writers.{Each}
 use Rattle.core_counts.specs.thrift.Writes.{WritesBoth, write, fill}
 use Rattle.core_counts.proofs.thrift.short.Lone.{one-before, room-before}
 use Rattle.core_counts.proofs.thrift.short.Tracking.{not-full}
-use Rattle.claims.specs.Slots.{IsOf, slot_of}
+use Rattle.claims.specs.Slots.{slot_of}
 use Rattle.claims.specs.Rights.{can_write}
-use Rattle.core_facts.proofs.HeldSlots.{may, held-begins, always-later, Given, is-given}
-use Rattle.claims.specs.Terms.{Terms}
-use Rattle.core_facts.specs.SlotAnswers.{GoesWith}
+use Rattle.core_facts.proofs.HeldSlots.{may, held-begins, always-later}
 use Rattle.core_session.proofs.pending.Begins.{one-file, of-step}
 use Rattle.core_session.proofs.syncs.Stages.{cell_of}
 

@@ -1,76 +1,19 @@
 -- Where all operations are of one lane: a sync or close of a file with two places next to each other, along a history.
-use Rattle.std.proofs.Common.{◌≡◌, ◌<◌, ◌≤◌, ◌⊎◌, inl, inr, ◌+◌, ◌-◌, ◌++◌, nat_eq, ℕ, Bool, true, false, List, [], ◌∷◌, length, get_or, Option, Some, None, option_map, Result, Err, position, slice_get, slice_set, refl, sym, ap, subst, ◌∙◌, arith, append_assoc}
-use Rattle.std.proofs.lemmas.Bool.{eqb-true, eqb-false}
-use Rattle.std.proofs.lemmas.List.Quantifiers.{position-Some}
-use Rattle.std.proofs.lemmas.Option.{slice_get-get_or}
-use Rattle.rpc_message.specs.Call.{xid_at}
-use Rattle.rpc_retry.specs.declared.waiting.Waiting.{Waiting}
-use Rattle.rpc_retry.specs.Held.{next_xid}
-use Rattle.rpc_retry.specs.Waiting.{waiting_at}
-use Rattle.world_model.specs.declared.answer.Fault.{Fault}
-use Rattle.world_model.specs.declared.entry.Entry.{Entry}
-use Rattle.world_model.specs.declared.entry.Entry.TheVariants.{Began, Answered, Sent, Delivered}
-use Rattle.world_model.specs.declared.message.Call.{Call}
-use Rattle.world_model.specs.declared.message.Reply.{Reply}
-use Rattle.world_model.specs.declared.op.Op.{Op}
-use Rattle.world_model.specs.Entries.{At}
-use Rattle.world_model.specs.Operations.{UnderWay}
-use Rattle.claims.specs.Thrifty.{OneLane, CoveredEarlier, IsSync, sync, close}
-use Rattle.world_model.proofs.Places.{At-grow, At-cases, At-last, length_last}
-use Rattle.write_back.specs.Files.{Pending, of_file, IsNewest}
-use Rattle.write_back.specs.Pieces.{Sent as Piece, Flown as InAir, fly_at, fly_in, FilePending, rest_at}
-use Rattle.write_back.specs.Segments.{Cell}
-use Rattle.call_replies.specs.Says.{said_of}
-use Rattle.client_shelf.specs.declared.next.Next.{Next}
+use Rattle.core_counts.proofs.Prelude.{◌≡◌, ◌<◌, ◌≤◌, ◌⊎◌, inl, inr, ◌+◌, ◌-◌, ◌++◌, nat_eq, ℕ, Bool, true, false, List, [], ◌∷◌, length, get_or, Option, Some, None, option_map, Result, Err, position, slice_get, slice_set, refl, sym, ap, subst, ◌∙◌, arith, append_assoc, eqb-true, eqb-false, position-Some, slice_get-get_or, xid_at, Waiting, next_xid, waiting_at, Fault, Entry, Began, Answered, Sent, Delivered, Call, Reply, Op, At, UnderWay, OneLane, CoveredEarlier, At-grow, At-cases, At-last, length_last, Pending, of_file, IsNewest, fly_at, fly_in, FilePending, rest_at, Cell, said_of, Next, Shelf, Turn, file_at, IsUnused, Mounted, Machine, machine_of, Fits, Starts, Resumes, Takes, Lane, Purpose, State, Busy, Over, Setup, is_busy, numbers_of, IsIdle, with_state, IsRefused, Leads, Stirs, counted, StartsLane, TakesAt, View, turn_at, unmade_turn, in_flight, HearsRecord, Reaches, begins-unbegun, taken_one, none-busy, Flies, flies_of, flies_if, sender, look_at, was-sent, Known, taker-is, taker-one, lanes-under-way, idle-numbers, number_of, at-set, at-push, get-push, get-remove, skip, to-map, answered-grow, set-other, under-back, CallFits, fits-laws, unused-next, EachSound, Basis, basis-ready, stirs-basis, starts-basis, takes-basis, keeps-basis, KeepsHearing, reached-hearing, sent-piece, IsSent, Wholly, keeps-wholly, stirs-wholly, starts-wholly, takes-wholly, starts-has, resumes-has, takes-has, is_ready, how_of, ready_of, WaitsPlain, NotAsStable, BeganOtherwise}
+use Rattle.claims.specs.Thrifty.{IsSync, sync, close}
+use Rattle.write_back.specs.Pieces.{Sent as Piece, Flown as InAir}
 use Rattle.client_shelf.specs.declared.next.Next.TheVariants as nexts
-use Rattle.client_shelf.specs.declared.shelf.Shelf.{Shelf}
-use Rattle.client_shelf.specs.declared.turn.Turn.{Turn}
 use Rattle.file_ops.specs.Saves as saves
-use Rattle.file_ops.specs.SlotFiles.{file_at, IsUnused}
-use Rattle.op_machines.specs.declared.begun.Mounted.{Mounted}
-use Rattle.op_machines.specs.declared.machine.Machine.{Machine}
-use Rattle.op_machines.specs.Begun.{machine_of}
-use Rattle.op_machines.specs.Fits.{Fits}
-use Rattle.op_machines.specs.Steps.{Starts, Resumes, Takes}
 use Rattle.op_machines.proofs.AllLaws as laws
-use Rattle.client_core.specs.declared.lane.Lane.{Lane}
-use Rattle.client_core.specs.declared.lane.Purpose.{Purpose}
-use Rattle.client_core.specs.declared.lane.State.{State}
-use Rattle.client_core.specs.declared.lane.State.TheVariants.{Busy, Over}
-use Rattle.client_core.specs.declared.setup.Setup.{Setup}
-use Rattle.client_core.specs.Lanes.{is_busy}
-use Rattle.client_core.specs.Numbers.{numbers_of, IsIdle}
-use Rattle.client_core.specs.Steps.{with_state, IsRefused, Leads, Stirs, counted, StartsLane, TakesAt}
-use Rattle.client_core.specs.View.{View, turn_at, unmade_turn}
-use Rattle.core_facts.specs.InFlight.{in_flight}
-use Rattle.core_facts.specs.Reaches.{HearsRecord, Reaches}
-use Rattle.core_facts.proofs.AllCounts.{begins-unbegun}
-use Rattle.core_facts.proofs.Cases.{taken_one}
-use Rattle.core_facts.proofs.Counting.{none-busy}
-use Rattle.core_facts.proofs.Flights.{Flies, flies_of, flies_if}
-use Rattle.core_facts.proofs.Flown.{sender, look_at}
-use Rattle.core_facts.proofs.Hearing.{was-sent}
-use Rattle.core_facts.proofs.Keeping.{Known, taker-is, taker-one}
-use Rattle.core_facts.proofs.LaneMarks.{lanes-under-way, idle-numbers, number_of}
-use Rattle.core_facts.proofs.Lists.{at-set, at-push, get-push, get-remove, skip, to-map}
-use Rattle.core_facts.proofs.Marks.{answered-grow}
-use Rattle.core_facts.proofs.Stories.{set-other, under-back}
-use Rattle.core_answers.proofs.writes.AllFits.{CallFits, fits-laws}
 use Rattle.core_answers.proofs.writes.AllFits as fitting
-use Rattle.core_answers.proofs.writes.PiecesCarried.{unused-next}
-use Rattle.step_pending.specs.Cells.{EachSound}
-use Rattle.core_session.proofs.order.Basis.{Basis, basis-ready, unused-idle, stirs-basis, starts-basis, takes-basis, keeps-basis}
+use Rattle.core_session.proofs.order.Basis.{unused-idle}
 use Rattle.core_session.proofs.order.Sounds.{resumes-sound, starts-sound, takes-sounds}
-use Rattle.core_session.proofs.saves.HearingAlong.{KeepsHearing, reached-hearing}
-use Rattle.core_session.proofs.saves.Taking.{sent-piece}
-use Rattle.core_session.proofs.saves.WholeSteps.{IsSent, Wholly, keeps-wholly, stirs-wholly, starts-wholly, takes-wholly, starts-has, resumes-has, takes-has}
 use Rattle.core_session.proofs.syncs.LaneSteps.{asked-piece}
 use Rattle.core_counts.proofs.thrift.short.Ends.{Each, EndsLong, waits as waits_so}
 use Rattle.world_model.specs.declared.answer.Answer.TheVariants as answers
 use Rattle.world_model.specs.declared.answer.Fault.TheVariants as faults
-use Rattle.write_back.specs.States.{is_ready, how_of, ready_of}
 use Rattle.step_saves.proofs.Going.{begins}
-use Rattle.core_counts.specs.thrift.Writes.{WaitsPlain, NotAsStable, OfSlot, BeganOtherwise}
+use Rattle.core_counts.specs.thrift.Writes.{OfSlot}
 use Rattle.core_counts.proofs.counts.writes.Weights.{newest-below}
 use Rattle.core_counts.proofs.thrift.short.Holding.{Hold}
 use Rattle.core_counts.proofs.thrift.short.Lone.{early-unused, none-unused, each-least, same-lane, one-before, only-one, covered-now}

@@ -1,106 +1,32 @@
 -- Where all operations are of one lane and find room: a put whose bytes have two places next to each other, along a history.
-use Rattle.std.proofs.Common.{◌≡◌, ◌<◌, ◌≤◌, ◌⊎◌, inl, inr, ◌+◌, ◌-◌, ◌^◌, ◌++◌, nat_eq, ℕ, Bool, true, false, List, [], ◌∷◌, length, Option, Some, None, Result, Err, position, slice_get, slice_set, refl, sym, ap, subst, ◌∙◌, arith, append_assoc, option_map, get_or}
-use Rattle.std.proofs.lemmas.Bool.{eqb-true, eqb-false, ltb-true}
-use Rattle.rpc_message.specs.Call.{xid_at}
-use Rattle.rpc_retry.specs.declared.waiting.Waiting.{Waiting}
-use Rattle.rpc_retry.specs.Held.{next_xid}
-use Rattle.rpc_retry.specs.Waiting.{waiting_at}
-use Rattle.world_model.specs.declared.answer.Fault.{Fault}
-use Rattle.world_model.specs.declared.entry.Entry.{Entry}
-use Rattle.world_model.specs.declared.entry.Entry.TheVariants.{Began, Answered, Sent, Delivered}
-use Rattle.world_model.specs.declared.message.Call.{Call}
-use Rattle.world_model.specs.declared.message.Reply.{Reply}
-use Rattle.world_model.specs.declared.op.Op.{Op}
+use Rattle.core_counts.proofs.Prelude.{◌≡◌, ◌<◌, ◌≤◌, ◌⊎◌, inl, inr, ◌+◌, ◌-◌, ◌^◌, ◌++◌, nat_eq, ℕ, Bool, true, false, List, [], ◌∷◌, length, Option, Some, None, Result, Err, position, slice_get, slice_set, refl, sym, ap, subst, ◌∙◌, arith, append_assoc, option_map, get_or, eqb-true, eqb-false, ltb-true, xid_at, Waiting, next_xid, waiting_at, Fault, Entry, Began, Answered, Sent, Delivered, Call, Reply, Op, Placed, AreDifferent, HasBegan, IsWriter, count_of, most_pending, WriterAt, At, UnderWay, OneLane, CoveredEarlier, NeverFull, At-grow, At-cases, At-last, length_last, Pending, of_file, all_pending, HasNoPiece, covers, said_of, Next, Shelf, Turn, PutFile, Putting, Saving, is_full, IsUnused, Text, Mounted, Machine, Opener, PathMachine, machine_of, put_of, front_of, last_of, Fits, file_of, Starts, Resumes, Takes, Lane, Purpose, State, Busy, Over, Setup, is_busy, numbers_of, IsIdle, with_state, IsRefused, Leads, Stirs, counted, StartsLane, TakesAt, View, turn_at, unmade_turn, in_flight, HearsRecord, Reaches, begins-unbegun, taken_one, flies_of, flies_path, flies_file, flies_put, flies_if, Flies, was-sent, Known, taker-is, taker-one, lanes-under-way, idle-numbers, number_of, at-set, at-push, get-push, get-remove, skip, to-map, answered-grow, set-other, under-back, CallFits, fits-laws, unused-next, EachSound, IsAwaited, TakesHas, FileHas, PathHas, PutHas, Basis, basis-ready, stirs-basis, starts-basis, takes-basis, keeps-basis, unmade-has, Entered, Room, reached-room, stage_of, counts-cons, each-map, all-each, different-apart, KeepsHearing, reached-hearing, sent-piece, IsSent, Wholly, keeps-wholly, stirs-wholly, starts-wholly, takes-wholly, starts-has, resumes-has, takes-has, none-busy, sender, look_at, slice_get-get_or, position-Some, WaitsPlain, NotAsStable}
 use Rattle.world_model.specs.declared.op.Op.TheVariants as ops
-use Rattle.claims.specs.Asks.{Placed, AreDifferent, HasBegan, IsWriter, count_of, most_pending}
 use Rattle.claims.specs.Asks as asks
-use Rattle.claims.specs.CallCounts.{WriterAt}
-use Rattle.world_model.specs.Entries.{At}
-use Rattle.world_model.specs.Operations.{UnderWay}
-use Rattle.claims.specs.Thrifty.{OneLane, CoveredEarlier}
-use Rattle.world_model.proofs.Places.{At-grow, At-cases, At-last, length_last}
-use Rattle.write_back.specs.Files.{Pending, of_file, all_pending, HasNoPiece}
 use Rattle.write_back.specs.Pieces.{Sent as Piece}
-use Rattle.write_back.specs.Segments.{covers}
 use Rattle.write_back.specs.Sound as backs
-use Rattle.call_replies.specs.Says.{said_of}
-use Rattle.client_shelf.specs.declared.next.Next.{Next}
 use Rattle.client_shelf.specs.declared.next.Next.TheVariants as nexts
-use Rattle.client_shelf.specs.declared.shelf.Shelf.{Shelf}
-use Rattle.client_shelf.specs.declared.turn.Turn.{Turn}
-use Rattle.file_ops.specs.declared.put_file.PutFile.{PutFile}
-use Rattle.file_ops.specs.declared.put_file.Putting.{Putting}
 use Rattle.file_ops.specs.declared.put_file.Putting.TheVariants as putting
-use Rattle.file_ops.specs.declared.saving.Saving.{Saving}
-use Rattle.file_ops.specs.Adding.{is_full}
 use Rattle.file_ops.specs.PutFile as puts
 use Rattle.file_ops.specs.Saves as saves
-use Rattle.file_ops.specs.SlotFiles.{IsUnused}
 use Rattle.file_ops.specs.WriteFile as writes
-use Rattle.file_ops.specs.declared.write_file.Text.{Text}
 use Rattle.file_ops.specs.declared.write_file.Text.TheVariants as texts
 use Rattle.name_ops.specs.Pairs.{walk_of}
-use Rattle.op_machines.specs.declared.begun.Mounted.{Mounted}
-use Rattle.op_machines.specs.declared.machine.Machine.{Machine}
 use Rattle.op_machines.specs.declared.machine.Machine.TheVariants as machines
-use Rattle.op_machines.specs.declared.opener.Opener.{Opener}
 use Rattle.op_machines.specs.declared.opener.Opener.TheVariants as openers
-use Rattle.op_machines.specs.declared.path_machine.PathMachine.{PathMachine}
-use Rattle.op_machines.specs.Begun.{machine_of, put_of, front_of, last_of}
 use Rattle.op_machines.specs.FileFits.{FileFits}
-use Rattle.op_machines.specs.Fits.{Fits}
 use Rattle.op_machines.specs.FileSteps as steps
-use Rattle.op_machines.specs.Openers.{file_of}
 use Rattle.op_machines.specs.PathSteps as paths
-use Rattle.op_machines.specs.Steps.{Starts, Resumes, Takes}
 use Rattle.op_machines.proofs.AllLaws as laws
-use Rattle.client_core.specs.declared.lane.Lane.{Lane}
-use Rattle.client_core.specs.declared.lane.Purpose.{Purpose}
-use Rattle.client_core.specs.declared.lane.State.{State}
-use Rattle.client_core.specs.declared.lane.State.TheVariants.{Busy, Over}
-use Rattle.client_core.specs.declared.setup.Setup.{Setup}
-use Rattle.client_core.specs.Lanes.{is_busy}
-use Rattle.client_core.specs.Numbers.{numbers_of, IsIdle}
-use Rattle.client_core.specs.Steps.{with_state, IsRefused, Leads, Stirs, counted, StartsLane, TakesAt}
-use Rattle.client_core.specs.View.{View, turn_at, unmade_turn}
-use Rattle.core_facts.specs.InFlight.{in_flight}
-use Rattle.core_facts.specs.Reaches.{HearsRecord, Reaches}
-use Rattle.core_facts.proofs.AllCounts.{begins-unbegun}
-use Rattle.core_facts.proofs.Cases.{taken_one}
-use Rattle.core_facts.proofs.Flights.{flies_of, flies_path, flies_file, flies_put, flies_if, Flies}
-use Rattle.core_facts.proofs.Hearing.{was-sent}
-use Rattle.core_facts.proofs.Keeping.{Known, taker-is, taker-one}
-use Rattle.core_facts.proofs.LaneMarks.{lanes-under-way, idle-numbers, number_of}
-use Rattle.core_facts.proofs.Lists.{at-set, at-push, get-push, get-remove, skip, to-map}
-use Rattle.core_facts.proofs.Marks.{answered-grow}
-use Rattle.core_facts.proofs.Stories.{set-other, under-back}
-use Rattle.core_answers.proofs.writes.AllFits.{CallFits, fits-laws}
 use Rattle.core_answers.proofs.writes.AllFits as fitting
-use Rattle.core_answers.proofs.writes.PiecesCarried.{unused-next}
-use Rattle.step_pending.specs.Cells.{EachSound}
-use Rattle.step_saves.specs.Saves.{IsAwaited}
-use Rattle.core_session.proofs.order.Adds.{TakesHas, FileHas, PathHas, PutHas}
-use Rattle.core_session.proofs.order.Basis.{Basis, basis-ready, unused-idle, stirs-basis, starts-basis, takes-basis, keeps-basis}
+use Rattle.core_session.proofs.order.Basis.{unused-idle}
 use Rattle.core_session.proofs.order.Sounds.{resumes-sound, starts-sound, takes-sounds}
-use Rattle.core_session.proofs.order.Unmade.{unmade-has}
-use Rattle.core_session.proofs.room.Entered.{Entered}
-use Rattle.core_session.proofs.room.Rooms.{Stands, Room, reached-room}
-use Rattle.core_session.proofs.room.Stages.{putting as putting_stage, stage_of, put_stage, file_stage, path_stage}
-use Rattle.core_session.proofs.room.Writers.{counts-cons, each-map, all-each, different-apart}
-use Rattle.core_session.proofs.saves.HearingAlong.{KeepsHearing, reached-hearing}
-use Rattle.core_session.proofs.saves.Taking.{sent-piece}
-use Rattle.core_session.proofs.saves.WholeSteps.{IsSent, Wholly, keeps-wholly, stirs-wholly, starts-wholly, takes-wholly, starts-has, resumes-has, takes-has}
+use Rattle.core_session.proofs.room.Rooms.{Stands}
+use Rattle.core_session.proofs.room.Stages.{putting as putting_stage, put_stage, file_stage, path_stage}
 use Rattle.core_session.proofs.syncs.LaneSteps.{asked-piece}
-use Rattle.claims.specs.Thrifty.{NeverFull}
 use Rattle.core_counts.proofs.thrift.short.Ends.{Each}
 use Rattle.core_counts.proofs.thrift.short.Lone.{early-unused, each-least, same-lane, one-before, room-before, only-one, none-flying, covered-now, none-unused}
-use Rattle.core_facts.proofs.Counting.{none-busy}
-use Rattle.core_facts.proofs.Flown.{sender, look_at}
-use Rattle.std.proofs.lemmas.Option.{slice_get-get_or}
-use Rattle.std.proofs.lemmas.List.Quantifiers.{position-Some}
 use Rattle.world_model.specs.declared.answer.Answer.TheVariants as answers
 use Rattle.world_model.specs.declared.answer.Fault.TheVariants as faults
-use Rattle.core_counts.specs.thrift.Writes.{WaitsPlain, NotAsStable}
 use Rattle.core_counts.proofs.thrift.short.SyncTracks.{waits-plain, not-stable}
 use Rattle.core_counts.proofs.thrift.short.Putting.{MayAdd, Awaits, AtState, HeardBy, OpenerHears, OpenerRuns, Hears, Runs, RunsOn, runs-starts, runs-resumes, runs-takes, runs-map}
 
