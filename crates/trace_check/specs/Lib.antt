@@ -1,7 +1,0 @@
-pub mod Decided
-pub mod Histories
-pub mod Freshness
-pub mod Keeping
-pub mod Soundness
-pub mod Restarting
-pub mod Beginnings
