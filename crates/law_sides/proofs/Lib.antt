@@ -1,0 +1,4 @@
+pub mod Agreeing
+pub mod Moments
+pub mod Sides
+pub mod Wholes
