@@ -1,5 +1,6 @@
 pub mod Writing
 pub mod Passing
+pub mod Labels
 pub mod Pushes
 pub mod LaneLaws
 pub mod Cores
@@ -36,3 +37,6 @@ pub mod Starting
 pub mod Counted
 pub mod Tallying
 pub mod Ports
+pub mod Turns
+pub mod Unseen
+pub mod Batches

@@ -11,7 +11,7 @@ use Rattle.lane_session.proofs.Alive.{head-of-sent}
 use Rattle.lane_session.proofs.Trying.{fails-on, fails-told, sends-on, sends-exchange, sends-told}
 
 pub sends-core : (old : Session) (result : Option (List ℕ)) (core : View) (counts : Counts) → IsLive old → SendsBy old.core result core → Sends old (record old { core = core; counts = counts })
-sends-core old result core counts live t = sends-on old result core (record old { core = core; counts = counts }) live t refl refl refl refl refl refl
+sends-core old result core counts live t = sends-on old result core (record old { core = core; counts = counts }) live t refl refl refl refl refl refl refl
 
 -- the link failed
 pub sends-fails : (old : Session) (result : Option (List ℕ)) (core : View) (counts : Counts) (new : Session) → 1 ≤ old.attempts → IsLive old → SendsBy old.core result core

@@ -1,4 +1,5 @@
 pub mod Streams
+pub mod Labels
 pub mod LaneMarks
 pub mod Places
 pub mod Ports
@@ -8,6 +9,8 @@ pub mod Holding
 pub mod Running
 pub mod Tallies
 pub mod Bonds
+pub mod TogetherFrom
 pub mod Going
+pub mod Turns
 pub mod Losing
 pub mod Sessions

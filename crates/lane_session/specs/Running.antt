@@ -39,6 +39,7 @@ pub record IsFreshFor (settings : Settings) (setup : Setup) (s : Session) : Type
   pub status : s.status ≡ 0
   pub attempts : s.attempts ≡ 4
   pub dropped : s.dropped ≡ 0
+  pub earlier : s.earlier ≡ 0
 
 -- ---- lanes
 
@@ -97,6 +98,7 @@ pub record Quietly (h k : List Entry) : Type 0 where
 -- what the exchange with the server leaves as it is
 pub record SameLines (old new : Session) : Type 0 where
   pub mounted : new.mounted ≡ old.mounted
+  pub earlier : new.earlier ≡ old.earlier
   pub lanes : new.lanes ≡ old.lanes
   pub status : new.status ≡ old.status
   pub numbers : numbers_of new.core.lanes ≡ numbers_of old.core.lanes
