@@ -34,6 +34,7 @@ use Rattle.lane_session.proofs.Counted.{xids-append}
 use Rattle.lane_session.proofs.LostOnce.{unmarked-stays}
 use Rattle.lane_session.proofs.Ending.{fresh-goes}
 use Rattle.lane_session.proofs.Passing.{relates_same, relates_less}
+use Rattle.lane_session.proofs.Resending.{resends-none}
 use Rattle.lane_session.proofs.Reaching.{ends-with, breaks-with, counts-with}
 use Rattle.lane_session.proofs.Tallying.{tally-by}
 
@@ -148,7 +149,7 @@ first-fresh setup = record {
 }
 
 none-with : (settings : Settings) (setup : Setup) (h : List Entry) → MaySetUp setup → IsOpened (Some setup) h → EndsWith settings (Some setup) h h
-none-with settings setup h may o = record { core = first_view setup; notes = notes_fresh h (first_view setup) may o.0 (first-fresh setup); since = since-none h; takes = takes-earlier h h (takes-none h); stays = unmarked-stays h o.0.unmarked }
+none-with settings setup h may o = record { core = first_view setup; notes = notes_fresh h (first_view setup) may o.0 (first-fresh setup); since = since-none h; takes = takes-earlier h h (takes-none h); stays = unmarked-stays h o.0.unmarked; resends = resends-none h o.0.unbegun }
 
 -- ---- where the link tells its history
 

@@ -15,6 +15,7 @@ pub mod Turning
 pub mod Marking
 pub mod Trying
 pub mod Quiets
+pub mod Resending
 pub mod Sendings
 pub mod Stepping
 pub mod Outcomes

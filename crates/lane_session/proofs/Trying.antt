@@ -224,7 +224,7 @@ sends-exchange old mid new p x = record {
 }
 
 pub sends-breaks-off : (old mid new : Session) → Sends old mid → Breaks mid new → Breaks old new
-sends-breaks-off old mid new p b = record { exchanges = sends-exchange old mid new p b.exchanges; told = b.told }
+sends-breaks-off old mid new p b = record { exchanges = sends-exchange old mid new p b.exchanges; told = b.told; due = b.due }
 
 -- ---- what is held
 

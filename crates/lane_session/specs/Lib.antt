@@ -8,6 +8,7 @@ pub mod Endings
 pub mod Holding
 pub mod Running
 pub mod Tallies
+pub mod Resending
 pub mod Bonds
 pub mod TogetherFrom
 pub mod Going

@@ -8,6 +8,7 @@ ghost use Rattle.world_model.specs.Told.{Relates};
 ghost use Rattle.link_dials.specs.Dials.{DialsOnly};
 ghost use Rattle.nfs_script.specs.Asked.{IsAsked, IsAskedLine};
 ghost use Rattle.nfs_script.specs.declared.script.ScriptLine.{ScriptLine};
+ghost use Rattle.rpc_retry.specs.Waiting.{first_due};
 ghost use Rattle.op_machines.specs.Begun.{machine_of};
 ghost use Rattle.op_machines.specs.Fits.{Fits};
 ghost use Rattle.client_core.specs.Numbers.{IsIdle};
@@ -18,6 +19,7 @@ ghost use Rattle.lane_session.specs.Going.{GoesBy, GoesNext};
 ghost use Rattle.lane_session.specs.Holding.{HasRoom, IsHeld, IsLive, AreQuiet, HeadSent, tries_left};
 ghost use Rattle.lane_session.specs.Places.{AreIdle};
 ghost use Rattle.lane_session.specs.Ports.{KeepsPort};
+ghost use Rattle.lane_session.specs.Resending.{DueAgain};
 ghost use Rattle.lane_session.specs.Running.{IsFreshFor, StepsSo, StepsLane, LineIs, Starts, NotesStart, Quietly, Exchanges, Redialed, NoneOver, SendsAll, SendsOne, Fails, Takes, given_up};
 ghost use Rattle.lane_session.specs.Statuses.{CausedBy};
 ghost use Rattle.lane_session.specs.Streams.{Passes, Reads, Says};
@@ -548,6 +550,7 @@ impl Session {
         requires told { NoneOver self.old.core }
         requires sent { WereSent self.old.core.calls.calls }
         requires head { HeadSent self.old.core.calls.calls }
+        requires none { first_due self.old.core.calls.calls ≡ None }
         ensures exchanges { OnOk result (Exchanges self.old self.new) }
         ensures goes { Relates (L.told link.old) (L.told link.new) Quietly }
         ensures core { Relates (L.told link.old) (L.told link.new) (CoreBy self.old self.new result) }
@@ -606,6 +609,7 @@ impl Session {
     /// Dials again after the link failed, unless the session is lost; where that doesn't work it is lost.
     fn reconnect<L: Link>(&mut self, link: &mut L) -> Result<(), Halt>
         requires told { 1 ≤ self.old.attempts → NoneOver self.old.core }
+        requires due { DueAgain self.old.core }
         ensures redials { OnOk result (Redialed self.old self.new) }
         ensures goes { Relates (L.told link.old) (L.told link.new) Quietly }
         ensures core { Relates (L.told link.old) (L.told link.new) (CoreBy self.old self.new result) }

@@ -29,6 +29,7 @@ use Rattle.nfs_client.specs.Headline.{Promises, Headline, modes_of, terms_by}
 use Rattle.nfs_client.specs.Run.{Shows}
 use Rattle.nfs_client.specs.Shown.{RunShows}
 use Rattle.nfs_client.proofs.Ports.{lost-ports, empty-ports}
+use Rattle.nfs_client.proofs.Resending.{lost-resends, early-resends, empty-resends}
 use Rattle.nfs_client.proofs.Quiet.{IsQuiet, quiet-caused, quiet-thrifty, quiet-completes, quiet-evident, quiet-settled, quiet-cuts, quiet-current, quiet-read, quiet-short, quiet-names, quiet-ages, quiet-lists}
 use Rattle.nfs_client.proofs.SetUpAlone.{lost-quiet, early-quiet, empty-quiet}
 
@@ -86,6 +87,7 @@ ready-headline s lines first ms rest v before h status text some unmarked is sho
   ends = ran is.ends says;
   caused = shows.caused lines status is.follows is.ends;
   ports = shows.ports;
+  resends = shows.has.resends;
   thrifty = shows.thrift;
   evidence = shows.evidence;
   server = ready-promises s first v before h shows;
@@ -123,6 +125,7 @@ lost-headline s lines first ms rest tally before h status text some so is only s
       ends = ran is.ends says;
       caused = quiet-caused (terms_by s first) h quiet _ status;
       ports = lost-ports s first tally before h lines so only;
+      resends = lost-resends s first tally before h lines so only;
       thrifty = quiet-thrifty (terms_by s first) h quiet;
       evidence = quiet-evident (terms_by s first) h quiet (modes_of s) (origin_of s.export);
       server = quiet-promises s first h quiet;
@@ -150,6 +153,7 @@ early-headline s lines first ms h status text some unmarked ports quiet ends =
       ends = ends;
       caused = quiet-caused (terms_by s first) h quiet _ status;
       ports = ports;
+      resends = early-resends h unmarked;
       thrifty = quiet-thrifty (terms_by s first) h quiet;
       evidence = quiet-evident (terms_by s first) h quiet (modes_of s) (origin_of s.export);
       server = quiet-promises s first h quiet;
@@ -185,6 +189,7 @@ empty-headline s given h status text none is says =
       ends = ran is.ends says;
       caused = quiet-caused (terms_by s 1) h quiet _ status;
       ports = empty-ports s h none;
+      resends = empty-resends h none;
       thrifty = quiet-thrifty (terms_by s 1) h quiet;
       evidence = quiet-evident (terms_by s 1) h quiet (modes_of s) (origin_of s.export);
       server = quiet-promises s 1 h quiet;

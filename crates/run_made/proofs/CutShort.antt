@@ -117,6 +117,7 @@ headline_by s lines given h ran status text c k = record {
   ends = ends s lines h ran status text c k.ends;
   caused = caused _ _ h ran status c k.caused;
   ports = k.ports;
+  resends = k.resends;
   thrifty = k.thrifty;
   evidence = k.evidence;
   server = k.server;
