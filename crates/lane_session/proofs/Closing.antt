@@ -11,10 +11,12 @@ use Rattle.nfs_script.specs.declared.script.ScriptLine.{ScriptLine}
 use Rattle.lane_session.specs.declared.halt.Halt.{Halt}
 use Rattle.lane_session.specs.declared.halt.Halt.TheVariants as halts
 use Rattle.lane_session.specs.declared.top.End.{End}
-use Rattle.lane_session.specs.Endings.{whole, cut, TextOf, whole_text, front_text, counts_text}
+use Rattle.lane_session.specs.Endings.{whole, cut, TextOf, whole_text, counts_cut, line_cut, counts_text}
+use Rattle.lane_session.specs.Labels.{IsCutIn, all_told, last_cut}
 use Rattle.lane_session.specs.Sessions.{SessionIs, SessionCounts, IsDone, IsBroken, TellsEnd, tells, tells_front}
 use Rattle.lane_session.specs.Statuses.{of_halt, IsCutOff, IsLeft, HasStatus, IsEnding, CausedBy}
 use Rattle.lane_session.specs.Streams.{Says, Passes}
+use Rattle.lane_session.proofs.Labels.{told-plain}
 use Rattle.lane_session.proofs.Passing.{appends_then, relates_less}
 use Rattle.lane_session.proofs.Reaching.{relates-both}
 
@@ -41,6 +43,12 @@ none-left : (halt : Halt) (last : List ℕ) → IsLeft halt last → of_halt hal
 none-left halts.Output last is other = is
 none-left halts.Memory last few other = absurd (other refl)
 
+-- the text of a session that was cut off before its counts
+pub cut-text : (count : Bool) (tally : Tally) (status : ℕ) (text : List ℕ) (k : List Entry) → IsCutOff status → IsCutIn [] k text → TextOf count tally k status text
+cut-text count tally status text k off (all_told is) = counts_cut off [] (is ∙ told-plain k ∙ sym (append-nil (transcript k))) (record { rest = counts_text count tally; is = refl })
+cut-text count tally status text k off (last_cut before lane line answer front is shown within) =
+    line_cut off before lane line answer front is (shown ∙ ap (λ (t : List ℕ). t ++ front) (told-plain before)) within
+
 done-session : (count : Bool) (script : List ScriptLine) (end : End) (status : ℕ) (given text more : List ℕ) (h k : List Entry) → IsDone script end given text h k → TellsEnd end count status more
     → SessionIs count script given h k status (text ++ more)
 done-session count script end status given text more h k d (tells is shown) = record {
@@ -58,10 +66,7 @@ done-session count script end status given text more h k d (tells_front off fron
   follows = d.follows;
   ends = cut off;
   tally = end.tally;
-  says = front_text off (record {
-    rest = front.rest;
-    is = ap (λ (t : List ℕ). transcript k ++ t) front.is ∙ sym (append_assoc (transcript k) more front.rest) ∙ ap (λ (t : List ℕ). (t ++ more) ++ front.rest) (sym d.shown);
-  });
+  says = counts_cut off more (ap (λ (t : List ℕ). t ++ more) d.shown) front;
   clock = record { last = []; is = sym d.clocked ∙ sym (append-nil (clocks k)); few = omega arith; whole = λ other. refl };
   timed = d.timed;
   together = d.together;
@@ -76,10 +81,7 @@ broken-session count script tally halt status given text h k is b =
       follows = b.follows;
       ends = cut off;
       tally = tally;
-      says = front_text off (record {
-        rest = b.shown.rest ++ counts_text count tally;
-        is = ap (λ (t : List ℕ). t ++ counts_text count tally) b.shown.is ∙ append_assoc text b.shown.rest (counts_text count tally);
-      });
+      says = cut-text count tally status text k off b.shown;
       clock = record { last = b.last; is = b.clocked; few = few-left halt b.last b.left; whole = λ other. none-left halt b.last b.left (λ same. other (is ∙ same)) };
       timed = b.timed;
       together = b.together;
@@ -93,17 +95,11 @@ done-counted count script end status given text more h k d told is = subst (λ (
   where
     by : TellsEnd end count status more → TextOf count end.tally k status (text ++ more)
     by (tells same shown) = whole_text (ap (λ (t : List ℕ). t ++ more) d.shown ∙ ap (λ (t : List ℕ). transcript k ++ t) shown)
-    by (tells_front off front) = front_text off (record {
-      rest = front.rest;
-      is = ap (λ (t : List ℕ). transcript k ++ t) front.is ∙ sym (append_assoc (transcript k) more front.rest) ∙ ap (λ (t : List ℕ). (t ++ more) ++ front.rest) (sym d.shown);
-    })
+    by (tells_front off front) = counts_cut off more (ap (λ (t : List ℕ). t ++ more) d.shown) front
 
 broken-counted : (count : Bool) (script : List ScriptLine) (halt : Halt) (status : ℕ) (given text : List ℕ) (h k : List Entry) → status ≡ of_halt halt → IsBroken script halt given text h k
     → TextOf count (tally_of k) k status text
-broken-counted count script halt status given text h k is b = front_text (subst IsCutOff (sym is) (cut-off halt)) (record {
-  rest = b.shown.rest ++ counts_text count (tally_of k);
-  is = ap (λ (t : List ℕ). t ++ counts_text count (tally_of k)) b.shown.is ∙ append_assoc text b.shown.rest (counts_text count (tally_of k));
-})
+broken-counted count script halt status given text h k is b = cut-text count (tally_of k) status text k (subst IsCutOff (sym is) (cut-off halt)) b.shown
 
 pub done-counts : (opened : Type 0) (before : Tally) (count : Bool) (script : List ScriptLine) (end : End) (status : ℕ) (given text more : List ℕ) (h k : List Entry)
     → IsDone script end given text h k → (opened → before ≡ tally_of h → end.tally ≡ tally_of k) → TellsEnd end count status more

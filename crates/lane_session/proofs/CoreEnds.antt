@@ -34,6 +34,7 @@ use Rattle.lane_session.proofs.Counted.{xids-append}
 use Rattle.lane_session.proofs.LostOnce.{unmarked-stays}
 use Rattle.lane_session.proofs.Ending.{fresh-goes}
 use Rattle.lane_session.proofs.Passing.{relates_same, relates_less}
+use Rattle.lane_session.proofs.Resending.{resends-none}
 use Rattle.lane_session.proofs.Reaching.{ends-with, breaks-with, counts-with}
 use Rattle.lane_session.proofs.Tallying.{tally-by}
 
@@ -85,18 +86,18 @@ lost-count : (script : List ScriptLine) (h k es : List Entry) → k ≡ h ++ es 
 lost-count script h k es is lines = tally-by h k (λ which. ap (calls_made which) is
     ∙ ap (λ (xs : List ℕ). length (different xs)) (xids-append which h es ∙ ap (λ (t : List ℕ). xids_sent which h ++ t) (lines-silent which script es lines) ∙ append-nil (xids_sent which h)))
 
-lost-by : (script : List ScriptLine) (result : Result (Unit {0}) Halt) (given text : List ℕ) (h k : List Entry) → LosesBy script result given text h k → IsLost h (length h) → IsLost k (length k)
-lost-by script (Ok u) given text h k l o = subst (λ (t : List Entry). IsLost t (length t)) (sym l.1) (lost-more h l.0 o)
-lost-by script (Err halt) given text h k l o = subst (λ (t : List Entry). IsLost t (length t)) (sym l.3.2) (lost-more h (l.3.0 ++ l.3.1) o)
+lost-by : (label : List ℕ) (script : List ScriptLine) (result : Result (Unit {0}) Halt) (given text : List ℕ) (h k : List Entry) → LosesBy label script result given text h k → IsLost h (length h) → IsLost k (length k)
+lost-by label script (Ok u) given text h k l o = subst (λ (t : List Entry). IsLost t (length t)) (sym l.1) (lost-more h l.0 o)
+lost-by label script (Err halt) given text h k l o = subst (λ (t : List Entry). IsLost t (length t)) (sym l.3.2) (lost-more h (l.3.0 ++ l.3.1) o)
 
 -- ---- a session that began
 
-module _ (script : List ScriptLine) (settings : Settings) (setup : Setup) (s : Session) (h k : List Entry) (may : MaySetUp setup) (f : IsFreshFor settings setup s) where
-  done-with : (t : Session) (given text : List ℕ) → GoesOn script s t given text h k → IsOpened (Some setup) h → EndsWith settings (Some setup) h k
-  done-with t given text g o = ends-with settings setup s t h k may f (g.core (fresh-goes script settings setup s f h o.0.unmarked)) o
+module _ (label : List ℕ) (script : List ScriptLine) (settings : Settings) (setup : Setup) (s : Session) (h k : List Entry) (may : MaySetUp setup) (f : IsFreshFor settings setup s) where
+  done-with : (t : Session) (given text : List ℕ) → GoesOn label script s t given text h k → IsOpened (Some setup) h → EndsWith settings (Some setup) h k
+  done-with t given text g o = ends-with settings setup s t h k may f (g.core [] (length h) (fresh-goes script settings setup s f h o.0.unmarked)) o
 
-  broken-with : (halt : Halt) (given text : List ℕ) → CutsOff script s halt given text h k → IsOpened (Some setup) h → EndsWith settings (Some setup) h k
-  broken-with halt given text g o = breaks-with settings setup s h k may f (g.core (fresh-goes script settings setup s f h o.0.unmarked)) o
+  broken-with : (halt : Halt) (given text : List ℕ) → CutsOff label script s halt given text h k → IsOpened (Some setup) h → EndsWith settings (Some setup) h k
+  broken-with halt given text g o = breaks-with settings setup s h k may f (g.core [] (length h) (fresh-goes script settings setup s f h o.0.unmarked)) o
 
 -- ---- a session for which there was no memory
 
@@ -148,37 +149,37 @@ first-fresh setup = record {
 }
 
 none-with : (settings : Settings) (setup : Setup) (h : List Entry) → MaySetUp setup → IsOpened (Some setup) h → EndsWith settings (Some setup) h h
-none-with settings setup h may o = record { core = first_view setup; notes = notes_fresh h (first_view setup) may o.0 (first-fresh setup); since = since-none h; takes = takes-earlier h h (takes-none h); stays = unmarked-stays h o.0.unmarked }
+none-with settings setup h may o = record { core = first_view setup; notes = notes_fresh h (first_view setup) may o.0 (first-fresh setup); since = since-none h; takes = takes-earlier h h (takes-none h); stays = unmarked-stays h o.0.unmarked; resends = resends-none h o.0.unbegun }
 
 -- ---- where the link tells its history
 
 pub told-none : (t : Option History) (settings : Settings) (setup : Setup) → MaySetUp setup → Relates t t (λ h k. IsOpened (Some setup) h → EndsWith settings (Some setup) h k)
 told-none t settings setup may = relates_same t (λ h k. IsOpened (Some setup) h → EndsWith settings (Some setup) h k) (λ h o. none-with settings setup h may o)
 
-module _ (a b : Option History) (script : List ScriptLine) (given text : List ℕ) where
-  pub told-lost : (result : Result (Unit {0}) Halt) → Relates a b (λ h k. LosesBy script result given text h k) → Relates a b (λ h k. IsLost h (length h) → IsLost k (length k))
+module _ (a b : Option History) (label : List ℕ) (script : List ScriptLine) (given text : List ℕ) where
+  pub told-lost : (result : Result (Unit {0}) Halt) → Relates a b (λ h k. LosesBy label script result given text h k) → Relates a b (λ h k. IsLost h (length h) → IsLost k (length k))
   told-lost result p =
-      relates_less a b (λ h k. LosesBy script result given text h k) (λ h k. IsLost h (length h) → IsLost k (length k)) (λ h k l o. lost-by script result given text h k l o) p
+      relates_less a b (λ h k. LosesBy label script result given text h k) (λ h k. IsLost h (length h) → IsLost k (length k)) (λ h k l o. lost-by label script result given text h k l o) p
 
-  pub told-lost-counted : (end : End) (tally : Tally) → end.tally ≡ tally → Relates a b (λ h k. LosesBy script (Ok tt) given text h k)
+  pub told-lost-counted : (end : End) (tally : Tally) → end.tally ≡ tally → Relates a b (λ h k. LosesBy label script (Ok tt) given text h k)
       → Relates a b (λ h k. CanCount None h → tally ≡ tally_of h → end.tally ≡ tally_of k)
   told-lost-counted end tally same p =
-      relates_less a b (λ h k. LosesBy script (Ok tt) given text h k) (λ h k. CanCount None h → tally ≡ tally_of h → end.tally ≡ tally_of k)
+      relates_less a b (λ h k. LosesBy label script (Ok tt) given text h k) (λ h k. CanCount None h → tally ≡ tally_of h → end.tally ≡ tally_of k)
       (λ h k l o is. same ∙ is ∙ sym (lost-count script h k l.0 l.1 l.2)) p
 
   module _ (settings : Settings) (setup : Setup) (s : Session) (may : MaySetUp setup) (f : IsFreshFor settings setup s) where
-    pub told-done : (t : Session) → Relates a b (λ h k. GoesOn script s t given text h k) → Relates a b (λ h k. IsOpened (Some setup) h → EndsWith settings (Some setup) h k)
+    pub told-done : (t : Session) → Relates a b (λ h k. GoesOn label script s t given text h k) → Relates a b (λ h k. IsOpened (Some setup) h → EndsWith settings (Some setup) h k)
     told-done t p =
-        relates_less a b (λ h k. GoesOn script s t given text h k) (λ h k. IsOpened (Some setup) h → EndsWith settings (Some setup) h k)
-        (λ h k g o. done-with script settings setup s h k may f t given text g o) p
+        relates_less a b (λ h k. GoesOn label script s t given text h k) (λ h k. IsOpened (Some setup) h → EndsWith settings (Some setup) h k)
+        (λ h k g o. done-with label script settings setup s h k may f t given text g o) p
 
-    pub told-counted : (begun : Tally) (t : Session) → s.counts ≡ record { tally = begun; next = setup.first_xid } → Relates a b (λ h k. GoesOn script s t given text h k)
+    pub told-counted : (begun : Tally) (t : Session) → s.counts ≡ record { tally = begun; next = setup.first_xid } → Relates a b (λ h k. GoesOn label script s t given text h k)
         → Relates a b (λ h k. IsOpened (Some setup) h → begun ≡ tally_of h → t.counts.tally ≡ tally_of k)
     told-counted begun t counts p =
-        relates_less a b (λ h k. GoesOn script s t given text h k) (λ h k. IsOpened (Some setup) h → begun ≡ tally_of h → t.counts.tally ≡ tally_of k)
-        (λ h k g o is. counts-with settings setup begun s t h k may f counts (g.core (fresh-goes script settings setup s f h o.0.unmarked)) o is) p
+        relates_less a b (λ h k. GoesOn label script s t given text h k) (λ h k. IsOpened (Some setup) h → begun ≡ tally_of h → t.counts.tally ≡ tally_of k)
+        (λ h k g o is. counts-with settings setup begun s t h k may f counts (g.core [] (length h) (fresh-goes script settings setup s f h o.0.unmarked)) o is) p
 
-    pub told-broken : (halt : Halt) → Relates a b (λ h k. CutsOff script s halt given text h k) → Relates a b (λ h k. IsOpened (Some setup) h → EndsWith settings (Some setup) h k)
+    pub told-broken : (halt : Halt) → Relates a b (λ h k. CutsOff label script s halt given text h k) → Relates a b (λ h k. IsOpened (Some setup) h → EndsWith settings (Some setup) h k)
     told-broken halt p =
-        relates_less a b (λ h k. CutsOff script s halt given text h k) (λ h k. IsOpened (Some setup) h → EndsWith settings (Some setup) h k)
-        (λ h k g o. broken-with script settings setup s h k may f halt given text g o) p
+        relates_less a b (λ h k. CutsOff label script s halt given text h k) (λ h k. IsOpened (Some setup) h → EndsWith settings (Some setup) h k)
+        (λ h k g o. broken-with label script settings setup s h k may f halt given text g o) p

@@ -24,15 +24,17 @@ use Rattle.lane_session.specs.Going.{Goes, Went, GoesOn, CutsOff}
 use Rattle.lane_session.specs.Holding.{AreQuiet, IsHeld, TriedSo}
 use Rattle.lane_session.specs.LaneMarks.{IsResting}
 use Rattle.lane_session.specs.Endings.{entries_of}
+use Rattle.lane_session.specs.Labels.{all_told, IsCutIn}
 use Rattle.lane_session.specs.Places.{IsOpen, IsPlaced, AreIdle}
 use Rattle.lane_session.specs.Sessions.{IsUnmarked, IsDone, IsBroken}
 use Rattle.lane_session.specs.Statuses.{HasStatus}
 use Rattle.lane_session.specs.Running.{IsFreshFor, first_place}
 use Rattle.lane_session.proofs.LaneLaws.{resting-alternates}
+use Rattle.lane_session.proofs.Labels.{told-plain}
 use Rattle.lane_session.proofs.LostLaws.{Gone, none-gone, untold}
 use Rattle.lane_session.proofs.Placing.{begun-other}
 use Rattle.lane_session.proofs.Pushes.{begun-append}
-use Rattle.lane_session.proofs.Together.{together-none}
+use Rattle.lane_session.proofs.Together.{together-none, together-fresh, together-whole}
 
 -- ---- all lines were begun and answered
 
@@ -69,52 +71,55 @@ none-out (l ∷ ls) lane asked out =
     ∙ ap (λ (t : List Entry). t ++ begun lane (entries_of ls)) (begun-other lane l.lane l.line l.op (out-differs lane l.lane one.lane.least one.lane.most out))
     ∙ none-out ls lane (λ k d lt. asked (suc k) d (omega (arith, lt))) out
 
-module _ (script : List ScriptLine) (k : List Entry) (s : Session) (asked : All IsAskedLine script) (long : length s.lanes ≡ 16) (idle : AreIdle s.lanes) (quiet : AreQuiet script s) (g : Goes script k s) where
+module _ (done : List ScriptLine) (from : ℕ) (script : List ScriptLine) (k : List Entry) (s : Session) (long : length s.lanes ≡ 16) (idle : AreIdle s.lanes) (quiet : AreQuiet script s) (g : Goes done from script k s) where
+  -- one of the sixteen lanes has begun all of its lines, and answered them
+  pub lane-at-end : (n : ℕ) → n < 16 → (begun (suc n) k ≡ begun (suc n) (entries_of (done ++ script))) × IsResting k (suc n)
+  lane-at-end n lt =
+      let p = in-list s.lanes n (omega (arith, lt, long)) in
+      let none : p.0.line ≡ None = idle n p.0 p.1 in
+      let next : p.0.next ≡ length script = (quiet n lt).none p.0 p.1 none in
+      let placed : IsPlaced done script k (suc n) p.0 = g.placed n p.0 p.1 in (
+        placed.begins ∙ ap (λ (t : List ScriptLine). begun (suc n) (entries_of (done ++ t))) (take-whole script p.0.next next),
+        subst (IsOpen k (suc n)) none placed.open_line,
+      )
+
+module _ (script : List ScriptLine) (h k : List Entry) (s : Session) (asked : All IsAskedLine script) (long : length s.lanes ≡ 16) (idle : AreIdle s.lanes) (quiet : AreQuiet script s)
+    (g : Goes [] (length h) script k s) where
   -- a lane has begun all of its lines, and answered them
   at-end : (lane : ℕ) → (begun lane k ≡ begun lane (entries_of script)) × IsResting k lane
   at-end lane = by (which lane)
     where
       by : ((n : ℕ) × (n < 16) × (lane ≡ suc n)) ⊎ ((lane ≡ 0) ⊎ (16 < lane)) → (begun lane k ≡ begun lane (entries_of script)) × IsResting k lane
-      by (inl w) =
-          let n : ℕ = w.0 in
-          let lt : n < 16 = w.1 in
-          let p = in-list s.lanes n (omega (arith, lt, long)) in
-          let none : p.0.line ≡ None = idle n p.0 p.1 in
-          let next : p.0.next ≡ length script = (quiet n lt).none p.0 p.1 none in
-          let placed : IsPlaced script k (suc n) p.0 = g.placed n p.0 p.1 in
-          subst (λ (m : ℕ). (begun m k ≡ begun m (entries_of script)) × IsResting k m) (sym w.2) (
-            placed.begins ∙ ap (λ (t : List ScriptLine). begun (suc n) (entries_of t)) (take-whole script p.0.next next),
-            subst (IsOpen k (suc n)) none placed.open_line,
-          )
+      by (inl w) = subst (λ (m : ℕ). (begun m k ≡ begun m (entries_of script)) × IsResting k m) (sym w.2) (lane-at-end [] (length h) script k s long idle quiet g w.0 w.1)
       by (inr out) = ((g.others lane out).0 ∙ sym (none-out script lane asked out), (g.others lane out).1)
 
-  pub session-ends : (end : End) (old : Session) (given text : List ℕ) (h : List Entry) → end.status ≡ s.status → IsUnmarked h → GoesOn script old s given text h k → IsDone script end given text h k
-  session-ends end old given text h status u on = record {
+  pub session-ends : (end : End) (old : Session) (given text : List ℕ) → end.status ≡ s.status → IsUnmarked h → GoesOn [] script old s given text h k → IsDone script end given text h k
+  session-ends end old given text status u on = record {
     follows = record {
       alternates = λ lane. resting-alternates k lane (at-end lane).1;
       begins = λ lane. record { rest = []; is = sym (at-end lane).0 ∙ sym (append-nil (begun lane k)) };
     };
     finishes = record { all = λ lane. (at-end lane).0; answered = λ x lane line op at. (at-end lane).1.answered x line op at };
     status = subst (HasStatus k) (sym status) g.status;
-    shown = sym (on.shown ∙ ap (λ (t : List ℕ). t ++ text) (untold h u));
+    shown = sym (on.shown ∙ ap (λ (t : List ℕ). t ++ text) (untold [] h u)) ∙ told-plain k;
     grown = on.grown;
     clocked = on.clocked;
     timed = g.timed;
-    together = g.together;
+    together = together-whole (entries_of script) h k on.grown.0 on.grown.1 (none-gone h u).begins g.together;
   }
 
-pub session-breaks : (script : List ScriptLine) (old : Session) (halt : Halt) (given text : List ℕ) (h k : List Entry) → IsUnmarked h → Goes script h old → CutsOff script old halt given text h k → IsBroken script halt given text h k
+pub session-breaks : (script : List ScriptLine) (old : Session) (halt : Halt) (given text : List ℕ) (h k : List Entry) → IsUnmarked h → Goes [] (length h) script h old → CutsOff [] script old halt given text h k → IsBroken script halt given text h k
 session-breaks script old halt given text h k u g c =
-    let w : Went script k = c.went g in
+    let w : Went [] (length h) script k = c.went [] (length h) g in
     record {
       follows = record { alternates = w.alternates; begins = w.begins };
-      shown = record { rest = c.shown.rest; is = c.shown.is ∙ ap (λ (t : List ℕ). (t ++ text) ++ c.shown.rest) (untold h u) };
+      shown = subst (IsCutIn [] k) (ap (λ (t : List ℕ). t ++ text) (untold [] h u)) c.shown;
       last = c.last;
       grown = c.grown;
       clocked = c.clocked;
       left = c.left;
       timed = w.timed;
-      together = w.together;
+      together = together-whole (entries_of script) h k c.grown.0 c.grown.1 (none-gone h u).begins w.together;
     }
 
 -- ---- a session that begins
@@ -122,7 +127,7 @@ session-breaks script old halt given text h k u g c =
 none-numbered : Numbered []
 none-numbered = record { equal = λ i j xid a b at other has same. absurd (cc); unrepeated = λ g i xid reply bytes answers at has. absurd (cc) }
 
-replicate-get : (m n : ℕ) (p q : Place) → slice_get (replicate m q) n ≡ Some p → p ≡ q
+pub replicate-get : (m n : ℕ) (p q : Place) → slice_get (replicate m q) n ≡ Some p → p ≡ q
 replicate-get zero n p q there = absurd (cc)
 replicate-get (suc m) zero p q there = let is : q ≡ p = cc in sym is
 replicate-get (suc m) (suc n) p q there = replicate-get m n p q there
@@ -131,8 +136,8 @@ module _ (script : List ScriptLine) (settings : Settings) (setup : Setup) (s : S
   first-place : (n : ℕ) (p : Place) → slice_get s.lanes n ≡ Some p → p ≡ first_place
   first-place n p there = replicate-get 16 n p first_place (subst (λ (ps : List Place). slice_get ps n ≡ Some p) f.lanes there)
 
-  pub fresh-held : MaySetUp setup → IsHeld script s
-  fresh-held may = record {
+  pub fresh-held : length script ≤ 16384 → MaySetUp setup → IsHeld script s
+  fresh-held small may = record {
     live = record {
       calls = subst IsSound (sym f.core.calls) (record { first = may.first; last = may.last; within = omega arith; few = omega arith; each = omega arith });
       some = λ left. f.core.lost;
@@ -145,6 +150,7 @@ module _ (script : List ScriptLine) (settings : Settings) (setup : Setup) (s : S
       idle = λ n p there none. subst (λ (ls : List Lane). IsOther (suc n) (numbers_of ls)) (sym f.core.lanes) tt;
       within = λ n p there. let next : p.next ≡ 0 = ap (λ (q : Place). q.next) (first-place n p there) in omega (arith, next);
       begun = let b = f.core.begun in omega (arith, b);
+      room = let e = f.earlier in omega (arith, e, small);
     };
     status = inl f.status;
     alive = record {
@@ -165,15 +171,15 @@ module _ (script : List ScriptLine) (settings : Settings) (setup : Setup) (s : S
     };
   }
 
-  pub fresh-goes : (h : List Entry) → IsUnmarked h → Goes script h s
+  pub fresh-goes : (h : List Entry) → IsUnmarked h → Goes [] (length h) script h s
   fresh-goes h u =
       let g : Gone [] h = none-gone h u in
       record {
         others = λ lane out. (g.begins lane, g.resting lane);
-        placed = λ n p there. subst (IsPlaced script h (suc n)) (sym (first-place n p there)) (record { begins = g.begins (suc n); open_line = g.resting (suc n) });
+        placed = λ n p there. subst (IsPlaced [] script h (suc n)) (sym (first-place n p there)) (record { begins = g.begins (suc n); open_line = g.resting (suc n) });
         status = subst (HasStatus h) (sym f.status) g.status;
         timed = g.all_timed;
-        together = together-none (entries_of script) h g.begins;
+        together = together-fresh (entries_of script) h;
       }
 
 -- nothing was begun, for want of memory
@@ -185,7 +191,7 @@ broken-none script h u =
         alternates = λ lane. resting-alternates h lane (g.resting lane);
         begins = λ lane. record { rest = begun lane (entries_of script); is = sym (ap (λ (t : List Entry). t ++ begun lane (entries_of script)) (g.begins lane)) };
       };
-      shown = record { rest = []; is = untold h u };
+      shown = all_told (sym (untold [] h u));
       last = [];
       grown = ([], sym (append-nil h));
       clocked = refl;

@@ -1,5 +1,6 @@
 pub mod Writing
 pub mod Passing
+pub mod Labels
 pub mod Pushes
 pub mod LaneLaws
 pub mod Cores
@@ -14,6 +15,7 @@ pub mod Turning
 pub mod Marking
 pub mod Trying
 pub mod Quiets
+pub mod Resending
 pub mod Sendings
 pub mod Stepping
 pub mod Outcomes
@@ -36,3 +38,6 @@ pub mod Starting
 pub mod Counted
 pub mod Tallying
 pub mod Ports
+pub mod Turns
+pub mod Unseen
+pub mod Batches

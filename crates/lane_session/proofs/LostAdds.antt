@@ -59,9 +59,9 @@ no-lines _ _ (one_line script before es more l ms split is rest) empty =
 not-there : (script : List ScriptLine) (n : ℕ) (l : ScriptLine) (es : List Entry) → slice_get script n ≡ Some l → script ≡ [] → es ≡ []
 not-there script n l es there empty = absurd (let no_way : slice_get [] n ≡ Some l = subst (λ (s : List ScriptLine). slice_get s n ≡ Some l) empty there in cc)
 
-loses-only : (script : List ScriptLine) (result : Result (Unit {0}) Halt) (given text : List ℕ) (h k : List Entry) → LosesBy script result given text h k → LosesOnly script h k
-loses-only script (Ok u) given text h k (es, is, lines, read, shown) = record { more = es; is = is; each = lines-lost script es lines; none = no-lines script es lines }
-loses-only script (Err halt) given text h k (n, l, there, (es, part, is, lines, cut, told)) = record {
+loses-only : (label : List ℕ) (script : List ScriptLine) (result : Result (Unit {0}) Halt) (given text : List ℕ) (h k : List Entry) → LosesBy label script result given text h k → LosesOnly script h k
+loses-only label script (Ok u) given text h k (es, is, lines, read, shown) = record { more = es; is = is; each = lines-lost script es lines; none = no-lines script es lines }
+loses-only label script (Err halt) given text h k (n, l, there, (es, part, is, lines, cut, told)) = record {
   more = es ++ part;
   is = is;
   each = all-both es part (lines-lost _ es lines) (part-lost l part cut);
@@ -70,10 +70,10 @@ loses-only script (Err halt) given text h k (n, l, there, (es, part, is, lines, 
 
 -- ---- where the link tells its history
 
-pub told-loses : (a b : Option History) (script : List ScriptLine) (result : Result (Unit {0}) Halt) (given text : List ℕ) → Relates a b (λ h k. LosesBy script result given text h k)
+pub told-loses : (a b : Option History) (label : List ℕ) (script : List ScriptLine) (result : Result (Unit {0}) Halt) (given text : List ℕ) → Relates a b (λ h k. LosesBy label script result given text h k)
     → Relates a b (LosesOnly script)
-told-loses a b script result given text p =
-    relates_less a b (λ h k. LosesBy script result given text h k) (LosesOnly script) (λ h k l. loses-only script result given text h k l) p
+told-loses a b label script result given text p =
+    relates_less a b (λ h k. LosesBy label script result given text h k) (LosesOnly script) (λ h k l. loses-only label script result given text h k l) p
 
 -- a session with a set-up has others to say it
 pub told-set-up : (a b : Option History) (setup : Setup) (script : List ScriptLine) (R : List Entry → List Entry → Type 0) → Relates a b R → Relates a b (LosesAll (Some setup) script)

@@ -64,18 +64,18 @@ unmarked-lost h u j lane line answer there = absurd (never-answered lane h j lin
 all-stays : (h : List Entry) → AllLost h → StaysLost h
 all-stays h all i j lane line other later answer first second lt = all j other later answer second
 
-lost-stays : (script : List ScriptLine) (result : Result (Unit {0}) Halt) (given text : List ℕ) (h k : List Entry) → LosesBy script result given text h k → IsUnmarked h → StaysLost k
-lost-stays script (Ok u) given text h k (es, is, lines, read, shown) unmarked = all-stays k (subst AllLost (sym is) (all-both h es (unmarked-lost h unmarked) (lines-lost script es lines)))
-lost-stays script (Err halt) given text h k (n, l, there, (es, part, is, lines, cut, told)) unmarked =
+lost-stays : (label : List ℕ) (script : List ScriptLine) (result : Result (Unit {0}) Halt) (given text : List ℕ) (h k : List Entry) → LosesBy label script result given text h k → IsUnmarked h → StaysLost k
+lost-stays label script (Ok u) given text h k (es, is, lines, read, shown) unmarked = all-stays k (subst AllLost (sym is) (all-both h es (unmarked-lost h unmarked) (lines-lost script es lines)))
+lost-stays label script (Err halt) given text h k (n, l, there, (es, part, is, lines, cut, told)) unmarked =
     all-stays k (subst AllLost (sym is) (all-both h (es ++ part) (unmarked-lost h unmarked) (all-both es part (lines-lost _ es lines) (part-lost l part cut))))
 
 -- ---- where the link tells its history
 
-pub told-lost-stays : (a b : Option History) (script : List ScriptLine) (result : Result (Unit {0}) Halt) (given text : List ℕ) → Relates a b (λ h k. LosesBy script result given text h k)
+pub told-lost-stays : (a b : Option History) (label : List ℕ) (script : List ScriptLine) (result : Result (Unit {0}) Halt) (given text : List ℕ) → Relates a b (λ h k. LosesBy label script result given text h k)
     → Relates a b (λ h k. IsUnmarked h → IsLost h (length h) → StaysLost k)
-told-lost-stays a b script result given text p =
-    relates_less a b (λ h k. LosesBy script result given text h k) (λ h k. IsUnmarked h → IsLost h (length h) → StaysLost k)
-    (λ h k l u o. lost-stays script result given text h k l u) p
+told-lost-stays a b label script result given text p =
+    relates_less a b (λ h k. LosesBy label script result given text h k) (λ h k. IsUnmarked h → IsLost h (length h) → StaysLost k)
+    (λ h k l u o. lost-stays label script result given text h k l u) p
 
 pub told-stays : (a b : Option History) (settings : Settings) (setup : Setup) → Relates a b (λ h k. IsOpened (Some setup) h → EndsWith settings (Some setup) h k)
     → Relates a b (λ h k. IsUnmarked h → IsOpened (Some setup) h → StaysLost k)

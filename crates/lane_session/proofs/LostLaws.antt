@@ -13,7 +13,6 @@ use Rattle.world_model.specs.Clocked.{clocks}
 use Rattle.world_model.specs.Entries.{At}
 use Rattle.world_model.specs.Follows.{begun, marks_of, Alternates, IsFront}
 use Rattle.world_model.specs.LanesTogether.{HasBegun}
-use Rattle.world_model.specs.Transcript.{transcript}
 use Rattle.world_model.proofs.Places.{At-below, At-cases}
 use Rattle.nfs_script.specs.declared.script.ScriptLine.{ScriptLine}
 use Rattle.core_facts.proofs.Marks.{not-began, not-answered, began-other, answered-other}
@@ -23,11 +22,13 @@ use Rattle.lane_session.specs.Going.{AllTimed}
 use Rattle.lane_session.specs.LaneMarks.{IsRunning, IsResting, closed_none}
 use Rattle.lane_session.specs.Losing.{lost_line, LostLines, no_line, one_line, LostPart, nothing, timed, begun as part_begun, answered as part_answered, IsToldOf, LosesBy, status_of}
 use Rattle.lane_session.specs.Endings.{entries_of}
+use Rattle.lane_session.specs.Labels.{told_by, IsCutIn}
 use Rattle.lane_session.specs.Sessions.{IsUnmarked, IsDone, IsBroken}
 use Rattle.lane_session.specs.Statuses.{HasStatus, well, IsSessionStatus}
 use Rattle.lane_session.proofs.LaneLaws.{running-alternates, resting-alternates, resting-grow, begins-now, answers-now}
 use Rattle.lane_session.proofs.Placing.{status-quiet, status-answer, timed-quiet, timed-begin}
-use Rattle.lane_session.proofs.Pushes.{clocks-append, transcript-append, begun-append}
+use Rattle.lane_session.proofs.Labels.{told-append, told-plain, cut-behind}
+use Rattle.lane_session.proofs.Pushes.{clocks-append, begun-append}
 use Rattle.lane_session.proofs.Together.{begun-back}
 
 -- ---- no mark
@@ -80,25 +81,25 @@ unbegun lane (e ∷ es) q =
     let two = apart lane e es q in
     begun-append lane (e ∷ []) es ∙ ap (λ (t : List Entry). t ++ begun lane es) (unbegun-one lane e two.0) ∙ unbegun lane es two.1
 
-untold-one : (e : Entry) → ((lane : ℕ) → marks_of lane (e ∷ []) ≡ []) → transcript (e ∷ []) ≡ []
-untold-one (Began l line op) q = refl
-untold-one (Answered l line a) q = absurd (not-answered l (Answered l line a) (q l) line a refl)
-untold-one (Clock ms) q = refl
-untold-one (Dialed port) q = refl
-untold-one (Sent bytes) q = refl
-untold-one (Executed xid call reply) q = refl
-untold-one (Foreign call reply) q = refl
-untold-one (Flushed file from len) q = refl
-untold-one (Reboot verf) q = refl
-untold-one (Delivered bytes) q = refl
-untold-one Failed q = refl
+untold-one : (label : List ℕ) (e : Entry) → ((lane : ℕ) → marks_of lane (e ∷ []) ≡ []) → told_by label (e ∷ []) ≡ []
+untold-one label (Began l line op) q = refl
+untold-one label (Answered l line a) q = absurd (not-answered l (Answered l line a) (q l) line a refl)
+untold-one label (Clock ms) q = refl
+untold-one label (Dialed port) q = refl
+untold-one label (Sent bytes) q = refl
+untold-one label (Executed xid call reply) q = refl
+untold-one label (Foreign call reply) q = refl
+untold-one label (Flushed file from len) q = refl
+untold-one label (Reboot verf) q = refl
+untold-one label (Delivered bytes) q = refl
+untold-one label Failed q = refl
 
-pub untold : (h : List Entry) → IsUnmarked h → transcript h ≡ []
-untold [] u = refl
-untold (e ∷ es) u =
-    transcript-append (e ∷ []) es
-    ∙ ap (λ (t : List ℕ). t ++ transcript es) (untold-one e (λ lane. (apart lane e es (u lane)).0))
-    ∙ untold es (λ lane. (apart lane e es (u lane)).1)
+pub untold : (label : List ℕ) (h : List Entry) → IsUnmarked h → told_by label h ≡ []
+untold label [] u = refl
+untold label (e ∷ es) u =
+    told-append label (e ∷ []) es
+    ∙ ap (λ (t : List ℕ). t ++ told_by label es) (untold-one label e (λ lane. (apart lane e es (u lane)).0))
+    ∙ untold label es (λ lane. (apart lane e es (u lane)).1)
 
 -- ---- lines that were lost, one after the other
 
@@ -253,10 +254,10 @@ part-cut script n l h part there g (part_answered ms is) = subst (λ (t : List E
 
 -- ---- what all lines come to
 
-shown-of : (h es k : List Entry) → IsUnmarked h → k ≡ h ++ es → transcript k ≡ transcript es
-shown-of h es k u is = ap transcript is ∙ transcript-append h es ∙ ap (λ (t : List ℕ). t ++ transcript es) (untold h u)
+shown-of : (h es k : List Entry) → IsUnmarked h → k ≡ h ++ es → told_by [] k ≡ told_by [] es
+shown-of h es k u is = ap (told_by []) is ∙ told-append [] h es ∙ ap (λ (t : List ℕ). t ++ told_by [] es) (untold [] h u)
 
-pub lost-ends : (script : List ScriptLine) (end : End) (given text : List ℕ) (h k es : List Entry) → end.status ≡ status_of script → IsUnmarked h → k ≡ h ++ es → LostLines script es → given ≡ clocks es → text ≡ transcript es
+pub lost-ends : (script : List ScriptLine) (end : End) (given text : List ℕ) (h k es : List Entry) → end.status ≡ status_of script → IsUnmarked h → k ≡ h ++ es → LostLines script es → given ≡ clocks es → text ≡ told_by [] es
     → IsDone script end given text h k
 lost-ends script end given text h k es status u is lines given_is text_is =
     let g : Gone script k = subst (Gone script) (sym is) (lines-gone h script es lines u) in
@@ -267,22 +268,22 @@ lost-ends script end given text h k es status u is lines given_is text_is =
       };
       finishes = record { all = g.begins; answered = λ x lane line op at. (g.resting lane).answered x line op at };
       status = subst (HasStatus k) (sym status) g.status;
-      shown = text_is ∙ sym (shown-of h es k u is);
+      shown = text_is ∙ sym (shown-of h es k u is) ∙ told-plain k;
       grown = (es, is);
       clocked = ap clocks is ∙ clocks-append h es ∙ ap (λ (t : List ℕ). clocks h ++ t) (sym given_is);
       timed = g.all_timed;
       together = λ n bytes at b k lane line op of. absurd (g.none_came n bytes at b);
     }
 
-pub lost-breaks : (script : List ScriptLine) (halt : Halt) (given text : List ℕ) (h k : List Entry) → IsUnmarked h → LosesBy script (Err halt) given text h k → IsBroken script halt given text h k
+pub lost-breaks : (script : List ScriptLine) (halt : Halt) (given text : List ℕ) (h k : List Entry) → IsUnmarked h → LosesBy [] script (Err halt) given text h k → IsBroken script halt given text h k
 lost-breaks script halt given text h k u p = by p.0 p.1 p.2 p.3.0 p.3.1 p.3.2 p.3.3 p.3.4 p.3.5
   where
-    by : (n : ℕ) (l : ScriptLine) → slice_get script n ≡ Some l → (es part : List Entry) → k ≡ h ++ (es ++ part) → LostLines (take n script) es → LostPart l part → IsToldOf halt given text (es ++ part) → IsBroken script halt given text h k
+    by : (n : ℕ) (l : ScriptLine) → slice_get script n ≡ Some l → (es part : List Entry) → k ≡ h ++ (es ++ part) → LostLines (take n script) es → LostPart l part → IsToldOf [] halt given text (es ++ part) → IsBroken script halt given text h k
     by n l there es part is lines cut told =
         let c : Cut script k = subst (Cut script) (append_assoc h es part ∙ sym is) (part-cut script n l (h ++ es) part there (lines-gone h (take n script) es lines u) cut) in
         record {
           follows = record { alternates = c.alternates; begins = c.begins };
-          shown = record { rest = told.shown.rest; is = shown-of h (es ++ part) k u is ∙ told.shown.is };
+          shown = subst (λ (t : List Entry). IsCutIn [] t text) (sym is) (cut-behind [] h (es ++ part) text (untold [] h u) told.shown);
           last = told.last;
           grown = (es ++ part, is);
           clocked = ap (λ (t : List ℕ). clocks h ++ t) told.clocked ∙ sym (append_assoc (clocks h) (clocks (es ++ part)) told.last)

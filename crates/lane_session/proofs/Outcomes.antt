@@ -26,3 +26,7 @@ pub only-memory : {T : Type 0} → (r : Result T Halt) (P : Type 0) → CausedBy
 only-memory (Ok x) P o = tt
 only-memory (Err halts.Output) P o = absurd o
 only-memory (Err halts.Memory) P o = tt
+
+pub uncaused : (T U : Type 0) (e : Halt) (P : Type 0) → CausedBy {T = T} (Err e) ⊥ → CausedBy {T = U} (Err e) P
+uncaused T U halts.Output P o = absurd o
+uncaused T U halts.Memory P o = tt

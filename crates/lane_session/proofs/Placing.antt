@@ -1,5 +1,5 @@
 -- Lanes, statuses and readings along a history.
-use Rattle.std.proofs.Common.{◌≡◌, ◌≢◌, ◌≤◌, ◌<◌, ◌+◌, ◌-◌, ◌⊎◌, inl, inr, ℕ, zero, suc, List, [], ◌∷◌, ◌++◌, length, take, slice_get, slice_set, nat_eq, Option, Some, None, max, refl, sym, ap, subst, ◌∙◌, arith, append-nil}
+use Rattle.std.proofs.Common.{◌≡◌, ◌≢◌, ◌≤◌, ◌<◌, ◌+◌, ◌-◌, ◌⊎◌, inl, inr, ℕ, zero, suc, List, [], ◌∷◌, ◌++◌, length, take, slice_get, slice_set, nat_eq, Option, Some, None, max, refl, sym, ap, subst, ◌∙◌, arith, append-nil, append_assoc}
 use Rattle.std.proofs.lemmas.Bool.{eq-eqb, ne_eqb}
 use Rattle.rpc_retry.proofs.Dues.{if_true, if_false}
 use Rattle.world_model.specs.declared.answer.Answer.{Answer}
@@ -13,9 +13,9 @@ use Rattle.world_model.specs.declared.op.Op.{Op}
 use Rattle.world_model.specs.Clocked.{clocks, IsTimed}
 use Rattle.world_model.specs.Entries.{At}
 use Rattle.world_model.specs.Follows.{begun, marks_of}
-use Rattle.world_model.specs.Transcript.{transcript}
 use Rattle.world_model.proofs.Places.{At-grow, At-last, At-cases, length_last}
 use Rattle.nfs_script.specs.declared.script.ScriptLine.{ScriptLine}
+use Rattle.lane_session.specs.Labels.{told_by}
 use Rattle.lane_session.specs.declared.lanes.Place.{Place}
 use Rattle.lane_session.specs.Going.{AllTimed}
 use Rattle.lane_session.specs.Endings.{entries_of}
@@ -46,19 +46,19 @@ no-mark e q = (
   (λ lane line op is. let no_way : Began lane line op ∷ [] ≡ [] = subst (λ (d : Entry). marks (d ∷ []) ≡ []) is q in absurd cc),
 )
 
-pub marks-none : (more : List Entry) → marks more ≡ [] → (clocks more ≡ []) × (transcript more ≡ [])
-marks-none [] q = (refl, refl)
-marks-none (Began l line op ∷ es) q = absurd cc
-marks-none (Answered l line a ∷ es) q = absurd cc
-marks-none (Clock ms ∷ es) q = absurd cc
-marks-none (Dialed port ∷ es) q = marks-none es q
-marks-none (Sent bytes ∷ es) q = marks-none es q
-marks-none (Executed xid call reply ∷ es) q = marks-none es q
-marks-none (Foreign call reply ∷ es) q = marks-none es q
-marks-none (Flushed file from len ∷ es) q = marks-none es q
-marks-none (Reboot verf ∷ es) q = marks-none es q
-marks-none (Delivered bytes ∷ es) q = marks-none es q
-marks-none (Failed ∷ es) q = marks-none es q
+pub marks-none : (label : List ℕ) (more : List Entry) → marks more ≡ [] → (clocks more ≡ []) × (told_by label more ≡ [])
+marks-none label [] q = (refl, refl)
+marks-none label (Began l line op ∷ es) q = absurd cc
+marks-none label (Answered l line a ∷ es) q = absurd cc
+marks-none label (Clock ms ∷ es) q = absurd cc
+marks-none label (Dialed port ∷ es) q = marks-none label es q
+marks-none label (Sent bytes ∷ es) q = marks-none label es q
+marks-none label (Executed xid call reply ∷ es) q = marks-none label es q
+marks-none label (Foreign call reply ∷ es) q = marks-none label es q
+marks-none label (Flushed file from len ∷ es) q = marks-none label es q
+marks-none label (Reboot verf ∷ es) q = marks-none label es q
+marks-none label (Delivered bytes ∷ es) q = marks-none label es q
+marks-none label (Failed ∷ es) q = marks-none label es q
 
 -- ---- statuses
 
@@ -211,14 +211,34 @@ one-begun script lane from at line op l next there own lines ops =
     ∙ ap (λ (t : List Entry). t ++ begun lane (Began l.lane l.line l.op ∷ [])) (passed-over script lane from at next)
     ∙ ap (λ (t : List Entry). begun lane (entries_of (take from script)) ++ t) (rw (own, lines, ops) (begun-own lane line op))
 
+-- ---- after scripts that are done
+
+pub begun-after : (done script : List ScriptLine) (lane : ℕ) → begun lane (entries_of (done ++ script)) ≡ begun lane (entries_of done) ++ begun lane (entries_of script)
+begun-after done script lane = ap (begun lane) (entries-append done script) ∙ begun-append lane (entries_of done) (entries_of script)
+
+pub passed-after : (done script : List ScriptLine) (lane from at : ℕ) → IsNext script lane from at
+    → begun lane (entries_of (done ++ take at script)) ≡ begun lane (entries_of (done ++ take from script))
+passed-after done script lane from at next =
+    begun-after done (take at script) lane
+    ∙ ap (λ (t : List Entry). begun lane (entries_of done) ++ t) (passed-over script lane from at next)
+    ∙ sym (begun-after done (take from script) lane)
+
+pub one-after : (done script : List ScriptLine) (lane from at line : ℕ) (op : Op) (l : ScriptLine) → IsNext script lane from at → slice_get script at ≡ Some l → l.lane ≡ lane → l.line ≡ line → l.op ≡ op
+    → begun lane (entries_of (done ++ take (suc at) script)) ≡ begun lane (entries_of (done ++ take from script)) ++ Began lane line op ∷ []
+one-after done script lane from at line op l next there own lines ops =
+    begun-after done (take (suc at) script) lane
+    ∙ ap (λ (t : List Entry). begun lane (entries_of done) ++ t) (one-begun script lane from at line op l next there own lines ops)
+    ∙ sym (append_assoc (begun lane (entries_of done)) (begun lane (entries_of (take from script))) (Began lane line op ∷ []))
+    ∙ ap (λ (t : List Entry). t ++ Began lane line op ∷ []) (sym (begun-after done (take from script) lane))
+
 -- ---- places
 
 open-grow : (h : List Entry) (e : Entry) (lane : ℕ) (line : Option ℕ) → marks_of lane (e ∷ []) ≡ [] → IsOpen h lane line → IsOpen (h ++ e ∷ []) lane line
 open-grow h e lane None q r = resting-grow h e lane q r
 open-grow h e lane (Some line) q r = running-grow h e lane line q r
 
-pub placed-grow : (script : List ScriptLine) (h : List Entry) (e : Entry) (lane : ℕ) (p : Place) → marks_of lane (e ∷ []) ≡ [] → begun lane (e ∷ []) ≡ [] → IsPlaced script h lane p → IsPlaced script (h ++ e ∷ []) lane p
-placed-grow script h e lane p q b i = record {
+pub placed-grow : (done script : List ScriptLine) (h : List Entry) (e : Entry) (lane : ℕ) (p : Place) → marks_of lane (e ∷ []) ≡ [] → begun lane (e ∷ []) ≡ [] → IsPlaced done script h lane p → IsPlaced done script (h ++ e ∷ []) lane p
+placed-grow done script h e lane p q b i = record {
   begins = begun-append lane h (e ∷ []) ∙ ap (λ (t : List Entry). begun lane h ++ t) b ∙ append-nil (begun lane h) ∙ i.begins;
   open_line = open-grow h e lane p.line q i.open_line;
 }

@@ -49,17 +49,17 @@ notes-dials port lane line op ms (Ok now) h k n = record { more = Clock ms ∷ B
 notes-dials port lane line op ms (Err e) h k (inl n) = record { more = []; is = n ∙ sym (append-nil h); only = tt }
 notes-dials port lane line op ms (Err e) h k (inr n) = record { more = Clock ms ∷ []; is = n; only = (tt, tt) }
 
-tells-dials : {T : Type 0} → (port lane line : ℕ) (answer : Answer) (result : Result T Halt) (text : List ℕ) (h k : List Entry) → TellsAnswer lane line answer result text h k → Dials port h k
-tells-dials port lane line answer (Ok x) text h k t = record { more = Answered lane line answer ∷ []; is = t.0; only = (tt, tt) }
-tells-dials port lane line answer (Err halt) text h k (inl t) = record { more = []; is = t.0 ∙ sym (append-nil h); only = tt }
-tells-dials port lane line answer (Err halt) text h k (inr t) = record { more = Answered lane line answer ∷ []; is = t.0; only = (tt, tt) }
+tells-dials : {T : Type 0} → (label : List ℕ) (port lane line : ℕ) (answer : Answer) (result : Result T Halt) (text : List ℕ) (h k : List Entry) → TellsAnswer label lane line answer result text h k → Dials port h k
+tells-dials label port lane line answer (Ok x) text h k t = record { more = Answered lane line answer ∷ []; is = t.0; only = (tt, tt) }
+tells-dials label port lane line answer (Err halt) text h k (inl t) = record { more = []; is = t.0 ∙ sym (append-nil h); only = tt }
+tells-dials label port lane line answer (Err halt) text h k (inr t) = record { more = Answered lane line answer ∷ []; is = t.0; only = (tt, tt) }
 
 pub dials_notes : (port : ℕ) (a b : Option History) (lane line : ℕ) (op : Op) (ms : ℕ) (result : Result ℕ Memory) → Relates a b (NotesBeginning lane line op ms result) → DialsOnly port a b
 dials_notes port a b lane line op ms result r = dials_by port a b _ (λ h k n. notes-dials port lane line op ms result h k n) r
 
-pub dials_tells : {T : Type 0} → (port : ℕ) (a b : Option History) (lane line : ℕ) (answer : Answer) (result : Result T Halt) (text : List ℕ)
-    → Relates a b (TellsAnswer lane line answer result text) → DialsOnly port a b
-dials_tells port a b lane line answer result text r = dials_by port a b _ (λ h k t. tells-dials port lane line answer result text h k t) r
+pub dials_tells : {T : Type 0} → (port : ℕ) (a b : Option History) (label : List ℕ) (lane line : ℕ) (answer : Answer) (result : Result T Halt) (text : List ℕ)
+    → Relates a b (TellsAnswer label lane line answer result text) → DialsOnly port a b
+dials_tells port a b label lane line answer result text r = dials_by port a b _ (λ h k t. tells-dials label port lane line answer result text h k t) r
 
 -- ---- nor do the lines of a lost session
 
@@ -74,14 +74,14 @@ part-dials port l es (timed ms is) = subst (AreDialsOf port) (sym is) (tt, tt)
 part-dials port l es (begun ms is) = subst (AreDialsOf port) (sym is) (tt, (tt, tt))
 part-dials port l es (answered ms is) = subst (AreDialsOf port) (sym is) (tt, (tt, (tt, tt)))
 
-loses-dials : (port : ℕ) (script : List ScriptLine) (result : Result (Unit {0}) Halt) (given text : List ℕ) (h k : List Entry) → LosesBy script result given text h k → Dials port h k
-loses-dials port script (Ok u) given text h k l = record { more = l.0; is = l.1; only = lines-dial port script l.0 l.2 }
-loses-dials port script (Err halt) given text h k l = record {
+loses-dials : (label : List ℕ) (port : ℕ) (script : List ScriptLine) (result : Result (Unit {0}) Halt) (given text : List ℕ) (h k : List Entry) → LosesBy label script result given text h k → Dials port h k
+loses-dials label port script (Ok u) given text h k l = record { more = l.0; is = l.1; only = lines-dial port script l.0 l.2 }
+loses-dials label port script (Err halt) given text h k l = record {
   more = l.3.0 ++ l.3.1;
   is = l.3.2;
   only = are-append port l.3.0 l.3.1 (lines-dial port _ l.3.0 l.3.3) (part-dials port l.1 l.3.1 l.3.4);
 }
 
-pub dials_loses : (port : ℕ) (a b : Option History) (script : List ScriptLine) (result : Result (Unit {0}) Halt) (given text : List ℕ) → Relates a b (λ h k. LosesBy script result given text h k)
+pub dials_loses : (port : ℕ) (a b : Option History) (label : List ℕ) (script : List ScriptLine) (result : Result (Unit {0}) Halt) (given text : List ℕ) → Relates a b (λ h k. LosesBy label script result given text h k)
     → DialsOnly port a b
-dials_loses port a b script result given text r = dials_by port a b _ (λ h k l. loses-dials port script result given text h k l) r
+dials_loses port a b label script result given text r = dials_by port a b _ (λ h k l. loses-dials label port script result given text h k l) r

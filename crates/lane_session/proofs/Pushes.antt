@@ -5,7 +5,6 @@ use Rattle.world_model.specs.declared.entry.Entry.TheVariants.{Began, Answered, 
 use Rattle.world_model.specs.Clocked.{clocks}
 use Rattle.world_model.specs.Entries.{ours}
 use Rattle.world_model.specs.Follows.{begun}
-use Rattle.world_model.specs.Transcript.{transcript, line_text}
 use Rattle.lane_session.specs.Running.{marks}
 
 pub clocks-append : (h es : List Entry) → clocks (h ++ es) ≡ clocks h ++ clocks es
@@ -21,20 +20,6 @@ clocks-append (Reboot verf ∷ h) es = clocks-append h es
 clocks-append (Delivered bytes ∷ h) es = clocks-append h es
 clocks-append (Failed ∷ h) es = clocks-append h es
 clocks-append (Clock ms ∷ h) es = ap (λ (t : List ℕ). ms ∷ t) (clocks-append h es)
-
-pub transcript-append : (h es : List Entry) → transcript (h ++ es) ≡ transcript h ++ transcript es
-transcript-append [] es = refl
-transcript-append (Began l line op ∷ h) es = transcript-append h es
-transcript-append (Answered l line a ∷ h) es = ap (λ (t : List ℕ). line_text l line a ++ t) (transcript-append h es) ∙ sym (append_assoc (line_text l line a) (transcript h) (transcript es))
-transcript-append (Dialed port ∷ h) es = transcript-append h es
-transcript-append (Sent bytes ∷ h) es = transcript-append h es
-transcript-append (Executed xid call reply ∷ h) es = transcript-append h es
-transcript-append (Foreign call reply ∷ h) es = transcript-append h es
-transcript-append (Flushed file from len ∷ h) es = transcript-append h es
-transcript-append (Reboot verf ∷ h) es = transcript-append h es
-transcript-append (Delivered bytes ∷ h) es = transcript-append h es
-transcript-append (Failed ∷ h) es = transcript-append h es
-transcript-append (Clock ms ∷ h) es = transcript-append h es
 
 pub begun-append : (lane : ℕ) (h es : List Entry) → begun lane (h ++ es) ≡ begun lane h ++ begun lane es
 begun-append lane [] es = refl

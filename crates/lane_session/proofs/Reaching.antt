@@ -3,7 +3,10 @@ use Rattle.std.proofs.Common.{◌≡◌, ◌<◌, ◌+◌, ◌^◌, ◌⊎◌, i
 use Rattle.rpc_message.specs.Call.{call_at}
 use Rattle.rpc_retry.specs.Waiting.{first_due, sent, sent_call}
 use Rattle.rpc_retry.specs.declared.waiting.Waiting.{Waiting}
+use Rattle.rpc_retry.specs.Held.{Held, next_xid}
+use Rattle.rpc_retry.specs.Sound.{IsSound}
 use Rattle.rpc_retry.proofs.Dues.{if_true, if_false}
+use Rattle.rpc_retry.proofs.Lookups.{at_sent}
 use Rattle.world_model.specs.declared.answer.Answer.{Answer}
 use Rattle.world_model.specs.declared.entry.Entry.{Entry}
 use Rattle.world_model.specs.declared.entry.Entry.TheVariants.{Began, Answered, Dialed, Sent, Executed, Foreign, Flushed, Reboot, Delivered, Failed, Clock}
@@ -12,9 +15,13 @@ use Rattle.world_model.specs.History.{History}
 use Rattle.world_model.specs.declared.tally.Tally.{Tally}
 use Rattle.world_model.specs.Counts.{tally_of}
 use Rattle.world_model.specs.Lost.{Loses, dropped as dropped_run}
+use Rattle.world_model.specs.Messages.{HasXid}
 use Rattle.world_model.specs.Rows.{DropRun, most_dropped, begins as no_drop}
 use Rattle.world_model.specs.Told.{Adds, Tells, Relates}
-use Rattle.world_model.proofs.Histories.{IsQuiet, steps_on, steps_on_twice}
+use Rattle.world_model.specs.Entries.{ours}
+use Rattle.world_model.specs.Waiting.{Waits}
+use Rattle.world_model.proofs.Histories.{IsQuiet, quiet_by, quietly, steps_on, steps_on_twice}
+use Rattle.link_dials.specs.Sendings.{LatestIs}
 use Rattle.session_words.specs.declared.settings.Settings.{Settings}
 use Rattle.op_machines.specs.Begun.{machine_of}
 use Rattle.op_machines.specs.Fits.{Fits}
@@ -27,7 +34,8 @@ use Rattle.client_core.specs.Lanes.{is_over}
 use Rattle.client_core.specs.Numbers.{IsIdle}
 use Rattle.client_core.specs.Steps.{Begins, SendsIf, SendsBy, AnswersBy, WereSent, lost}
 use Rattle.client_core.specs.View.{View}
-use Rattle.core_facts.proofs.Rows.{reached-rows}
+use Rattle.core_facts.proofs.Cases.{sent_now}
+use Rattle.core_facts.proofs.Rows.{reached-rows, under}
 use Rattle.core_facts.proofs.Sound.{reached-sound}
 use Rattle.core_facts.specs.Reaches.{MaySetUp, MayHear, IsOpenLine, StepsTo, last_reading}
 use Rattle.core_facts.specs.Notes.{ComesAfter, NoneReady, notes_fresh}
@@ -35,13 +43,15 @@ use Rattle.lane_session.specs.declared.counts.Counts.{Counts}
 use Rattle.lane_session.specs.declared.running.Session.{Session}
 use Rattle.lane_session.specs.Bonds.{Start, SentSince, TakesAll, Bond, Bonded, HasCore, CoreGoes, CoreWent, CoreBy, steps, Redials, RedialsBy, IsOpened, EndsWith}
 use Rattle.lane_session.specs.LaneMarks.{IsRunning}
+use Rattle.lane_session.specs.Resending.{AllLate, DueAgain, SendsAgain}
 use Rattle.lane_session.specs.Running.{IsFreshFor, NoneOver, Fails, Takes, TakesBy, given_up, mounted_by}
 use Rattle.lane_session.proofs.Bonding.{since-none, reached, bond-step, bond-loses, bond-taken, bond-dropped}
 use Rattle.lane_session.proofs.Cores.{HeardSo, heard_none, heard_one, heard-so, sends-so}
 use Rattle.lane_session.proofs.LostOnce.{may-stay, fresh-only, unmarked-stays}
 use Rattle.lane_session.specs.Tallies.{CountsBy, Tallied}
 use Rattle.lane_session.proofs.LaneNumbers.{none-ready, may-hear}
-use Rattle.lane_session.proofs.Redialing.{still_by, still-ours, redials-call}
+use Rattle.lane_session.proofs.Redialing.{still_by, still-ours}
+use Rattle.lane_session.proofs.Resending.{Excused, latest-now, latest-quiet, again-step, again-fails, again-dials, again-lost, resends-none, heard-excused, sent-excused}
 use Rattle.lane_session.proofs.Taking.{takes-none, takes-on, takes-still, takes-begins, takes-earlier, takes-read}
 use Rattle.lane_session.proofs.Tallying.{tallied-step, tallied-like, tallied-sends, fresh-tallied}
 
@@ -101,28 +111,42 @@ module _ (m : Mounted) (setup : Setup) (start : Start) where
         tallied-on k v e v n c (still-step (machine_of m) k v e still) (λ bytes is. still-sent e bytes still is) p.0 p.1,
       )) h more q (b, t)).1
 
-  pub bonded-still : (h more : List Entry) (s : Session) → steps more ≡ [] → Bonded m setup start h s → Bonded m setup start (h ++ more) s
-  bonded-still h more s q b = record {
-    mounted = b.mounted;
-    bond = bond-still h more s.core s.dropped q b.bond;
-    takes = takes-still start.from h more q b.takes;
-    tallied = λ is. tallied-still h more s.core s.dropped s.counts q b.bond (b.tallied is);
-  }
+  -- what an entry that is no failure leaves of the calls that are sent again
+  again-on : (h : List Entry) (old : View) (e : Entry) (new : View) (n : ℕ) → StepsTo (machine_of m) h old e new → (e ≡ Failed → ⊥) → Bond m setup start.from h old n → SendsAgain h old
+      → SendsAgain (h ++ e ∷ []) new
+  again-on h old e new n t other b a = again-step (machine_of m) setup h old e new t other (reached-sound (machine_of m) setup h old (reached m setup start.from h old n b)) a
+
+  quiet-failed : (e : Entry) → ours (e ∷ []) ≡ [] → e ≡ Failed → ⊥
+  quiet-failed e q is = let here : Failed ∷ [] ≡ [] = subst (λ (d : Entry). ours (d ∷ []) ≡ []) is q in absurd cc
 
   pub bonded-quiet : (s : Session) → IsQuiet (λ (h : List Entry). Bonded m setup start h s)
-  bonded-quiet s h more q b = bonded-still h more s (still-ours more [] q refl) b
+  bonded-quiet s = quiet_by (λ (h : List Entry). Bonded m setup start h s) (λ h e q b. record {
+    mounted = b.mounted;
+    bond = bond-one h e s.core s.dropped (still-ours (e ∷ []) [] q refl) b.bond;
+    again = again-on h s.core e s.core s.dropped (still-step (machine_of m) h s.core e (still-ours (e ∷ []) [] q refl)) (quiet-failed e q) b.bond b.again;
+    takes = takes-still start.from h (e ∷ []) (still-ours (e ∷ []) [] q refl) b.takes;
+    tallied = λ is. tallied-still h (e ∷ []) s.core s.dropped s.counts (still-ours (e ∷ []) [] q refl) b.bond (b.tallied is);
+  })
 
-  pub bonded-redials : (h k : List Entry) (s : Session) → Redials h k → Bonded m setup start h s → Bonded m setup start k s
-  bonded-redials h k s r b = subst (λ (t : List Entry). Bonded m setup start t s) (sym r.is) (bonded-still h r.more s r.still b)
+  -- dials were made, after a failure
+  pub bonded-redials : (h k : List Entry) (s : Session) → Redials h k → DueAgain s.core → Bonded m setup start h s → Bonded m setup start k s
+  bonded-redials h k s r due b = record {
+    mounted = b.mounted;
+    bond = subst (λ (t : List Entry). Bond m setup start.from t s.core s.dropped) (sym r.is) (bond-still h r.more s.core s.dropped r.still b.bond);
+    again = again-dials h k r.more s.core r.is r.each due b.again;
+    takes = subst (TakesAll start.from) (sym r.is) (takes-still start.from h r.more r.still b.takes);
+    tallied = λ is. subst (λ (t : List Entry). Tallied t s.core s.counts) (sym r.is) (tallied-still h r.more s.core s.dropped s.counts r.still b.bond (b.tallied is));
+  }
 
   pub core-of : (h : List Entry) (s : Session) → Bonded m setup start h s → HasCore m setup start.from h
-  core-of h s b = record { core = s.core; notes = b.bond.notes; since = b.bond.since; takes = takes-earlier start.from h b.takes; stays = b.bond.stays }
+  core-of h s b = record { core = s.core; notes = b.bond.notes; since = b.bond.since; takes = takes-earlier start.from h b.takes; stays = b.bond.stays; resends = b.again.resends }
 
   -- the session's other fields don't count
   bonded-like : (h : List Entry) (s t : Session) → t.mounted ≡ s.mounted → t.core ≡ s.core → t.dropped ≡ s.dropped → t.counts ≡ s.counts → Bonded m setup start h s → Bonded m setup start h t
   bonded-like h s t mounted core count tally b = record {
     mounted = mounted ∙ b.mounted;
     bond = subst (λ (v : View). Bond m setup start.from h v t.dropped) (sym core) (subst (λ (n : ℕ). Bond m setup start.from h s.core n) (sym count) b.bond);
+    again = subst (SendsAgain h) (sym core) b.again;
     takes = b.takes;
     tallied = λ is. subst (λ (v : View). Tallied h v t.counts) (sym core) (subst (Tallied h s.core) (sym tally) (b.tallied is));
   }
@@ -131,6 +155,7 @@ module _ (m : Mounted) (setup : Setup) (start : Start) where
   bonded-given-up h s none shown b = record {
     mounted = b.mounted;
     bond = bond-loses m setup start.from h s.core s.dropped none shown b.bond;
+    again = again-lost h s.core b.again;
     takes = b.takes;
     tallied = λ is. tallied-like h s.core (lost s.core) s.counts refl (b.tallied is);
   }
@@ -142,11 +167,13 @@ module _ (m : Mounted) (setup : Setup) (start : Start) where
   -- ---- one call of the link
 
   -- the attempts that run have ended
-  pub bonded-fails : (h : List Entry) (old new : Session) → NoneOver old.core → Fails old new → Bonded m setup start h old → Bonded m setup start (h ++ Failed ∷ []) new
-  bonded-fails h old new told f b =
+  pub bonded-fails : (h : List Entry) (old new : Session) → NoneOver old.core → Fails old new → ((xid : ℕ) → Waits h xid (length h) → Excused h xid) → Bonded m setup start h old
+      → Bonded m setup start (h ++ Failed ∷ []) new
+  bonded-fails h old new told f excused b =
       subst (Bonded m setup start (h ++ Failed ∷ [])) (sym f.is) (record {
         mounted = b.mounted;
         bond = bond-step m setup start.from h old.core Failed new.core old.dropped (λ comes. absurd comes) (inr (bonded-none h old told b)) (inl (f.result, f.core)) (λ bytes e. absurd cc) b.bond;
+        again = again-fails h old.core f.result new.core f.core excused b.again;
         takes = takes-on start.from h Failed (λ ms e. absurd cc) b.takes;
         tallied = λ is. tallied-on h old.core Failed new.core old.dropped old.counts (inl (f.result, f.core)) (λ bytes e. absurd cc) b.bond (b.tallied is);
       })
@@ -176,17 +203,20 @@ module _ (m : Mounted) (setup : Setup) (start : Start) where
       takes_so : TakesAll start.from k
       takes_so = takes-on start.from h (Delivered rec) (λ ms e. absurd cc) b.takes
 
+      again_so : SendsAgain k t.core
+      again_so = again-on h old.core (Delivered rec) t.core old.dropped (record { may = may; result = t.result; hears = t.hears }) (λ is. absurd cc) b.bond b.again
+
       tallied_so : start.counted ≡ true → Tallied k t.core old.counts
       tallied_so so = tallied-on h old.core (Delivered rec) t.core old.dropped old.counts (record { may = may; result = t.result; hears = t.hears }) (λ bytes e. absurd cc) b.bond (b.tallied so)
 
       by : (r : Bool) → t.result ≡ r → TakesBy old r t.core new → Bonded m setup start k new
       by true took is =
-          subst (Bonded m setup start k) (sym is) (record { mounted = b.mounted; bond = bond-taken m setup start.from h old.core rec t.result t.core old.dropped may t.hears took b.bond; takes = takes_so; tallied = tallied_so })
-      by false not (inl p) = subst (Bonded m setup start k) (sym p.1) (record { mounted = b.mounted; bond = dropped_so not; takes = takes_so; tallied = tallied_so })
+          subst (Bonded m setup start k) (sym is) (record { mounted = b.mounted; bond = bond-taken m setup start.from h old.core rec t.result t.core old.dropped may t.hears took b.bond; again = again_so; takes = takes_so; tallied = tallied_so })
+      by false not (inl p) = subst (Bonded m setup start k) (sym p.1) (record { mounted = b.mounted; bond = dropped_so not; again = again_so; takes = takes_so; tallied = tallied_so })
       by false not (inr p) =
           let run : DropRun k most_dropped (length k) = subst (λ (n : ℕ). DropRun k n (length k)) p.0 (dropped_so not).run in
           subst (Bonded m setup start k) (sym p.1)
-          (bonded-given-up k (record old { core = t.core; dropped = old.dropped + 1 }) (none_so not) (dropped_run run) (record { mounted = b.mounted; bond = dropped_so not; takes = takes_so; tallied = tallied_so }))
+          (bonded-given-up k (record old { core = t.core; dropped = old.dropped + 1 }) (none_so not) (dropped_run run) (record { mounted = b.mounted; bond = dropped_so not; again = again_so; takes = takes_so; tallied = tallied_so }))
 
   -- a record was sent
   pub bonded-sends : (h : List Entry) (old new : Session) (rec : List ℕ) → NoneOver old.core → SendsBy old.core (Some rec) new.core → CountsBy (call_at rec) old.counts new.counts → new.mounted ≡ old.mounted
@@ -195,6 +225,7 @@ module _ (m : Mounted) (setup : Setup) (start : Start) where
     mounted = mounted ∙ b.mounted;
     bond = subst (λ (n : ℕ). Bond m setup start.from (h ++ Sent rec ∷ []) new.core n) (sym count)
         (bond-step m setup start.from h old.core (Sent rec) new.core old.dropped (λ comes. bonded-none h old told b) tt t (λ bytes e. absurd cc) b.bond);
+    again = again-on h old.core (Sent rec) new.core old.dropped t (λ is. absurd cc) b.bond b.again;
     takes = takes-on start.from h (Sent rec) (λ ms e. absurd cc) b.takes;
     tallied = λ is.
         tallied-sends setup h old.core rec new.core old.counts new.counts (reached-rows (machine_of m) setup h old.core (reached m setup start.from h old.core old.dropped b.bond)) t counts (b.tallied is);
@@ -208,24 +239,25 @@ core-same old h m setup start b = b
 pub core-cut : (old : Session) (h : List Entry) → CoreWent old h h
 core-cut old h m setup start b = core-of m setup start h old b
 
-pub core-redials : (old : Session) (h k : List Entry) → Redials h k → CoreGoes old old h k
-core-redials old h k r m setup start b = bonded-redials m setup start h k old r b
+pub core-redials : (old : Session) (h k : List Entry) → DueAgain old.core → Redials h k → CoreGoes old old h k
+core-redials old h k due r m setup start b = bonded-redials m setup start h k old r due b
 
-pub core-redials-cut : (old : Session) (h k : List Entry) → Redials h k → CoreWent old h k
-core-redials-cut old h k r m setup start b = core-of m setup start k old (bonded-redials m setup start h k old r b)
+pub core-redials-cut : (old : Session) (h k : List Entry) → DueAgain old.core → Redials h k → CoreWent old h k
+core-redials-cut old h k due r m setup start b = core-of m setup start k old (bonded-redials m setup start h k old r due b)
 
 -- four dials failed
-pub core-undialed : (old : Session) (h k : List Entry) → NoneOver old.core → RedialsBy (Ok false) h k → CoreGoes old (given_up old) h k
-core-undialed old h k told r m setup start b = bonded-given-up m setup start k old (bonded-none m setup start h old told b) r.1 (bonded-redials m setup start h k old r.0 b)
+pub core-undialed : (old : Session) (h k : List Entry) → NoneOver old.core → DueAgain old.core → RedialsBy (Ok false) h k → CoreGoes old (given_up old) h k
+core-undialed old h k told due r m setup start b = bonded-given-up m setup start k old (bonded-none m setup start h old told b) r.1 (bonded-redials m setup start h k old r.0 due b)
 
 -- the link had no memory
 pub core-unmade : (old : Session) (a b : History) → Adds a b [] → CoreWent old a.entries b.entries
-core-unmade old a b p = core-redials-cut old a.entries b.entries (redials-call a b [] refl p)
+core-unmade old a b p m setup start c = core-of m setup start b.entries old (quietly (λ (h : List Entry). Bonded m setup start h old) a b (bonded-quiet m setup start old) p c)
 
-pub core-fails : (old new : Session) (a b : History) → NoneOver old.core → Fails old new → Adds a b (Failed ∷ []) → CoreGoes old new a.entries b.entries
-core-fails old new a b told f p m setup start c =
+pub core-fails : (old new : Session) (a b : History) → NoneOver old.core → first_due old.core.calls.calls ≡ None → old.core.lost ≡ false → Fails old new → Adds a b (Failed ∷ [])
+    → CoreGoes old new a.entries b.entries
+core-fails old new a b told none live f p m setup start c =
     steps_on (λ (h : List Entry). Bonded m setup start h old) (λ (h : List Entry). Bonded m setup start h new) a b Failed (bonded-quiet m setup start old) (bonded-quiet m setup start new)
-    (λ h x. bonded-fails m setup start h old new told f x) p c
+    (λ h x. bonded-fails m setup start h old new told f (heard-excused h old.core none live x.bond.known x.again.late) x) p c
 
 pub core-takes : (old new : Session) (rec : List ℕ) (a b : History) → WereSent old.core.calls.calls → NoneOver old.core → Takes old rec new → Adds a b (Delivered rec ∷ []) → CoreGoes old new a.entries b.entries
 core-takes old new rec a b all_sent told t p m setup start c =
@@ -242,13 +274,24 @@ core-sends old new rec a b told t counts mounted count p m setup start c =
 pub sent-told : (old mid : Session) (result : Option (List ℕ)) → SendsBy old.core result mid.core → NoneOver old.core → NoneOver mid.core
 sent-told old mid result t told n lt = subst (λ (ls : List Lane). position (is_over (suc n)) ls ≡ None) (sym (sends-so old.core result mid.core t).lanes) (told n lt)
 
+-- the record has the xid of its call
+sent-under : (old : Session) (rec : List ℕ) → (m : Mounted) (setup : Setup) (start : Start) (h : List Entry) → Bonded m setup start h old → (xid : ℕ) (call : Waiting Purpose)
+    → first_due old.core.calls.calls ≡ Some (xid, call) → rec ≡ call.bytes → HasXid rec xid
+sent-under old rec m setup start h b xid call due is =
+    let sound = reached-sound (machine_of m) setup h old.core (reached m setup start.from h old.core old.dropped b.bond) in
+    let waits = at_sent old.core.calls.cred old.core.calls.first_xid (next_xid old.core.calls) xid old.core.calls.calls call sound.calls.each due in
+    subst (λ (r : List ℕ). HasXid r xid) (sym is) (under setup old.core xid call sound waits.before)
+
 -- the record went out, and the link failed
-pub core-sends-fails : (old mid new : Session) (rec : List ℕ) (a b : History) → NoneOver old.core → SendsBy old.core (Some rec) mid.core → CountsBy (call_at rec) old.counts mid.counts → mid.mounted ≡ old.mounted → mid.dropped ≡ old.dropped
-    → Fails mid new → Adds a b (Sent rec ∷ Failed ∷ []) → CoreGoes old new a.entries b.entries
-core-sends-fails old mid new rec a b told t counts mounted count f p m setup start c =
-    steps_on_twice (λ (h : List Entry). Bonded m setup start h old) (λ (h : List Entry). Bonded m setup start h mid) (λ (h : List Entry). Bonded m setup start h new) a b (Sent rec) Failed
-    (bonded-quiet m setup start old) (bonded-quiet m setup start mid) (bonded-quiet m setup start new)
-    (λ h x. bonded-sends m setup start h old mid rec told t counts mounted count x) (λ h x. bonded-fails m setup start h mid new (sent-told old mid (Some rec) t told) f x) p c
+pub core-sends-fails : (old mid new : Session) (rec : List ℕ) (a b : History) → NoneOver old.core → IsSound old.core.calls → SendsBy old.core (Some rec) mid.core → CountsBy (call_at rec) old.counts mid.counts
+    → mid.mounted ≡ old.mounted → mid.dropped ≡ old.dropped → Fails mid new → Adds a b (Sent rec ∷ Failed ∷ []) → CoreGoes old new a.entries b.entries
+core-sends-fails old mid new rec a b told sound t counts mounted count f p m setup start c =
+    steps_on_twice (λ (h : List Entry). Bonded m setup start h old) (λ (h : List Entry). Bonded m setup start h mid × LatestIs h (length h) (Sent rec)) (λ (h : List Entry). Bonded m setup start h new)
+    a b (Sent rec) Failed (bonded-quiet m setup start old)
+    (λ h more q x. (bonded-quiet m setup start mid h more q x.0, latest-quiet (Sent rec) h more q x.1)) (bonded-quiet m setup start new)
+    (λ h x. (bonded-sends m setup start h old mid rec told t counts mounted count x, latest-now h (Sent rec)))
+    (λ h x. bonded-fails m setup start h mid new (sent-told old mid (Some rec) t told) f
+    (sent-excused h old.core.calls.cred old.core.calls.first_xid (next_xid old.core.calls) old.core rec mid.core t sound.each (sent-under old rec m setup start a.entries c) x.1 x.0.bond.known x.0.again.late) x.0) p c
 
 -- none was due
 none-due : (o : Option (ℕ × Waiting Purpose)) → None ≡ option_map (λ (e : ℕ × Waiting Purpose). e.1.bytes) o → o ≡ None
@@ -310,6 +353,9 @@ bond-clock : (m : Mounted) (setup : Setup) (start : Start) (h : List Entry) (s :
     → Bond m setup start.from (h ++ Clock ms ∷ []) s.core s.dropped
 bond-clock m setup start h s ms b = bond-step m setup start.from h s.core (Clock ms) s.core s.dropped (λ comes. absurd comes) tt refl (λ bytes e. absurd cc) b.bond
 
+again-clock : (m : Mounted) (setup : Setup) (start : Start) (h : List Entry) (s : Session) (ms : ℕ) → Bonded m setup start h s → SendsAgain (h ++ Clock ms ∷ []) s.core
+again-clock m setup start h s ms b = again-on m setup start h s.core (Clock ms) s.core s.dropped refl (λ is. absurd cc) b.bond b.again
+
 tallied-clock : (m : Mounted) (setup : Setup) (start : Start) (h : List Entry) (s : Session) (ms : ℕ) → Bonded m setup start h s → start.counted ≡ true
     → Tallied (h ++ Clock ms ∷ []) s.core s.counts
 tallied-clock m setup start h s ms b is = tallied-on m setup start h s.core (Clock ms) s.core s.dropped s.counts refl (λ bytes e. absurd cc) b.bond (b.tallied is)
@@ -326,6 +372,7 @@ core-begins s t h ms lane line op idle few fits step mounted count tally m setup
       mounted = mounted ∙ b.mounted;
       bond = subst (λ (n : ℕ). Bond m setup start.from (h1 ++ Began lane line op ∷ []) t.core n) (sym count)
           (bond-step m setup start.from h1 s.core (Began lane line op) t.core s.dropped (λ comes. absurd comes) tt begun (λ bytes e. absurd cc) read);
+      again = again-on m setup start h1 s.core (Began lane line op) t.core s.dropped begun (λ is. absurd cc) read (again-clock m setup start h s ms b);
       takes = takes-begins start.from h ms lane line op b.takes;
       tallied = λ is. subst (Tallied (h1 ++ Began lane line op ∷ []) t.core) (sym tally)
           (tallied-on m setup start h1 s.core (Began lane line op) t.core s.dropped s.counts begun (λ bytes e. absurd cc) read (tallied-clock m setup start h s ms b is));
@@ -337,7 +384,7 @@ core-unbegun s h k given (inl is) m setup start b = subst (HasCore m setup start
 core-unbegun s h k given (inr n) m setup start b =
     let read = bond-clock m setup start h s n.0 b in
     subst (HasCore m setup start.from) (sym n.2)
-    (record { core = s.core; notes = read.notes; since = read.since; takes = takes-read start.from h n.0 b.takes; stays = read.stays })
+    (record { core = s.core; notes = read.notes; since = read.since; takes = takes-read start.from h n.0 b.takes; stays = read.stays; resends = (again-clock m setup start h s n.0 b).resends })
 
 -- ---- an answer is told
 
@@ -350,6 +397,7 @@ core-answers s t h lane line answer running answers mounted count tally m setup 
   mounted = mounted ∙ b.mounted;
   bond = subst (λ (n : ℕ). Bond m setup start.from (h ++ Answered lane line answer ∷ []) t.core n) (sym count)
       (bond-step m setup start.from h s.core (Answered lane line answer) t.core s.dropped (λ comes. absurd comes) tt (record { line_is = open-line h lane line running; answers = answers }) (λ bytes e. absurd cc) b.bond);
+  again = again-on m setup start h s.core (Answered lane line answer) t.core s.dropped (record { line_is = open-line h lane line running; answers = answers }) (λ is. absurd cc) b.bond b.again;
   takes = takes-on start.from h (Answered lane line answer) (λ ms e. absurd cc) b.takes;
   tallied = λ is. subst (Tallied (h ++ Answered lane line answer ∷ []) t.core) (sym tally)
       (tallied-on m setup start h s.core (Answered lane line answer) t.core s.dropped s.counts (record { line_is = open-line h lane line running; answers = answers }) (λ bytes e. absurd cc) b.bond (b.tallied is));
@@ -373,6 +421,7 @@ fresh-bonded settings setup start s h may f is tallied o = record {
     only = fresh-only setup s.core f.core;
     stays = unmarked-stays h o.0.unmarked;
   };
+  again = record { resends = resends-none h o.0.unbegun; late = λ live. subst (λ (c : Held Purpose). AllLate h c.calls) (sym f.core.calls) tt };
   takes = subst (λ (k : List Entry). TakesAll k h) (sym is) (takes-none h);
   tallied = tallied;
 }

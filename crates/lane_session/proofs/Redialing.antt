@@ -7,8 +7,9 @@ use Rattle.world_model.specs.Entries.{At, ours}
 use Rattle.world_model.specs.History.{History}
 use Rattle.world_model.specs.Lost.{FailedDial, IsTraffic, sent, came, dialed, Loses, undialed}
 use Rattle.world_model.specs.Told.{Adds}
-use Rattle.world_model.proofs.Histories.{IsQuiet, quiet_by, steps_on_twice}
+use Rattle.world_model.proofs.Histories.{IsQuiet, quiet_by, quietly, steps_on, steps_on_twice}
 use Rattle.world_model.proofs.Places.{At-grow, At-below, At-back, At-last, At-cases, length_last}
+use Rattle.link_dials.specs.Sendings.{LatestIs}
 use Rattle.lane_session.specs.Bonds.{steps, Redials, RedialsBy}
 use Rattle.lane_session.specs.Running.{marks, Quietly}
 
@@ -83,20 +84,42 @@ still-ours es fs seen q = steps-ours es ∙ ap steps seen ∙ q
 -- ---- only dials were made
 
 pub redials-none : (h : List Entry) → Redials h h
-redials-none h = record { more = []; is = sym (append-nil h); still = refl }
+redials-none h = record { more = []; is = sym (append-nil h); still = refl; each = λ j at late. absurd (let below = At-below h j Failed at in omega (arith, below, late)) }
 
-pub redials-more : (h k more : List Entry) → Redials h k → steps more ≡ [] → Redials h (k ++ more)
-redials-more h k more r q = record {
-  more = r.more ++ more;
-  is = ap (λ (t : List Entry). t ++ more) r.is ∙ append_assoc h r.more more;
-  still = steps-append r.more more ∙ ap (λ (t : List Entry). t ++ steps more) r.still ∙ q;
+latest-on : (h more : List Entry) (place : ℕ) (e : Entry) → place ≤ length h → LatestIs h place e → LatestIs (h ++ more) place e
+latest-on h more place e le l = record {
+  at = l.at;
+  earlier = l.earlier;
+  is = At-grow h more l.at e l.is;
+  none = λ j d at after before. l.none j d (At-back h more j d at (omega (arith, le, before))) after before;
 }
 
-pub redials-then : (h k l : List Entry) → Redials h k → Redials k l → Redials h l
-redials-then h k l p q = subst (Redials h) (sym q.is) (redials-more h k q.more p q.still)
+-- one entry more
+redials-one : (h k : List Entry) (e : Entry) → Redials h k → steps (e ∷ []) ≡ [] → (e ≡ Failed → (port : ℕ) × LatestIs k (length k) (Dialed port)) → Redials h (k ++ e ∷ [])
+redials-one h k e r q dial = record {
+  more = r.more ++ e ∷ [];
+  is = ap (λ (t : List Entry). t ++ e ∷ []) r.is ∙ append_assoc h r.more (e ∷ []);
+  still = steps-append r.more (e ∷ []) ∙ ap (λ (t : List Entry). t ++ steps (e ∷ [])) r.still ∙ q;
+  each = λ j at late. elim (At-cases k e j Failed at) [
+    | inl there ↦ (let l = r.each j there late in (l.0, latest-on k (e ∷ []) j (Dialed l.0) (let b = At-below k j Failed there in omega (arith, b)) l.1))
+    | inr now ↦ (let l = dial now.1 in (l.0, subst (λ (n : ℕ). LatestIs (k ++ e ∷ []) n (Dialed l.0)) (sym now.0) (latest-on k (e ∷ []) (length k) (Dialed l.0) (omega arith) l.1)))
+  ];
+}
 
-pub redials-call : (a b : History) (es : List Entry) → steps es ≡ [] → Adds a b es → Redials a.entries b.entries
-redials-call a b es q p = record { more = p.more; is = p.grown; still = still-ours p.more es p.seen q }
+-- the server's own entries are no failures
+quiet-failed : (e : Entry) → ours (e ∷ []) ≡ [] → e ≡ Failed → ⊥
+quiet-failed e q is = let here : ours (Failed ∷ []) ≡ [] = subst (λ (d : Entry). ours (d ∷ []) ≡ []) is q in cc
+
+redials-still : (h : List Entry) → IsQuiet (Redials h)
+redials-still h = quiet_by (Redials h) (λ k e q r. redials-one h k e r (still-ours (e ∷ []) [] q refl) (λ is. absurd (quiet-failed e q is)))
+
+-- a dial more
+redials-dial : (h : List Entry) (port : ℕ) (a b : History) → Adds a b (Dialed port ∷ []) → Redials h a.entries → Redials h b.entries
+redials-dial h port a b p r = steps_on (Redials h) (Redials h) a b (Dialed port) (redials-still h) (redials-still h) (λ k x. redials-one h k (Dialed port) x refl (λ is. absurd cc)) p r
+
+-- nothing of the client's
+pub redials-idle : (h : List Entry) (a b : History) → Adds a b [] → Redials h a.entries → Redials h b.entries
+redials-idle h a b p r = quietly (Redials h) a b (redials-still h) p r
 
 pub redials-quietly : (h k : List Entry) → Redials h k → Quietly h k
 redials-quietly h k r = record { more = r.more; is = r.is; unmarked = steps-marks r.more r.still }
@@ -166,6 +189,7 @@ record Tries (n : ℕ) (h : List Entry) : Type 0 where
   pub at : ℕ
   pub port : ℕ
   pub there : At h at (Dialed port)
+  pub last : (j : ℕ) (entry : Entry) → At h j entry → at < j → ours (entry ∷ []) ≡ []
   pub quiet : (j : ℕ) (entry : Entry) → At h j entry → at < j → IsTraffic entry → ⊥
   pub run : DialRun h n at
 
@@ -174,17 +198,22 @@ tries-first h port n run = record {
   at = length h;
   port = port;
   there = At-last h (Dialed port);
+  last = λ j entry there after. let below = At-below (h ++ Dialed port ∷ []) j entry there in let l = length_last h (Dialed port) in absurd (omega (arith, below, l, after));
   quiet = λ j entry there after traffic. let below = At-below (h ++ Dialed port ∷ []) j entry there in let l = length_last h (Dialed port) in omega (arith, below, l, after);
   run = run-grow h (Dialed port) n (length h) (omega arith) run;
 }
 
-tries-more : (h : List Entry) (e : Entry) (n : ℕ) → (IsTraffic e → ⊥) → Tries n h → Tries n (h ++ e ∷ [])
-tries-more h e n idle t =
+tries-more : (h : List Entry) (e : Entry) (n : ℕ) → ours (e ∷ []) ≡ [] → (IsTraffic e → ⊥) → Tries n h → Tries n (h ++ e ∷ [])
+tries-more h e n q idle t =
     let below = At-below h t.at (Dialed t.port) t.there in
     record {
       at = t.at;
       port = t.port;
       there = At-grow h (e ∷ []) t.at (Dialed t.port) t.there;
+      last = λ j entry there after. elim (At-cases h e j entry there) [
+        | inl p ↦ t.last j entry p after
+        | inr now ↦ subst (λ (d : Entry). ours (d ∷ []) ≡ []) now.1 q
+      ];
       quiet = λ j entry there after traffic. elim (At-cases h e j entry there) [
         | inl p ↦ t.quiet j entry p after traffic
         | inr q ↦ idle (subst IsTraffic (sym q.1) traffic)
@@ -210,6 +239,14 @@ tries-failed h n t =
       ];
     })
 
+tries-latest : (h : List Entry) (n : ℕ) (t : Tries n h) → LatestIs h (length h) (Dialed t.port)
+tries-latest h n t = record {
+  at = t.at;
+  earlier = At-below h t.at (Dialed t.port) t.there;
+  is = t.there;
+  none = λ j d at after before. t.last j d at after;
+}
+
 -- ---- a dial of the link that failed
 
 abbrev pub Dials : List Entry → ℕ → List Entry → Type 0
@@ -219,16 +256,16 @@ pub dials-none : (h : List Entry) → Dials h 0 h
 dials-none h = (redials-none h, no_dial 0 (length h) refl)
 
 dials-quiet : (h : List Entry) (n : ℕ) → IsQuiet (Dials h n)
-dials-quiet h n = quiet_by (Dials h n) (λ k e q p. (redials-more h k (e ∷ []) p.0 (still-ours (e ∷ []) [] q refl), run-wide k e n (length k) refl (no-traffic e q) p.1))
+dials-quiet h n = quiet_by (Dials h n) (λ k e q p. (redials-still h k (e ∷ []) q p.0, run-wide k e n (length k) refl (no-traffic e q) p.1))
 
 tries-quiet : (h : List Entry) (n : ℕ) → IsQuiet (λ k. Redials h k × Tries n k)
-tries-quiet h n = quiet_by (λ k. Redials h k × Tries n k) (λ k e q p. (redials-more h k (e ∷ []) p.0 (still-ours (e ∷ []) [] q refl), tries-more k e n (no-traffic e q) p.1))
+tries-quiet h n = quiet_by (λ k. Redials h k × Tries n k) (λ k e q p. (redials-still h k (e ∷ []) q p.0, tries-more k e n q (no-traffic e q) p.1))
 
 pub dials-more : (h : List Entry) (n port : ℕ) (a b : History) → Adds a b (Dialed port ∷ Failed ∷ []) → Dials h n a.entries → Dials h (n + 1) b.entries
 dials-more h n port a b p d =
     steps_on_twice (Dials h n) (λ k. Redials h k × Tries n k) (Dials h (n + 1)) a b (Dialed port) Failed (dials-quiet h n) (tries-quiet h n) (dials-quiet h (n + 1))
-    (λ k x. (redials-more h k (Dialed port ∷ []) x.0 refl, tries-first k port n x.1))
-    (λ k x. (redials-more h k (Failed ∷ []) x.0 refl, tries-failed k n x.1))
+    (λ k x. (redials-one h k (Dialed port) x.0 refl (λ is. absurd cc), tries-first k port n x.1))
+    (λ k x. (redials-one h k Failed x.0 refl (λ is. (x.1.port, tries-latest k n x.1)), tries-failed k n x.1))
     p d
 
 -- four dials in a row that failed lose a session
@@ -247,10 +284,10 @@ four-dials h to run =
 -- ---- one dial after the other
 
 pub redialed : (h : List Entry) (n port : ℕ) (a b : History) → Adds a b (Dialed port ∷ []) → Dials h n a.entries → RedialsBy (Ok true) h b.entries
-redialed h n port a b p d = redials-then h a.entries b.entries d.0 (redials-call a b (Dialed port ∷ []) refl p)
+redialed h n port a b p d = redials-dial h port a b p d.0
 
 pub undialed-memory : (h : List Entry) (n : ℕ) (a b : History) → Adds a b [] → Dials h n a.entries → Redials h b.entries
-undialed-memory h n a b p d = redials-then h a.entries b.entries d.0 (redials-call a b [] refl p)
+undialed-memory h n a b p d = redials-idle h a b p d.0
 
 pub all-undialed : (h k : List Entry) (n : ℕ) → n ≡ 4 → Dials h n k → RedialsBy (Ok false) h k
 all-undialed h k n four d = (d.0, four-dials k (length k) (subst (λ (m : ℕ). DialRun k m (length k)) four d.1))

@@ -47,12 +47,13 @@ passed-set (x ∷ xs) zero p q there =
 passed-set (x ∷ xs) (suc i) p q there = let rest = passed-set xs i p q there in omega (arith, rest)
 
 -- so many lanes passed so many lines at most
-pub passed-few : (ps : List Place) → ((n : ℕ) (p : Place) → slice_get ps n ≡ Some p → p.next ≤ 16384) → passed ps ≤ 16384 * length ps
-passed-few [] few = omega arith
-passed-few (p ∷ ps) few =
+pub passed-few : (ps : List Place) (most : ℕ) → ((n : ℕ) (p : Place) → slice_get ps n ≡ Some p → p.next ≤ most) → passed ps ≤ length ps * most
+passed-few [] most few = omega arith
+passed-few (p ∷ ps) most few =
     let here = few zero p refl in
-    let rest = passed-few ps (λ n q there. few (suc n) q there) in
-    omega (arith, here, rest)
+    let rest = passed-few ps most (λ n q there. few (suc n) q there) in
+    let one : length (p ∷ ps) * most ≡ most + length ps * most = omega arith in
+    omega (arith, here, rest, one)
 
 pub set-set : (ps : List Place) (i : ℕ) (p q : Place) → slice_set (slice_set ps i p) i q ≡ slice_set ps i q
 set-set [] i p q = refl
@@ -100,7 +101,8 @@ rested script lane old lanes held line seeks = record { live = live; seated = se
       begun = let b = s.begun in
           let e = passed-set old.lanes (lane - 1) seeks.before (record { next = seeks.at; line = seeks.before.line }) seeks.there in
           let after = seeks.next.after in
-          subst (λ (t : List Place). old.core.begun ≤ passed t) (sym seeks.is) (omega (arith, b, e, after));
+          subst (λ (t : List Place). old.core.begun ≤ old.earlier + passed t) (sym seeks.is) (omega (arith, b, e, after));
+      room = s.room;
     }
       where
         idle : (n : ℕ) (p : Place) → slice_get (slice_set old.lanes (lane - 1) (record { next = seeks.at; line = seeks.before.line })) n ≡ Some p → p.line ≡ None → IsOther (suc n) (numbers_of old.core.lanes)
@@ -123,13 +125,16 @@ may-start script lane old p least most held there none = record {
   other = subst (λ (n : ℕ). IsOther n (numbers_of old.core.lanes)) (omega (arith, least)) (held.seated.idle (lane - 1) p there none);
 }
 
-pub few-begun : (script : List ScriptLine) (old : Session) → length script ≤ 16384 → IsHeld script old → old.core.begun < 2 ^ 32
-few-begun script old few held =
+-- so many lines were begun at most
+pub begun-most : (script : List ScriptLine) (old : Session) → IsHeld script old → old.core.begun ≤ old.earlier + 16 * length script
+begun-most script old held =
     let s = held.seated in
     let b = s.begun in
-    let long = s.sixteen in
-    let p = passed-few old.lanes (λ n q there. let w = s.within n q there in omega (arith, w, few)) in
-    omega (arith, b, long, p)
+    let p : passed old.lanes ≤ 16 * length script = subst (λ (n : ℕ). passed old.lanes ≤ n * length script) s.sixteen (passed-few old.lanes (length script) (λ n q there. s.within n q there)) in
+    omega (arith, b, p)
+
+pub few-begun : (script : List ScriptLine) (old : Session) → IsHeld script old → old.core.begun < 2 ^ 32
+few-begun script old held = let b = begun-most script old held in let r = held.seated.room in omega (arith, b, r)
 
 -- ---- a lane that began its next line
 
@@ -145,7 +150,8 @@ module _ (script : List ScriptLine) (lane line place : ℕ) (old : Session) (mac
         let after = seeks.next.after in
         let f = found.0 in
         let one = k.begun_is in
-        subst (λ (t : List Place). core.begun ≤ passed t) (sym all) (omega (arith, b, e, after, f, one));
+        subst (λ (t : List Place). core.begun ≤ old.earlier + passed t) (sym all) (omega (arith, b, e, after, f, one));
+    room = s.room;
   }
     where
       s : IsSeated script old
@@ -283,7 +289,8 @@ answered-held script lane line answer old core lanes least numbers held line_is 
       begun = let b = s.begun in
           let e = passed-set old.lanes (lane - 1) ends.before q ends.there in
           let same : core.begun ≡ old.core.begun = ap (λ (v : View). v.begun) core_is in
-          subst (λ (t : List Place). core.begun ≤ passed t) (sym ends.is) (omega (arith, b, e, same));
+          subst (λ (t : List Place). core.begun ≤ old.earlier + passed t) (sym ends.is) (omega (arith, b, e, same));
+      room = s.room;
     }
 
 pub answered-less : (script : List ScriptLine) (lane line : ℕ) (answer : Answer) (old : Session) (core : View) (lanes : List Place) (status : ℕ)

@@ -8,10 +8,11 @@ use Rattle.lane_session.specs.declared.running.Session.{Session}
 use Rattle.lane_session.specs.Holding.{HeadSent, IsLive}
 use Rattle.lane_session.specs.Running.{Exchanges, Breaks, Sends, Fails, NoneOver}
 use Rattle.lane_session.proofs.Alive.{head-of-sent}
+use Rattle.lane_session.proofs.Resending.{fails-due}
 use Rattle.lane_session.proofs.Trying.{fails-on, fails-told, sends-on, sends-exchange, sends-told}
 
 pub sends-core : (old : Session) (result : Option (List ℕ)) (core : View) (counts : Counts) → IsLive old → SendsBy old.core result core → Sends old (record old { core = core; counts = counts })
-sends-core old result core counts live t = sends-on old result core (record old { core = core; counts = counts }) live t refl refl refl refl refl refl
+sends-core old result core counts live t = sends-on old result core (record old { core = core; counts = counts }) live t refl refl refl refl refl refl refl
 
 -- the link failed
 pub sends-fails : (old : Session) (result : Option (List ℕ)) (core : View) (counts : Counts) (new : Session) → 1 ≤ old.attempts → IsLive old → SendsBy old.core result core
@@ -26,6 +27,7 @@ sends-breaks old result core counts new some live told t head f = record {
   exchanges = sends-fails old result core counts new some live t head f;
   told = fails-told (record old { core = core; counts = counts }) new f
       (sends-told old (record old { core = core; counts = counts }) (sends-core old result core counts live t) told);
+  due = fails-due core f.result new.core f.core;
 }
 
 -- the oldest call that waits was sent, or another after it

@@ -121,7 +121,7 @@ module _ (script : List ScriptLine) (lane place : ℕ) (l : ScriptLine) (old : S
         live = begun-live script lane l.line place old (machine_of old.mounted lane l.op) st.0 new.core mid held st.2 (slice_set mid (lane - 1) q);
         seated = begun-seated script lane l.line place old (machine_of old.mounted lane l.op) st.0 new.core mid least held line_is seeks st.2;
         status = held.status;
-        alive = alive-begins lane l.line l.op old st.0 new.core (slice_set mid (lane - 1) q) q least (idle-there script lane place old mid least most held line_is seeks) (few-begun script old few held) fits
+        alive = alive-begins lane l.line l.op old st.0 new.core (slice_set mid (lane - 1) q) q least (idle-there script lane place old mid least most held line_is seeks) (few-begun script old held) fits
             held.live.calls.within st.2 refl all held.alive;
       } in
       subst (λ (ps : List Place). IsHeld script (record new { lanes = ps })) (sym is) (subst (λ (s : Session). IsHeld script (after s)) (sym st.3) held_mid)
@@ -135,29 +135,29 @@ module _ (script : List ScriptLine) (lane place : ℕ) (l : ScriptLine) (old : S
   one-reading given m n p q = let both : m ∷ [] ≡ n ∷ [] = sym p ∙ q in cc
 
   starting-on : length script ≤ 16384 → Fits (machine_of old.mounted lane l.op) → (new : Session) (given : List ℕ) (h k : List Entry) → Starts lane l.op (record old { lanes = mid }) new (Ok tt) given
-      → NotesStart lane l.line l.op (Ok tt) given h k → GoesOn script old (after new) given [] h k
-  starting-on few fits new given h k st n =
-      subst (λ (s : Session). GoesOn script old (after s) given [] h k) (sym st.3)
-      (subst (λ (g : List ℕ). GoesOn script old (record old { core = new.core; lanes = slice_set mid (lane - 1) q }) g [] h k) (sym n.1)
-      (started script h k n.0 lane place l old new.core mid least most line_is seeks there (found-own script lane place l old.lanes mid seeks there)
-      (idle-there script lane place old mid least most held line_is seeks) (few-begun script old few held) fits
+      → NotesStart lane l.line l.op (Ok tt) given h k → (label : List ℕ) → GoesOn label script old (after new) given [] h k
+  starting-on few fits new given h k st n label =
+      subst (λ (s : Session). GoesOn label script old (after s) given [] h k) (sym st.3)
+      (subst (λ (g : List ℕ). GoesOn label script old (record old { core = new.core; lanes = slice_set mid (lane - 1) q }) g [] h k) (sym n.1)
+      (started label script h k n.0 lane place l old new.core mid least most line_is seeks there (found-own script lane place l old.lanes mid seeks there)
+      (idle-there script lane place old mid least most held line_is seeks) (few-begun script old held) fits
       (subst (λ (ms : ℕ). Begins old.core lane (machine_of old.mounted lane l.op) ms new.core) (one-reading given st.0 n.0 st.1 n.1) st.2) n.2))
 
   pub starting-goes : length script ≤ 16384 → Fits (machine_of old.mounted lane l.op) → (new : Session) (lanes : List Place) → lanes ≡ slice_set new.lanes (lane - 1) q → (r0 r1 : Option (List ℕ)) (t0 t1 : Option History)
       → Reads r0 r1 (λ given. Starts lane l.op (record old { lanes = mid }) new (Ok tt) given × Relates t0 t1 (NotesStart lane l.line l.op (Ok tt) given))
-      → Reads r0 r1 (λ given. Relates t0 t1 (GoesOn script old (record new { lanes = lanes }) given []))
+      → Reads r0 r1 (λ given. Relates t0 t1 (λ h k. (label : List ℕ) → GoesOn label script old (record new { lanes = lanes }) given [] h k))
   starting-goes few fits new lanes is r0 r1 t0 t1 p =
-      reads_less r0 r1 t0 t1 (Starts lane l.op (record old { lanes = mid }) new (Ok tt)) (NotesStart lane l.line l.op (Ok tt)) (λ g h k. GoesOn script old (record new { lanes = lanes }) g [] h k)
-      (λ g h k st n. subst (λ (ps : List Place). GoesOn script old (record new { lanes = ps }) g [] h k) (sym is) (starting-on few fits new g h k st n)) p
+      reads_less r0 r1 t0 t1 (Starts lane l.op (record old { lanes = mid }) new (Ok tt)) (NotesStart lane l.line l.op (Ok tt)) (λ g h k. (label : List ℕ) → GoesOn label script old (record new { lanes = lanes }) g [] h k)
+      (λ g h k st n label. subst (λ (ps : List Place). GoesOn label script old (record new { lanes = ps }) g [] h k) (sym is) (starting-on few fits new g h k st n label)) p
 
   pub starting-cut : (new : Session) (e : Memory) (r0 r1 : Option (List ℕ)) (t0 t1 : Option History)
       → Reads r0 r1 (λ given. Starts lane l.op (record old { lanes = mid }) new (Err e) given × Relates t0 t1 (NotesStart lane l.line l.op (Err e) given))
-      → Reads r0 r1 (λ given. Relates t0 t1 (CutsOff script old halts.Memory given []))
+      → Reads r0 r1 (λ given. Relates t0 t1 (λ h k. (label : List ℕ) → CutsOff label script old halts.Memory given [] h k))
   starting-cut new e r0 r1 t0 t1 p =
-      reads_less r0 r1 t0 t1 (Starts lane l.op (record old { lanes = mid }) new (Err e)) (NotesStart lane l.line l.op (Err e)) (λ g h k. CutsOff script old halts.Memory g [] h k)
-      (λ g h k few n. unstarted script h k old new g held.seated.sixteen few n) p
+      reads_less r0 r1 t0 t1 (Starts lane l.op (record old { lanes = mid }) new (Err e)) (NotesStart lane l.line l.op (Err e)) (λ g h k. (label : List ℕ) → CutsOff label script old halts.Memory g [] h k)
+      (λ g h k few n label. unstarted label script h k old new g held.seated.sixteen few n) p
 
 -- no line is left
 pub resting-goes : (r : Option (List ℕ)) (t : Option History) (script : List ScriptLine) (lane : ℕ) (old : Session) (mid : List Place) → 1 ≤ lane → Seeks script lane old.lanes None mid
-    → Reads r r (λ given. Relates t t (GoesOn script old (record old { lanes = mid }) given []))
-resting-goes r t script lane old mid least seeks = record { given = []; are = reads_same r; is = relates_same t _ (λ h. rested-on script h lane old mid least seeks) }
+    → Reads r r (λ given. Relates t t (λ h k. (label : List ℕ) → GoesOn label script old (record old { lanes = mid }) given [] h k))
+resting-goes r t script lane old mid least seeks = record { given = []; are = reads_same r; is = relates_same t _ (λ h label. rested-on label script h lane old mid least seeks) }

@@ -46,12 +46,12 @@ module _ (lane : ℕ) (old : Session) (core : View) (answers : AnswersBy old.cor
   pub unanswered-rests : (line : ℕ) → 1 ≤ lane → LineIs lane (Some line) old → (script : List ScriptLine) → RestsOne script lane old (record old { core = core })
   unanswered-rests line least line_is script = rests-busy script lane line old (record old { core = core }) least line_is answers refl (record { attempts = refl; dropped = refl })
 
-  pub unanswered-goes : (w : Option (List ℕ)) (t : Option History)
-      → Says w w (λ text. Relates t t (λ h k. (script : List ScriptLine) → IsHeld script old → GoesOn script old (record old { core = core }) [] text h k))
-  unanswered-goes w t = record {
+  pub unanswered-goes : (label : List ℕ) (w : Option (List ℕ)) (t : Option History)
+      → Says w w (λ text. Relates t t (λ h k. (script : List ScriptLine) → IsHeld script old → GoesOn label script old (record old { core = core }) [] text h k))
+  unanswered-goes label w t = record {
     text = [];
     added = appends_same w;
-    is = relates_same t _ (λ h script held. goes-none script old (record old { core = core }) h refl refl (core-like old (record old { core = core }) h refl (no-answer old.core lane core answers).1 refl refl));
+    is = relates_same t _ (λ h script held. goes-none label script old (record old { core = core }) h refl refl (core-like old (record old { core = core }) h refl (no-answer old.core lane core answers).1 refl refl));
   }
 
 -- ---- the answer is there
@@ -65,16 +65,16 @@ module _ (lane line : ℕ) (a : Answer) (old : Session) (core : View) (lanes : L
   pub telling-less : AnswersBy old.core lane (Some a) core → (script : List ScriptLine) → Lessens script old (record old { core = core; lanes = lanes; status = status })
   telling-less answers script = answered-less script lane line a old core lanes status line_is answers ends
 
-  pub telling-goes : AnswersBy old.core lane (Some a) core → (w0 w1 : Option (List ℕ)) (t0 t1 : Option History) → Says w0 w1 (λ text. Relates t0 t1 (TellsAnswer {T = Unit {0}} lane line a (Ok tt) text))
-      → Says w0 w1 (λ text. Relates t0 t1 (λ h k. (script : List ScriptLine) → IsHeld script old → GoesOn script old (record old { core = core; lanes = lanes; status = status }) [] text h k))
-  telling-goes answers w0 w1 t0 t1 said = says_less w0 w1 t0 t1 _ _ (λ text h k t script held.
-      subst (λ (n : ℕ). GoesOn script old (record old { core = core; lanes = lanes; status = n }) [] text h k) (sym is) (told-answer script h k lane line a old core lanes text least most line_is ends answers t)) said
+  pub telling-goes : (label : List ℕ) → AnswersBy old.core lane (Some a) core → (w0 w1 : Option (List ℕ)) (t0 t1 : Option History) → Says w0 w1 (λ text. Relates t0 t1 (TellsAnswer {T = Unit {0}} label lane line a (Ok tt) text))
+      → Says w0 w1 (λ text. Relates t0 t1 (λ h k. (script : List ScriptLine) → IsHeld script old → GoesOn label script old (record old { core = core; lanes = lanes; status = status }) [] text h k))
+  telling-goes label answers w0 w1 t0 t1 said = says_less w0 w1 t0 t1 _ _ (λ text h k t script held.
+      subst (λ (n : ℕ). GoesOn label script old (record old { core = core; lanes = lanes; status = n }) [] text h k) (sym is) (told-answer label script h k lane line a old core lanes text least most line_is ends answers t)) said
 
 -- ---- the session is cut off
 
-pub telling-cut : (w0 w1 : Option (List ℕ)) (t0 t1 : Option History) (lane line : ℕ) (a : Answer) (old : Session) (core : View) (halt : Halt) → 1 ≤ lane → lane ≤ 16 → LineIs lane (Some line) old
-    → AnswersBy old.core lane (Some a) core → Says w0 w1 (λ text. Relates t0 t1 (TellsAnswer {T = Unit {0}} lane line a (Err halt) text))
-    → Says w0 w1 (λ text. Relates t0 t1 (λ h k. (script : List ScriptLine) → IsHeld script old → CutsOff script old halt [] text h k))
-telling-cut w0 w1 t0 t1 lane line a old core halt least most line_is answers said =
+pub telling-cut : (label : List ℕ) (w0 w1 : Option (List ℕ)) (t0 t1 : Option History) (lane line : ℕ) (a : Answer) (old : Session) (core : View) (halt : Halt) → 1 ≤ lane → lane ≤ 16 → LineIs lane (Some line) old
+    → AnswersBy old.core lane (Some a) core → Says w0 w1 (λ text. Relates t0 t1 (TellsAnswer {T = Unit {0}} label lane line a (Err halt) text))
+    → Says w0 w1 (λ text. Relates t0 t1 (λ h k. (script : List ScriptLine) → IsHeld script old → CutsOff label script old halt [] text h k))
+telling-cut label w0 w1 t0 t1 lane line a old core halt least most line_is answers said =
     let p = place-there old.lanes (lane - 1) (Some line) line_is in
-    says_less w0 w1 t0 t1 _ _ (λ text h k t script held. untold-answer script h k lane line a old core halt p.0 text least most line_is held.seated.sixteen p.1 answers t) said
+    says_less w0 w1 t0 t1 _ _ (λ text h k t script held. untold-answer label script h k lane line a old core halt p.0 text least most line_is held.seated.sixteen p.1 answers t) said

@@ -1,5 +1,6 @@
 -- Lanes run together: whenever a record comes, each lane that has a line left has one under way.
 use Rattle.std.proofs.Common.{◌≡◌, ◌≤◌, ◌<◌, ◌-◌, ◌⊎◌, inl, inr, ℕ, zero, suc, List, [], ◌∷◌, ◌++◌, length, take, slice_get, All, true, false, cond, nat_eq, Option, Some, None, refl, sym, ap, subst, ◌∙◌, arith}
+use Rattle.std.proofs.lemmas.Bool.{cases_lt}
 use Rattle.world_model.specs.declared.entry.Entry.{Entry}
 use Rattle.world_model.specs.declared.entry.Entry.TheVariants.{Began, Answered, Dialed, Sent, Executed, Foreign, Flushed, Reboot, Delivered, Failed, Clock}
 use Rattle.world_model.specs.declared.op.Op.{Op}
@@ -16,7 +17,9 @@ use Rattle.lane_session.specs.Holding.{AreQuiet}
 use Rattle.lane_session.specs.LaneMarks.{IsRunning, IsResting}
 use Rattle.lane_session.specs.Endings.{entries_of}
 use Rattle.lane_session.specs.Places.{IsOpen, IsPlaced}
+use Rattle.lane_session.specs.TogetherFrom.{TogetherFrom}
 use Rattle.lane_session.proofs.Asking.{asked-at}
+use Rattle.lane_session.proofs.Placing.{entries-append}
 
 -- ---- places among the lines of a lane
 
@@ -27,6 +30,10 @@ pub record IsAmong (es : List Entry) (e : Entry) : Type 0 where
 
 among-later : (es : List Entry) (d e : Entry) → IsAmong es e → IsAmong (d ∷ es) e
 among-later es d e a = record { at = suc a.at; here = a.here }
+
+among-after : (a b : List Entry) (e : Entry) → IsAmong b e → IsAmong (a ++ b) e
+among-after [] b e here = here
+among-after (d ∷ a) b e here = among-later (a ++ b) d e (among-after a b e here)
 
 module _ (lane line : ℕ) (op : Op) where
   abbrev mine : Entry
@@ -128,13 +135,13 @@ module _ (h : List Entry) (e : Entry) where
   }
 
   -- by an entry before which each lane is so, where it is a record that came
-  pub together-step : (script : List Entry) → LanesTogether script h
+  pub together-step : (from : ℕ) (script : List Entry) → TogetherFrom from script h
       → ((bytes : List ℕ) → e ≡ Delivered bytes → (k lane line : ℕ) (op : Op) → At script k (Began lane line op) → LineAnswered h lane line (length h) ⊎ IsBusy h lane (length h))
-      → LanesTogether script (h ++ e ∷ [])
-  together-step script t new n bytes at begun_before k lane line op of = elim (At-cases h e n (Delivered bytes) at) [
+      → TogetherFrom from script (h ++ e ∷ [])
+  together-step from script t new n bytes at since k lane line op of = elim (At-cases h e n (Delivered bytes) at) [
     | inl old ↦
         let below : n ≤ length h = let lt = At-below h n (Delivered bytes) old in omega (arith, lt) in
-        elim (t n bytes old (begun-back n below begun_before) k lane line op of) [
+        elim (t n bytes old since k lane line op of) [
           | inl a ↦ inl (answered-on lane line n a)
           | inr b ↦ inr (busy-on lane n below b)
         ]
@@ -146,8 +153,8 @@ module _ (h : List Entry) (e : Entry) where
   ]
 
 -- by an entry that is no record
-pub together-on : (script h : List Entry) (e : Entry) → ((bytes : List ℕ) → e ≡ Delivered bytes → ⊥) → LanesTogether script h → LanesTogether script (h ++ e ∷ [])
-together-on script h e none t = together-step h e script t (λ bytes is k lane line op of. absurd (none bytes is))
+pub together-on : (from : ℕ) (script h : List Entry) (e : Entry) → ((bytes : List ℕ) → e ≡ Delivered bytes → ⊥) → TogetherFrom from script h → TogetherFrom from script (h ++ e ∷ [])
+together-on from script h e none t = together-step h e from script t (λ bytes is k lane line op of. absurd (none bytes is))
 
 -- ---- no line has begun
 
@@ -158,6 +165,17 @@ none-began h i lane line op at none =
 
 pub together-none : (script h : List Entry) → ((lane : ℕ) → begun lane h ≡ []) → LanesTogether script h
 together-none script h none n bytes at b k lane line op of = absurd (none-began h b.at b.lane b.line b.op b.began (none b.lane))
+
+-- no record came since
+pub together-fresh : (script h : List Entry) → TogetherFrom (length h) script h
+together-fresh script h n bytes at since k lane line op of = absurd (let below = At-below h n (Delivered bytes) at in omega (arith, below, since))
+
+-- Where no line had begun before the place, no record that came after the first line is left out.
+pub together-whole : (script h k more : List Entry) → k ≡ h ++ more → ((lane : ℕ) → begun lane h ≡ []) → TogetherFrom (length h) script k → LanesTogether script k
+together-whole script h k more is none t n bytes at b i lane line op of = elim (cases_lt b.at (length h)) [
+  | inl early ↦ absurd (none-began h b.at b.lane b.line b.op (At-back h more b.at (Began b.lane b.line b.op) (subst (λ (x : List Entry). At x b.at (Began b.lane b.line b.op)) is b.began) early) (none b.lane))
+  | inr late ↦ t n bytes at (let before = b.before in omega (arith, before, late)) i lane line op of
+]
 
 -- ---- each lane has told its answer, and has no line left where none is under way
 
@@ -210,18 +228,20 @@ resting-answered h lane line op r here =
       before = a.before;
     }
 
-module _ (script : List ScriptLine) (h : List Entry) (s : Session) (asked : All IsAskedLine script) (long : length s.lanes ≡ 16) (quiet : AreQuiet script s)
-    (placed : (n : ℕ) (p : Place) → slice_get s.lanes n ≡ Some p → IsPlaced script h (suc n) p) where
+module _ (done script : List ScriptLine) (h : List Entry) (s : Session) (asked : All IsAskedLine script) (long : length s.lanes ≡ 16) (quiet : AreQuiet script s)
+    (placed : (n : ℕ) (p : Place) → slice_get s.lanes n ≡ Some p → IsPlaced done script h (suc n) p) where
   lane-so : (k lane line : ℕ) (op : Op) (n : ℕ) (p : Place) → n < 16 → lane ≡ suc n → slice_get s.lanes n ≡ Some p → (o : Option ℕ) → p.line ≡ o → At (entries_of script) k (Began lane line op)
       → LineAnswered h lane line (length h) ⊎ IsBusy h lane (length h)
   lane-so k lane line op n p lt is there (Some own) under_way of =
       inr (subst (λ (m : ℕ). IsBusy h m (length h)) (sym is) (running-busy h (suc n) own (subst (IsOpen h (suc n)) under_way (placed n p there).open_line)))
   lane-so k lane line op n p lt is there None idle of =
-      let begins : begun (suc n) h ≡ begun (suc n) (entries_of script) =
-      (placed n p there).begins ∙ ap (λ (t : List ScriptLine). begun (suc n) (entries_of t)) (all-taken script p.next ((quiet n lt).none p there idle)) in
-      let among : IsAmong (begun lane (entries_of script)) (Began lane line op) = own-begun lane line op (entries_of script) k of in
+      let begins : begun (suc n) h ≡ begun (suc n) (entries_of (done ++ script)) =
+      (placed n p there).begins ∙ ap (λ (t : List ScriptLine). begun (suc n) (entries_of (done ++ t))) (all-taken script p.next ((quiet n lt).none p there idle)) in
+      let later : IsAmong (entries_of done ++ entries_of script) (Began lane line op) = among-after (entries_of done) (entries_of script) (Began lane line op) (record { at = k; here = of }) in
+      let both : IsAmong (entries_of (done ++ script)) (Began lane line op) = subst (λ (es : List Entry). IsAmong es (Began lane line op)) (sym (entries-append done script)) later in
+      let among : IsAmong (begun lane (entries_of (done ++ script))) (Began lane line op) = own-begun lane line op (entries_of (done ++ script)) both.at both.here in
       let own : At (begun lane h) among.at (Began lane line op) =
-      subst (λ (es : List Entry). At es among.at (Began lane line op)) (subst (λ (m : ℕ). begun m (entries_of script) ≡ begun m h) (sym is) (sym begins)) among.here in
+      subst (λ (es : List Entry). At es among.at (Began lane line op)) (subst (λ (m : ℕ). begun m (entries_of (done ++ script)) ≡ begun m h) (sym is) (sym begins)) among.here in
       inl (resting-answered h lane line op (subst (IsResting h) (sym is) (subst (IsOpen h (suc n)) idle (placed n p there).open_line)) (in-history lane h among.at (Began lane line op) own))
 
   -- each line was answered, or its lane has one under way
@@ -237,5 +257,5 @@ module _ (script : List ScriptLine) (h : List Entry) (s : Session) (asked : All 
       let p = place-at s.lanes (lane - 1) (omega (arith, lt, long)) in
       lane-so k lane line op (lane - 1) p.0 lt (omega (arith, its, least)) p.1 p.0.line refl of
 
-  pub together-quiet : (e : Entry) → LanesTogether (entries_of script) h → LanesTogether (entries_of script) (h ++ e ∷ [])
-  together-quiet e t = together-step h e (entries_of script) t (λ bytes is k lane line op of. lanes-so k lane line op of)
+  pub together-quiet : (from : ℕ) (e : Entry) → TogetherFrom from (entries_of script) h → TogetherFrom from (entries_of script) (h ++ e ∷ [])
+  together-quiet from e t = together-step h e from (entries_of script) t (λ bytes is k lane line op of. lanes-so k lane line op of)

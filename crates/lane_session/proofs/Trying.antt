@@ -33,7 +33,7 @@ fails-on old new some live head f = subst (Exchanges old) (sym f.is) (by f.resul
   where
     by : (b : Bool) → f.result ≡ b → FailedSo old.core b new.core → Exchanges old (record old { core = new.core; attempts = attempts_after b old.attempts })
     by b result_is k = record {
-      lines = record { mounted = refl; lanes = refl; status = refl; numbers = k.numbers_are; begun = k.begun_is };
+      lines = record { mounted = refl; earlier = refl; lanes = refl; status = refl; numbers = k.numbers_are; begun = k.begun_is };
       live = record {
         calls = sound-fails old.core f.result new.core f.core live.calls;
         some = λ left. alive b k left;
@@ -82,6 +82,7 @@ given-up-on old mid x =
     record {
       lines = record {
         mounted = x.lines.mounted;
+        earlier = x.lines.earlier;
         lanes = x.lines.lanes;
         status = x.lines.status;
         numbers = k.numbers_are ∙ x.lines.numbers;
@@ -112,7 +113,7 @@ takes-on old new rec some live all_sent told t = by t.result t.is (heard-so old.
 
     dropped-on : t.core ≡ old.core → (old.dropped + 1 ≡ 65536 → ⊥) → new ≡ record old { core = t.core; dropped = old.dropped + 1 } → Exchanges old (record old { core = t.core; dropped = old.dropped + 1 })
     dropped-on is other new_is = record {
-      lines = record { mounted = refl; lanes = refl; status = refl; numbers = ap (λ (v : View). numbers_of v.lanes) is; begun = ap (λ (v : View). v.begun) is };
+      lines = record { mounted = refl; earlier = refl; lanes = refl; status = refl; numbers = ap (λ (v : View). numbers_of v.lanes) is; begun = ap (λ (v : View). v.begun) is };
       live = record {
         calls = sound;
         some = λ left. ap (λ (v : View). v.lost) is ∙ found;
@@ -130,6 +131,7 @@ takes-on old new rec some live all_sent told t = by t.result t.is (heard-so old.
         record {
           lines = record {
             mounted = refl;
+            earlier = refl;
             lanes = refl;
             status = refl;
             numbers = k.numbers_are ∙ ap (λ (v : View). numbers_of v.lanes) is;
@@ -143,7 +145,7 @@ takes-on old new rec some live all_sent told t = by t.result t.is (heard-so old.
     by : (b : Bool) → TakesBy old b t.core new → HeardSo old.core b t.core → Exchanges old new
     by true is (heard_none no_way same) = absurd (cc)
     by true is (heard_one yes_way k one) = subst (Exchanges old) (sym is) (record {
-      lines = record { mounted = refl; lanes = refl; status = refl; numbers = k.numbers_are; begun = k.begun_is };
+      lines = record { mounted = refl; earlier = refl; lanes = refl; status = refl; numbers = k.numbers_are; begun = k.begun_is };
       live = record { calls = sound; some = λ left. k.lost_is ∙ found; few = omega arith; dropped = omega arith; undropped = λ left. omega arith };
       less = let l = k.left_is in let d = live.dropped in omega (arith, l, one, d);
       alive = alive-new (record old { core = t.core; attempts = 4; dropped = 0 }) is;
@@ -154,12 +156,12 @@ takes-on old new rec some live all_sent told t = by t.result t.is (heard-so old.
 
 -- ---- a record was sent
 
-pub sends-on : (old : Session) (result : Option (List ℕ)) (core : View) (new : Session) → IsLive old → SendsBy old.core result core → new.core ≡ core → new.mounted ≡ old.mounted → new.lanes ≡ old.lanes → new.status ≡ old.status
+pub sends-on : (old : Session) (result : Option (List ℕ)) (core : View) (new : Session) → IsLive old → SendsBy old.core result core → new.core ≡ core → new.mounted ≡ old.mounted → new.earlier ≡ old.earlier → new.lanes ≡ old.lanes → new.status ≡ old.status
     → new.attempts ≡ old.attempts → new.dropped ≡ old.dropped → Sends old new
-sends-on old result core new live t core_is mounted lanes status attempts dropped =
+sends-on old result core new live t core_is mounted earlier lanes status attempts dropped =
     let k : SentSo old.core new.core = subst (SentSo old.core) (sym core_is) (sends-so old.core result core t) in
     record {
-      lines = record { mounted = mounted; lanes = lanes; status = status; numbers = ap numbers_of k.lanes; begun = k.begun };
+      lines = record { mounted = mounted; earlier = earlier; lanes = lanes; status = status; numbers = ap numbers_of k.lanes; begun = k.begun };
       same = k.lanes;
       tries = record { attempts = attempts; dropped = dropped };
       calls = k.left;
@@ -177,7 +179,7 @@ sends-on old result core new live t core_is mounted lanes status attempts droppe
 
 pub sends-none : (old : Session) → IsLive old → Sends old old
 sends-none old live = record {
-  lines = record { mounted = refl; lanes = refl; status = refl; numbers = refl; begun = refl };
+  lines = record { mounted = refl; earlier = refl; lanes = refl; status = refl; numbers = refl; begun = refl };
   same = refl;
   tries = record { attempts = refl; dropped = refl };
   calls = refl;
@@ -191,6 +193,7 @@ pub sends-then : (old mid new : Session) → Sends old mid → Sends mid new →
 sends-then old mid new p q = record {
   lines = record {
     mounted = q.lines.mounted ∙ p.lines.mounted;
+    earlier = q.lines.earlier ∙ p.lines.earlier;
     lanes = q.lines.lanes ∙ p.lines.lanes;
     status = q.lines.status ∙ p.lines.status;
     numbers = q.lines.numbers ∙ p.lines.numbers;
@@ -209,6 +212,7 @@ pub sends-exchange : (old mid new : Session) → Sends old mid → Exchanges mid
 sends-exchange old mid new p x = record {
   lines = record {
     mounted = x.lines.mounted ∙ p.lines.mounted;
+    earlier = x.lines.earlier ∙ p.lines.earlier;
     lanes = x.lines.lanes ∙ p.lines.lanes;
     status = x.lines.status ∙ p.lines.status;
     numbers = x.lines.numbers ∙ p.lines.numbers;
@@ -220,7 +224,7 @@ sends-exchange old mid new p x = record {
 }
 
 pub sends-breaks-off : (old mid new : Session) → Sends old mid → Breaks mid new → Breaks old new
-sends-breaks-off old mid new p b = record { exchanges = sends-exchange old mid new p b.exchanges; told = b.told }
+sends-breaks-off old mid new p b = record { exchanges = sends-exchange old mid new p b.exchanges; told = b.told; due = b.due }
 
 -- ---- what is held
 
@@ -233,7 +237,8 @@ exchanged-held script old new h x = record {
     sixteen = ap length x.lines.lanes ∙ h.seated.sixteen;
     idle = λ n p there none. subst (IsOther (suc n)) (sym x.lines.numbers) (h.seated.idle n p (subst (λ (ps : List Place). slice_get ps n ≡ Some p) x.lines.lanes there) none);
     within = λ n p there. h.seated.within n p (subst (λ (ps : List Place). slice_get ps n ≡ Some p) x.lines.lanes there);
-    begun = let b = h.seated.begun in let e = x.lines.begun in subst (λ (ps : List Place). new.core.begun ≤ passed ps) (sym x.lines.lanes) (omega (arith, b, e));
+    begun = let b = h.seated.begun in let e = x.lines.begun in let r = x.lines.earlier in subst (λ (ps : List Place). new.core.begun ≤ new.earlier + passed ps) (sym x.lines.lanes) (omega (arith, b, e, r));
+    room = let r = h.seated.room in let e = x.lines.earlier in omega (arith, r, e);
   };
 }
 

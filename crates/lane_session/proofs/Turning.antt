@@ -6,7 +6,6 @@ use Rattle.world_model.specs.declared.answer.Answer.TheVariants.{Refused}
 use Rattle.world_model.specs.declared.entry.Entry.{Entry}
 use Rattle.world_model.specs.Clocked.{clocks}
 use Rattle.world_model.specs.Follows.{begun, marks_of, Alternates, IsFront}
-use Rattle.world_model.specs.Transcript.{transcript}
 use Rattle.nfs_script.specs.Asked.{IsAskedLine}
 use Rattle.nfs_script.specs.declared.script.ScriptLine.{ScriptLine}
 use Rattle.lane_session.specs.declared.halt.Halt.{Halt}
@@ -17,12 +16,14 @@ use Rattle.lane_session.specs.Bonds.{CoreGoes, CoreWent}
 use Rattle.lane_session.specs.Going.{Grows, Goes, Went, GoesOn, CutsOff, GoesBy}
 use Rattle.lane_session.specs.Holding.{AreQuiet}
 use Rattle.lane_session.specs.Endings.{entries_of}
+use Rattle.lane_session.specs.Labels.{told_by, all_told, IsCutIn}
 use Rattle.lane_session.specs.Places.{IsOpen, IsPlaced}
 use Rattle.lane_session.specs.Running.{marks, Quietly}
 use Rattle.lane_session.specs.Statuses.{IsLeft, HasStatus}
 use Rattle.lane_session.proofs.LaneLaws.{resting-grow, running-alternates, resting-alternates}
-use Rattle.lane_session.proofs.Placing.{silent, no-mark, marks-none, status-quiet, timed-quiet, placed-grow, entries-append}
-use Rattle.lane_session.proofs.Pushes.{clocks-append, transcript-append, begun-append, marks-append, quiet_by}
+use Rattle.lane_session.proofs.Placing.{silent, no-mark, marks-none, status-quiet, timed-quiet, placed-grow, begun-after}
+use Rattle.lane_session.proofs.Labels.{told-append}
+use Rattle.lane_session.proofs.Pushes.{clocks-append, begun-append, marks-append, quiet_by}
 use Rattle.lane_session.proofs.Reaching.{core-then, core-then-cut}
 use Rattle.lane_session.proofs.Together.{together-quiet}
 
@@ -34,19 +35,19 @@ pub record IsWaiting (script : List ScriptLine) (s : Session) : Type 0 where
   pub sixteen : length s.lanes ≡ 16
   pub quiet : AreQuiet script s
 
-goes-one : (script : List ScriptLine) (h : List Entry) (e : Entry) (s : Session) → IsWaiting script s → marks (e ∷ []) ≡ [] → Goes script h s → Goes script (h ++ e ∷ []) s
-goes-one script h e s w q g = record {
+goes-one : (done : List ScriptLine) (from : ℕ) (script : List ScriptLine) (h : List Entry) (e : Entry) (s : Session) → IsWaiting script s → marks (e ∷ []) ≡ [] → Goes done from script h s → Goes done from script (h ++ e ∷ []) s
+goes-one done from script h e s w q g = record {
   others = λ lane out. let o = g.others lane out in let m = silent e q lane in
       (begun-append lane h (e ∷ []) ∙ ap (λ (t : List Entry). begun lane h ++ t) m.1 ∙ append-nil (begun lane h) ∙ o.0, resting-grow h e lane m.0 o.1);
-  placed = λ n p there. let m = silent e q (suc n) in placed-grow script h e (suc n) p m.0 m.1 (g.placed n p there);
+  placed = λ n p there. let m = silent e q (suc n) in placed-grow done script h e (suc n) p m.0 m.1 (g.placed n p there);
   status = status-quiet h e s.status (λ fault l m is. (no-mark e q).0 l m (Refused fault) is) g.status;
   timed = timed-quiet h e (no-mark e q).1 g.timed;
-  together = together-quiet script h s w.asked w.sixteen w.quiet g.placed e g.together;
+  together = together-quiet done script h s w.asked w.sixteen w.quiet g.placed from e g.together;
 }
 
 -- only lanes and status count
-goes-like : (script : List ScriptLine) (h : List Entry) (s t : Session) → t.lanes ≡ s.lanes → t.status ≡ s.status → Goes script h s → Goes script h t
-goes-like script h s t lanes status g = record {
+goes-like : (done : List ScriptLine) (from : ℕ) (script : List ScriptLine) (h : List Entry) (s t : Session) → t.lanes ≡ s.lanes → t.status ≡ s.status → Goes done from script h s → Goes done from script h t
+goes-like done from script h s t lanes status g = record {
   others = g.others;
   placed = λ n p there. g.placed n p (subst (λ (ps : List Place). slice_get ps n ≡ Some p) lanes there);
   status = subst (HasStatus h) (sym status) g.status;
@@ -54,14 +55,14 @@ goes-like script h s t lanes status g = record {
   together = g.together;
 }
 
-goes-quietly : (script : List ScriptLine) (h k : List Entry) (s : Session) → IsWaiting script s → Quietly h k → Goes script h s → Goes script k s
-goes-quietly script h k s w q g = subst (λ (t : List Entry). Goes script t s) (sym q.is) (quiet_by (λ (t : List Entry). Goes script t s) (λ t e. goes-one script t e s w) h q.more q.unmarked g)
+goes-quietly : (done : List ScriptLine) (from : ℕ) (script : List ScriptLine) (h k : List Entry) (s : Session) → IsWaiting script s → Quietly h k → Goes done from script h s → Goes done from script k s
+goes-quietly done from script h k s w q g = subst (λ (t : List Entry). Goes done from script t s) (sym q.is) (quiet_by (λ (t : List Entry). Goes done from script t s) (λ t e. goes-one done from script t e s w) h q.more q.unmarked g)
 
 pub quiet-clocks : (h k : List Entry) → Quietly h k → clocks k ≡ clocks h ++ []
-quiet-clocks h k q = ap clocks q.is ∙ clocks-append h q.more ∙ ap (λ (t : List ℕ). clocks h ++ t) (marks-none q.more q.unmarked).0
+quiet-clocks h k q = ap clocks q.is ∙ clocks-append h q.more ∙ ap (λ (t : List ℕ). clocks h ++ t) (marks-none [] q.more q.unmarked).0
 
-pub quiet-transcript : (h k : List Entry) → Quietly h k → transcript k ≡ transcript h ++ []
-quiet-transcript h k q = ap transcript q.is ∙ transcript-append h q.more ∙ ap (λ (t : List ℕ). transcript h ++ t) (marks-none q.more q.unmarked).1
+pub quiet-told : (label : List ℕ) (h k : List Entry) → Quietly h k → told_by label k ≡ told_by label h ++ []
+quiet-told label h k q = ap (told_by label) q.is ∙ told-append label h q.more ∙ ap (λ (t : List ℕ). told_by label h ++ t) (marks-none label q.more q.unmarked).1
 
 pub quietly-then : (h k l : List Entry) → Quietly h k → Quietly k l → Quietly h l
 quietly-then h k l p q = record {
@@ -80,13 +81,14 @@ in-list [] n lt = absurd (omega (arith, lt))
 in-list (x ∷ xs) zero lt = (x, refl)
 in-list (x ∷ xs) (suc n) lt = in-list xs n (omega (arith, lt))
 
-placed-front : (script : List ScriptLine) (h : List Entry) (lane : ℕ) (p : Place) → IsPlaced script h lane p → IsFront (begun lane h) (begun lane (entries_of script))
-placed-front script h lane p i = record {
+placed-front : (done script : List ScriptLine) (h : List Entry) (lane : ℕ) (p : Place) → IsPlaced done script h lane p → IsFront (begun lane h) (begun lane (entries_of (done ++ script)))
+placed-front done script h lane p i = record {
   rest = begun lane (entries_of (drop p.next script));
-  is = ap (λ (t : List ScriptLine). begun lane (entries_of t)) (sym (take-append-drop p.next script))
-      ∙ ap (begun lane) (entries-append (take p.next script) (drop p.next script))
-      ∙ begun-append lane (entries_of (take p.next script)) (entries_of (drop p.next script))
-      ∙ ap (λ (t : List Entry). t ++ begun lane (entries_of (drop p.next script))) (sym i.begins);
+  is = begun-after done script lane
+      ∙ ap (λ (t : List ScriptLine). begun lane (entries_of done) ++ begun lane (entries_of t)) (sym (take-append-drop p.next script))
+      ∙ ap (λ (t : List Entry). begun lane (entries_of done) ++ t) (begun-after (take p.next script) (drop p.next script) lane)
+      ∙ sym (append_assoc (begun lane (entries_of done)) (begun lane (entries_of (take p.next script))) (begun lane (entries_of (drop p.next script))))
+      ∙ ap (λ (t : List Entry). t ++ begun lane (entries_of (drop p.next script))) (sym (begun-after done (take p.next script) lane) ∙ sym i.begins);
 }
 
 open-alternates : (h : List Entry) (lane : ℕ) (line : Option ℕ) → IsOpen h lane line → Alternates (marks_of lane h)
@@ -101,8 +103,8 @@ which (suc n) = elim (cases_lt n 16) [
   | inr ge ↦ inr (inr (omega (arith, ge)))
 ]
 
-pub went-of : (script : List ScriptLine) (h : List Entry) (s : Session) → length s.lanes ≡ 16 → Goes script h s → Went script h
-went-of script h s long g = record {
+pub went-of : (done : List ScriptLine) (from : ℕ) (script : List ScriptLine) (h : List Entry) (s : Session) → length s.lanes ≡ 16 → Goes done from script h s → Went done from script h
+went-of done from script h s long g = record {
   alternates = λ lane. elim (which lane) [
     | inl w ↦ let p = in-list s.lanes w.0 (let lt = w.1 in omega (arith, lt, long)) in
         subst (λ (n : ℕ). Alternates (marks_of n h)) (sym w.2) (open-alternates h (suc w.0) p.0.line (g.placed w.0 p.0 p.1).open_line)
@@ -110,8 +112,8 @@ went-of script h s long g = record {
   ];
   begins = λ lane. elim (which lane) [
     | inl w ↦ let p = in-list s.lanes w.0 (let lt = w.1 in omega (arith, lt, long)) in
-        subst (λ (n : ℕ). IsFront (begun n h) (begun n (entries_of script))) (sym w.2) (placed-front script h (suc w.0) p.0 (g.placed w.0 p.0 p.1))
-    | inr out ↦ record { rest = begun lane (entries_of script); is = sym (ap (λ (t : List Entry). t ++ begun lane (entries_of script)) (g.others lane out).0) }
+        subst (λ (n : ℕ). IsFront (begun n h) (begun n (entries_of (done ++ script)))) (sym w.2) (placed-front done script h (suc w.0) p.0 (g.placed w.0 p.0 p.1))
+    | inr out ↦ record { rest = begun lane (entries_of (done ++ script)); is = sym (ap (λ (t : List Entry). t ++ begun lane (entries_of (done ++ script))) (g.others lane out).0) }
   ];
   timed = g.timed;
   together = g.together;
@@ -119,34 +121,34 @@ went-of script h s long g = record {
 
 -- ---- one part after another
 
-pub goes-none : (script : List ScriptLine) (s t : Session) (h : List Entry) → t.lanes ≡ s.lanes → t.status ≡ s.status → CoreGoes s t h h → GoesOn script s t [] [] h h
-goes-none script s t h lanes status core = record {
+pub goes-none : (label : List ℕ) (script : List ScriptLine) (s t : Session) (h : List Entry) → t.lanes ≡ s.lanes → t.status ≡ s.status → CoreGoes s t h h → GoesOn label script s t [] [] h h
+goes-none label script s t h lanes status core = record {
   grown = ([], sym (append-nil h));
   clocked = sym (append-nil (clocks h));
-  shown = sym (append-nil (transcript h));
-  goes = λ g. goes-like script h s t lanes status g;
-  core = λ g. core;
+  shown = sym (append-nil (told_by label h));
+  goes = λ done from g. goes-like done from script h s t lanes status g;
+  core = λ done from g. core;
 }
 
 -- the exchange with the server
-pub goes-turned : (script : List ScriptLine) (s t : Session) (h k : List Entry) → IsWaiting script s → t.lanes ≡ s.lanes → t.status ≡ s.status → Quietly h k → CoreGoes s t h k → GoesOn script s t [] [] h k
-goes-turned script s t h k w lanes status q core = record {
+pub goes-turned : (label : List ℕ) (script : List ScriptLine) (s t : Session) (h k : List Entry) → IsWaiting script s → t.lanes ≡ s.lanes → t.status ≡ s.status → Quietly h k → CoreGoes s t h k → GoesOn label script s t [] [] h k
+goes-turned label script s t h k w lanes status q core = record {
   grown = (q.more, q.is);
   clocked = quiet-clocks h k q;
-  shown = quiet-transcript h k q;
-  goes = λ g. goes-like script k s t lanes status (goes-quietly script h k s w q g);
-  core = λ g. core;
+  shown = quiet-told label h k q;
+  goes = λ done from g. goes-like done from script k s t lanes status (goes-quietly done from script h k s w q g);
+  core = λ done from g. core;
 }
 
-pub cut-turned : (script : List ScriptLine) (s : Session) (halt : Halt) (h k : List Entry) → IsWaiting script s → Quietly h k → CoreWent s h k → CutsOff script s halt [] [] h k
-cut-turned script s halt h k w q core = record {
+pub cut-turned : (label : List ℕ) (script : List ScriptLine) (s : Session) (halt : Halt) (h k : List Entry) → IsWaiting script s → Quietly h k → CoreWent s h k → CutsOff label script s halt [] [] h k
+cut-turned label script s halt h k w q core = record {
   last = [];
   grown = (q.more, q.is);
   clocked = append-nil (clocks h) ∙ sym (append-nil (clocks h)) ∙ sym (quiet-clocks h k q) ∙ sym (append-nil (clocks k));
   left = none halt;
-  shown = record { rest = []; is = quiet-transcript h k q ∙ append-nil (transcript h) ∙ sym (append-nil (transcript h)) ∙ sym (append-nil (transcript h ++ [])) };
-  went = λ g. went-of script k s w.sixteen (goes-quietly script h k s w q g);
-  core = λ g. core;
+  shown = all_told (sym (quiet-told label h k q));
+  went = λ done from g. went-of done from script k s w.sixteen (goes-quietly done from script h k s w q g);
+  core = λ done from g. core;
 }
   where
     none : (halt : Halt) → IsLeft halt []
@@ -156,26 +158,26 @@ cut-turned script s halt h k w q core = record {
 grows-then : (h k l : List Entry) → Grows h k → Grows k l → Grows h l
 grows-then h k l (a, p) (b, q) = (a ++ b, q ∙ ap (λ (t : List Entry). t ++ b) p ∙ append_assoc h a b)
 
-pub goes-then-on : (script : List ScriptLine) (s t u : Session) (g i x y : List ℕ) (h k l : List Entry) → GoesOn script s t g x h k → GoesOn script t u i y k l → GoesOn script s u (g ++ i) (x ++ y) h l
-goes-then-on script s t u g i x y h k l p q = record {
+pub goes-then-on : (label : List ℕ) (script : List ScriptLine) (s t u : Session) (g i x y : List ℕ) (h k l : List Entry) → GoesOn label script s t g x h k → GoesOn label script t u i y k l → GoesOn label script s u (g ++ i) (x ++ y) h l
+goes-then-on label script s t u g i x y h k l p q = record {
   grown = grows-then h k l p.grown q.grown;
   clocked = q.clocked ∙ ap (λ (z : List ℕ). z ++ i) p.clocked ∙ append_assoc (clocks h) g i;
-  shown = q.shown ∙ ap (λ (z : List ℕ). z ++ y) p.shown ∙ append_assoc (transcript h) x y;
-  goes = λ w. q.goes (p.goes w);
-  core = λ w. core-then s t u h k l (p.core w) (q.core (p.goes w));
+  shown = q.shown ∙ ap (λ (z : List ℕ). z ++ y) p.shown ∙ append_assoc (told_by label h) x y;
+  goes = λ done from w. q.goes done from (p.goes done from w);
+  core = λ done from w. core-then s t u h k l (p.core done from w) (q.core done from (p.goes done from w));
 }
 
-pub goes-then-off : (script : List ScriptLine) (s t : Session) (halt : Halt) (g i x y : List ℕ) (h k l : List Entry) → GoesOn script s t g x h k → CutsOff script t halt i y k l → CutsOff script s halt (g ++ i) (x ++ y) h l
-goes-then-off script s t halt g i x y h k l p q = record {
+pub goes-then-off : (label : List ℕ) (script : List ScriptLine) (s t : Session) (halt : Halt) (g i x y : List ℕ) (h k l : List Entry) → GoesOn label script s t g x h k → CutsOff label script t halt i y k l → CutsOff label script s halt (g ++ i) (x ++ y) h l
+goes-then-off label script s t halt g i x y h k l p q = record {
   last = q.last;
   grown = grows-then h k l p.grown q.grown;
   clocked = sym (append_assoc (clocks h) g i) ∙ ap (λ (z : List ℕ). z ++ i) (sym p.clocked) ∙ q.clocked;
   left = q.left;
-  shown = record { rest = q.shown.rest; is = q.shown.is ∙ ap (λ (z : List ℕ). z ++ q.shown.rest) (ap (λ (z : List ℕ). z ++ y) p.shown ∙ append_assoc (transcript h) x y) };
-  went = λ w. q.went (p.goes w);
-  core = λ w. core-then-cut s t h k l (p.core w) (q.core (p.goes w));
+  shown = subst (IsCutIn label l) (ap (λ (z : List ℕ). z ++ y) p.shown ∙ append_assoc (told_by label h) x y) q.shown;
+  went = λ done from w. q.went done from (p.goes done from w);
+  core = λ done from w. core-then-cut s t h k l (p.core done from w) (q.core done from (p.goes done from w));
 }
 
-pub goes-after : {T : Type 0} → (script : List ScriptLine) (s t u : Session) (result : Result T Halt) (g i x y : List ℕ) (h k l : List Entry) → GoesOn script s t g x h k → GoesBy script t u result i y k l → GoesBy script s u result (g ++ i) (x ++ y) h l
-goes-after script s t u (Ok d) g i x y h k l p q = goes-then-on script s t u g i x y h k l p q
-goes-after script s t u (Err d) g i x y h k l p q = goes-then-off script s t d g i x y h k l p q
+pub goes-after : {T : Type 0} → (label : List ℕ) (script : List ScriptLine) (s t u : Session) (result : Result T Halt) (g i x y : List ℕ) (h k l : List Entry) → GoesOn label script s t g x h k → GoesBy label script t u result i y k l → GoesBy label script s u result (g ++ i) (x ++ y) h l
+goes-after label script s t u (Ok d) g i x y h k l p q = goes-then-on label script s t u g i x y h k l p q
+goes-after label script s t u (Err d) g i x y h k l p q = goes-then-off label script s t d g i x y h k l p q

@@ -1,11 +1,12 @@
 -- What is written piece by piece.
-use Rattle.std.proofs.Common.{◌≡◌, ◌≤◌, ◌+◌, ℕ, zero, suc, List, [], ◌∷◌, ◌++◌, length, take, drop, Option, Some, None, Ok, Err, refl, sym, ap, ◌∙◌, append_assoc, arith}
+use Rattle.std.proofs.Common.{◌≡◌, ◌≤◌, ◌+◌, ℕ, zero, suc, List, [], ◌∷◌, ◌++◌, length, take, drop, Option, Some, None, Result, Ok, Err, OnOk, OnErr, refl, sym, ap, ◌∙◌, append_assoc, arith}
 use Rattle.std.proofs.lemmas.List.{append-nil, take-append-drop}
 use Rattle.outside.specs.declared.link.LinkFault.{LinkFault}
 use Rattle.outside.specs.declared.link.LinkFault.TheVariants as faults
 use Rattle.outside.specs.Causes.{HasCause, Rose}
 use Rattle.outside.specs.Sink.{WritesTo}
 use Rattle.lane_session.specs.Streams.{Appends, Says, IsFrontOf}
+use Rattle.lane_session.proofs.Passing.{appends_then}
 
 abbrev none : List ℕ
 none = []
@@ -68,3 +69,24 @@ rose_later a b c le r = omega (arith, le, r)
 
 pub rose_before : (a b c : ℕ) → a ≤ b → Rose b c → Rose a c
 rose_before a b c le r = omega (arith, le, r)
+
+-- ---- a label and a line
+
+pub line-written : {T E : Type 0} → (a b c : Option (List ℕ)) (label line : List ℕ) (r : Result T E) → Appends a b label → OnOk r (Appends b c line) → OnOk r (Appends a c (label ++ line))
+line-written a b c label line (Ok x) p q = appends_then a b c label line p q
+line-written a b c label line (Err e) p q = q
+
+pub line-cut : {T E : Type 0} → (a b c : Option (List ℕ)) (label line : List ℕ) (r : Result T E) → Appends a b label → OnErr r (Says b c (IsFrontOf line)) → OnErr r (Says a c (IsFrontOf (label ++ line)))
+line-cut a b c label line (Ok x) p q = q
+line-cut a b c label line (Err e) p q = record {
+  text = label ++ q.text;
+  added = appends_then a b c label q.text p q.added;
+  is = record { rest = q.is.rest; is = ap (λ (x : List ℕ). label ++ x) q.is.is ∙ sym (append_assoc label q.text q.is.rest) };
+}
+
+pub label-cut : (a b : Option (List ℕ)) (label line : List ℕ) → Says a b (IsFrontOf label) → Says a b (IsFrontOf (label ++ line))
+label-cut a b label line p = record {
+  text = p.text;
+  added = p.added;
+  is = record { rest = p.is.rest ++ line; is = ap (λ (x : List ℕ). x ++ line) p.is.is ∙ append_assoc p.text p.is.rest line };
+}

@@ -1,5 +1,5 @@
 -- How the core goes with the history, so that all that holds of such a core holds of a session.
-use Rattle.std.specs.Prelude.{◌≡◌, ◌<◌, ◌⊎◌, ℕ, suc, List, [], ◌∷◌, ◌++◌, length, Bool, true, false, slice_get, Option, Some, None, Result, Ok, Err}
+use Rattle.std.specs.Prelude.{◌≡◌, ◌≤◌, ◌<◌, ◌⊎◌, ℕ, suc, List, [], ◌∷◌, ◌++◌, length, Bool, true, false, slice_get, Option, Some, None, Result, Ok, Err}
 use Rattle.rpc_retry.specs.declared.waiting.Waiting.{Waiting}
 use Rattle.rpc_retry.specs.Waiting.{waiting_at}
 use Rattle.xdr_codec.specs.declared.blob.Memory.{Memory}
@@ -7,7 +7,7 @@ use Rattle.world_model.specs.declared.answer.Answer.{Answer}
 use Rattle.world_model.specs.declared.answer.Answer.TheVariants.{Refused}
 use Rattle.world_model.specs.declared.answer.Fault.TheVariants as faults
 use Rattle.world_model.specs.declared.entry.Entry.{Entry}
-use Rattle.world_model.specs.declared.entry.Entry.TheVariants.{Began, Answered, Sent, Delivered, Clock}
+use Rattle.world_model.specs.declared.entry.Entry.TheVariants.{Began, Answered, Dialed, Sent, Delivered, Failed, Clock}
 use Rattle.world_model.specs.declared.op.Op.{Op}
 use Rattle.world_model.specs.Counts.{tally_of}
 use Rattle.world_model.specs.Entries.{At}
@@ -15,6 +15,7 @@ use Rattle.world_model.specs.LanesTogether.{HasBegun}
 use Rattle.world_model.specs.Lost.{Loses, IsLost}
 use Rattle.world_model.specs.Rows.{DropRun}
 use Rattle.world_model.specs.Waiting.{Waits}
+use Rattle.link_dials.specs.Sendings.{LatestIs, Resends}
 use Rattle.nfs_script.specs.declared.script.ScriptLine.{ScriptLine}
 use Rattle.session_words.specs.declared.settings.Settings.{Settings}
 use Rattle.op_machines.specs.Begun.{machine_of}
@@ -29,6 +30,7 @@ use Rattle.lane_session.specs.declared.halt.Halt.{Halt}
 use Rattle.lane_session.specs.declared.running.Session.{Session}
 use Rattle.lane_session.specs.declared.top.End.{End}
 use Rattle.lane_session.specs.Losing.{LosesOnly}
+use Rattle.lane_session.specs.Resending.{SendsAgain}
 use Rattle.lane_session.specs.Running.{mounted_by}
 use Rattle.lane_session.specs.Tallies.{Tallied}
 
@@ -80,21 +82,24 @@ pub record Start : Type 0 where
   pub from : List Entry
   pub counted : Bool
 
--- The core of a session does; an operation began at each reading of the clock; and its calls are counted, where those of the set-up were.
+-- The core of a session does; calls are sent again after a failure; an operation began at each reading of the clock; and its calls are counted, where those
+-- of the set-up were.
 pub record Bonded (m : Mounted) (setup : Setup) (start : Start) (h : List Entry) (s : Session) : Type 0 where
   pub mounted : s.mounted ≡ m
   pub bond : Bond m setup start.from h s.core s.dropped
+  pub again : SendsAgain h s.core
   pub takes : TakesAll start.from h
   pub tallied : start.counted ≡ true → Tallied h s.core s.counts
 
 -- A core goes with the history, in which each answer is noted first, and sent nothing since the first one before an operation began; at each reading of the
--- clock before an operation one began; and a session that is lost stays so.
+-- clock before an operation one began; a session that is lost stays so; and each call that waits is sent again after a failure.
 pub record HasCore (m : Mounted) (setup : Setup) (from h : List Entry) : Type 0 where
   pub core : View
   pub notes : Notes (machine_of m) setup h core
   pub since : SentSince from h
   pub takes : TakesEarlier from h
   pub stays : StaysLost h
+  pub resends : Resends h
 
 -- the core goes on with the history
 abbrev pub CoreGoes : Session → Session → List Entry → List Entry → Type 0
@@ -120,11 +125,12 @@ steps (Delivered bytes ∷ es) = Delivered bytes ∷ steps es
 steps (Clock ms ∷ es) = Clock ms ∷ steps es
 steps (e ∷ es) = steps es
 
--- only dials were made
+-- only dials were made, and each failure is that of a dial
 pub record Redials (h k : List Entry) : Type 0 where
   pub more : List Entry
   pub is : k ≡ h ++ more
   pub still : steps more ≡ []
+  pub each : (j : ℕ) → At k j Failed → length h ≤ j → (port : ℕ) × LatestIs k j (Dialed port)
 
 -- a dial went well; or so many in a row failed that the session is lost
 abbrev pub RedialsBy : Result Bool Memory → List Entry → List Entry → Type 0

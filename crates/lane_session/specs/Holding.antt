@@ -1,5 +1,5 @@
 -- What holds of a session at any time, whatever its link tells.
-use Rattle.std.specs.Prelude.{◌≡◌, ◌≤◌, ◌<◌, ◌+◌, ◌-◌, ◌*◌, ℕ, suc, List, [], ◌∷◌, length, position, slice_get, Bool, true, false, Some, None}
+use Rattle.std.specs.Prelude.{◌≡◌, ◌≤◌, ◌<◌, ◌+◌, ◌-◌, ◌*◌, ◌^◌, ℕ, suc, List, [], ◌∷◌, length, position, slice_get, Bool, true, false, Some, None}
 use Rattle.nfs_script.specs.declared.script.ScriptLine.{ScriptLine}
 use Rattle.rpc_retry.specs.Sound.{IsSound}
 use Rattle.rpc_retry.specs.declared.waiting.Waiting.{Waiting}
@@ -29,12 +29,13 @@ pub record IsLive (s : Session) : Type 0 where
   pub dropped : s.dropped ≤ 65536
   pub undropped : 1 ≤ s.attempts → s.dropped < 65536
 
--- A lane without a line is idle in the core, too; and no more lines were begun than were passed.
+-- A lane without a line is idle in the core, too; no more lines were begun than were passed, in earlier scripts and in this one; and there can't be 2 ^ 32.
 pub record IsSeated (script : List ScriptLine) (s : Session) : Type 0 where
   pub sixteen : length s.lanes ≡ 16
   pub idle : (n : ℕ) (p : Place) → slice_get s.lanes n ≡ Some p → p.line ≡ None → IsOther (suc n) (numbers_of s.core.lanes)
   pub within : (n : ℕ) (p : Place) → slice_get s.lanes n ≡ Some p → p.next ≤ length script
-  pub begun : s.core.begun ≤ passed s.lanes
+  pub begun : s.core.begun ≤ s.earlier + passed s.lanes
+  pub room : s.earlier + 16 * length script < 2 ^ 32
 
 -- There is a history with which the core goes, whatever the link tells, in which each line under way is the last one that its lane began.
 pub record HasStory (s : Session) : Type 0 where
@@ -97,3 +98,9 @@ pub record Lessens (script : List ScriptLine) (old new : Session) : Type 0 where
 -- so much is left of the calls, and between two replies
 abbrev pub tries_left : Session → ℕ
 tries_left s = 65541 * calls_left s.core + s.attempts + (65536 - s.dropped)
+
+-- ---- another script
+
+-- there can be no 2 ^ 32 operations in the scripts so far and the next one
+abbrev pub HasRoom : List ScriptLine → List ScriptLine → Session → Type 0
+HasRoom script next s = s.earlier + 16 * length script + 16 * length next < 2 ^ 32

@@ -1,4 +1,5 @@
 pub mod Streams
+pub mod Labels
 pub mod LaneMarks
 pub mod Places
 pub mod Ports
@@ -7,7 +8,10 @@ pub mod Endings
 pub mod Holding
 pub mod Running
 pub mod Tallies
+pub mod Resending
 pub mod Bonds
+pub mod TogetherFrom
 pub mod Going
+pub mod Turns
 pub mod Losing
 pub mod Sessions

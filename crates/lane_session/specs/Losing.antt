@@ -6,11 +6,10 @@ use Rattle.world_model.specs.declared.entry.Entry.{Entry}
 use Rattle.world_model.specs.declared.entry.Entry.TheVariants.{Began, Answered, Clock}
 use Rattle.world_model.specs.Clocked.{clocks}
 use Rattle.world_model.specs.Entries.{At}
-use Rattle.world_model.specs.Transcript.{transcript}
 use Rattle.nfs_script.specs.declared.script.ScriptLine.{ScriptLine}
 use Rattle.lane_session.specs.declared.halt.Halt.{Halt}
+use Rattle.lane_session.specs.Labels.{told_by, IsCutIn}
 use Rattle.lane_session.specs.Statuses.{IsLeft}
-use Rattle.lane_session.specs.Streams.{IsFrontOf}
 
 -- a line began at the reading, and was answered that the session is lost
 abbrev pub lost_line : ScriptLine → ℕ → List Entry
@@ -29,24 +28,24 @@ pub data LostPart (l : ScriptLine) (es : List Entry) : Type 0 where
   begun : (ms : ℕ) → es ≡ Clock ms ∷ Began l.lane l.line l.op ∷ [] → LostPart l es
   answered : (ms : ℕ) → es ≡ lost_line l ms → LostPart l es
 
--- All readings were noted but perhaps the last, and the text is that of the answers, or a front of it.
-pub record IsToldOf (halt : Halt) (given text : List ℕ) (es : List Entry) : Type 0 where
+-- All readings were noted but perhaps the last, and the text is that of the answers, but perhaps within the line of the last entry.
+pub record IsToldOf (label : List ℕ) (halt : Halt) (given text : List ℕ) (es : List Entry) : Type 0 where
   pub last : List ℕ
   pub clocked : given ≡ clocks es ++ last
   pub left : IsLeft halt last
-  pub shown : IsFrontOf (transcript es) text
+  pub shown : IsCutIn label es text
 
-abbrev pub LosesLine : List ScriptLine → ℕ → Result (Unit {0}) Halt → List ℕ → List ℕ → List Entry → List Entry → Type 0
-LosesLine script at (Ok u) given text h k =
-    (l : ScriptLine) × (slice_get script at ≡ Some l) × ((ms : ℕ) × (k ≡ h ++ lost_line l ms) × (given ≡ ms ∷ []) × (text ≡ transcript (lost_line l ms)))
-LosesLine script at (Err halt) given text h k =
-    (l : ScriptLine) × (slice_get script at ≡ Some l) × ((es : List Entry) × (k ≡ h ++ es) × LostPart l es × IsToldOf halt given text es)
+abbrev pub LosesLine : List ℕ → List ScriptLine → ℕ → Result (Unit {0}) Halt → List ℕ → List ℕ → List Entry → List Entry → Type 0
+LosesLine label script at (Ok u) given text h k =
+    (l : ScriptLine) × (slice_get script at ≡ Some l) × ((ms : ℕ) × (k ≡ h ++ lost_line l ms) × (given ≡ ms ∷ []) × (text ≡ told_by label (lost_line l ms)))
+LosesLine label script at (Err halt) given text h k =
+    (l : ScriptLine) × (slice_get script at ≡ Some l) × ((es : List Entry) × (k ≡ h ++ es) × LostPart l es × IsToldOf label halt given text es)
 
 -- All lines were begun and answered so; or the first ones, and then a front of what a further one adds.
-abbrev pub LosesBy : List ScriptLine → Result (Unit {0}) Halt → List ℕ → List ℕ → List Entry → List Entry → Type 0
-LosesBy script (Ok u) given text h k = (es : List Entry) × (k ≡ h ++ es) × LostLines script es × (given ≡ clocks es) × (text ≡ transcript es)
-LosesBy script (Err halt) given text h k = (n : ℕ) × (l : ScriptLine) × (slice_get script n ≡ Some l)
-    × ((es part : List Entry) × (k ≡ h ++ (es ++ part)) × LostLines (take n script) es × LostPart l part × IsToldOf halt given text (es ++ part))
+abbrev pub LosesBy : List ℕ → List ScriptLine → Result (Unit {0}) Halt → List ℕ → List ℕ → List Entry → List Entry → Type 0
+LosesBy label script (Ok u) given text h k = (es : List Entry) × (k ≡ h ++ es) × LostLines script es × (given ≡ clocks es) × (text ≡ told_by label es)
+LosesBy label script (Err halt) given text h k = (n : ℕ) × (l : ScriptLine) × (slice_get script n ≡ Some l)
+    × ((es part : List Entry) × (k ≡ h ++ (es ++ part)) × LostLines (take n script) es × LostPart l part × IsToldOf label halt given text (es ++ part))
 
 -- the status of a session that was lost before: 6, and 0 where no line was answered so
 abbrev pub status_of : List ScriptLine → ℕ

@@ -1,5 +1,5 @@
 -- Where the lanes are in the script.
-use Rattle.std.specs.Prelude.{◌≡◌, ◌≤◌, ◌<◌, ◌+◌, ◌-◌, ◌*◌, ℕ, List, [], ◌∷◌, length, take, slice_get, slice_set, Option, Some, None}
+use Rattle.std.specs.Prelude.{◌≡◌, ◌≤◌, ◌<◌, ◌+◌, ◌-◌, ◌*◌, ℕ, List, [], ◌∷◌, ◌++◌, length, take, slice_get, slice_set, Option, Some, None}
 use Rattle.world_model.specs.declared.entry.Entry.{Entry}
 use Rattle.world_model.specs.Follows.{begun}
 use Rattle.nfs_script.specs.declared.script.ScriptLine.{ScriptLine}
@@ -63,7 +63,7 @@ abbrev pub IsOpen : List Entry → ℕ → Option ℕ → Type 0
 IsOpen h lane None = IsResting h lane
 IsOpen h lane (Some line) = IsRunning h lane line
 
--- The lane began its lines up to its place, and the line that is under way is the last one.
-pub record IsPlaced (script : List ScriptLine) (h : List Entry) (lane : ℕ) (p : Place) : Type 0 where
-  pub begins : begun lane h ≡ begun lane (entries_of (take p.next script))
+-- The lane began its lines of the scripts that are done, then those of this one up to its place; and the line that is under way is the last one.
+pub record IsPlaced (done script : List ScriptLine) (h : List Entry) (lane : ℕ) (p : Place) : Type 0 where
+  pub begins : begun lane h ≡ begun lane (entries_of (done ++ take p.next script))
   pub open_line : IsOpen h lane p.line

@@ -22,6 +22,7 @@ use Rattle.lane_session.specs.declared.running.Sending.{Sending}
 use Rattle.lane_session.specs.declared.running.Sending.TheVariants as sendings
 use Rattle.lane_session.specs.declared.lanes.Place.{Place}
 use Rattle.lane_session.specs.Places.{lines_left}
+use Rattle.lane_session.specs.Resending.{DueAgain}
 use Rattle.lane_session.specs.Holding.{IsLive, IsAlive, IsQuiet, AreQuiet, Lessens, SameTries, calls_left, tries_left}
 
 -- ---- a session that begins
@@ -39,6 +40,7 @@ pub record IsFreshFor (settings : Settings) (setup : Setup) (s : Session) : Type
   pub status : s.status ≡ 0
   pub attempts : s.attempts ≡ 4
   pub dropped : s.dropped ≡ 0
+  pub earlier : s.earlier ≡ 0
 
 -- ---- lanes
 
@@ -97,6 +99,7 @@ pub record Quietly (h k : List Entry) : Type 0 where
 -- what the exchange with the server leaves as it is
 pub record SameLines (old new : Session) : Type 0 where
   pub mounted : new.mounted ≡ old.mounted
+  pub earlier : new.earlier ≡ old.earlier
   pub lanes : new.lanes ≡ old.lanes
   pub status : new.status ≡ old.status
   pub numbers : numbers_of new.core.lanes ≡ numbers_of old.core.lanes
@@ -133,10 +136,11 @@ abbrev pub dues : List (ℕ × Waiting Purpose) → ℕ
 dues [] = 0
 dues (e ∷ es) = one_where e.1.due + dues es
 
--- the link failed; where attempts are left each lane has told its answer still
+-- the link failed; each call is due again; and where attempts are left each lane has told its answer still
 pub record Breaks (old new : Session) : Type 0 where
   pub exchanges : Exchanges old new
   pub told : 1 ≤ new.attempts → NoneOver new.core
+  pub due : DueAgain new.core
 
 abbrev pub SendsAll : Session → Bool → Session → Type 0
 SendsAll old true new = Sends old new × WereSent new.core.calls.calls × (first_due new.core.calls.calls ≡ None)

@@ -14,6 +14,7 @@ use Rattle.lane_session.specs.declared.halt.Halt.{Halt}
 use Rattle.lane_session.specs.declared.top.End.{End}
 use Rattle.lane_session.specs.Endings.{entries_of, EndsAs, counts_text, TextOf, NotesAll}
 use Rattle.lane_session.specs.Going.{AllTimed, Grows}
+use Rattle.lane_session.specs.Labels.{IsCutIn}
 use Rattle.lane_session.specs.Statuses.{HasStatus, IsCutOff, IsLeft}
 use Rattle.lane_session.specs.Streams.{IsFrontOf}
 
@@ -60,7 +61,7 @@ pub record IsDone (script : List ScriptLine) (end : End) (given text : List ℕ)
 pub record IsBroken (script : List ScriptLine) (halt : Halt) (given text : List ℕ) (h k : List Entry) : Type 0 where
   pub grown : Grows h k
   pub follows : Follows (entries_of script) k
-  pub shown : IsFrontOf (transcript k) text
+  pub shown : IsCutIn [] k text
   pub last : List ℕ
   pub clocked : clocks h ++ given ≡ clocks k ++ last
   pub left : IsLeft halt last

@@ -123,6 +123,16 @@ impl Lanes {
         self.places[usize::from(lane) - 1].line = None;
     }
 
+    /// Each lane stands before its first line.
+    pub fn restart(&mut self)
+        ensures { self.new ≡ replicate 16 (record { next = 0; line = None }) }
+    {
+        self.places.fill(Place {
+            next: 0,
+            line: None,
+        });
+    }
+
     /// Whether a line is under way.
     pub fn are_busy(&self) -> bool
         ensures idle { OnFalse result (AreIdle self.now) }

@@ -12,4 +12,7 @@ mod running;
 mod status;
 mod top;
 
+pub use halt::Halt;
+pub use lost_lines::lose_lines;
+pub use running::Session;
 pub use top::session;

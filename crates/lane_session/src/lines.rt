@@ -10,7 +10,7 @@ ghost use Rattle.lane_session.specs.Streams.{Appends, IsFrontOf, ReadsOnce, Says
 ghost use Rattle.lane_session.specs.Statuses.{CausedBy};
 
 use crate::halt::Halt;
-use crate::output::write_all;
+use crate::output::{write_all, write_line};
 use nfs_script::{tally_line, whole_line};
 use outside::{Clock, Link, Sink};
 use std::alloc::Global;
@@ -28,6 +28,7 @@ pub fn note_beginning<L: Link, C: Clock>(
     ensures goes { ReadsOnce (C.readings clock.old) (C.readings clock.new) (λ ms.
         Relates (L.told link.old) (L.told link.new) (NotesBeginning lane line op ms result)) }
     ensures reading { IfOk result (ReadsClock (C.readings clock.old) (C.readings clock.new)) }
+    ensures stays { (first : L) → L.stays first link.old → L.stays first link.new }
     ensures honest { L.honest link.old → L.honest link.new }
 {
     let ms = clock.now();
@@ -41,17 +42,19 @@ pub fn note_beginning<L: Link, C: Clock>(
     }
 }
 
-/// Notes an answer, and writes its line.
+/// Notes an answer, and writes its line at once, behind the label.
 pub fn tell_answer<L: Link, K: Sink>(
     alloc: Global,
     lane: u8,
     line: u32,
     answer: Answer,
+    label: &[u8],
     link: &mut L,
     out: &mut K,
 ) -> Result<(), Halt>
     ensures goes { Says (K.written out.old) (K.written out.new) (λ text.
-        Relates (L.told link.old) (L.told link.new) (TellsAnswer lane line answer result text)) }
+        Relates (L.told link.old) (L.told link.new) (TellsAnswer label.now lane line answer result text)) }
+    ensures stays { (first : L) → L.stays first link.old → L.stays first link.new }
     ensures honest { L.honest link.old → L.honest link.new }
     ensures later { K.faults out.old ≤ K.faults out.new }
     ensures cause { CausedBy result (Rose (K.faults out.old) (K.faults out.new)) }
@@ -60,7 +63,7 @@ pub fn tell_answer<L: Link, K: Sink>(
         return Err(Halt::Memory);
     };
     match link.note(Mark::Answered { lane, line, answer }) {
-        Ok(()) => write_all(out, text.bytes()),
+        Ok(()) => write_line(out, label, text.bytes()),
         Err(_) => Err(Halt::Memory),
     }
 }

@@ -13,22 +13,25 @@ use outside::{Clock, Link, Sink};
 use std::alloc::Global;
 use world_model::{Answer, Fault};
 
-/// Each line begins, and is answered that the session is lost.
+/// The lines of a session that was lost in its set-up: each begins, and is answered that the session is lost. Nothing is sent. Each answer is written at
+/// once, behind the label.
 pub fn lose_lines<L: Link, C: Clock, K: Sink>(
     alloc: Global,
     script: &Script,
+    label: &[u8],
     link: &mut L,
     clock: &mut C,
     out: &mut K,
 ) -> Result<(), Halt>
     ensures goes { Passes (C.readings clock.old) (C.readings clock.new) (L.told link.old) (L.told link.new) (K.written out.old) (K.written out.new)
-        (LosesBy script.now result) }
+        (LosesBy label.now script.now result) }
+    ensures stays { (first : L) → L.stays first link.old → L.stays first link.new }
     ensures honest { L.honest link.old → L.honest link.new }
     ensures later { K.faults out.old ≤ K.faults out.new }
     ensures cause { CausedBy result (Rose (K.faults out.old) (K.faults out.new)) }
 {
     for at in 0..script.count() {
-        match lose_line(alloc, script, at, link, clock, out) {
+        match lose_line(alloc, script, at, label, link, clock, out) {
             Ok(()) => {}
             Err(halt) => return Err(halt),
         }
@@ -41,13 +44,15 @@ fn lose_line<L: Link, C: Clock, K: Sink>(
     alloc: Global,
     script: &Script,
     at: usize,
+    label: &[u8],
     link: &mut L,
     clock: &mut C,
     out: &mut K,
 ) -> Result<(), Halt>
     requires { at < length script.now }
     ensures goes { Passes (C.readings clock.old) (C.readings clock.new) (L.told link.old) (L.told link.new) (K.written out.old) (K.written out.new)
-        (LosesLine script.now at result) }
+        (LosesLine label.now script.now at result) }
+    ensures stays { (first : L) → L.stays first link.old → L.stays first link.new }
     ensures honest { L.honest link.old → L.honest link.new }
     ensures later { K.faults out.old ≤ K.faults out.new }
     ensures cause { CausedBy result (Rose (K.faults out.old) (K.faults out.new)) }
@@ -57,7 +62,15 @@ fn lose_line<L: Link, C: Clock, K: Sink>(
         return Err(Halt::Memory);
     };
     match note_beginning(lane, line, op, link, clock) {
-        Ok(_) => tell_answer(alloc, lane, line, Answer::Refused(Fault::Lost), link, out),
+        Ok(_) => tell_answer(
+            alloc,
+            lane,
+            line,
+            Answer::Refused(Fault::Lost),
+            label,
+            link,
+            out,
+        ),
         Err(_) => Err(Halt::Memory),
     }
 }

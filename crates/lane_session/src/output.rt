@@ -1,6 +1,6 @@
 //! The answers, as the sink takes them.
 
-ghost use Rattle.std.specs.Prelude.{◌≤◌, OnOk, OnErr};
+ghost use Rattle.std.specs.Prelude.{◌≤◌, ◌++◌, OnOk, OnErr};
 ghost use Rattle.outside.specs.Causes.{Rose};
 ghost use Rattle.lane_session.specs.Streams.{Appends, Says, IsFrontOf};
 ghost use Rattle.lane_session.specs.Statuses.{CausedBy};
@@ -25,4 +25,17 @@ pub fn write_all<K: Sink>(out: &mut K, bytes: &[u8]) -> Result<(), Halt>
         }
     }
     Ok(())
+}
+
+/// Writes the label and then the line. After a fault a prefix of the two stands there.
+pub fn write_line<K: Sink>(out: &mut K, label: &[u8], line: &[u8]) -> Result<(), Halt>
+    ensures ok { OnOk result (Appends (K.written out.old) (K.written out.new) (label.now ++ line.now)) }
+    ensures err { OnErr result (Says (K.written out.old) (K.written out.new) (IsFrontOf (label.now ++ line.now))) }
+    ensures later { K.faults out.old ≤ K.faults out.new }
+    ensures cause { CausedBy result (Rose (K.faults out.old) (K.faults out.new)) }
+{
+    match write_all(out, label) {
+        Ok(()) => write_all(out, line),
+        Err(halt) => Err(halt),
+    }
 }

@@ -1,24 +1,29 @@
 //! A session over the core: its lines begin, calls are sent, records are taken, answers are told.
 
-ghost use Rattle.std.specs.Prelude.{◌≡◌, ◌≢◌, ◌≤◌, ◌<◌, ◌^◌, [], List, All, None, Some, false, IfOk, OnOk, length};
+ghost use Rattle.std.specs.Bool.{OnTrue};
+ghost use Rattle.std.specs.Prelude.{◌≡◌, ◌≢◌, ◌≤◌, ◌<◌, ◌^◌, ◌+◌, ◌*◌, ℕ, [], List, All, None, Some, true, false, IfOk, OnOk, length};
 ghost use Rattle.outside.specs.Causes.{Rose};
+ghost use Rattle.world_model.specs.declared.entry.Entry.{Entry};
 ghost use Rattle.world_model.specs.Told.{Relates};
 ghost use Rattle.link_dials.specs.Dials.{DialsOnly};
 ghost use Rattle.nfs_script.specs.Asked.{IsAsked, IsAskedLine};
 ghost use Rattle.nfs_script.specs.declared.script.ScriptLine.{ScriptLine};
+ghost use Rattle.rpc_retry.specs.Waiting.{first_due};
 ghost use Rattle.op_machines.specs.Begun.{machine_of};
 ghost use Rattle.op_machines.specs.Fits.{Fits};
 ghost use Rattle.client_core.specs.Numbers.{IsIdle};
 ghost use Rattle.client_core.specs.Steps.{WereSent};
 ghost use Rattle.core_facts.specs.Reaches.{MaySetUp};
-ghost use Rattle.lane_session.specs.Bonds.{CoreBy, RedialsBy};
-ghost use Rattle.lane_session.specs.Going.{GoesBy};
-ghost use Rattle.lane_session.specs.Holding.{IsHeld, IsLive, AreQuiet, HeadSent, tries_left};
+ghost use Rattle.lane_session.specs.Bonds.{CoreBy, CoreGoes, RedialsBy};
+ghost use Rattle.lane_session.specs.Going.{GoesBy, GoesNext};
+ghost use Rattle.lane_session.specs.Holding.{HasRoom, IsHeld, IsLive, AreQuiet, HeadSent, tries_left};
 ghost use Rattle.lane_session.specs.Places.{AreIdle};
 ghost use Rattle.lane_session.specs.Ports.{KeepsPort};
+ghost use Rattle.lane_session.specs.Resending.{DueAgain};
 ghost use Rattle.lane_session.specs.Running.{IsFreshFor, StepsSo, StepsLane, LineIs, Starts, NotesStart, Quietly, Exchanges, Redialed, NoneOver, SendsAll, SendsOne, Fails, Takes, given_up};
 ghost use Rattle.lane_session.specs.Statuses.{CausedBy};
 ghost use Rattle.lane_session.specs.Streams.{Passes, Reads, Says};
+ghost use Rattle.lane_session.specs.Turns.{AddsMarks, WritesInTime};
 
 use crate::counts::Counts;
 use crate::halt::Halt;
@@ -45,7 +50,8 @@ const DIALS: u32 = 4;
 /// So many records in a row that answer no call lose the session.
 const MOST_DROPPED: u32 = 65_536;
 
-/// A session that is under way.
+/// A session that is under way: where its lanes are in the script, and the core with the calls that wait. It is made over a set-up, and goes on
+/// turn by turn until each line of the script has its answer.
 #[derive(Drop)]
 pub struct Session {
     alloc: Global,
@@ -54,13 +60,15 @@ pub struct Session {
     core: Core,
     lanes: Lanes,
     /// The calls that were sent.
-    pub counts: Counts,
+    pub(crate) counts: Counts,
     /// The status by the answers so far.
-    pub status: u8,
+    pub(crate) status: u8,
     /// How many attempts may still end in a row before a reply comes; none in a lost session.
     attempts: u32,
     /// How many records that answered no call came in a row.
     dropped: u32,
+    /// So many operations at most began in the scripts that are done.
+    earlier: u64,
 }
 
 /// What came of the sending of a record.
@@ -74,7 +82,7 @@ enum Sending {
 }
 
 impl Session {
-    /// No line has begun.
+    /// A session in which no line has begun. The tally is that of the calls of the set-up. An error is want of memory.
     pub fn new(
         alloc: Global,
         settings: &Settings,
@@ -104,13 +112,64 @@ impl Session {
             status: status::WELL,
             attempts: ATTEMPTS,
             dropped: 0,
+            earlier: 0,
         })
     }
 
-    /// Works until each line of the script has its answer.
+    /// The status by the answers so far: 0 if all are `ok`, 6 if one is that the session is lost, else 1.
+    pub fn status(&self) -> u8
+        ensures { result ≡ self.now.status }
+    {
+        self.status
+    }
+
+    /// The calls that were sent so far, with those of the set-up.
+    pub fn tally(&self) -> Tally
+        ensures { result ≡ self.now.counts.tally }
+    {
+        self.counts.tally
+    }
+
+    /// Whether there is room for another script: a session can't begin 2^32 operations.
+    pub fn has_room(&self, script: &Script, next: &Script) -> bool
+        requires held { IsHeld script.now self.now }
+        requires few { length next.now ≤ 16384 }
+        ensures { OnTrue result (HasRoom script.now next.now self.now) }
+    {
+        let lines = script.count();
+        let more = next.count();
+        have_room(self.earlier, lines, more)
+    }
+
+    /// Goes on to another script, no line of which has begun, once each line of this one has its answer. What the session keeps stays: the connection,
+    /// what is cached, dirty bytes, open slots, xids.
+    pub fn next_script(&mut self, script: &Script)
+        requires held { IsHeld script.now self.old }
+        requires idle { AreIdle self.old.lanes }
+        requires quiet { AreQuiet script.now self.old }
+        ensures held { (next : List ScriptLine) → HasRoom script.now next self.old → IsHeld next self.new }
+        ensures goes { (next : List ScriptLine) → GoesNext script.now next self.old self.new }
+        ensures core { (h : List Entry) → CoreGoes self.old self.new h h }
+        ensures port { self.new.port ≡ self.old.port }
+    {
+        let lines = script.count();
+        self.pass(lines);
+        self.lanes.restart();
+    }
+
+    /// The lines of a script are done.
+    fn pass(&mut self, lines: usize)
+        requires { self.old.earlier + 16 * lines < 2 ^ 32 }
+        ensures { self.new ≡ record self.old { earlier = self.old.earlier + 16 * lines } }
+    {
+        self.earlier += 16 * lines as u64;
+    }
+
+    /// Works until each line of the script has its answer: a loop of turns.
     pub fn work<L: Link, C: Clock, K: Sink>(
         &mut self,
         script: &Script,
+        label: &[u8],
         link: &mut L,
         clock: &mut C,
         out: &mut K,
@@ -122,50 +181,63 @@ impl Session {
         ensures quiet { OnOk result (AreQuiet script.now self.new) }
         ensures held { OnOk result (IsHeld script.now self.new) }
         ensures goes { Passes (C.readings clock.old) (C.readings clock.new) (L.told link.old) (L.told link.new) (K.written out.old) (K.written out.new)
-            (GoesBy script.now self.old self.new result) }
+            (GoesBy label.now script.now self.old self.new result) }
         ensures dials { KeepsPort self.old.port self.new.port (L.told link.old) (L.told link.new) }
+        ensures stays { (first : L) → L.stays first link.old → L.stays first link.new }
         ensures honest { L.honest link.old → L.honest link.new }
         ensures later { K.faults out.old ≤ K.faults out.new }
         ensures cause { CausedBy result (Rose (K.faults out.old) (K.faults out.new)) }
     {
-        match self.settle(script, link, clock, out) {
-            Ok(()) => {}
-            Err(halt) => return Err(halt),
-        }
-        'working: while self.lanes.are_busy() {
-            match self.turn(script, link, clock, out) {
-                Ok(()) => {}
+        'working: loop {
+            match self.take_turn(script, label, link, clock, out) {
+                Ok(went) => {
+                    if !went {
+                        return Ok(());
+                    }
+                }
                 Err(halt) => return Err(halt),
             }
         }
-        Ok(())
     }
 
-    /// An exchange with the server, and what the lanes do after it.
-    fn turn<L: Link, C: Clock, K: Sink>(
+    /// A turn: lanes go on as far as they can, and if a line is under way then, due records are sent and one is waited for. The lines of all
+    /// answers are written, each behind the label, before the first record is sent. False, with nothing sent, if each line of the script has
+    /// its answer. After an error no further turn is taken.
+    pub fn take_turn<L: Link, C: Clock, K: Sink>(
         &mut self,
         script: &Script,
+        label: &[u8],
         link: &mut L,
         clock: &mut C,
         out: &mut K,
-    ) -> Result<(), Halt>
+    ) -> Result<bool, Halt>
         requires asked { All IsAskedLine script.now }
         requires few { length script.now ≤ 16384 }
         requires held { IsHeld script.now self.old }
-        requires quiet { AreQuiet script.now self.old }
-        requires busy { AreIdle self.old.lanes → ⊥ }
         ensures held { OnOk result (IsHeld script.now self.new) }
-        ensures quiet { OnOk result (AreQuiet script.now self.new) }
-        ensures less { OnOk result (tries_left self.new < tries_left self.old) }
+        ensures less { IfOk result (λ went. went ≡ true → tries_left self.new < tries_left self.old) }
+        ensures idle { IfOk result (λ went. went ≡ false → AreIdle self.new.lanes) }
+        ensures quiet { IfOk result (λ went. went ≡ false → AreQuiet script.now self.new) }
         ensures goes { Passes (C.readings clock.old) (C.readings clock.new) (L.told link.old) (L.told link.new) (K.written out.old) (K.written out.new)
-            (GoesBy script.now self.old self.new result) }
+            (GoesBy label.now script.now self.old self.new result) }
+        ensures in_time { Passes (C.readings clock.old) (C.readings clock.new) (L.told link.old) (L.told link.new) (K.written out.old) (K.written out.new)
+            (λ given text h k. WritesInTime label.now result text h k) }
         ensures dials { KeepsPort self.old.port self.new.port (L.told link.old) (L.told link.new) }
+        ensures stays { (first : L) → L.stays first link.old → L.stays first link.new }
         ensures honest { L.honest link.old → L.honest link.new }
         ensures later { K.faults out.old ≤ K.faults out.new }
         ensures cause { CausedBy result (Rose (K.faults out.old) (K.faults out.new)) }
     {
+        match self.settle(script, label, link, clock, out) {
+            Ok(()) => {}
+            Err(halt) => return Err(halt),
+        }
+        let busy = self.lanes.are_busy();
+        if !busy {
+            return Ok(false);
+        }
         match self.exchange(link) {
-            Ok(()) => self.settle(script, link, clock, out),
+            Ok(()) => Ok(true),
             Err(halt) => Err(halt),
         }
     }
@@ -174,6 +246,7 @@ impl Session {
     fn settle<L: Link, C: Clock, K: Sink>(
         &mut self,
         script: &Script,
+        label: &[u8],
         link: &mut L,
         clock: &mut C,
         out: &mut K,
@@ -185,14 +258,16 @@ impl Session {
         ensures quiet { OnOk result (AreQuiet script.now self.new) }
         ensures less { OnOk result (tries_left self.new ≤ tries_left self.old) }
         ensures goes { Passes (C.readings clock.old) (C.readings clock.new) (L.told link.old) (L.told link.new) (K.written out.old) (K.written out.new)
-            (GoesBy script.now self.old self.new result) }
+            (GoesBy label.now script.now self.old self.new result) }
+        ensures marks { Relates (L.told link.old) (L.told link.new) AddsMarks }
         ensures dials { KeepsPort self.old.port self.new.port (L.told link.old) (L.told link.new) }
+        ensures stays { (first : L) → L.stays first link.old → L.stays first link.new }
         ensures honest { L.honest link.old → L.honest link.new }
         ensures later { K.faults out.old ≤ K.faults out.new }
         ensures cause { CausedBy result (Rose (K.faults out.old) (K.faults out.new)) }
     {
         'settling: loop {
-            match self.step_one(script, link, clock, out) {
+            match self.step_one(script, label, link, clock, out) {
                 Ok(went) => {
                     if !went {
                         return Ok(());
@@ -207,6 +282,7 @@ impl Session {
     fn step_one<L: Link, C: Clock, K: Sink>(
         &mut self,
         script: &Script,
+        label: &[u8],
         link: &mut L,
         clock: &mut C,
         out: &mut K,
@@ -217,14 +293,16 @@ impl Session {
         ensures held { OnOk result (IsHeld script.now self.new) }
         ensures steps { IfOk result (λ went. StepsSo script.now self.old went self.new) }
         ensures goes { Passes (C.readings clock.old) (C.readings clock.new) (L.told link.old) (L.told link.new) (K.written out.old) (K.written out.new)
-            (GoesBy script.now self.old self.new result) }
+            (GoesBy label.now script.now self.old self.new result) }
+        ensures marks { Relates (L.told link.old) (L.told link.new) AddsMarks }
         ensures dials { KeepsPort self.old.port self.new.port (L.told link.old) (L.told link.new) }
+        ensures stays { (first : L) → L.stays first link.old → L.stays first link.new }
         ensures honest { L.honest link.old → L.honest link.new }
         ensures later { K.faults out.old ≤ K.faults out.new }
         ensures cause { CausedBy result (Rose (K.faults out.old) (K.faults out.new)) }
     {
         for index in 0..LANES {
-            match self.step(index + 1, script, link, clock, out) {
+            match self.step(index + 1, script, label, link, clock, out) {
                 Ok(went) => {
                     if went {
                         return Ok(true);
@@ -241,6 +319,7 @@ impl Session {
         &mut self,
         lane: u8,
         script: &Script,
+        label: &[u8],
         link: &mut L,
         clock: &mut C,
         out: &mut K,
@@ -253,14 +332,16 @@ impl Session {
         ensures held { OnOk result (IsHeld script.now self.new) }
         ensures steps { IfOk result (λ went. StepsLane script.now lane self.old went self.new) }
         ensures goes { Passes (C.readings clock.old) (C.readings clock.new) (L.told link.old) (L.told link.new) (K.written out.old) (K.written out.new)
-            (GoesBy script.now self.old self.new result) }
+            (GoesBy label.now script.now self.old self.new result) }
+        ensures marks { Relates (L.told link.old) (L.told link.new) AddsMarks }
         ensures dials { KeepsPort self.old.port self.new.port (L.told link.old) (L.told link.new) }
+        ensures stays { (first : L) → L.stays first link.old → L.stays first link.new }
         ensures honest { L.honest link.old → L.honest link.new }
         ensures later { K.faults out.old ≤ K.faults out.new }
         ensures cause { CausedBy result (Rose (K.faults out.old) (K.faults out.new)) }
     {
         match self.lanes.line(lane) {
-            Some(line) => self.end(lane, line, link, out),
+            Some(line) => self.end(lane, line, label, link, out),
             None => self.begin(lane, script, link, clock),
         }
     }
@@ -270,6 +351,7 @@ impl Session {
         &mut self,
         lane: u8,
         line: u32,
+        label: &[u8],
         link: &mut L,
         out: &mut K,
     ) -> Result<bool, Halt>
@@ -279,8 +361,11 @@ impl Session {
         ensures held { OnOk result ((script : List ScriptLine) → IsHeld script self.old → IsHeld script self.new) }
         ensures steps { IfOk result (λ went. (script : List ScriptLine) → IsHeld script self.old → StepsLane script lane self.old went self.new) }
         ensures goes { Says (K.written out.old) (K.written out.new) (λ text.
-            Relates (L.told link.old) (L.told link.new) (λ h k. (script : List ScriptLine) → IsHeld script self.old → GoesBy script self.old self.new result [] text h k)) }
+            Relates (L.told link.old) (L.told link.new) (λ h k. (script : List ScriptLine) → IsHeld script self.old
+            → GoesBy label.now script self.old self.new result [] text h k)) }
+        ensures marks { Relates (L.told link.old) (L.told link.new) AddsMarks }
         ensures dials { KeepsPort self.old.port self.new.port (L.told link.old) (L.told link.new) }
+        ensures stays { (first : L) → L.stays first link.old → L.stays first link.new }
         ensures honest { L.honest link.old → L.honest link.new }
         ensures later { K.faults out.old ≤ K.faults out.new }
         ensures cause { CausedBy result (Rose (K.faults out.old) (K.faults out.new)) }
@@ -290,7 +375,7 @@ impl Session {
             return Ok(false);
         };
         let status = status::after_answer(self.status, &answer);
-        match tell_answer(self.alloc, lane, line, answer, link, out) {
+        match tell_answer(self.alloc, lane, line, answer, label, link, out) {
             Ok(()) => {
                 self.lanes.end(lane);
                 self.status = status;
@@ -317,8 +402,10 @@ impl Session {
         ensures held { OnOk result (IsHeld script.now self.new) }
         ensures steps { IfOk result (λ went. StepsLane script.now lane self.old went self.new) }
         ensures goes { Reads (C.readings clock.old) (C.readings clock.new) (λ given.
-            Relates (L.told link.old) (L.told link.new) (GoesBy script.now self.old self.new result given [])) }
+            Relates (L.told link.old) (L.told link.new) (λ h k. (label : List ℕ) → GoesBy label script.now self.old self.new result given [] h k)) }
+        ensures marks { Relates (L.told link.old) (L.told link.new) AddsMarks }
         ensures dials { KeepsPort self.old.port self.new.port (L.told link.old) (L.told link.new) }
+        ensures stays { (first : L) → L.stays first link.old → L.stays first link.new }
         ensures honest { L.honest link.old → L.honest link.new }
         ensures only { CausedBy result ⊥ }
     {
@@ -350,7 +437,9 @@ impl Session {
         ensures goes { Reads (C.readings clock.old) (C.readings clock.new) (λ given.
             Starts lane op.now self.old self.new result given × Relates (L.told link.old) (L.told link.new) (NotesStart lane line op.now result given)) }
         ensures fits { OnOk result (Fits (machine_of self.old.mounted lane op.now)) }
+        ensures marks { Relates (L.told link.old) (L.told link.new) AddsMarks }
         ensures dials { KeepsPort self.old.port self.new.port (L.told link.old) (L.told link.new) }
+        ensures stays { (first : L) → L.stays first link.old → L.stays first link.new }
         ensures honest { L.honest link.old → L.honest link.new }
     {
         let Ok(machine) = self.machine(lane, op) else {
@@ -388,6 +477,7 @@ impl Session {
         ensures goes { Relates (L.told link.old) (L.told link.new) Quietly }
         ensures core { Relates (L.told link.old) (L.told link.new) (CoreBy self.old self.new result) }
         ensures dials { KeepsPort self.old.port self.new.port (L.told link.old) (L.told link.new) }
+        ensures stays { (first : L) → L.stays first link.old → L.stays first link.new }
         ensures honest { L.honest link.old → L.honest link.new }
         ensures only { CausedBy result ⊥ }
     {
@@ -411,6 +501,7 @@ impl Session {
         ensures goes { Relates (L.told link.old) (L.told link.new) Quietly }
         ensures core { Relates (L.told link.old) (L.told link.new) (CoreBy self.old self.new result) }
         ensures dials { KeepsPort self.old.port self.new.port (L.told link.old) (L.told link.new) }
+        ensures stays { (first : L) → L.stays first link.old → L.stays first link.new }
         ensures honest { L.honest link.old → L.honest link.new }
         ensures only { CausedBy result ⊥ }
     {
@@ -435,6 +526,7 @@ impl Session {
         ensures goes { Relates (L.told link.old) (L.told link.new) Quietly }
         ensures core { Relates (L.told link.old) (L.told link.new) (CoreBy self.old self.new result) }
         ensures dials { KeepsPort self.old.port self.new.port (L.told link.old) (L.told link.new) }
+        ensures stays { (first : L) → L.stays first link.old → L.stays first link.new }
         ensures honest { L.honest link.old → L.honest link.new }
     {
         let Some(rec) = self.core.next_send() else {
@@ -458,10 +550,12 @@ impl Session {
         requires told { NoneOver self.old.core }
         requires sent { WereSent self.old.core.calls.calls }
         requires head { HeadSent self.old.core.calls.calls }
+        requires none { first_due self.old.core.calls.calls ≡ None }
         ensures exchanges { OnOk result (Exchanges self.old self.new) }
         ensures goes { Relates (L.told link.old) (L.told link.new) Quietly }
         ensures core { Relates (L.told link.old) (L.told link.new) (CoreBy self.old self.new result) }
         ensures dials { KeepsPort self.old.port self.new.port (L.told link.old) (L.told link.new) }
+        ensures stays { (first : L) → L.stays first link.old → L.stays first link.new }
         ensures honest { L.honest link.old → L.honest link.new }
         ensures only { CausedBy result ⊥ }
     {
@@ -515,10 +609,12 @@ impl Session {
     /// Dials again after the link failed, unless the session is lost; where that doesn't work it is lost.
     fn reconnect<L: Link>(&mut self, link: &mut L) -> Result<(), Halt>
         requires told { 1 ≤ self.old.attempts → NoneOver self.old.core }
+        requires due { DueAgain self.old.core }
         ensures redials { OnOk result (Redialed self.old self.new) }
         ensures goes { Relates (L.told link.old) (L.told link.new) Quietly }
         ensures core { Relates (L.told link.old) (L.told link.new) (CoreBy self.old self.new result) }
         ensures dials { KeepsPort self.old.port self.new.port (L.told link.old) (L.told link.new) }
+        ensures stays { (first : L) → L.stays first link.old → L.stays first link.new }
         ensures honest { L.honest link.old → L.honest link.new }
         ensures only { CausedBy result ⊥ }
     {
@@ -544,10 +640,20 @@ impl Session {
     }
 }
 
+/// Whether more lines fit behind those before.
+fn have_room(earlier: u64, lines: usize, more: usize) -> bool
+    requires before { earlier + 16 * lines < 2 ^ 32 }
+    requires few { more ≤ 16384 }
+    ensures { OnTrue result (earlier + 16 * lines + 16 * more < 2 ^ 32) }
+{
+    earlier + 16 * lines as u64 + 16 * more as u64 <= u64::from(u32::MAX)
+}
+
 /// Dials again, a few times if need be: whether that worked.
 fn redial<L: Link>(port: u16, link: &mut L) -> Result<bool, Memory>
     ensures goes { Relates (L.told link.old) (L.told link.new) (RedialsBy result) }
     ensures dials { DialsOnly port (L.told link.old) (L.told link.new) }
+    ensures stays { (first : L) → L.stays first link.old → L.stays first link.new }
     ensures honest { L.honest link.old → L.honest link.new }
 {
     for _ in 0..DIALS {

@@ -54,9 +54,10 @@ pub fn session<L: Link, C: Clock, K: Sink>(
     ensures sink { result ≡ 5 → Rose (K.faults out.old) (K.faults out.new) }
     ensures core { Relates (L.told link.old) (L.told link.new)
         (λ h k. IsOpened (option_map (λ s. s.now) setup.entry) h → EndsWith settings.now (option_map (λ s. s.now) setup.entry) h k) }
-    ensures stays { Relates (L.told link.old) (L.told link.new) (λ h k. IsUnmarked h → IsOpened (option_map (λ s. s.now) setup.entry) h → StaysLost k) }
+    ensures stays_lost { Relates (L.told link.old) (L.told link.new) (λ h k. IsUnmarked h → IsOpened (option_map (λ s. s.now) setup.entry) h → StaysLost k) }
     ensures loses { Relates (L.told link.old) (L.told link.new) (LosesAll (option_map (λ s. s.now) setup.entry) script.now) }
     ensures dials { DialsOnly settings.now.nfs_port (L.told link.old) (L.told link.new) }
+    ensures stays { (first : L) → L.stays first link.old → L.stays first link.new }
     ensures honest { L.honest link.old → L.honest link.new }
     ensures shown { Passes (C.readings clock.old) (C.readings clock.new) (L.told link.old) (L.told link.new) (K.written out.old) (K.written out.new)
         (λ given text h k. IsUnmarked h
@@ -87,11 +88,12 @@ fn all_lines<L: Link, C: Clock, K: Sink>(
         (λ given text h k. IsUnmarked h → EndsBy script.now result given text h k) }
     ensures core { Relates (L.told link.old) (L.told link.new)
         (λ h k. IsOpened (option_map (λ s. s.now) setup.entry) h → EndsWith settings.now (option_map (λ s. s.now) setup.entry) h k) }
-    ensures stays { Relates (L.told link.old) (L.told link.new) (λ h k. IsUnmarked h → IsOpened (option_map (λ s. s.now) setup.entry) h → StaysLost k) }
+    ensures stays_lost { Relates (L.told link.old) (L.told link.new) (λ h k. IsUnmarked h → IsOpened (option_map (λ s. s.now) setup.entry) h → StaysLost k) }
     ensures loses { Relates (L.told link.old) (L.told link.new) (LosesAll (option_map (λ s. s.now) setup.entry) script.now) }
     ensures counted { Relates (L.told link.old) (L.told link.new)
         (λ h k. CanCount (option_map (λ s. s.now) setup.entry) h → tally ≡ tally_of h → AreCounted result k) }
     ensures dials { DialsOnly settings.now.nfs_port (L.told link.old) (L.told link.new) }
+    ensures stays { (first : L) → L.stays first link.old → L.stays first link.new }
     ensures honest { L.honest link.old → L.honest link.new }
     ensures later { K.faults out.old ≤ K.faults out.new }
     ensures cause { CausedBy result (Rose (K.faults out.old) (K.faults out.new)) }
@@ -123,6 +125,7 @@ fn run_lines<L: Link, C: Clock, K: Sink>(
         (λ h k. IsOpened (Some setup.now) h → EndsWith settings.now (Some setup.now) h k) }
     ensures counted { Relates (L.told link.old) (L.told link.new) (λ h k. IsOpened (Some setup.now) h → tally ≡ tally_of h → AreCounted result k) }
     ensures dials { DialsOnly settings.now.nfs_port (L.told link.old) (L.told link.new) }
+    ensures stays { (first : L) → L.stays first link.old → L.stays first link.new }
     ensures honest { L.honest link.old → L.honest link.new }
     ensures later { K.faults out.old ≤ K.faults out.new }
     ensures cause { CausedBy result (Rose (K.faults out.old) (K.faults out.new)) }
@@ -130,7 +133,7 @@ fn run_lines<L: Link, C: Clock, K: Sink>(
     let Ok(mut session) = Session::new(alloc, settings, setup, tally) else {
         return Err(Halt::Memory);
     };
-    match session.work(script, link, clock, out) {
+    match session.work(script, &[], link, clock, out) {
         Ok(()) => Ok(End {
             status: session.status,
             tally: session.counts.tally,
@@ -153,15 +156,16 @@ fn lose_all<L: Link, C: Clock, K: Sink>(
     ensures goes { Passes (C.readings clock.old) (C.readings clock.new) (L.told link.old) (L.told link.new) (K.written out.old) (K.written out.new)
         (λ given text h k. IsUnmarked h → EndsBy script.now result given text h k) }
     ensures core { Relates (L.told link.old) (L.told link.new) (λ h k. IsLost h (length h) → IsLost k (length k)) }
-    ensures stays { Relates (L.told link.old) (L.told link.new) (λ h k. IsUnmarked h → IsLost h (length h) → StaysLost k) }
+    ensures stays_lost { Relates (L.told link.old) (L.told link.new) (λ h k. IsUnmarked h → IsLost h (length h) → StaysLost k) }
     ensures loses { Relates (L.told link.old) (L.told link.new) (LosesOnly script.now) }
     ensures counted { Relates (L.told link.old) (L.told link.new) (λ h k. CanCount None h → tally ≡ tally_of h → AreCounted result k) }
     ensures dials { (port : ℕ) → DialsOnly port (L.told link.old) (L.told link.new) }
+    ensures stays { (first : L) → L.stays first link.old → L.stays first link.new }
     ensures honest { L.honest link.old → L.honest link.new }
     ensures later { K.faults out.old ≤ K.faults out.new }
     ensures cause { CausedBy result (Rose (K.faults out.old) (K.faults out.new)) }
 {
-    match lose_lines(alloc, script, link, clock, out) {
+    match lose_lines(alloc, script, &[], link, clock, out) {
         Ok(()) => Ok(End {
             status: lost_status(script),
             tally,

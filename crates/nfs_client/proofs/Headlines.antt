@@ -7,7 +7,6 @@ use Rattle.world_model.specs.declared.tally.Tally.{Tally}
 use Rattle.world_model.specs.Clocked.{clocks}
 use Rattle.world_model.specs.Counts.{tally_of}
 use Rattle.world_model.specs.History.{History}
-use Rattle.world_model.specs.Transcript.{transcript}
 use Rattle.link_dials.specs.Sendings.{GoesToPorts}
 use Rattle.nfs_script.specs.declared.script.ScriptLine.{ScriptLine}
 use Rattle.session_words.specs.declared.settings.Settings.{Settings}
@@ -16,10 +15,12 @@ use Rattle.session_setup.specs.declared.opening.SetUpFault.TheVariants.{Refused,
 use Rattle.session_setup.specs.Origins.{origin_of}
 use Rattle.session_setup.specs.Outcomes.{SetsUp}
 use Rattle.session_setup.specs.Sendings.{IsUnmarked}
-use Rattle.lane_session.specs.Endings.{cut, counts_text, TextOf, front_text, NotesAll}
+use Rattle.lane_session.specs.Endings.{cut, TextOf, NotesAll}
 use Rattle.lane_session.specs.Going.{AllTimed}
+use Rattle.lane_session.specs.Labels.{IsCutIn}
 use Rattle.lane_session.specs.Losing.{LosesOnly}
 use Rattle.lane_session.specs.Sessions.{SessionIs}
+use Rattle.lane_session.proofs.Closing.{cut-text}
 use Rattle.lane_session.proofs.Ending.{broken-none}
 use Rattle.script_runs.specs.Ends.{TellsMount, EndsSo, ran, unmounted, IsClocked}
 use Rattle.script_runs.specs.LaneRuns.{SetUpAndRun, ready, lost, refused, unready, SessionBy, no_lines, some_lines}
@@ -28,6 +29,7 @@ use Rattle.nfs_client.specs.Headline.{Promises, Headline, modes_of, terms_by}
 use Rattle.nfs_client.specs.Run.{Shows}
 use Rattle.nfs_client.specs.Shown.{RunShows}
 use Rattle.nfs_client.proofs.Ports.{lost-ports, empty-ports}
+use Rattle.nfs_client.proofs.Resending.{lost-resends, early-resends, empty-resends}
 use Rattle.nfs_client.proofs.Quiet.{IsQuiet, quiet-caused, quiet-thrifty, quiet-completes, quiet-evident, quiet-settled, quiet-cuts, quiet-current, quiet-read, quiet-short, quiet-names, quiet-ages, quiet-lists}
 use Rattle.nfs_client.proofs.SetUpAlone.{lost-quiet, early-quiet, empty-quiet}
 
@@ -85,6 +87,7 @@ ready-headline s lines first ms rest v before h status text some unmarked is sho
   ends = ran is.ends says;
   caused = shows.caused lines status is.follows is.ends;
   ports = shows.ports;
+  resends = shows.has.resends;
   thrifty = shows.thrift;
   evidence = shows.evidence;
   server = ready-promises s first v before h shows;
@@ -122,6 +125,7 @@ lost-headline s lines first ms rest tally before h status text some so is only s
       ends = ran is.ends says;
       caused = quiet-caused (terms_by s first) h quiet _ status;
       ports = lost-ports s first tally before h lines so only;
+      resends = lost-resends s first tally before h lines so only;
       thrifty = quiet-thrifty (terms_by s first) h quiet;
       evidence = quiet-evident (terms_by s first) h quiet (modes_of s) (origin_of s.export);
       server = quiet-promises s first h quiet;
@@ -149,6 +153,7 @@ early-headline s lines first ms h status text some unmarked ports quiet ends =
       ends = ends;
       caused = quiet-caused (terms_by s first) h quiet _ status;
       ports = ports;
+      resends = early-resends h unmarked;
       thrifty = quiet-thrifty (terms_by s first) h quiet;
       evidence = quiet-evident (terms_by s first) h quiet (modes_of s) (origin_of s.export);
       server = quiet-promises s first h quiet;
@@ -158,8 +163,9 @@ refused-ends : (s : Settings) (lines : List ScriptLine) (first : ℕ) (fault : F
     → EndsSo s lines h status text
 refused-ends s lines first fault h status text so tells = unmounted so.ends.path fault so.ends.mounting so.ends.refused so.unmarked.began tells
 
-unready-ends : (s : Settings) (lines : List ScriptLine) (h : List Entry) (status : ℕ) (text : List ℕ) → status ≡ 7 → text ≡ [] → EndsSo s lines h status text
-unready-ends s lines h status text seven none = ran (cut (inr seven)) (front_text (inr seven) (record { rest = transcript h ++ counts_text s.count (tally_of h); is = ap (λ (t : List ℕ). t ++ (transcript h ++ counts_text s.count (tally_of h))) (sym none) }))
+unready-ends : (s : Settings) (lines : List ScriptLine) (h : List Entry) (status : ℕ) (text : List ℕ) → IsUnmarked h → status ≡ 7 → text ≡ [] → EndsSo s lines h status text
+unready-ends s lines h status text unmarked seven none =
+    ran (cut (inr seven)) (cut-text s.count (tally_of h) status text h (inr seven) (subst (IsCutIn [] h) (sym none) (broken-none lines h (fresh h unmarked)).shown))
 
 -- there were no lines
 empty-headline : (s : Settings) (given : List ℕ) (h : List Entry) (status : ℕ) (text : List ℕ) → h ≡ [] → SessionIs s.count [] given [] h status text → TextOf s.count (tally_of h) h status text
@@ -183,6 +189,7 @@ empty-headline s given h status text none is says =
       ends = ran is.ends says;
       caused = quiet-caused (terms_by s 1) h quiet _ status;
       ports = empty-ports s h none;
+      resends = empty-resends h none;
       thrifty = quiet-thrifty (terms_by s 1) h quiet;
       evidence = quiet-evident (terms_by s 1) h quiet (modes_of s) (origin_of s.export);
       server = quiet-promises s 1 h quiet;
@@ -199,7 +206,7 @@ set-up-headline s lines first ms rest h status text some (refused fault none so 
     (early-headline s lines first ms h status text some so.unmarked so.ports (early-quiet s first _ h so) (refused-ends s lines first fault h status text so tells))
 set-up-headline s lines first ms rest h status text some (unready none so seven empty) =
     subst (λ (g : List ℕ). Headline s lines (ms ∷ g) h status text) (sym none)
-    (early-headline s lines first ms h status text some so.unmarked so.ports (early-quiet s first _ h so) (unready-ends s lines h status text seven empty))
+    (early-headline s lines first ms h status text some so.unmarked so.ports (early-quiet s first _ h so) (unready-ends s lines h status text so.unmarked seven empty))
 
 pub session-headline : (s : Settings) (lines : List ScriptLine) (given : List ℕ) (h : List Entry) (status : ℕ) (text : List ℕ) → SessionBy Shows s lines given h status text
     → Headline s lines given h status text

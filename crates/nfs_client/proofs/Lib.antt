@@ -4,6 +4,7 @@ pub mod AllOks
 pub mod Spent
 pub mod Causes
 pub mod Ports
+pub mod Resending
 pub mod Showing
 pub mod Quiet
 pub mod SetUpAlone

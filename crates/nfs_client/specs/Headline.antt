@@ -18,7 +18,7 @@ use Rattle.claims.specs.Recent.{AttrAge, ListTrue, NamesTrue}
 use Rattle.claims.specs.Settled.{Evident, Settled}
 use Rattle.claims.specs.Terms.{Terms}
 use Rattle.claims.specs.Thrifty.{Thrifty}
-use Rattle.link_dials.specs.Sendings.{GoesToPorts}
+use Rattle.link_dials.specs.Sendings.{GoesToPorts, Resends}
 use Rattle.nfs_script.specs.declared.script.ScriptLine.{ScriptLine}
 use Rattle.session_words.specs.declared.settings.Settings.{Settings}
 use Rattle.session_setup.specs.Origins.{origin_of}
@@ -64,6 +64,7 @@ pub record Headline (s : Settings) (lines : List ScriptLine) (given : List ℕ) 
   pub ends : EndsSo s lines h status text
   pub caused : Caused (terms_by s first) (entries_of lines) status h
   pub ports : GoesToPorts s.mount_port s.nfs_port h
+  pub resends : Resends h
   pub thrifty : Thrifty (terms_by s first) h
   pub evidence : Evident (modes_of s) (origin_of s.export) h
   pub server : (t : History) → t.entries ≡ h → Promises s first t

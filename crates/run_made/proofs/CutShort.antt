@@ -30,7 +30,8 @@ all_of text whole is = record { rest = []; is = sym is ∙ sym (append-nil text)
 
 texts : (count : Bool) (tally : Tally) (k : List Entry) (ran status : ℕ) (text : List ℕ) → Cuts ran status → TextOf count tally k ran text → TextOf count tally k status text
 texts count tally k ran status text c (sessions.whole_text is) = sessions.whole_text is
-texts count tally k ran status text c (sessions.front_text off front) = sessions.front_text c.off front
+texts count tally k ran status text c (sessions.counts_cut off front is within) = sessions.counts_cut c.off front is within
+texts count tally k ran status text c (sessions.line_cut off before lane line answer front split is within) = sessions.line_cut c.off before lane line answer front split is within
 
 notes : (ran status : ℕ) (given : List ℕ) (h k : List Entry) → Cuts ran status → NotesAll ran given h k → NotesAll status given h k
 notes ran status given h k c n = record { last = n.last; is = n.is; few = n.few; whole = λ other. n.whole (λ seven. other (c.stays seven)) }
@@ -116,6 +117,7 @@ headline_by s lines given h ran status text c k = record {
   ends = ends s lines h ran status text c k.ends;
   caused = caused _ _ h ran status c k.caused;
   ports = k.ports;
+  resends = k.resends;
   thrifty = k.thrifty;
   evidence = k.evidence;
   server = k.server;

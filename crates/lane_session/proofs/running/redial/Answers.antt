@@ -7,7 +7,7 @@ use Rattle.link_dials.proofs.Dialing.{dials_same, dials_then, dials_dialed}
 use Rattle.lane_session.proofs.running.redial.Goals as goal
 
 pub loop-init : goal.loop-init
-loop-init g c = record { goes = relates_same (g.L.Link.told c.args.link.now) (λ h k. Dials h 0 k) dials-none; dials = dials_same _ _; honest = λ h. h }
+loop-init g c = record { goes = relates_same (g.L.Link.told c.args.link.now) (λ h k. Dials h 0 k) dials-none; dials = dials_same _ _; stays = λ first s. s; honest = λ h. h }
 
 pub loop-preserved : goal.loop-preserved
 loop-preserved g c =
@@ -15,6 +15,7 @@ loop-preserved g c =
     record {
       goes = relates-call _ _ _ (Dialed c.args.port ∷ Failed ∷ []) _ _ (λ h a b d p. dials-more h c.loop.counter c.args.port a b p d) c.loop.invariant.goes r.told;
       dials = dials_then _ _ _ _ c.loop.invariant.dials (dials_dialed c.args.port _ _ c.dial.result c.dial.ensures.told);
+      stays = λ first s. r.stays first (c.loop.invariant.stays first s);
       honest = λ h. r.honest (c.loop.invariant.honest h);
     }
 

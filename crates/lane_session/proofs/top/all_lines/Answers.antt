@@ -2,11 +2,11 @@ use Rattle.lane_session.proofs.LostAdds.{told-set-up}
 use Rattle.lane_session.proofs.LostAnswers.{told-stays}
 use Rattle.lane_session.proofs.top.all_lines.Goals as goal
 
-pub returns-in-Some-clause-stays : goal.returns-in-Some-clause-stays
-returns-in-Some-clause-stays g c = rw c.in-Some.is (told-stays _ _ c.args.settings.now c.in-Some.setup.now c.run_lines.ensures.core)
+pub returns-in-Some-clause-stays_lost : goal.returns-in-Some-clause-stays_lost
+returns-in-Some-clause-stays_lost g c = rw c.in-Some.is (told-stays _ _ c.args.settings.now c.in-Some.setup.now c.run_lines.ensures.core)
 
-pub returns-in-None-clause-stays : goal.returns-in-None-clause-stays
-returns-in-None-clause-stays g c = rw c.in-None.is c.lose_all.ensures.stays
+pub returns-in-None-clause-stays_lost : goal.returns-in-None-clause-stays_lost
+returns-in-None-clause-stays_lost g c = rw c.in-None.is c.lose_all.ensures.stays_lost
 
 pub returns-in-None-clause-counted : goal.returns-in-None-clause-counted
 returns-in-None-clause-counted g c = rw c.in-None.is c.lose_all.ensures.counted

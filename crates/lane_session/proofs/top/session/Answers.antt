@@ -15,11 +15,11 @@ pub returns-in-Err-clause-shown : goal.returns-in-Err-clause-shown
 returns-in-Err-clause-shown g c =
     passes_less _ _ _ _ _ _ _ _ (λ given text h k b u. broken-counts _ c.args.tally c.args.settings.now.count c.args.script.now c.in-Err.halt c.of_halt.result given text h k c.of_halt.ensures (b u)) c.in-Err.ensures.goes
 
-pub returns-in-Ok-clause-stays : goal.returns-in-Ok-clause-stays
-returns-in-Ok-clause-stays g c = c.in-Ok.ensures.stays
+pub returns-in-Ok-clause-stays_lost : goal.returns-in-Ok-clause-stays_lost
+returns-in-Ok-clause-stays_lost g c = c.in-Ok.ensures.stays_lost
 
-pub returns-in-Err-clause-stays : goal.returns-in-Err-clause-stays
-returns-in-Err-clause-stays g c = c.in-Err.ensures.stays
+pub returns-in-Err-clause-stays_lost : goal.returns-in-Err-clause-stays_lost
+returns-in-Err-clause-stays_lost g c = c.in-Err.ensures.stays_lost
 
 pub returns-in-Ok-clause-loses : goal.returns-in-Ok-clause-loses
 returns-in-Ok-clause-loses g c = c.in-Ok.ensures.loses

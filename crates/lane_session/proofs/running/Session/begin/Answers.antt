@@ -4,6 +4,7 @@ use Rattle.lane_session.proofs.Starting.{found-within, place-small, idle-there, 
 use Rattle.lane_session.proofs.Stepping.{rests-idle}
 use Rattle.nfs_script.specs.declared.script.ScriptLine.{ScriptLine}
 use Rattle.lane_session.proofs.Ports.{keeps_none}
+use Rattle.lane_session.proofs.Turns.{marks_none}
 use Rattle.lane_session.proofs.running.Session.begin.Goals as goal
 
 pub start-requires-clause-asked : goal.start-requires-clause-asked
@@ -15,7 +16,7 @@ pub start-requires-clause-idle : goal.start-requires-clause-idle
 start-requires-clause-idle g c = idle-there c.args.script.now c.args.lane c.in-Some.place c.args.self.now c.seek.new.self c.requires.least c.requires.most c.requires.held c.requires.line c.in-Some.ensures
 
 pub start-requires-clause-begun : goal.start-requires-clause-begun
-start-requires-clause-begun g c = few-begun c.args.script.now c.args.self.now c.requires.few c.requires.held
+start-requires-clause-begun g c = few-begun c.args.script.now c.args.self.now c.requires.held
 
 pub begin-requires-clause-place : goal.begin-requires-clause-place
 begin-requires-clause-place g c = place-small c.args.script.now c.in-Some.place c.requires.few (found-within c.args.script.now c.args.lane c.in-Some.place c.args.self.now.lanes c.seek.new.self c.in-Some.ensures)
@@ -61,3 +62,12 @@ returns-in-Ok-clause-dials g c = c.in-Ok.ensures.dials
 
 pub returns-in-Err-clause-dials : goal.returns-in-Err-clause-dials
 returns-in-Err-clause-dials g c = c.in-Err.ensures.dials
+
+pub returns-in_default-clause-marks : goal.returns-in_default-clause-marks
+returns-in_default-clause-marks g c = marks_none _
+
+pub returns-in-Ok-clause-marks : goal.returns-in-Ok-clause-marks
+returns-in-Ok-clause-marks g c = c.in-Ok.ensures.marks
+
+pub returns-in-Err-clause-marks : goal.returns-in-Err-clause-marks
+returns-in-Err-clause-marks g c = c.in-Err.ensures.marks

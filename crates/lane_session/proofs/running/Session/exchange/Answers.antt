@@ -36,7 +36,7 @@ returns-else-went-clause-dials g c = keeps_then _ _ _ _ _ _ c.in-Ok.ensures.dial
 pub reconnect-requires : goal.reconnect-requires
 reconnect-requires g c =
     let ended = rw c.if-went.false at c.in-Ok.ensures.sends in
-    record { told = ended.told }
+    record { told = ended.told; due = ended.due }
 
 pub hear-requires : goal.hear-requires
 hear-requires g c =
@@ -47,4 +47,5 @@ hear-requires g c =
       told = sends-told c.args.self.now c.send_all.new.self gone.0 c.requires.told;
       sent = gone.1;
       head = head-sent c.send_all.new.self.core.calls.calls (gone.0.waits c.requires.waits) gone.2;
+      none = gone.2;
     }

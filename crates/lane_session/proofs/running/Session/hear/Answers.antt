@@ -5,6 +5,7 @@ use Rattle.lane_session.proofs.Outcomes.{ok-map}
 use Rattle.lane_session.proofs.Passing.{relates_call, relates_then}
 use Rattle.lane_session.proofs.Quiets.{quiet_tells, quiet_then}
 use Rattle.lane_session.proofs.Reaching.{core-takes, core-fails, core-unmade, core-then-by}
+use Rattle.lane_session.proofs.Resending.{fails-due}
 use Rattle.lane_session.proofs.Trying.{fails-on, fails-told, takes-on, redialed-on}
 use Rattle.link_dials.proofs.Dialing.{dials_received}
 use Rattle.lane_session.proofs.Ports.{fails_port, takes_port, keeps_then}
@@ -28,7 +29,10 @@ returns-in-Failed-clause-exchanges g c =
     ok-map c.reconnect.result _ _ (λ r. redialed-on c.args.self.now c.fail-in-Failed.new.self c.reconnect.new.self ended r) c.reconnect.ensures.redials
 
 pub reconnect-requires : goal.reconnect-requires
-reconnect-requires g c = record { told = fails-told c.args.self.now c.fail-in-Failed.new.self c.fail-in-Failed.ensures c.requires.told }
+reconnect-requires g c = record {
+  told = fails-told c.args.self.now c.fail-in-Failed.new.self c.fail-in-Failed.ensures c.requires.told;
+  due = let f = c.fail-in-Failed.ensures in fails-due c.args.self.now.core f.result c.fail-in-Failed.new.self.core f.core;
+}
 
 pub returns-in-Failed-clause-goes : goal.returns-in-Failed-clause-goes
 returns-in-Failed-clause-goes g c = quiet_then _ _ _ (quiet_tells _ _ (Failed ∷ []) refl c.in-Failed.ensures.told) c.reconnect.ensures.goes
@@ -42,13 +46,13 @@ returns-in-Whole-clause-core g c =
     relates_call _ _ (Delivered c.receive.new.rec.items ∷ []) _ (λ a b p. core-takes c.args.self.now c.take.new.self c.receive.new.rec.items a b c.requires.sent c.requires.told takes p) c.in-Whole.ensures.told
 
 pub returns-in-Silent-clause-core : goal.returns-in-Silent-clause-core
-returns-in-Silent-clause-core g c = relates_call _ _ (Failed ∷ []) _ (λ a b p. core-fails c.args.self.now c.fail.new.self a b c.requires.told c.fail.ensures p) c.in-Silent.ensures.told
+returns-in-Silent-clause-core g c = relates_call _ _ (Failed ∷ []) _ (λ a b p. core-fails c.args.self.now c.fail.new.self a b c.requires.told c.requires.none (c.requires.live.some c.requires.some) c.fail.ensures p) c.in-Silent.ensures.told
 
 pub returns-in-Failed-clause-core : goal.returns-in-Failed-clause-core
 returns-in-Failed-clause-core g c =
     let mid = c.fail-in-Failed.new.self in
     relates_then _ _ _ (CoreGoes c.args.self.now mid) _ _ (λ h k l p q. core-then-by c.args.self.now mid c.reconnect.new.self c.reconnect.result h k l p q)
-    (relates_call _ _ (Failed ∷ []) (CoreGoes c.args.self.now mid) (λ a b p. core-fails c.args.self.now mid a b c.requires.told c.fail-in-Failed.ensures p) c.in-Failed.ensures.told)
+    (relates_call _ _ (Failed ∷ []) (CoreGoes c.args.self.now mid) (λ a b p. core-fails c.args.self.now mid a b c.requires.told c.requires.none (c.requires.live.some c.requires.some) c.fail-in-Failed.ensures p) c.in-Failed.ensures.told)
     c.reconnect.ensures.core
 
 pub returns-clause-core : goal.returns-clause-core

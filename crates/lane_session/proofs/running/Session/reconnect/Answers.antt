@@ -16,7 +16,7 @@ returns-in-Ok-true-clause-goes g c = relates_less _ _ _ _ (λ h k r. by-quietly 
 pub returns-in-Ok-true-clause-core : goal.returns-in-Ok-true-clause-core
 returns-in-Ok-true-clause-core g c =
     let dialed = rw c.in-Ok-true.field-0-test at c.in-Ok-true.ensures in
-    relates_less _ _ _ _ (λ h k r. core-redials c.args.self.now h k r) dialed.goes
+    relates_less _ _ _ _ (λ h k r. core-redials c.args.self.now h k c.requires.due r) dialed.goes
 
 pub returns-in-Ok-false-clause-goes : goal.returns-in-Ok-false-clause-goes
 returns-in-Ok-false-clause-goes g c = relates_less _ _ _ _ (λ h k r. by-quietly c.redial.result h k r) c.redial.ensures.goes
@@ -26,13 +26,13 @@ returns-in-Ok-false-clause-core g c =
     let dialed = rw c.in-Ok-false.field-0-test at c.in-Ok-false.ensures in
     let left = c.if-self-eq0.false in
     let told = c.requires.told (omega (arith, left)) in
-    rw c.lose.ensures (relates_less _ _ _ _ (λ h k r. core-undialed c.args.self.now h k told r) dialed.goes)
+    rw c.lose.ensures (relates_less _ _ _ _ (λ h k r. core-undialed c.args.self.now h k told c.requires.due r) dialed.goes)
 
 pub returns-in-Err-clause-goes : goal.returns-in-Err-clause-goes
 returns-in-Err-clause-goes g c = relates_less _ _ _ _ (λ h k r. by-quietly c.redial.result h k r) c.redial.ensures.goes
 
 pub returns-in-Err-clause-core : goal.returns-in-Err-clause-core
-returns-in-Err-clause-core g c = relates_less _ _ _ _ (λ h k r. core-redials-cut c.args.self.now h k r) c.in-Err.ensures.goes
+returns-in-Err-clause-core g c = relates_less _ _ _ _ (λ h k r. core-redials-cut c.args.self.now h k c.requires.due r) c.in-Err.ensures.goes
 
 pub returns-then-self-eq0-clause-dials : goal.returns-then-self-eq0-clause-dials
 returns-then-self-eq0-clause-dials g c = keeps_none _ _

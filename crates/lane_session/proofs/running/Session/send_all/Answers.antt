@@ -17,6 +17,7 @@ sending-preserved g c =
       goes = quiet_then _ _ _ c.sending.invariant.goes c.in-Ok.ensures.goes;
       core = relates_then _ _ _ _ _ _ (λ h k l p q. core-then c.args.self.now c.sending.self c.send_next.new.self h k l p q) c.sending.invariant.core c.in-Ok.ensures.core;
       dials = keeps_then _ _ _ _ _ _ c.sending.invariant.dials c.in-Ok.ensures.dials;
+      stays = λ first s. c.in-Ok.ensures.stays first (c.sending.invariant.stays first s);
       honest = λ h. c.in-Ok.ensures.honest (c.sending.invariant.honest h);
     }
 
@@ -37,6 +38,7 @@ sending-init g c = record {
   goes = quiet_same _;
   core = relates_same (g.L.Link.told c.args.link.now) (CoreGoes c.args.self.now c.args.self.now) (λ h. core-same c.args.self.now h);
   dials = keeps_none _ _;
+  stays = λ first s. s;
   honest = λ h. h;
 }
 

@@ -10,6 +10,7 @@ invariant-sending g l = record {
   goes : Relates (g.L.Link.told l.fn.link) (g.L.Link.told l.link) Quietly;
   core : Relates (g.L.Link.told l.fn.link) (g.L.Link.told l.link) (CoreGoes l.fn.self l.self);
   dials : KeepsPort l.fn.self.port l.self.port (g.L.Link.told l.fn.link) (g.L.Link.told l.link);
+  stays : (first : g.row.L.Denot) → g.L.Link.stays first l.fn.link → g.L.Link.stays first l.link;
   honest : g.L.Link.honest l.fn.link → g.L.Link.honest l.link;
 }
 

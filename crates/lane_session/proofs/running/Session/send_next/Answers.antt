@@ -62,7 +62,7 @@ returns-in-Err-Failed-clause-core g c =
     let r = rw c.in-Err-Failed.field-0-is at c.in-Err-Failed.ensures in
     let mid : Session = record c.args.self.now { core = c.next_send.follows.lender-at-none; counts = c.count.new.self } in
     relates_call _ _ (Sent c.in-Some.rec.now ∷ Failed ∷ []) (CoreGoes c.args.self.now c.fail.new.self)
-    (λ a b p. core-sends-fails c.args.self.now mid c.fail.new.self c.in-Some.rec.now a b c.requires.told sent c.count.ensures refl refl c.fail.ensures p) r.told
+    (λ a b p. core-sends-fails c.args.self.now mid c.fail.new.self c.in-Some.rec.now a b c.requires.told c.requires.live.calls sent c.count.ensures refl refl c.fail.ensures p) r.told
 
 pub returns-in-Err-Memory-clause-core : goal.returns-in-Err-Memory-clause-core
 returns-in-Err-Memory-clause-core g c =

@@ -1,17 +1,21 @@
 use Rattle.std.proofs.Common.{◌≤◌, length}
+use Rattle.world_model.specs.Told.{Relates}
 use Rattle.lane_session.specs.Going.{GoesOn}
 use Rattle.lane_session.specs.Holding.{IsHeld, tries_left}
 use Rattle.lane_session.specs.Places.{lines_left}
 use Rattle.lane_session.specs.Streams.{Passes}
 use Rattle.lane_session.specs.Ports.{KeepsPort}
+use Rattle.lane_session.specs.Turns.{AddsMarks}
 use Rattle.lane_session.proofs.running.Session.settle.Given as goal
 
 abbrev pub invariant-settling : goal.invariant-settling
 invariant-settling g l = record {
   held : IsHeld l.script l.self;
   less : tries_left l.self ≤ tries_left l.fn.self;
-  goes : Passes (g.C.Clock.readings l.fn.clock) (g.C.Clock.readings l.clock) (g.L.Link.told l.fn.link) (g.L.Link.told l.link) (g.K.Sink.written l.fn.out) (g.K.Sink.written l.out) (GoesOn l.script l.fn.self l.self);
+  goes : Passes (g.C.Clock.readings l.fn.clock) (g.C.Clock.readings l.clock) (g.L.Link.told l.fn.link) (g.L.Link.told l.link) (g.K.Sink.written l.fn.out) (g.K.Sink.written l.out) (GoesOn l.label l.script l.fn.self l.self);
+  marks : Relates (g.L.Link.told l.fn.link) (g.L.Link.told l.link) AddsMarks;
   dials : KeepsPort l.fn.self.port l.self.port (g.L.Link.told l.fn.link) (g.L.Link.told l.link);
+  stays : (first : g.row.L.Denot) → g.L.Link.stays first l.fn.link → g.L.Link.stays first l.link;
   honest : g.L.Link.honest l.fn.link → g.L.Link.honest l.link;
   later : g.K.Sink.faults l.fn.out ≤ g.K.Sink.faults l.out;
 }

@@ -2,6 +2,7 @@ use Rattle.std.proofs.Common.{refl, subst}
 use Rattle.op_machines.specs.Fits.{Fits}
 use Rattle.lane_session.proofs.Starting.{start-none, start-now, start-cut}
 use Rattle.lane_session.proofs.Ports.{keeps_none, dials_notes}
+use Rattle.lane_session.proofs.Turns.{marks_none, marks_notes}
 use Rattle.lane_session.proofs.running.Session.start.Goals as goal
 
 pub returns-in_default-clause-goes : goal.returns-in_default-clause-goes
@@ -29,3 +30,15 @@ returns-in-Ok-note_beginning-clause-dials g c = record { same = refl; only = dia
 
 pub returns-in-Err-clause-dials : goal.returns-in-Err-clause-dials
 returns-in-Err-clause-dials g c = record { same = refl; only = dials_notes c.args.self.now.port _ _ _ _ _ _ _ c.note_beginning.ensures.goes.is }
+
+pub returns-in_default-clause-marks : goal.returns-in_default-clause-marks
+returns-in_default-clause-marks g c = marks_none _
+
+pub returns-in_default-copy-clause-marks : goal.returns-in_default-copy-clause-marks
+returns-in_default-copy-clause-marks g c = marks_none _
+
+pub returns-in-Ok-note_beginning-clause-marks : goal.returns-in-Ok-note_beginning-clause-marks
+returns-in-Ok-note_beginning-clause-marks g c = marks_notes _ _ _ _ _ _ _ c.note_beginning.ensures.goes.is
+
+pub returns-in-Err-clause-marks : goal.returns-in-Err-clause-marks
+returns-in-Err-clause-marks g c = marks_notes _ _ _ _ _ _ _ c.note_beginning.ensures.goes.is

@@ -12,7 +12,7 @@ pub returns-in-Some-clause-goes : goal.returns-in-Some-clause-goes
 returns-in-Some-clause-goes g c = passes_says _ _ _ _ _ _ _ (λ t h k f. f c.args.script.now c.requires.held) c.end.ensures.goes
 
 pub returns-in-None-clause-goes : goal.returns-in-None-clause-goes
-returns-in-None-clause-goes g c = passes_reads _ _ _ _ _ _ _ (λ given h k x. x) c.begin.ensures.goes
+returns-in-None-clause-goes g c = passes_reads _ _ _ _ _ _ _ (λ given h k x. x c.args.label.now) c.begin.ensures.goes
 
 pub returns-in-None-clause-cause : goal.returns-in-None-clause-cause
 returns-in-None-clause-cause g c = only-memory c.begin.result _ c.begin.ensures.only

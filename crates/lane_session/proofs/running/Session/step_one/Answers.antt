@@ -5,6 +5,7 @@ use Rattle.lane_session.proofs.Reaching.{core-same}
 use Rattle.lane_session.proofs.Stepping.{lane-went-on, lane-went-not, quiet-more, rests-then}
 use Rattle.lane_session.proofs.Turning.{goes-none, goes-then-on, goes-then-off}
 use Rattle.lane_session.proofs.Ports.{keeps_none, keeps_then}
+use Rattle.lane_session.proofs.Turns.{marks_none, marks_then}
 use Rattle.lane_session.proofs.running.Session.step_one.Goals as goal
 
 pub loop-index-init : goal.loop-index-init
@@ -14,8 +15,10 @@ loop-index-init g c = record {
   tries = record { attempts = refl; dropped = refl };
   lines = omega arith;
   quiet = λ n lt. absurd (omega (arith, lt));
-  goes = passes_same _ _ _ _ (λ h. goes-none c.args.script.now c.args.self.now c.args.self.now h refl refl (core-same c.args.self.now h));
+  goes = passes_same _ _ _ _ (λ h. goes-none c.args.label.now c.args.script.now c.args.self.now c.args.self.now h refl refl (core-same c.args.self.now h));
+  marks = marks_none _;
   dials = keeps_none _ _;
+  stays = λ first s. s;
   honest = λ x. x;
   later = omega arith;
 }
@@ -31,8 +34,10 @@ loop-index-preserved g c =
       tries = record { attempts = s.tries.attempts ∙ i.tries.attempts; dropped = s.tries.dropped ∙ i.tries.dropped };
       lines = let a = s.lines in let b = i.lines in omega (arith, a, b);
       quiet = quiet-more c.args.script.now c.loop-index.index c.loop-index.self c.step.new.self s i.quiet;
-      goes = passes_then _ _ _ _ _ _ _ _ _ _ _ _ (λ u v x y h k m p q. goes-then-on c.args.script.now c.args.self.now c.loop-index.self c.step.new.self u v x y h k m p q) i.goes r.goes;
+      goes = passes_then _ _ _ _ _ _ _ _ _ _ _ _ (λ u v x y h k m p q. goes-then-on c.args.label.now c.args.script.now c.args.self.now c.loop-index.self c.step.new.self u v x y h k m p q) i.goes r.goes;
+      marks = marks_then _ _ _ i.marks r.marks;
       dials = keeps_then _ _ _ _ _ _ i.dials r.dials;
+      stays = λ first s. r.stays first (i.stays first s);
       honest = λ x. r.honest (i.honest x);
       later = let a = i.later in let b = r.later in omega (arith, a, b);
     }
@@ -45,11 +50,11 @@ returns-then-went-clause-steps g c =
 
 pub returns-then-went-clause-goes : goal.returns-then-went-clause-goes
 returns-then-went-clause-goes g c =
-    passes_then _ _ _ _ _ _ _ _ _ _ _ _ (λ u v x y h k m p q. goes-then-on c.args.script.now c.args.self.now c.loop-index.self c.step.new.self u v x y h k m p q) c.loop-index.invariant.goes c.in-Ok.ensures.goes
+    passes_then _ _ _ _ _ _ _ _ _ _ _ _ (λ u v x y h k m p q. goes-then-on c.args.label.now c.args.script.now c.args.self.now c.loop-index.self c.step.new.self u v x y h k m p q) c.loop-index.invariant.goes c.in-Ok.ensures.goes
 
 pub returns-in-Err-clause-goes : goal.returns-in-Err-clause-goes
 returns-in-Err-clause-goes g c =
-    passes_then _ _ _ _ _ _ _ _ _ _ _ _ (λ u v x y h k m p q. goes-then-off c.args.script.now c.args.self.now c.loop-index.self c.in-Err.halt u v x y h k m p q) c.loop-index.invariant.goes c.in-Err.ensures.goes
+    passes_then _ _ _ _ _ _ _ _ _ _ _ _ (λ u v x y h k m p q. goes-then-off c.args.label.now c.args.script.now c.args.self.now c.loop-index.self c.in-Err.halt u v x y h k m p q) c.loop-index.invariant.goes c.in-Err.ensures.goes
 
 pub returns-in-Err-clause-cause : goal.returns-in-Err-clause-cause
 returns-in-Err-clause-cause g c = caused-later Bool Bool c.in-Err.halt _ _ _ c.loop-index.invariant.later c.in-Err.ensures.cause
@@ -65,3 +70,9 @@ returns-then-went-clause-dials g c = keeps_then _ _ _ _ _ _ c.loop-index.invaria
 
 pub returns-in-Err-clause-dials : goal.returns-in-Err-clause-dials
 returns-in-Err-clause-dials g c = keeps_then _ _ _ _ _ _ c.loop-index.invariant.dials c.in-Err.ensures.dials
+
+pub returns-then-went-clause-marks : goal.returns-then-went-clause-marks
+returns-then-went-clause-marks g c = marks_then _ _ _ c.loop-index.invariant.marks c.in-Ok.ensures.marks
+
+pub returns-in-Err-clause-marks : goal.returns-in-Err-clause-marks
+returns-in-Err-clause-marks g c = marks_then _ _ _ c.loop-index.invariant.marks c.in-Err.ensures.marks
