@@ -87,8 +87,14 @@ Excused h xid = SentLate h xid ⊎ FailsBefore h (length h) xid
 pub resends-back : (h more : List Entry) (i j xid : ℕ) (w : Waits (h ++ more) xid j) → Resends h → HasBegun (h ++ more) i → At (h ++ more) i Failed → At (h ++ more) j Failed → w.at < i → i < j → j < length h
     → SentAgain (h ++ more) i j xid ⊎ FailsBefore (h ++ more) j xid
 resends-back h more i j xid w r begun fi fj early less within =
-    elim (r i j xid waits (record { at = begun.at; lane = begun.lane; line = begun.line; op = begun.op;
-      began = At-back h more begun.at (Began begun.lane begun.line begun.op) begun.began (let b = begun.before in omega (arith, b, less, within)); before = begun.before })
+    elim (r i j xid waits (record {
+      at = begun.at;
+      lane = begun.lane;
+      line = begun.line;
+      op = begun.op;
+      began = At-back h more begun.at (Began begun.lane begun.line begun.op) begun.began (let b = begun.before in omega (arith, b, less, within));
+      before = begun.before;
+    })
     (At-back h more i Failed fi (omega (arith, less, within))) (At-back h more j Failed fj within) early less) [
       | inl again ↦ inl (again-grow h more i j xid again)
       | inr stops ↦ inr (fails-grow h more j xid (omega (arith, within)) stops)
