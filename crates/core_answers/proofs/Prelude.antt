@@ -78,7 +78,8 @@ pub use Rattle.core_facts.specs.Naming.{KnowsRoot}
 pub use Rattle.core_facts.specs.Reaches.{HearsRecord, IsSetUp, Reaches, StepsTo, begins, goes, last_reading, loses}
 pub use Rattle.core_facts.specs.Resting.{NoneBusy}
 pub use Rattle.core_facts.specs.Tries.{IsMade, IsOutstanding, Tried, runs, unsent}
-pub use Rattle.dir_list.specs.Listings.{last_cookie, listing_limit, page_step}
+pub use Rattle.dir_list.specs.Listings.{last_cookie}
+unfoldable pub use Rattle.dir_list.specs.Listings.{listing_limit, page_step}
 pub use Rattle.dir_list.specs.declared.progress.ListFault.{ListFault}
 pub use Rattle.dir_list.specs.declared.progress.Step.{Step}
 pub use Rattle.dir_list.specs.declared.progress.Step.TheVariants.{End, More}

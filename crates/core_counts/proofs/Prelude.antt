@@ -132,7 +132,7 @@ pub use Rattle.file_ops.specs.Base.{Bytes, place_after, with_more}
 pub use Rattle.file_ops.specs.Closings.{refusal_of, remove_busy}
 pub use Rattle.file_ops.specs.Gather.{next_page}
 pub use Rattle.file_ops.specs.Judging.{commit_told, write_told}
-pub use Rattle.file_ops.specs.Kept.{kept_page}
+unfoldable pub use Rattle.file_ops.specs.Kept.{kept_page}
 pub use Rattle.file_ops.specs.Opens.{file_to_write}
 pub use Rattle.file_ops.specs.ReadReply.{breaks_rule, part, refusal, said_by, said_to}
 pub use Rattle.file_ops.specs.Ready.{IsReady}

@@ -155,7 +155,7 @@ pub use Rattle.file_ops.specs.Base.{is_whole, nothing_of, place_after}
 pub use Rattle.file_ops.specs.Closings.{GivesUpBy, TellsOpen, closed_answer, refusal_of, remove_busy, remove_of}
 pub use Rattle.file_ops.specs.Gather.{Gathered}
 pub use Rattle.file_ops.specs.Judging.{commit_told, write_told, written_by}
-pub use Rattle.file_ops.specs.Kept.{offered}
+unfoldable pub use Rattle.file_ops.specs.Kept.{offered}
 pub use Rattle.file_ops.specs.Opens.{file_to_write}
 pub use Rattle.file_ops.specs.Overlaid.{shown_over, was_pending}
 pub use Rattle.file_ops.specs.PagesOpened.{PagesOpened, opened_pages}

@@ -1,12 +1,12 @@
 -- The call for which a truncate waits is the SETATTR of the size of its file.
 use Rattle.core_answers.proofs.Prelude.{◌≡◌, ◌≤◌, ◌+◌, ℕ, Bool, true, false, List, Result, Ok, Err, inl, inr, refl, sym, ap, subst, ◌∙◌, arith, if◌then◌else◌, Fault, Call, Reply, Wcc, Next, Shelf, Turn, TruncateFile, Truncating, joined, FileMachine, Machine, Starts, Resumes, Takes, of_truncating, in_flight, ExpectLaws, AskedOf, KeptOf}
+use Rattle.core_facts.specs.InFlight.{of_file}
 use Rattle.client_shelf.specs.declared.next.Next.TheVariants as nexts
 use Rattle.file_ops.specs.declared.truncate_file.Truncating.TheVariants as truncating
 use Rattle.file_ops.specs.TruncateFile as truncates
 use Rattle.op_machines.specs.declared.file_machine.FileMachine.TheVariants as files
 use Rattle.op_machines.specs.declared.machine.Machine.TheVariants as machines
 use Rattle.op_machines.specs.FileSteps as steps
-use Rattle.core_facts.specs.InFlight.{of_file}
 use Rattle.core_facts.proofs.NamesAwaited.{none-left, rests-kept}
 
 abbrev pub CutAwaits : Truncating → ℕ → Call → Type 0

@@ -1,17 +1,17 @@
 -- A put that is alone and that a record refused asked for the call that this record refuses.
 use Rattle.core_answers.proofs.Prelude.{◌≡◌, ◌≢◌, ◌<◌, ◌≤◌, ◌⊎◌, inl, inr, ℕ, List, sym, ap, subst, ◌∙◌, arith, cases_lt, Fault, Entry, Began, Call, Op, Asks, At, Ended, RefusalRow, Terms, At-one, Mounted, IsNamed, machine_of, Setup, View, KnowsRoot, Reaches}
+use Rattle.world_model.specs.declared.entry.Entry.TheVariants.{Sent}
+use Rattle.claims.specs.Asks.{Acts}
+use Rattle.claims.specs.RefusalRows.{RefusedBy}
+use Rattle.claims.specs.Terms.{jukebox}
 use Rattle.world_model.specs.declared.answer.Answer.TheVariants as answers
 use Rattle.world_model.specs.declared.answer.Fault.TheVariants as faults
-use Rattle.world_model.specs.declared.entry.Entry.TheVariants.{Sent}
 use Rattle.world_model.specs.declared.op.Op.TheVariants as ops
-use Rattle.claims.specs.Asks.{Acts}
 use Rattle.claims.specs.Asks as acts
 use Rattle.claims.specs.CallsAsked.{NoneBegan}
 use Rattle.claims.specs.GoesOn.{GoesOn}
 use Rattle.claims.specs.GoesOn as on
 use Rattle.claims.specs.PageRules.{refuses}
-use Rattle.claims.specs.RefusalRows.{RefusedBy}
-use Rattle.claims.specs.Terms.{jukebox}
 use Rattle.core_answers.specs.asks.PutCalls.{IsAlone, IsMadeAlone}
 use Rattle.core_answers.proofs.asks.PutAsks.{lone-puts-ask}
 use Rattle.core_answers.proofs.bonds.OneCall.{IsNfs, one-call}

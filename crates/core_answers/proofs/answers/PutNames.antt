@@ -1,5 +1,8 @@
 -- The calls for which a put waits once its bytes are pending name its file.
 use Rattle.core_answers.proofs.Prelude.{◌≡◌, ◌≤◌, ◌+◌, ◌-◌, ℕ, Bool, true, false, List, Result, Ok, Err, refl, sym, ap, subst, ◌∙◌, arith, Fault, Call, Reply, NamesFile, is_first, Next, Shelf, Turn, OpenFile, OpeningNext, PutFile, Putting, Saving, Writing, joined, made_bytes, by-step, WalkNext, FileMachine, Machine, Opener, PathMachine, file_of, slot_taken, begun_at, placed, Starts, Resumes, Takes, of_walk, of_opening, of_saving, of_writing, of_putting, in_flight, of_path, path-file, path-walk, ExpectLaws, Plain, walk-takes, goes-steps, takes-steps, AskedOf, KeptOf}
+use Rattle.core_facts.specs.InFlight.{of_file}
+use Rattle.core_facts.proofs.AllCounts.{placed-none}
+use Rattle.core_facts.proofs.NameCounts.{WalkCounts, walk-counts, took-counts}
 use Rattle.world_model.specs.declared.answer.Answer.TheVariants as answers
 use Rattle.client_shelf.specs.declared.next.Next.TheVariants as nexts
 use Rattle.file_ops.specs.declared.opening.OpeningNext.TheVariants as openings
@@ -15,10 +18,7 @@ use Rattle.op_machines.specs.declared.machine.Machine.TheVariants as machines
 use Rattle.op_machines.specs.declared.opener.Opener.TheVariants as openers
 use Rattle.op_machines.specs.FileSteps as steps
 use Rattle.op_machines.specs.PathSteps as paths
-use Rattle.core_facts.specs.InFlight.{of_file}
-use Rattle.core_facts.proofs.AllCounts.{placed-none}
 use Rattle.core_facts.proofs.FileCounts.{OpeningCounts, opening-took, writes-leave, write-resumes, write-takes}
-use Rattle.core_facts.proofs.NameCounts.{WalkCounts, walk-counts, took-counts}
 use Rattle.core_facts.proofs.PutCounts.{of_put}
 use Rattle.core_answers.proofs.answers.SaveNames.{CallNames, goes-names, takes-names}
 

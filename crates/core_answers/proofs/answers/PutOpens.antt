@@ -1,12 +1,12 @@
 -- The file that an opening comes to is one that its path leads to, or that its CREATE gave.
 use Rattle.core_answers.proofs.Prelude.{◌≡◌, ◌==◌, ◌++◌, ℕ, Bool, true, false, List, [], ◌∷◌, length, Option, Some, None, Result, Ok, Err, refl, sym, subst, arith, if◌then◌else◌, Attr, Mode, looked, known_of, Fault, Entry, Call, Reply, Asked, Asked-grow, Asked-wide, length_last, Turn, Led, Opening, OpeningNext, OpeningStep, got_by, IsNamed, front_of, leads-later, OpeningStory, StepStory, has_to, IsFileOf}
+use Rattle.file_ops.specs.Told.{found_by, made_by}
+use Rattle.core_facts.proofs.OpenStory.{OpeningTold, MayMake, missing, found, made, LedStory, led-on}
 use Rattle.world_model.specs.declared.answer.Fault.TheVariants as faults
 use Rattle.file_ops.specs.declared.opening.Led.TheVariants as leads
 use Rattle.file_ops.specs.declared.opening.OpeningNext.TheVariants as openings
 use Rattle.file_ops.specs.declared.opening.OpeningStep.TheVariants as opening_steps
 use Rattle.file_ops.specs.Opening as opening
-use Rattle.file_ops.specs.Told.{found_by, made_by}
-use Rattle.core_facts.proofs.OpenStory.{OpeningTold, MayMake, missing, found, made, LedStory, led-on}
 
 module _ (top : List ℕ) (h : List Entry) (x : ℕ) (path : List (List ℕ)) (mode : Mode) where
   -- ---- which file it comes to

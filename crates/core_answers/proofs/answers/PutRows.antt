@@ -1,5 +1,9 @@
 -- A put goes well, or is refused for the kind of its file, only where its history shows it.
 use Rattle.core_answers.proofs.Prelude.{◌≡◌, ◌+◌, ◌-◌, ℕ, Bool, true, false, List, [], ◌∷◌, ◌++◌, length, take, Result, refl, sym, ap, subst, ◌∙◌, arith, All-nil, Mode, Answer, Fault, Entry, Began, Call, Reply, Op, At, Rooted, Ended, RefusalRow, Terms, IsDelivered, Asked-wide, Rooted-wide, Next, Shelf, Turn, Opening, PutFile, Putting, OpenFile, Writing, Walk, WalkNext, walk_of, Mounted, Machine, Opener, PathMachine, IsNamed, front_of, last_of, machine_of, file_of, Starts, Resumes, Takes, State, Busy, Over, Setup, in_flight, Awaits, awaits-laws, PathOr, begins-unbegun, of_path, WalkStep, go-step, took-step, all-starts, all-resumes, all-takes, IsNameTold, NamesTold, names-later, LeadsTo, leads-from, leads-later, WalkLeads, go-leads, took-leads, end-leads, walk-later, IsHeard, heard-tells, then-as, ends-later, ends-until, OpeningStory, StepStory, has_to, ThenOf, IsTold, IsQuiet, AsksFor, TaleLaws}
+use Rattle.world_model.proofs.Growth.{Committed-grow}
+use Rattle.op_machines.specs.Openers.{opening_in}
+use Rattle.core_facts.proofs.OpenStory.{not-kind, OpeningTold}
+use Rattle.core_facts.proofs.Tales.{reached-answered}
 use Rattle.nfs_types.specs.declared.mode.Mode.TheVariants as modes
 use Rattle.world_model.specs.declared.answer.Answer.TheVariants as answers
 use Rattle.world_model.specs.declared.answer.Fault.TheVariants as faults
@@ -8,7 +12,6 @@ use Rattle.claims.specs.Asks as asks
 use Rattle.world_model.specs.Leads as leads
 use Rattle.claims.specs.OkRows.{OkRow}
 use Rattle.world_model.specs.Commits.{Committed}
-use Rattle.world_model.proofs.Growth.{Committed-grow}
 use Rattle.client_shelf.specs.declared.next.Next.TheVariants as nexts
 use Rattle.file_ops.specs.declared.put_file.Putting.TheVariants as putting
 use Rattle.file_ops.specs.Opening as opening
@@ -18,12 +21,9 @@ use Rattle.name_ops.specs.Walking as walking
 use Rattle.op_machines.specs.declared.file_machine.FileMachine.TheVariants as files
 use Rattle.op_machines.specs.declared.machine.Machine.TheVariants as machines
 use Rattle.op_machines.specs.declared.opener.Opener.TheVariants as openers
-use Rattle.op_machines.specs.Openers.{opening_in}
 use Rattle.op_machines.specs.PathSteps as paths
 use Rattle.core_facts.proofs.Expecting.{Expects, OpenerExpects}
-use Rattle.core_facts.proofs.OpenStory.{not-kind, OpeningTold}
 use Rattle.core_facts.proofs.Syncing.{committed-later}
-use Rattle.core_facts.proofs.Tales.{reached-answered}
 use Rattle.core_answers.specs.answers.PutRows.{PutsShown, PutKindsShown}
 use Rattle.core_answers.proofs.answers.Both.{Both, both-laws, expects-laws}
 use Rattle.core_answers.proofs.answers.PutNames.{Names, OpenerNames, names-laws}

@@ -1,5 +1,6 @@
 -- A put that is refused for a rule: its last fault, and the one that its save keeps, is that of a record that came for one of its calls.
 use Rattle.core_answers.proofs.Prelude.{◌≡◌, ◌+◌, ℕ, Bool, true, false, List, length, Result, Ok, Err, refl, sym, ap, subst, arith, ◌-◌, [], ◌∷◌, ◌++◌, ◌∙◌, Option, Some, None, option_map, if◌then◌else◌, Answer, Fault, Entry, Call, Reply, Ended, is_first, Next, Shelf, Turn, OpeningNext, PutFile, Putting, Saving, Writing, joined, made_bytes, by-step, ends_as, IsNamed, last_of, front_of, machine_of, of_putting, in_flight, FineOption, FineResult, then-as, ThenOf, Began, Op, OpenFile, Walk, WalkNext, walk_of, Mounted, Machine, Opener, PathMachine, file_of, Starts, Resumes, Takes, State, Busy, Over, Setup, begins-unbegun, of_path, AsksFor, PutAwaits, PathOr, Awaits, awaits-laws, program_of, Waiting, Purpose, View, Reaches, look_up, length_last}
+use Rattle.op_machines.specs.Openers.{opening_in}
 use Rattle.world_model.specs.declared.answer.Answer.TheVariants as answers
 use Rattle.world_model.specs.declared.answer.Fault.TheVariants as faults
 use Rattle.world_model.specs.declared.answer.Value.TheVariants as values
@@ -21,7 +22,6 @@ use Rattle.name_ops.specs.Walking as walking
 use Rattle.op_machines.specs.declared.file_machine.FileMachine.TheVariants as files
 use Rattle.op_machines.specs.declared.machine.Machine.TheVariants as machines
 use Rattle.op_machines.specs.declared.opener.Opener.TheVariants as openers
-use Rattle.op_machines.specs.Openers.{opening_in}
 use Rattle.op_machines.specs.PathSteps as paths
 use Rattle.core_answers.specs.answers.PutRules.{PutRulesShown, MayRefusePut, PutFaultsFew}
 use Rattle.core_answers.proofs.answers.Both.{Both, both-laws}

@@ -1,6 +1,8 @@
 -- A put, step by step: its path leads to the file that it opens, and it goes well only with the reply to a WRITE or COMMIT of that file, of which a
 -- whole COMMIT was answered 0 since it began. For the kind of its file it is refused only with the reply that shows it.
 use Rattle.core_answers.proofs.Prelude.{◌≡◌, ◌≢◌, ◌+◌, ℕ, Bool, true, false, List, length, Result, Ok, Err, refl, sym, ap, subst, arith, if◌then◌else◌, Attr, Verf, DirKept, FileKept, Answer, Fault, Entry, Call, Reply, Asked, EndsWith, NamesFile, is_first, Next, Shelf, Turn, Opening, OpeningNext, PutFile, Putting, Saving, Writing, commit_told, joined, made_bytes, by-step, ends_as, IsNamed, last_of, of_saving, of_putting, PutAwaits, FineOption, LeadsTo, then-as, OpeningStory, IsFileOf, goes-steps, takes-steps, ThenOf}
+use Rattle.core_facts.proofs.Faults.{OfReply, Came}
+use Rattle.core_facts.proofs.SaveCommits.{SaveSteps}
 use Rattle.nfs_types.specs.declared.mode.Mode.TheVariants as modes
 use Rattle.nfs_dir_calls.specs.declared.keeping.DirKept.TheVariants as found
 use Rattle.nfs_file_calls.specs.declared.call.FileCall.TheVariants as file_calls
@@ -23,10 +25,8 @@ use Rattle.file_ops.specs.Saves as saves
 use Rattle.file_ops.specs.Syncs as syncs
 use Rattle.file_ops.proofs.Refusals.{takes-ill}
 use Rattle.file_ops.proofs.Stills.{goes-not-well}
-use Rattle.core_facts.proofs.Faults.{OfReply, Came}
 use Rattle.core_facts.proofs.OpenStory.{not-kind, OpeningTold, found as is_found, made as is_made, KindShown, NextStory, go-story, led-on, led-next}
 use Rattle.core_facts.proofs.Putting.{PutExpects}
-use Rattle.core_facts.proofs.SaveCommits.{SaveSteps}
 use Rattle.core_facts.proofs.Syncing.{told-commit}
 use Rattle.core_answers.proofs.answers.PutNames.{PutNames}
 use Rattle.core_answers.proofs.answers.PutOpens.{NextFile, led-file, next-file}

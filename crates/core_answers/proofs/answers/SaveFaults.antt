@@ -1,14 +1,14 @@
 -- Which faults a step of a save gives: out of memory, a broken rule, those of what came of its calls, and those that it keeps. (A save
 -- gives no fault of another operation, so nothing is asked of those here.)
 use Rattle.core_answers.proofs.Prelude.{◌≡◌, ◌+◌, ◌==◌, ◌&&◌, ◌||◌, ℕ, Bool, true, false, List, [], ◌∷◌, Option, Some, None, Result, Ok, Err, inl, inr, refl, sym, ap, subst, nat_lt, Verdict, AllStable, SendAgain, Verf, Wcc, FileKept, Fault, Memory, Reply, Next, Repeat, Turn, goes_again, chosen, Pending, of_file, Segments, Sending, Committing, Resending, CommittingAgain, Saving, write_told, write_told_by, written_by, commit_told, FineResult, FineOption, FineNext, fine-fault}
-use Rattle.nfs_file_calls.specs.declared.owned.FileKept.TheVariants as kept
 use Rattle.world_model.specs.declared.answer.Fault.TheVariants.{Nfs, Bad}
+use Rattle.file_ops.specs.Judging.{commit_told_by}
+use Rattle.core_facts.proofs.Faults.{OfReply, Came, fine-some}
+use Rattle.nfs_file_calls.specs.declared.owned.FileKept.TheVariants as kept
 use Rattle.world_model.specs.declared.message.Reply.TheVariants as replies
 use Rattle.file_ops.specs.declared.saving.Phase.{Phase}
-use Rattle.file_ops.specs.Judging.{commit_told_by}
 use Rattle.file_ops.specs.Saves as saves
 use Rattle.file_ops.specs.Syncs as syncs
-use Rattle.core_facts.proofs.Faults.{OfReply, Came, fine-some}
 
 -- P holds of the fault that a save gives by itself.
 pub record CallFaults (P : Fault → Type 0) : Type 0 where

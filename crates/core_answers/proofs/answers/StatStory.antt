@@ -1,5 +1,6 @@
 -- A stat goes well only with attributes that a reply showed of the object to which its path leads.
 use Rattle.core_answers.proofs.Prelude.{◌≡◌, ◌<◌, ◌≤◌, ◌+◌, ℕ, Bool, true, false, List, [], ◌∷◌, ◌++◌, length, Option, Some, None, Result, Ok, Err, refl, sym, ap, subst, ◌∙◌, arith, if◌then◌else◌, Attr, Lookup, FileKept, Answer, Fault, Entry, Began, Call, Reply, Op, of_object, Asked, Rooted, Terms, Heard-wide, Rooted-wide, length_last, fails_busy, goes_again, Next, Shelf, Turn, Stat, WalkNext, shown_answer, machine_of, Mounted, Machine, NameMachine, Starts, Resumes, Takes, State, Busy, Over, Setup, Awaits, WalkAwaits, WalkStep, OwnOr, go-step, took-step, Told, AskedOf, ThenOf, own, ShownRecently, time_next, IsAnswered}
+use Rattle.core_answers.specs.bonds.Kept.{LastAtMost}
 use Rattle.attr_cache.specs.Attrs as attrs
 use Rattle.nfs_file_calls.specs.declared.owned.FileKept.TheVariants as kept
 use Rattle.world_model.specs.declared.answer.Answer.TheVariants as answers
@@ -17,7 +18,6 @@ use Rattle.name_ops.specs.Walking as walking
 use Rattle.op_machines.specs.declared.machine.Machine.TheVariants as machines
 use Rattle.op_machines.specs.declared.name_machine.NameMachine.TheVariants as names
 use Rattle.op_machines.specs.NameSteps as steps
-use Rattle.core_answers.specs.bonds.Kept.{LastAtMost}
 use Rattle.core_answers.proofs.bonds.AttrsShown.{ShownIn, answered-grow, attr-laws, fresh-attrs}
 use Rattle.core_answers.proofs.bonds.FileCalls.{Asking}
 use Rattle.core_answers.proofs.bonds.Keeping.{AskLaws, ShelfLaws, ToldSince, IsLate, BondLaws, take-early, take-whole, reached-answered}

@@ -1,5 +1,6 @@
 -- For which calls the write of a put waits: for those of the save that makes room for it.
 use Rattle.core_answers.proofs.Prelude.{◌≡◌, ◌+◌, ◌≤◌, ℕ, Bool, true, false, List, Result, Ok, Err, inl, inr, sym, subst, arith, Fault, Call, Reply, left, is_first, Next, Shelf, Turn, Saving, WriteFile, Writing, joined, by-step, ends_as, of_saving, of_writing}
+use Rattle.file_ops.proofs.SaveCounts.{SaveCounts, save-takes}
 use Rattle.world_model.specs.declared.answer.Answer.TheVariants as answers
 use Rattle.world_model.specs.declared.answer.Fault.TheVariants as faults
 use Rattle.world_model.specs.declared.answer.Value.TheVariants as values
@@ -8,7 +9,6 @@ use Rattle.file_ops.specs.declared.write_file.Writing.TheVariants as writing
 use Rattle.file_ops.specs.Saves as saves
 use Rattle.file_ops.specs.Syncs as syncs
 use Rattle.file_ops.specs.WriteFile as writes
-use Rattle.file_ops.proofs.SaveCounts.{SaveCounts, save-takes}
 use Rattle.core_answers.proofs.answers.SaveCalls.{SaveCall, CallSo, goes-calls, takes-calls, goes-stay, takes-stay}
 
 abbrev pub WriteCalls : Writing → Call → Type 0

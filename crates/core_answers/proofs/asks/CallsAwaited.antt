@@ -1,14 +1,14 @@
 -- For which call any operation waits: on names and of an open or walk as core_facts says, and on files.
 use Rattle.core_answers.proofs.Prelude.{◌≡◌, ◌≤◌, ◌+◌, ◌-◌, ℕ, Bool, true, false, Result, refl, sym, ap, subst, ◌∙◌, arith, Fault, Call, Reply, Next, Shelf, Turn, WalkNext, FileMachine, Machine, Opener, PathMachine, file_of, slot_taken, begun_at, placed, Starts, Resumes, Takes, of_walk, in_flight, Awaits, awaits-laws, of_path, path-file, path-walk, ExpectLaws, walk-takes, AskedOf, KeptOf}
+use Rattle.core_facts.specs.InFlight.{of_file}
+use Rattle.core_facts.proofs.AllCounts.{placed-none}
+use Rattle.core_facts.proofs.NameCounts.{WalkCounts, walk-counts, took-counts}
 use Rattle.world_model.specs.declared.answer.Answer.TheVariants as answers
 use Rattle.client_shelf.specs.declared.next.Next.TheVariants as nexts
 use Rattle.name_ops.specs.declared.walk.WalkNext.TheVariants as walks
 use Rattle.name_ops.specs.Walking as walking
 use Rattle.op_machines.specs.declared.machine.Machine.TheVariants as machines
 use Rattle.op_machines.specs.PathSteps as paths
-use Rattle.core_facts.specs.InFlight.{of_file}
-use Rattle.core_facts.proofs.AllCounts.{placed-none}
-use Rattle.core_facts.proofs.NameCounts.{WalkCounts, walk-counts, took-counts}
 use Rattle.core_answers.proofs.asks.FilesAwaited.{FileNames, file-starts, file-resumes, file-takes}
 use Rattle.core_answers.proofs.asks.OnSteps.{On, on-done, on-none, on-any, on-lift}
 

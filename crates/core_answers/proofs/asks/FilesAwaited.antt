@@ -1,5 +1,6 @@
 -- For which calls an operation on a file waits: those of its save, and the one that it makes itself.
 use Rattle.core_answers.proofs.Prelude.{◌≡◌, ◌≤◌, ◌+◌, inl, inr, ℕ, Bool, true, false, List, Option, Some, None, Result, Ok, Err, refl, sym, ap, subst, ◌∙◌, arith, if◌then◌else◌, of_file, last_end, Fault, Call, Reply, goes_again, left, is_first, Next, Shelf, Turn, CloseFile, Closing, Removal, OpeningNext, PutFile, Putting, ReadFile, Saving, SyncFile, Syncing, TruncateFile, Truncating, WriteFile, Writing, remove_of, closed_answer, refusal_of, remove_busy, file_to_write, file_at, joined, by-step, ends_as, FileMachine, of_opening, of_reading, of_saving, of_writing, of_syncing, of_closing, of_truncating, of_putting, Plain}
+use Rattle.file_ops.proofs.SaveCounts.{SaveCounts, save-goes, save-takes}
 use Rattle.std.specs.FinMap as finite
 use Rattle.world_model.specs.declared.answer.Answer.TheVariants as answers
 use Rattle.world_model.specs.declared.answer.Fault.TheVariants as faults
@@ -18,7 +19,6 @@ use Rattle.file_ops.specs.Saves as saves
 use Rattle.file_ops.specs.Syncs as syncs
 use Rattle.file_ops.specs.TruncateFile as truncates
 use Rattle.file_ops.specs.WriteFile as writes
-use Rattle.file_ops.proofs.SaveCounts.{SaveCounts, save-goes, save-takes}
 use Rattle.op_machines.specs.declared.file_machine.FileMachine.TheVariants as files
 use Rattle.op_machines.specs.FileSteps as steps
 use Rattle.core_facts.specs.InFlight.{of_file as calls_of}

@@ -1,8 +1,8 @@
 -- How many calls a core may make stays as it was set up.
 use Rattle.core_answers.proofs.Prelude.{◌≡◌, ℕ, List, inl, inr, sym, ap, ◌∙◌, subst, Entry, Began, Answered, Dialed, Executed, Foreign, Flushed, Reboot, Delivered, Failed, Clock, Op, Machine, Purpose, Setup, View, StepsTo, Reaches, begins, goes, loses, last_reading, Heard, dropped, replied, sent_now, FailedNow, goes_on, gives_up, failed_now, answered_now, taken_one, Stays, begins-stay, hears-for-stay}
-use Rattle.rpc_retry.specs.Held.{Held}
 use Rattle.world_model.specs.declared.entry.Entry.TheVariants.{Sent}
 use Rattle.core_facts.proofs.Cases.{heard}
+use Rattle.rpc_retry.specs.Held.{Held}
 
 abbrev pub HasLimit : Setup → View → Type 0
 HasLimit setup v = v.calls.limit ≡ setup.limit

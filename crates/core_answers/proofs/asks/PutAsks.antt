@@ -1,5 +1,6 @@
 -- A put asks for each call that is sent for it.
 use Rattle.core_answers.proofs.Prelude.{◌≡◌, ◌≤◌, ◌⊎◌, inl, inr, ℕ, Bool, true, false, List, [], ◌∷◌, ◌++◌, length, Result, refl, sym, ap, subst, ◌∙◌, arith, All-nil, Fault, Entry, Began, Call, Reply, Op, Asks, Stabilizes, look_up, At, Rooted, UnderWay, PlaceOf, Terms, Asked-wide, Rooted-wide, At-grow, Pending, Walk, walk_of, Next, Shelf, Opening, OpeningStep, PutFile, Putting, Writing, Mounted, Machine, PathMachine, IsNamed, front_of, last_of, machine_of, Starts, Resumes, Takes, State, Busy, Over, Setup, KnowsRoot, of_walk, of_writing, of_putting, in_flight, PathOr, PutAwaits, begins-unbegun, all-starts, all-resumes, all-takes, IsNameTold, NamesTold, names-later, LeadsTo, IsHeard, heard-tells, front-last, Did, IsTold, TaleLaws, reached-good}
+use Rattle.core_facts.specs.InFlight.{path_by}
 use Rattle.world_model.specs.declared.op.Op.TheVariants as ops
 use Rattle.claims.specs.Asks as asks
 use Rattle.world_model.specs.Leads.{Leads}
@@ -10,7 +11,6 @@ use Rattle.file_ops.specs.declared.write_file.Writing.TheVariants as writing
 use Rattle.file_ops.specs.Opening as opening
 use Rattle.op_machines.specs.declared.machine.Machine.TheVariants as machines
 use Rattle.op_machines.specs.declared.opener.Opener.TheVariants as openers
-use Rattle.core_facts.specs.InFlight.{path_by}
 use Rattle.core_answers.specs.asks.PutCalls.{IsForRoom, writes, commits, IsMadeForPut, PutsAsk, IsAlone, IsMadeAlone, LonePutsAsk}
 use Rattle.core_answers.proofs.asks.Alone.{PutAlone, reached-calm}
 use Rattle.core_answers.proofs.asks.CalmPuts.{CalmAt}

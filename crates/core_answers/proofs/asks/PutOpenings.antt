@@ -1,5 +1,6 @@
 -- How a put finds its file: by LOOKUP of its last name; so its path leads to the file that it opens.
 use Rattle.core_answers.proofs.Prelude.{◌≡◌, ◌==◌, ℕ, Bool, true, false, List, [], ◌∷◌, ◌++◌, length, Option, Some, None, Result, Ok, Err, refl, sym, ap, subst, ◌∙◌, if◌then◌else◌, Attr, Mode, DirKept, looked, known_of, Fault, Entry, Reply, look_up, Asked, Turn, Led, Opening, OpeningNext, OpeningStep, got_by, IsNamed, front_of, last_of, LeadsTo, leads-later, IsHeard, front-last}
+use Rattle.file_ops.specs.Told.{found_by}
 use Rattle.nfs_types.specs.declared.mode.Mode.TheVariants as modes
 use Rattle.nfs_dir_calls.specs.declared.keeping.DirKept.TheVariants as dir_kept
 use Rattle.world_model.specs.declared.answer.Fault.TheVariants as faults
@@ -9,7 +10,6 @@ use Rattle.file_ops.specs.declared.opening.Led.TheVariants as leads
 use Rattle.file_ops.specs.declared.opening.OpeningNext.TheVariants as openings
 use Rattle.file_ops.specs.declared.opening.OpeningStep.TheVariants as opening_steps
 use Rattle.file_ops.specs.Opening as opening
-use Rattle.file_ops.specs.Told.{found_by}
 
 module _ (top : List ℕ) (h : List Entry) (path : List (List ℕ)) where
   -- it makes no file, and asks for the attributes of the one to which its path leads

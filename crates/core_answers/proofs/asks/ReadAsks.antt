@@ -1,5 +1,6 @@
 -- A read asks for each call that is sent for it.
 use Rattle.core_answers.proofs.Prelude.{◌≡◌, ◌≤◌, ◌-◌, ◌⊎◌, inl, inr, ℕ, Bool, true, false, List, [], ◌∷◌, ◌++◌, length, Option, Some, None, Result, Ok, Err, refl, sym, ap, subst, ◌∙◌, arith, if◌then◌else◌, Mode, Opened, Pages, Pending, Answer, Fault, Entry, Began, Call, Reply, Op, Asks, Modes, UnderWay, IsOf, Terms, Next, Repeat, Shelf, Turn, ReadFile, Phase, Reading, place_after, nothing_of, Mounted, Machine, machine_of, Starts, Resumes, Takes, State, Busy, Over, Setup, of_phase, of_reading, in_flight, begins-unbegun, Held, held-later, held-begins, always-later, Given, is-given, ThenOf, good-over}
+use Rattle.core_facts.proofs.Stories.{LawsOver}
 use Rattle.std.specs.FinMap as finite
 use Rattle.nfs_types.specs.declared.mode.Mode.TheVariants as modes
 use Rattle.nfs_file_calls.specs.declared.call.FileCall.TheVariants as calls_of
@@ -15,7 +16,6 @@ use Rattle.file_ops.specs.ReadFile as reads
 use Rattle.file_ops.specs.Reading as reading
 use Rattle.op_machines.specs.declared.file_machine.FileMachine.TheVariants as files
 use Rattle.op_machines.specs.declared.machine.Machine.TheVariants as machines
-use Rattle.core_facts.proofs.Stories.{LawsOver}
 use Rattle.core_answers.specs.asks.ReadCalls.{IsMadeForRead, ReadsAsk}
 use Rattle.core_answers.proofs.asks.CallsAwaited.{Expects, expects-laws}
 use Rattle.core_answers.proofs.asks.ReadRanges.{begun-in, inside}

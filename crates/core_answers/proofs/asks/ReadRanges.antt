@@ -2,12 +2,12 @@
 use Rattle.core_answers.proofs.Prelude.{◌≡◌, ◌<◌, ◌≤◌, ◌+◌, ◌-◌, ◌/◌, ◌%◌, ◌==◌, ◌||◌, not, ℕ, zero, suc, Bool, true, false, List, length, take, refl, arith, if◌then◌else◌, nat_lt, eqb-true, nat_tests, length-append, start_of, Pages, after_page, Bytes, nothing_of, place_after}
 use Rattle.std.proofs.Common.{◌*◌, min, is_some}
 use Rattle.std.specs.Prelude.{nat_le}
+use Rattle.std.proofs.lemmas.List.{length-take}
+use Rattle.file_ops.specs.Base.{pages_size, with_more}
 use Rattle.std.specs.Int.{div_ceil}
 use Rattle.std.proofs.lemmas.Grind.{div_ceil_times}
-use Rattle.std.proofs.lemmas.List.{length-take}
 use Rattle.page_cache.specs.Pages.{page_of as page_in}
 use Rattle.claims.specs.Pages.{page_of, page_from, InsidePages}
-use Rattle.file_ops.specs.Base.{pages_size, with_more}
 use Rattle.file_ops.specs.Gather.{Planned, stopped, planned, most_asked, next_page, next_count}
 
 -- ---- pages

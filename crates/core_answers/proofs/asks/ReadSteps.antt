@@ -1,10 +1,10 @@
 -- A read, step by step: its bytes lie in the pages that meet its range, and so does what it asks for next.
 use Rattle.core_answers.proofs.Prelude.{◌≡◌, ◌<◌, ◌≤◌, ◌+◌, ◌-◌, ◌/◌, ◌%◌, ◌==◌, ◌&&◌, ◌||◌, not, ℕ, zero, suc, Bool, true, false, List, length, Option, Some, None, Result, Ok, Err, refl, sym, ap, subst, ◌∙◌, arith, if◌then◌else◌, nat_lt, nat_tests, Attr, Pages, page_of, known_of, after_page, Pending, Fault, Reply, goes_again, fails_busy, Next, Repeat, Turn, Phase, Reading, Bytes, place_after, Said, part, refusal, got_by}
+use Rattle.file_ops.specs.Base.{is_whole, with_more}
 use Rattle.xdr_codec.specs.declared.blob.Memory as memory
 use Rattle.file_ops.specs.declared.gather.Found.{Found}
 use Rattle.file_ops.specs.declared.gather.Found.TheVariants as found
 use Rattle.file_ops.specs.declared.reading.Phase.TheVariants as phases
-use Rattle.file_ops.specs.Base.{is_whole, with_more}
 use Rattle.file_ops.specs.Gather.{Gathered, is_past, found_of, base_with, taken, then_taken, gathered, next_page}
 use Rattle.file_ops.specs.Reading as reading
 use Rattle.core_answers.proofs.asks.ReadRanges.{InRange, count-some, count-most, more-in, more-left}

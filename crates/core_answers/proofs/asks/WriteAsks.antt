@@ -1,11 +1,11 @@
 -- A call that is sent for a write is one that makes room.
 use Rattle.core_answers.proofs.Prelude.{◌≡◌, ◌≤◌, inl, inr, ℕ, List, [], ◌∷◌, ◌++◌, length, Result, sym, ap, subst, ◌∙◌, arith, Fault, Entry, Began, Call, Reply, Op, UnderWay, Next, Shelf, Turn, WriteFile, Writing, Mounted, Machine, machine_of, Starts, Resumes, Takes, State, Busy, Over, of_writing, in_flight, begins-unbegun, ThenOf, good-over}
+use Rattle.core_facts.proofs.Stories.{StoryLaws, over-laws, Always}
 use Rattle.world_model.specs.declared.op.Op.TheVariants as ops
 use Rattle.client_shelf.specs.declared.next.Next.TheVariants as nexts
 use Rattle.file_ops.specs.declared.write_file.Writing.TheVariants as writing
 use Rattle.op_machines.specs.declared.file_machine.FileMachine.TheVariants as files
 use Rattle.op_machines.specs.declared.machine.Machine.TheVariants as machines
-use Rattle.core_facts.proofs.Stories.{StoryLaws, over-laws, Always}
 use Rattle.core_answers.specs.asks.PutCalls.{IsForRoom}
 use Rattle.core_answers.specs.asks.WriteCalls.{IsMadeForWrite, WritesAsk}
 use Rattle.core_answers.proofs.asks.CallsAwaited.{Expects, expects-laws}

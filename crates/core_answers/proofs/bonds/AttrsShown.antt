@@ -1,9 +1,9 @@
 -- Each attribute that is kept was shown by a reply.
 use Rattle.core_answers.proofs.Prelude.{◌≡◌, ◌≤◌, ℕ, List, [], ◌∷◌, ◌++◌, length, inl, inr, Result, arith, Attrs, KeptAttr, Fault, Entry, Began, Clock, Call, Reply, Heard-wide, At-grow, length_last, Next, Send, Wait, Done, Shelf, machine_of, Mounted, Machine, Setup, ThenOf, HadShown, IsAnswered}
 use Rattle.attr_cache.specs.Attrs.{nothing_learnt}
-use Rattle.attr_cache.proofs.Entries.{Believed, All-lookup}
 use Rattle.world_model.proofs.Growth.{Heard-grow}
 use Rattle.core_answers.specs.bonds.Kept.{WasShown, LastAtMost, AttrsShown}
+use Rattle.attr_cache.proofs.Entries.{Believed, All-lookup}
 use Rattle.core_answers.proofs.bonds.Keeping.{IsTold, ShelfLaws, BondLaws, reached-known}
 use Rattle.core_answers.proofs.bonds.Learnt.{Good, Tells, good-as}
 use Rattle.core_answers.proofs.bonds.MachineAttrs.{attrs-starts, attrs-resumes, attrs-takes}

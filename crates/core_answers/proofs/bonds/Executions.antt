@@ -1,16 +1,16 @@
 -- A reply that answers a call is that of an execution of the very call, since it was first sent; and what it shows was so then.
 use Rattle.core_answers.proofs.Prelude.{◌≡◌, ◌<◌, ◌≤◌, ℕ, suc, List, inl, inr, Some, Result, Ok, sym, ap, subst, ◌∙◌, arith, Attr, RpcReply, Accepted, ReplyFault, Entry, Call, Reply, At, History, Lawful, HasXid, SpellsCall, SpellsReply, of_object, Numbered, reached-rows, machine_of, IsRecent, own, HadShown, IsAnswered}
 use Rattle.rpc_message.specs.Reply.{refusal_number, SpellsRefusal}
+use Rattle.world_model.specs.Lawful.{IsReplied, replied, refused}
+use Rattle.claims.specs.Shown.{ShowsAttr, of_target, of_given, of_listed}
+use Rattle.core_answers.specs.bonds.Ages.{young}
 use Rattle.rpc_message.proofs.ReplyLaws.{reply_first, reply_again}
 use Rattle.world_model.specs.declared.entry.Entry.TheVariants as entries
 use Rattle.world_model.specs.declared.message.Call.TheVariants as calls
 use Rattle.world_model.specs.declared.message.Reply.TheVariants as replies
-use Rattle.world_model.specs.Lawful.{IsReplied, replied, refused}
-use Rattle.claims.specs.Shown.{ShowsAttr, of_target, of_given, of_listed}
 use Rattle.law_calls.proofs.CallsWait.{xid_of_call}
 use Rattle.model_walks.proofs.RepliesShow.{shows_true}
 use Rattle.core_facts.proofs.Grown.{one-xid}
-use Rattle.core_answers.specs.bonds.Ages.{young}
 use Rattle.core_answers.specs.bonds.Had.{HasAttr, AttrsTrue, StatsTrue}
 use Rattle.core_answers.proofs.bonds.AttrsShown.{attrs-shown}
 use Rattle.core_answers.proofs.bonds.OneCall.{IsNfs, one-call}

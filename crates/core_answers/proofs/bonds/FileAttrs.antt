@@ -1,11 +1,12 @@
 -- What an operation on files learns of attributes was shown by what came of its call.
 use Rattle.core_answers.proofs.Prelude.{◌≡◌, ℕ, Bool, true, false, List, Option, Some, None, Result, Ok, Err, inl, inr, refl, ap, ◌∙◌, if◌then◌else◌, Attrs, KeptAttr, Attr, DirKept, FileKept, Fault, Call, Reply, of_object, of_file, last_end, is_first, goes_again, Next, Shelf, Turn, Closing, CloseFile, Removal, Opening, OpeningNext, OpeningStep, PutFile, Putting, Phase, Reading, Saving, SyncFile, Syncing, TruncateFile, Truncating, WriteFile, Writing, is_full, remove_busy, refusal_of, file_to_write, part, refusal, said_to, breaks_rule, file_at, joined, got_by, by-step, ends_as, FileMachine}
+use Rattle.claims.specs.Shown.{of_given}
+use Rattle.file_ops.specs.Closings.{removed_of}
 use Rattle.nfs_dir_calls.specs.declared.keeping.DirKept.TheVariants as dir_kept
 use Rattle.nfs_file_calls.specs.declared.owned.FileKept.TheVariants as kept
 use Rattle.world_model.specs.declared.answer.Answer.TheVariants as answers
 use Rattle.world_model.specs.declared.answer.Fault.TheVariants as faults
 use Rattle.world_model.specs.declared.message.Reply.TheVariants as replies
-use Rattle.claims.specs.Shown.{of_given}
 use Rattle.client_shelf.specs.Learning.{Learns}
 use Rattle.client_shelf.specs.Unmade.{is_unmade, came_unmade}
 use Rattle.client_shelf.specs.declared.next.Next.TheVariants as nexts
@@ -18,7 +19,6 @@ use Rattle.file_ops.specs.declared.sync_file.Syncing.TheVariants as syncing
 use Rattle.file_ops.specs.declared.truncate_file.Truncating.TheVariants as truncating
 use Rattle.file_ops.specs.declared.write_file.Writing.TheVariants as writing
 use Rattle.file_ops.specs.Closes as closes
-use Rattle.file_ops.specs.Closings.{removed_of}
 use Rattle.file_ops.specs.Judging.{after_of}
 use Rattle.file_ops.specs.Opening as opening
 use Rattle.file_ops.specs.PutFile as puts

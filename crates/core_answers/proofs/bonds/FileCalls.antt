@@ -1,8 +1,11 @@
 -- On which objects the calls of operations on files are made.
 use Rattle.core_answers.proofs.Prelude.{◌≡◌, ◌≤◌, ◌+◌, ◌==◌, ◌&&◌, ◌||◌, ℕ, not, Bool, true, false, List, [], ◌∷◌, Option, Some, None, Result, Ok, Err, inl, inr, refl, sym, ap, subst, ◌∙◌, arith, if◌then◌else◌, nat_lt, Verdict, AllStable, SendAgain, Attr, Verf, Wcc, Opened, Opens, Pages, Answer, Fault, Call, Reply, chosen, Pending, Segments, goes_again, Next, Repeat, Shelf, Turn, Closing, Removal, OpenFile, Led, Opening, OpeningNext, OpeningStep, Putting, PutFile, ReadFile, Reading, Sending, Committing, Resending, CommittingAgain, Saving, Syncing, TruncateFile, Truncating, WriteFile, Writing, commit_told, FileMachine, is_first, left, CloseFile, SyncFile, is_full, remove_of, closed_answer, remove_busy, refusal_of, file_to_write, Said, part, refusal, file_at, joined, got_by, by-step, ends_as, of_opening, of_phase, of_reading, of_writing, of_syncing, of_closing, of_truncating, of_putting, Plain, AskedOf}
+use Rattle.open_files.specs.Slots.{Place}
+use Rattle.file_ops.proofs.SaveCounts.{of_saving, SaveCounts, save-goes, save-takes}
+use Rattle.core_facts.specs.InFlight.{one_if, of_file, ClosingCounted, FileCounted}
+use Rattle.core_facts.proofs.NameCounts.{one-left}
 use Rattle.std.specs.FinMap as finite
 use Rattle.xdr_codec.specs.declared.blob.Memory as memory
-use Rattle.open_files.specs.Slots.{Place}
 use Rattle.world_model.specs.declared.answer.Answer.TheVariants as answers
 use Rattle.world_model.specs.declared.answer.Fault.TheVariants as faults
 use Rattle.write_back.specs.Files.{of_file as of_pending}
@@ -29,11 +32,8 @@ use Rattle.file_ops.specs.ReadFile as reads
 use Rattle.file_ops.specs.Syncs as syncs
 use Rattle.file_ops.specs.TruncateFile as truncates
 use Rattle.file_ops.specs.WriteFile as writes
-use Rattle.file_ops.proofs.SaveCounts.{of_saving, SaveCounts, save-goes, save-takes}
 use Rattle.op_machines.specs.FileSteps as steps
-use Rattle.core_facts.specs.InFlight.{one_if, of_file, ClosingCounted, FileCounted}
 use Rattle.core_facts.proofs.FileCounts.{opening-goes as opening-counts, opening-leaves, read-resumes as read-resumes-count, truncate-resumes as truncate-resumes-count, write-resumes as write-resumes-count, write-takes as write-takes-count}
-use Rattle.core_facts.proofs.NameCounts.{one-left}
 use Rattle.core_facts.proofs.PutCounts.{of_put}
 use Rattle.core_answers.proofs.bonds.Learnt.{IsOn}
 use Rattle.core_answers.proofs.bonds.NameCalls.{asked-as, asked-done, asked-waits, asked-sends, asked-again, asked-for}

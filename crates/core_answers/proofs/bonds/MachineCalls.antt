@@ -1,5 +1,7 @@
 -- On which object the call is made for which an operation waits.
 use Rattle.core_answers.proofs.Prelude.{◌≡◌, ◌≤◌, ◌+◌, ◌-◌, ℕ, Bool, true, false, List, Option, Some, None, Result, refl, sym, ap, subst, ◌∙◌, arith, if◌then◌else◌, Fault, Call, Reply, Next, Shelf, Turn, Deed, Walk, WalkNext, Machine, NameMachine, Opener, PathMachine, file_of, slot_taken, begun_at, placed, Starts, Resumes, Takes, of_name, of_walk, visit_by, own_or, removal_by, in_flight, IsCounted, Counts, counts-calls, of_path, path-file, path-walk, walk-takes, AskedOf}
+use Rattle.core_facts.specs.InFlight.{pair_by, one_if, of_names, of_file, FileCounted}
+use Rattle.core_facts.proofs.NameCounts.{unasked}
 use Rattle.world_model.specs.declared.answer.Answer.TheVariants as answers
 use Rattle.world_model.specs.declared.answer.Fault.TheVariants as faults
 use Rattle.client_shelf.specs.declared.next.Next.TheVariants as nexts
@@ -9,8 +11,6 @@ use Rattle.op_machines.specs.declared.machine.Machine.TheVariants as machines
 use Rattle.op_machines.specs.declared.name_machine.NameMachine.TheVariants as names
 use Rattle.op_machines.specs.declared.opener.Opener.TheVariants as openers
 use Rattle.op_machines.specs.PathSteps as paths
-use Rattle.core_facts.specs.InFlight.{pair_by, one_if, of_names, of_file, FileCounted}
-use Rattle.core_facts.proofs.NameCounts.{unasked}
 use Rattle.core_answers.proofs.bonds.FileCalls.{FileAsks, Asking, alone, asking-for, file-starts-asked, file-resumes-asking, file-takes-asking}
 use Rattle.core_answers.proofs.bonds.Keeping.{AskLaws}
 use Rattle.core_answers.proofs.bonds.NameCalls.{NameAsks, WalkOn, WalkAsked, asked-done, asked-waits, asked-sends, asked-for, go-walk, took-walk, name-goes-asked, name-takes-asked}

@@ -1,11 +1,13 @@
 -- What an operation on names learns of attributes was shown by what came of its call.
 use Rattle.core_answers.proofs.Prelude.{◌≡◌, ℕ, nat_eq, Bool, true, false, List, Option, Some, None, Result, Ok, Err, inl, inr, refl, ap, subst, ◌∙◌, if◌then◌else◌, Attrs, KeptAttr, Attr, DirKept, FileKept, Fault, Value, Call, Reply, of_object, Next, Shelf, Turn, DirDeed, Link, ListDir, Pair, PairNext, Deed, Look, Seek, Move, Remove, RemoveFile, Rename, Stat, SymLink, Visit, VisitNext, Walk, WalkNext, access_attr, deed_told, linked_told, TakesLink, moved_told, TakesText, TakesRename, TakesShow, sym_link_call, sym_linked_told, ChangesByCopy, TakesSymLink, lacking, NameMachine}
+use Rattle.claims.specs.Shown.{of_target, of_given}
+use Rattle.name_ops.specs.Moving.{given_to, to_of, RenewsMoved}
+use Rattle.name_ops.specs.ReadLink.{text_attr}
 use Rattle.std.specs.Cmp.Lexicographic.{pointwise}
 use Rattle.page_cache.proofs.Inserts.{same-is}
 use Rattle.nfs_dir_calls.specs.declared.keeping.DirKept.TheVariants as dir_kept
 use Rattle.nfs_file_calls.specs.declared.owned.FileKept.TheVariants as kept
 use Rattle.world_model.specs.declared.message.Reply.TheVariants as replies
-use Rattle.claims.specs.Shown.{of_target, of_given}
 use Rattle.name_ops.specs.declared.dir_change.DirDeed.TheVariants as deeds
 use Rattle.name_ops.specs.declared.moving.Moved.{Moved}
 use Rattle.name_ops.specs.declared.told.Told.{Told}
@@ -14,9 +16,7 @@ use Rattle.name_ops.specs.Changing as changing
 use Rattle.name_ops.specs.ListDir.{page_attr, TakesList}
 use Rattle.name_ops.specs.Looking as looking
 use Rattle.name_ops.specs.MakeDir as making
-use Rattle.name_ops.specs.Moving.{given_to, to_of, RenewsMoved}
 use Rattle.name_ops.specs.Pairs as pairs
-use Rattle.name_ops.specs.ReadLink.{text_attr}
 use Rattle.name_ops.specs.RemoveDir as removing
 use Rattle.name_ops.specs.RemoveFile as removals
 use Rattle.name_ops.specs.Stat as stats

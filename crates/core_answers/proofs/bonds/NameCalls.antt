@@ -1,5 +1,6 @@
 -- On which objects the calls of operations on names are made.
 use Rattle.core_answers.proofs.Prelude.{◌≡◌, ◌||◌, ℕ, Bool, true, false, List, Option, Some, None, Result, Ok, Err, inl, inr, refl, sym, ap, subst, ◌∙◌, if◌then◌else◌, Attr, ListFault, Step, More, End, page_step, Opens, Answer, Fault, Value, Call, Reply, fails_busy, goes_again, Next, Shelf, Turn, DirDeed, Link, ListDir, Pair, PairNext, Deed, Look, Seek, Move, Remove, RemoveFile, Rename, Stat, SymLink, Visit, VisitNext, Walk, WalkNext, access_call, access_attr, access_told, deed_call, deed_told, link_call, linked_told, TakesLink, found_by, look_again, moved_told, text_call, TakesText, rename_call, TakesRename, shown_answer, TakesShow, sym_link_call, sym_linked_told, ChangesByCopy, TakesSymLink, lacking, NameMachine, AskedOf}
+use Rattle.name_ops.specs.SymLink.{CopiesBy}
 use Rattle.attr_cache.specs.Attrs as attrs
 use Rattle.name_cache.specs.Names as known_names
 use Rattle.silly_rename.specs.Plans.{plan_of}
@@ -17,7 +18,6 @@ use Rattle.name_ops.specs.ListDir as listing
 use Rattle.name_ops.specs.Pairs as pairs
 use Rattle.name_ops.specs.RemoveFile as removals
 use Rattle.name_ops.specs.Stat as stats
-use Rattle.name_ops.specs.SymLink.{CopiesBy}
 use Rattle.name_ops.specs.Visiting as visiting
 use Rattle.name_ops.specs.Walking as walking
 use Rattle.op_machines.specs.declared.name_machine.NameMachine.TheVariants as machines

@@ -1,12 +1,12 @@
 -- Each name that is kept was answered by a LOOKUP, and stands while its directory keeps the stamp.
 use Rattle.core_answers.proofs.Prelude.{◌≡◌, ℕ, List, [], ◌∷◌, ◌++◌, length, Some, Result, refl, sym, ap, subst, arith, All-nil, stamp_of, Lookup, Fault, Entry, Call, Reply, History, Lawful, Heard-wide, Next, Send, Wait, Done, machine_of, Machine, View, in_flight, Reaches, Awaits, awaits-laws, all-starts, all-resumes, all-takes, Told, reached-rows, AskedOf, KeptOf, IsAnswered}
+use Rattle.core_facts.proofs.NamesKept.{CallTells}
 use Rattle.name_cache.specs.declared.entry.KeptName.{KeptName}
 use Rattle.name_cache.specs.declared.entry.Place.{Place}
 use Rattle.name_cache.specs.Names as names
 use Rattle.name_cache.proofs.Entries.{All-lookup, looked-kept}
 use Rattle.world_model.specs.declared.message.Reply.TheVariants.{Dir}
 use Rattle.name_ops.specs.Looking.{look_up}
-use Rattle.core_facts.proofs.NamesKept.{CallTells}
 use Rattle.law_names.specs.Kept.{IsLookedUp}
 use Rattle.model_walks.proofs.NamesStand.{stands_at}
 use Rattle.core_answers.specs.bonds.Named.{WasNamed, NamesShown, NamesTrue, NamesStood}

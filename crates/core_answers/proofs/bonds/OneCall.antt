@@ -1,5 +1,6 @@
 -- A record is one call at most.
 use Rattle.core_answers.proofs.Prelude.{◌≡◌, ℕ, true, false, List, Result, Ok, Err, refl, sym, ap, subst, ◌∙◌, arith, XdrFault, FileCall, Call, program_of, proc_of, SpellsCall}
+use Rattle.world_model.specs.Messages.{head_of, SpellsArguments}
 use Rattle.rpc_message.specs.declared.call.CallFault.{CallFault}
 use Rattle.rpc_message.specs.declared.call.CallHead.{CallHead}
 use Rattle.rpc_message.proofs.CallLaws.{call_again}
@@ -11,7 +12,6 @@ use Rattle.nfs_file_calls.specs.declared.call.FileCall.TheVariants as files
 use Rattle.nfs_file_calls.specs.Calls.{file_proc, is_file_proc, file_call_at, SpellsFileArgs}
 use Rattle.nfs_file_calls.proofs.CallLaws as file_laws
 use Rattle.world_model.specs.declared.message.Call.TheVariants as calls
-use Rattle.world_model.specs.Messages.{head_of, SpellsArguments}
 
 -- ---- one head, and one list of arguments
 

@@ -2,10 +2,10 @@
 use Rattle.core_answers.proofs.Prelude.{◌≡◌, ◌<◌, ◌≤◌, ◌⊎◌, inl, inr, ℕ, zero, suc, List, [], ◌∷◌, max, take, Some, refl, sym, ap, subst, arith, cases_lt, Answer, Entry, Began, Answered, Dialed, Executed, Foreign, Flushed, Reboot, Delivered, Failed, Clock, Op, At, Modes, Ended, last_reading, IsRecent, own}
 use Rattle.world_model.specs.declared.entry.Entry.TheVariants.{Sent}
 use Rattle.world_model.specs.Operations.{answered}
+use Rattle.core_answers.specs.bonds.Ages.{young, began_at, read_by, timed_by, time_from}
 use Rattle.claims.specs.ReadTrue.{IsYoung}
 use Rattle.claims.specs.Recent.{Recent, during, kept}
 use Rattle.core_answers.specs.bonds.Aged.{BeginsAt, TakesReadings}
-use Rattle.core_answers.specs.bonds.Ages.{young, began_at, read_by, timed_by, time_from}
 use Rattle.core_answers.proofs.bonds.Clocks.{read-on, time-least}
 
 -- ---- readings

@@ -1,5 +1,7 @@
 -- The attributes that a stat shows were shown by a reply, and are recent.
 use Rattle.core_answers.proofs.Prelude.{◌≡◌, ◌<◌, ◌≤◌, ◌+◌, ℕ, Bool, true, false, List, [], ◌∷◌, ◌++◌, length, Option, Some, None, Result, Ok, Err, refl, sym, ap, subst, ◌∙◌, arith, if◌then◌else◌, Attr, FileKept, Answer, Fault, Entry, Began, Call, Reply, Op, of_object, length_last, fails_busy, goes_again, Next, Shelf, Turn, Stat, WalkNext, shown_answer, machine_of, Mounted, Machine, NameMachine, Starts, Resumes, Takes, State, Busy, Over, ThenOf, IsRecent, own, ShownRecently, time_next}
+use Rattle.claims.specs.Shown.{ShowsAttr}
+use Rattle.core_answers.specs.bonds.Ages.{young, StatsRecent}
 use Rattle.attr_cache.specs.Attrs as attrs
 use Rattle.attr_cache.proofs.Entries.{Believed, looked-kept}
 use Rattle.nfs_file_calls.specs.declared.owned.FileKept.TheVariants as kept
@@ -7,7 +9,6 @@ use Rattle.world_model.specs.declared.answer.Answer.TheVariants as answers
 use Rattle.world_model.specs.declared.answer.Value.TheVariants.{Attrs}
 use Rattle.world_model.specs.declared.message.Reply.TheVariants as replies
 use Rattle.world_model.specs.declared.op.Op.TheVariants as ops
-use Rattle.claims.specs.Shown.{ShowsAttr}
 use Rattle.client_shelf.specs.declared.next.Next.TheVariants as nexts
 use Rattle.name_ops.specs.declared.walk.WalkNext.TheVariants as walks
 use Rattle.name_ops.specs.Stat as stats
@@ -15,7 +16,6 @@ use Rattle.name_ops.specs.Walking as walking
 use Rattle.op_machines.specs.declared.machine.Machine.TheVariants as machines
 use Rattle.op_machines.specs.declared.name_machine.NameMachine.TheVariants as names
 use Rattle.op_machines.specs.NameSteps as steps
-use Rattle.core_answers.specs.bonds.Ages.{young, StatsRecent}
 use Rattle.core_answers.proofs.bonds.AttrsShown.{ShownIn, time-grows, answered-grow, answered-last, attr-laws, fresh-attrs}
 use Rattle.core_answers.proofs.bonds.Keeping.{ToldSince, IsLate, BondLaws, take-early, take-whole, reached-answered}
 use Rattle.core_answers.proofs.bonds.Learnt.{Good, IsOn}

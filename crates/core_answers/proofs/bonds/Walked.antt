@@ -1,14 +1,14 @@
 -- A walk goes by replies to its own LOOKUPs, and by names and attributes that are kept: each is recent.
 use Rattle.core_answers.proofs.Prelude.{◌≡◌, ◌<◌, ◌≤◌, ◌-◌, ℕ, zero, suc, Bool, true, false, List, [], ◌∷◌, ◌++◌, length, take, Option, Some, None, Result, Ok, Err, slice_get, refl, sym, ap, subst, ◌∙◌, arith, if◌then◌else◌, Attr, stamp_of, DirKept, Fault, Entry, Call, Reply, Shelf, Turn, Walk, WalkNext, found_by, look_again, walk_of, WalkAwaits, Told, ShownRecently, IsAnswered}
+use Rattle.name_ops.specs.Looking.{look_up}
+use Rattle.core_facts.proofs.NamesKept.{passed-told, looked-told}
 use Rattle.attr_cache.specs.Attrs as attrs
 use Rattle.name_cache.specs.Names as names
 use Rattle.name_cache.proofs.Entries as kept_names
 use Rattle.nfs_dir_calls.specs.declared.keeping.DirKept.TheVariants as kept
 use Rattle.world_model.specs.declared.message.Reply.TheVariants as replies
 use Rattle.name_ops.specs.declared.walk.Spot.{Spot}
-use Rattle.name_ops.specs.Looking.{look_up}
 use Rattle.name_ops.specs.Walking as walking
-use Rattle.core_facts.proofs.NamesKept.{passed-told, looked-told}
 use Rattle.core_answers.specs.bonds.Named.{WasNamed}
 use Rattle.core_answers.proofs.bonds.AttrsShown.{ShownIn, answered-last}
 use Rattle.core_answers.proofs.bonds.Keeping.{ToldSince, IsLate}

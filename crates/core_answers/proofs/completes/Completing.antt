@@ -1,5 +1,9 @@
 -- Where nothing disturbs a session whose refusals have their rows, no operation is refused by the server, the network or the link.
 use Rattle.core_answers.proofs.Prelude.{◌≡◌, ◌≢◌, ◌<◌, ◌≤◌, ◌⊎◌, inl, inr, ℕ, suc, Bool, true, false, List, [], ◌∷◌, length, Some, Result, Ok, Err, refl, sym, ap, subst, ◌∙◌, arith, cases_lt, XdrFault, DirKept, FileKept, ReplyFault, RpcReply, Accepted, Answer, Fault, Entry, Began, Answered, Executed, Delivered, Call, Reply, Op, Asks, At, History, HasXid, SpellsCall, SpellsReply, Ended, UnderWay, RefusalRow, Terms, At-one}
+use Rattle.world_model.specs.declared.entry.Entry.TheVariants.{Sent}
+use Rattle.claims.specs.Asks.{Acts}
+use Rattle.world_model.specs.Messages.{SpellsResults}
+use Rattle.claims.specs.RefusalRows.{RefusedBy}
 use Rattle.nfs_dir_calls.specs.declared.call.DirCall.TheVariants as dirs
 use Rattle.nfs_dir_calls.specs.declared.keeping.DirKept.TheVariants as found
 use Rattle.nfs_dir_calls.proofs.Replies.{dir_reply_codec}
@@ -16,20 +20,16 @@ use Rattle.rpc_message.specs.Reply.{Refused as RpcRefused, Denied}
 use Rattle.rpc_message.proofs.ReplyLaws.{reply_first, reply_again}
 use Rattle.world_model.specs.declared.answer.Answer.TheVariants as answers
 use Rattle.world_model.specs.declared.answer.Fault.TheVariants as faults
-use Rattle.world_model.specs.declared.entry.Entry.TheVariants.{Sent}
 use Rattle.world_model.specs.declared.message.Call.TheVariants as calls
 use Rattle.world_model.specs.declared.message.Reply.TheVariants as replies
 use Rattle.claims.specs.Asks as asks
-use Rattle.claims.specs.Asks.{Acts}
 use Rattle.claims.specs.Complete as complete
 use Rattle.claims.specs.Complete.{Undisturbed, AllGoOn, IsOwn}
 use Rattle.claims.specs.GoesOn.{GoesOn}
 use Rattle.world_model.specs.Heard.{Heard, status_of}
 use Rattle.world_model.specs.Lawful.{IsReplied, replied, refused}
-use Rattle.world_model.specs.Messages.{SpellsResults}
 use Rattle.claims.specs.PageRules as pages
 use Rattle.claims.specs.PageRules.{WrongData, BreaksPage, RefusesSo}
-use Rattle.claims.specs.RefusalRows.{RefusedBy}
 use Rattle.world_model.specs.Rules as rules
 use Rattle.world_model.specs.Rules.{Breaks, IsNotReply}
 use Rattle.world_model.proofs.Doing.{read_done, write_done, list_done}

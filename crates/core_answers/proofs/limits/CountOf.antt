@@ -1,7 +1,7 @@
 -- Where records were sent under each of so many xids, and under no other, so many calls were made.
 use Rattle.core_answers.proofs.Prelude.{◌≡◌, ◌≢◌, ◌<◌, ◌≤◌, ◌+◌, ◌⊎◌, ◌||◌, ◌==◌, inl, inr, ℕ, zero, suc, Bool, true, false, List, [], ◌∷◌, ◌++◌, length, Option, Some, None, refl, sym, ap, subst, ◌∙◌, arith, if◌then◌else◌, eqb-true, eqb-false, eq-eqb, cases_lt, xid_at, Entry, Began, Answered, Dialed, Executed, Foreign, Flushed, Reboot, Delivered, Failed, Clock, At, HasXid}
-use Rattle.std.specs.List.{list_any}
 use Rattle.world_model.specs.declared.entry.Entry.TheVariants.{Sent}
+use Rattle.std.specs.List.{list_any}
 use Rattle.claims.specs.Caused.{number_of, xids_of}
 use Rattle.world_model.specs.Counts.{different}
 use Rattle.core_answers.specs.limits.Limited.{CallsAreAll}

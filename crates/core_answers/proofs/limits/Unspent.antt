@@ -2,6 +2,11 @@
 use Rattle.core_answers.proofs.Prelude.{◌≡◌, ◌≢◌, ◌<◌, ◌≤◌, ◌⊎◌, inl, inr, ℕ, Bool, true, false, List, [], ◌∷◌, ◌++◌, length, map, Option, Some, None, MatchOption, position, slice_get, slice_set, Result, Ok, Err, refl, sym, ap, subst, ◌∙◌, arith, if◌then◌else◌, eqb-true, cases_lt, XdrFault, DirKept, FileKept, ReplyFault, RpcReply, Accepted, Answer, Fault, Entry, Began, Answered, Dialed, Executed, Foreign, Flushed, Reboot, Delivered, Failed, Clock, Reply, Op, At, At-cases, At-below, At-back, said_of, Next, Shelf, Mounted, Machine, machine_of, Lane, Purpose, State, Busy, Over, Setup, is_busy, lost_lane, with_state, IsRefused, Leads, Stirs, Moves, moves_none, moves_more, counted, StartsLane, BeginsIf, TakesAt, View, turn_at, unmade_turn, StepsTo, Reaches, begins, goes, loses, last_reading, Heard, dropped, replied, sent_now, FailedNow, goes_on, gives_up, failed_now, answered_now, taken_one, FineAnswer, FineResult, at-set, at-push, get-push, get-remove, skip, in-map, reached-rows, set-other, by-place, some-answer, Stays, begins-stay, hears-for-stay}
 use Rattle.std.proofs.Common.{nat_lt}
 use Rattle.std.specs.Prelude.{◌==◌}
+use Rattle.world_model.specs.declared.entry.Entry.TheVariants.{Sent}
+use Rattle.call_replies.specs.Says.{said_by}
+use Rattle.client_core.specs.Steps.{IsUnmade, HearsFor}
+use Rattle.core_facts.proofs.Cases.{heard}
+use Rattle.core_facts.proofs.Faults.{OwnFaults, OfReply, Came}
 use Rattle.nfs_dir_calls.specs.declared.keeping.DirKept.TheVariants as found
 use Rattle.nfs_dir_calls.specs.Calls.{is_dir_proc}
 use Rattle.nfs_dir_calls.specs.Replies.{dir_reply_at}
@@ -15,17 +20,12 @@ use Rattle.rpc_retry.specs.declared.answers.PutRefusal.TheVariants as refusals
 use Rattle.rpc_retry.specs.Held.{Held}
 use Rattle.world_model.specs.declared.answer.Answer.TheVariants as answers
 use Rattle.world_model.specs.declared.answer.Fault.TheVariants as faults
-use Rattle.world_model.specs.declared.entry.Entry.TheVariants.{Sent}
 use Rattle.world_model.specs.declared.message.Reply.TheVariants as replies
 use Rattle.world_model.specs.Rules.{most_bytes}
 use Rattle.call_replies.specs.Records.{results_by, results_read, results_in}
 use Rattle.call_replies.specs.Results.{dir_said, file_said, said_in}
-use Rattle.call_replies.specs.Says.{said_by}
 use Rattle.client_shelf.specs.declared.next.Next.TheVariants as nexts
-use Rattle.client_core.specs.Steps.{IsUnmade, HearsFor}
 use Rattle.core_facts.proofs.AllFaults as steps
-use Rattle.core_facts.proofs.Cases.{heard}
-use Rattle.core_facts.proofs.Faults.{OwnFaults, OfReply, Came}
 use Rattle.core_facts.proofs.Sound.{reached-sound}
 use Rattle.core_answers.specs.limits.Limited.{XidsWithin, AllMade}
 

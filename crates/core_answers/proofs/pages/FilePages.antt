@@ -1,10 +1,12 @@
 -- What each step of an operation on files makes of the kept pages.
 use Rattle.core_answers.proofs.Prelude.{◌≡◌, ◌+◌, ◌-◌, ◌/◌, ◌&&◌, ◌||◌, ◌==◌, ℕ, zero, suc, Bool, true, false, nat_le, List, [], length, take, Option, Some, None, Result, Ok, Err, inl, inr, refl, sym, ap, subst, ◌∙◌, arith, if◌then◌else◌, nat_tests, Attr, Verf, Stamp, Wcc, stamp_of, FileKept, start_of, Pages, page_of, known_of, after_page, Fault, Call, Reply, Pending, of_file, Sent, piece_under, last_end, is_first, goes_again, Next, Repeat, Shelf, Turn, Closing, CloseFile, Removal, Led, Opening, OpeningNext, PutFile, Putting, ReadFile, Phase, Reading, Saving, SyncFile, Syncing, TruncateFile, Truncating, WriteFile, Writing, is_full, Bytes, place_after, remove_busy, refusal_of, written_by, write_told_by, write_told, file_to_write, part, refusal, said_to, breaks_rule, file_at, joined, got_by, by-step, ends_as, FileMachine}
 use Rattle.std.proofs.Common.{nat_lt, unwrap_or, is_some}
+use Rattle.page_cache.specs.Pages.{opened, saw, wrote, cut}
+use Rattle.file_ops.specs.Base.{is_whole}
+use Rattle.file_ops.specs.ReadReply.{said_by}
 use Rattle.xdr_codec.specs.declared.blob.Memory as memory
 use Rattle.nfs_file_calls.specs.declared.call.FileCall.TheVariants as file_calls
 use Rattle.nfs_file_calls.specs.declared.owned.FileKept.TheVariants as kept
-use Rattle.page_cache.specs.Pages.{opened, saw, wrote, cut}
 use Rattle.world_model.specs.declared.answer.Answer.TheVariants as answers
 use Rattle.world_model.specs.declared.answer.Fault.TheVariants as faults
 use Rattle.world_model.specs.declared.message.Call.TheVariants as calls
@@ -20,7 +22,6 @@ use Rattle.file_ops.specs.declared.reading.Phase.TheVariants as phases
 use Rattle.file_ops.specs.declared.sync_file.Syncing.TheVariants as syncing
 use Rattle.file_ops.specs.declared.truncate_file.Truncating.TheVariants as truncating
 use Rattle.file_ops.specs.declared.write_file.Writing.TheVariants as writing
-use Rattle.file_ops.specs.Base.{is_whole}
 use Rattle.file_ops.specs.Closes as closes
 use Rattle.file_ops.specs.Gather as gather
 use Rattle.file_ops.specs.Gather.{Gathered, Planned}
@@ -30,7 +31,6 @@ use Rattle.file_ops.specs.PagesOpened.{is_late, opened_pages, PagesOpened}
 use Rattle.file_ops.specs.PutFile as puts
 use Rattle.file_ops.specs.ReadFile as reads
 use Rattle.file_ops.specs.Reading as reading
-use Rattle.file_ops.specs.ReadReply.{said_by}
 use Rattle.file_ops.specs.Saves as saves
 use Rattle.file_ops.specs.Syncs as syncs
 use Rattle.file_ops.specs.TruncateFile as truncates

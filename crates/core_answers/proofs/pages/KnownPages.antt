@@ -1,6 +1,7 @@
 -- The state of each kept page's file is known, after each call of the cache.
 use Rattle.core_answers.proofs.Prelude.{◌≡◌, ℕ, max, Bool, true, false, ◌||◌, nat_le, List, Option, Some, None, refl, sym, ap, ◌∙◌, subst, Stamp, Wcc, Pages, known_of, after_page}
 use Rattle.std.proofs.Common.{if◌then◌else◌, IsSome}
+use Rattle.page_cache.specs.Pages.{state_of, with_state, restarted, is_place, is_stamp, opened, opened_over, fronted, kept, after_keep, saw, saw_over, led_on, led_to, changed_over, wrote, cut}
 use Rattle.std.proofs.lemmas.List.Elements.{All-weaker}
 use Rattle.std.specs.Option.{option_map_or}
 use Rattle.page_cache.specs.declared.place.PagePlace.{PagePlace}
@@ -8,7 +9,6 @@ use Rattle.page_cache.specs.declared.state.FileState.{FileState}
 use Rattle.page_cache.specs.declared.state.Keep.{Keep}
 use Rattle.page_cache.specs.declared.state.Keep.TheVariants.{Kept, Stale, Differs}
 use Rattle.page_cache.specs.Bytes.{put_page, cut_page}
-use Rattle.page_cache.specs.Pages.{state_of, with_state, restarted, is_place, is_stamp, opened, opened_over, fronted, kept, after_keep, saw, saw_over, led_on, led_to, changed_over, wrote, cut}
 use Rattle.page_cache.specs.Sound.{AreKnown}
 use Rattle.page_cache.proofs.Inserts.{same, same-self}
 use Rattle.page_cache.proofs.States.{state-with, known-after}

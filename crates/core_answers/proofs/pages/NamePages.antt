@@ -1,13 +1,13 @@
 -- No step of an operation on names changes the kept pages.
 use Rattle.core_answers.proofs.Prelude.{◌≡◌, ℕ, Bool, true, false, List, Option, Some, None, Result, Ok, Err, refl, ap, ◌∙◌, inl, inr, if◌then◌else◌, Attr, Fault, Value, Call, Reply, Shelf, Turn, Next, Link, ListDir, Pair, PairNext, Deed, Look, Seek, Move, Remove, RemoveFile, Rename, Stat, SymLink, Visit, VisitNext, Walk, WalkNext, TakesLink, link_call, found_by, look_again, TakesText, text_call, TakesRename, rename_call, TakesShow, lacking, ChangesByCopy, TakesSymLink, access_call, access_attr, access_told, deed_call, deed_told, NameMachine}
+use Rattle.name_ops.specs.Looking.{Hears}
+use Rattle.name_ops.specs.Showing.{Shows}
 use Rattle.name_ops.specs.declared.told.Told.{Told}
 use Rattle.name_ops.specs.declared.walk.WalkNext.TheVariants as walks
 use Rattle.name_ops.specs.Changing as changing
 use Rattle.name_ops.specs.ListDir.{TakesList, page_call}
-use Rattle.name_ops.specs.Looking.{Hears}
 use Rattle.name_ops.specs.Pairs as pairs
 use Rattle.name_ops.specs.RemoveFile as removals
-use Rattle.name_ops.specs.Showing.{Shows}
 use Rattle.name_ops.specs.Stat as stats
 use Rattle.name_ops.specs.Visiting.{visit_shelf, VisitTakes}
 use Rattle.name_ops.specs.Walking.{go_next, go_shelf, followed_shelf, waiting_name, Takes}

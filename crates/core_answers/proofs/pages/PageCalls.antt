@@ -1,5 +1,6 @@
 -- For which READ a read waits, and for which SETATTR a truncate.
 use Rattle.core_answers.proofs.Prelude.{◌≡◌, ◌≤◌, ◌+◌, ◌&&◌, ℕ, Bool, true, false, List, Option, Some, None, Result, Ok, Err, refl, sym, subst, arith, if◌then◌else◌, Attr, Wcc, Pages, Fault, Call, Reply, Pending, Next, Repeat, Shelf, Turn, ReadFile, Phase, Reading, TruncateFile, Truncating, place_after, Said, part, refusal, joined, got_by, FileMachine, Machine, Starts, Resumes, Takes, of_phase, of_reading, of_truncating, in_flight, Plain, AskedOf}
+use Rattle.core_facts.specs.InFlight.{of_file}
 use Rattle.nfs_file_calls.specs.declared.call.FileCall.TheVariants as file_calls
 use Rattle.xdr_codec.specs.declared.blob.Memory as memory
 use Rattle.world_model.specs.declared.answer.Answer.TheVariants as answers
@@ -14,7 +15,6 @@ use Rattle.file_ops.specs.TruncateFile as truncates
 use Rattle.op_machines.specs.declared.file_machine.FileMachine.TheVariants as files
 use Rattle.op_machines.specs.declared.machine.Machine.TheVariants as machines
 use Rattle.op_machines.specs.FileSteps as steps
-use Rattle.core_facts.specs.InFlight.{of_file}
 use Rattle.core_facts.proofs.FileCounts.{read-resumes as read-resumes-count, truncate-resumes as truncate-resumes-count}
 use Rattle.core_answers.proofs.bonds.FileCalls.{Asking, alone}
 use Rattle.core_answers.proofs.bonds.Keeping.{AskLaws}

@@ -3,10 +3,10 @@ use Rattle.core_answers.proofs.Prelude.{◌≡◌, ℕ, List, [], ◌∷◌, ◌
 use Rattle.std.proofs.Common.{IsSome}
 use Rattle.std.proofs.lemmas.List.Elements.{All-weaker}
 use Rattle.page_cache.specs.Pages.{nothing_kept}
+use Rattle.core_answers.specs.pages.Kept.{IsKept, PagesShown}
 use Rattle.page_cache.proofs.Believed.{IsTrueUnder, true-page}
 use Rattle.page_cache.proofs.Entries.{All-page}
 use Rattle.core_answers.proofs.bonds.AttrsShown.{answered-last}
-use Rattle.core_answers.specs.pages.Kept.{IsKept, PagesShown}
 use Rattle.core_answers.specs.pages.Kept as pages
 use Rattle.core_answers.proofs.pages.FilePages.{IsSentAs}
 use Rattle.core_answers.proofs.pages.Keeping.{BondLaws, reached-known}

@@ -1,9 +1,9 @@
 -- On an honest server a page that is kept under a stamp is that page of the file, while it has the stamp.
 use Rattle.core_answers.proofs.Prelude.{inl, inr, ◌⊎◌, ◌≡◌, ◌≤◌, ◌+◌, ◌-◌, ℕ, suc, true, List, [], ◌∷◌, length, take, drop, Some, refl, sym, ap, subst, ◌∙◌, Stamp, FileCall, FileKept, start_of, Fresh, History, Lawful, Numbered, machine_of, reached-rows, IsAnswered, WasRead, WasWritten, WasCut, IsPage}
+use Rattle.page_cache.specs.Bytes.{page_at, put_page, cut_page}
 use Rattle.nfs_file_calls.specs.declared.call.FileCall.TheVariants as files
 use Rattle.nfs_file_calls.specs.declared.owned.FileKept.TheVariants as kept
 use Rattle.page_cache.specs.Bytes as paged
-use Rattle.page_cache.specs.Bytes.{page_at, put_page, cut_page}
 use Rattle.page_cache.proofs.Bytes.{page-cut, page-put}
 use Rattle.page_cache.proofs.Believed.{true-page}
 use Rattle.world_model.specs.declared.message.Call.TheVariants as calls

@@ -1,5 +1,6 @@
 -- A WRITE that an operation asks for is that of the bytes that come into flight under the xid of its turn.
 use Rattle.core_answers.proofs.Prelude.{◌≡◌, ◌≢◌, ◌&&◌, ◌==◌, ◌-◌, ◌+◌, ℕ, Bool, true, false, nat_eq, List, [], ◌∷◌, ◌++◌, Option, Some, None, Result, Ok, Err, refl, sym, ap, subst, ◌∙◌, ◌⊎◌, inl, inr, nat_lt, unwrap_or, if◌then◌else◌, eq-eqb, Verf, Fault, Call, Reply, Segments, last_end, lost, Sent, FilePending, piece_under, renumbered, chosen, piece_of, with_sent, with_xid, Pending, of_file, OnFile, same-or, Verdict, AllStable, SendAgain, verdict_of, left, is_first, Next, Repeat, Shelf, Turn, goes_again, CloseFile, Closing, Removal, OpeningNext, PutFile, Putting, Sending, Committing, Resending, CommittingAgain, Saving, SyncFile, Syncing, WriteFile, Writing, is_full, refusal_of, remove_busy, commit_told, file_to_write, IsUnused, file_at, joined, by-step, ends_as, FileMachine, Machine, Opener, PathMachine, file_of, placed, slot_taken, begun_at, Starts, Resumes, Takes, WalkNext, flies_if, flies_save, flies_write, flies_sync, flies_close, flies_put, flies_file, flies_path, flies_of, Flies, AskedOf}
+use Rattle.core_facts.proofs.Flights.{has-flies}
 use Rattle.world_model.specs.declared.answer.Answer.TheVariants as answers
 use Rattle.world_model.specs.declared.answer.Fault.TheVariants as faults
 use Rattle.client_shelf.specs.declared.next.Next.TheVariants as nexts
@@ -28,7 +29,6 @@ use Rattle.name_ops.specs.Walking as walking
 use Rattle.name_ops.proofs.Keeps.{walk-takes-kept}
 use Rattle.op_machines.proofs.Walk.{has-any}
 use Rattle.core_facts.proofs.AllWalks.{PathHas, HasAll, all-starts, all-resumes, all-takes}
-use Rattle.core_facts.proofs.Flights.{has-flies}
 use Rattle.core_answers.proofs.bonds.NameCalls.{asked-done, asked-waits, asked-sends}
 use Rattle.core_answers.proofs.pages.Under.{EachUnder, each-none, each-alone}
 

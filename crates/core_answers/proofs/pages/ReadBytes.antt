@@ -1,9 +1,9 @@
 -- Bytes by their places: in a part of a list, in two lists that are joined, and in what a read shows.
 use Rattle.core_answers.proofs.Prelude.{◌≡◌, ◌<◌, ◌≤◌, ◌+◌, ◌⊎◌, inl, inr, ℕ, zero, suc, List, [], ◌∷◌, ◌++◌, length, take, drop, slice_get, Option, Some, None, option_map, refl, sym, ap, ◌∙◌, arith, cases_lt, Pending, of_file, last_end}
 use Rattle.std.proofs.Common.{length-append, slice_index, unwrap_or}
+use Rattle.write_back.specs.Segments.{newest_at, shown}
 use Rattle.std.proofs.lemmas.List.{get_or_append_left, get_or_push}
 use Rattle.std.proofs.lemmas.Option.{slice_get_within, slice_get-get_or}
-use Rattle.write_back.specs.Segments.{newest_at, shown}
 use Rattle.file_ops.specs.Overlaid.{byte_or, byte_shown, listed, shown_over, size_shown, was_pending}
 use Rattle.file_ops.proofs.Overlays.{shown-at, byte-shown}
 

@@ -1,8 +1,12 @@
 -- What a read has found at each step, and what it answers.
 use Rattle.core_answers.proofs.Prelude.{◌≡◌, ◌<◌, ◌≤◌, ◌+◌, ◌-◌, ◌/◌, ◌%◌, ◌||◌, ◌==◌, ◌⊎◌, inl, inr, ℕ, zero, suc, not, Bool, true, false, nat_le, List, length, take, drop, slice_get, Option, Some, None, Result, Ok, Err, refl, sym, ap, subst, ◌∙◌, arith, if◌then◌else◌, cases_lt, nat_tests, length-append, Attr, Stamp, FileKept, start_of, Pages, page_of, known_of, after_page, Pending, of_file, Answer, Fault, Entry, Call, Reply, Op, Modes, IsOf, Next, Repeat, Turn, Phase, Reading, Bytes, place_after, nothing_of, part, refusal, said_to, breaks_rule, got_by, Machine, Setup, ThenOf, IsAnswered, IsPage, IsShown}
 use Rattle.std.proofs.Common.{◌*◌, nat_lt}
-use Rattle.std.specs.Int.{div_ceil}
 use Rattle.std.proofs.lemmas.List.{length-take}
+use Rattle.file_ops.specs.Base.{is_whole, with_more}
+use Rattle.file_ops.specs.ReadReply.{said_by}
+use Rattle.core_answers.specs.pages.Kept.{IsKept}
+use Rattle.core_answers.specs.pages.Read.{IsFound, in_page, in_reply, WasPending, own, served, empty, ReadShown}
+use Rattle.std.specs.Int.{div_ceil}
 use Rattle.std.proofs.lemmas.Nat.{div-add-mod'}
 use Rattle.std.proofs.lemmas.Option.{slice_get-get_or}
 use Rattle.xdr_codec.specs.declared.blob.Memory as memory
@@ -19,15 +23,11 @@ use Rattle.client_shelf.specs.declared.next.Next.TheVariants as nexts
 use Rattle.file_ops.specs.declared.gather.Found.{Found}
 use Rattle.file_ops.specs.declared.gather.Found.TheVariants as founds
 use Rattle.file_ops.specs.declared.reading.Phase.TheVariants as phases
-use Rattle.file_ops.specs.Base.{is_whole, with_more}
 use Rattle.file_ops.specs.Gather as gather
 use Rattle.file_ops.specs.Gather.{Gathered}
 use Rattle.file_ops.specs.Overlaid.{PendingThen, was_pending, bytes_from, shown_over}
 use Rattle.file_ops.specs.Reading as reading
-use Rattle.file_ops.specs.ReadReply.{said_by}
-use Rattle.core_answers.specs.pages.Kept.{IsKept}
 use Rattle.core_answers.specs.pages.Kept as pages
-use Rattle.core_answers.specs.pages.Read.{IsFound, in_page, in_reply, WasPending, own, served, empty, ReadShown}
 use Rattle.core_answers.proofs.pages.FilePages.{ToldLaws, gathered-pages, pages-opened, noted-pages}
 use Rattle.core_answers.proofs.pages.Keeping.{HasPassed, WasTaken}
 use Rattle.core_answers.proofs.pages.PageCalls.{PhaseAwaits}

@@ -1,11 +1,12 @@
 -- On an honest server the bytes that a read found are those of its file.
 use Rattle.core_answers.proofs.Prelude.{◌≡◌, ◌<◌, ◌≤◌, ◌+◌, ℕ, suc, List, [], ◌∷◌, ◌++◌, length, slice_get, Option, Some, refl, sym, ap, subst, ◌∙◌, append_assoc, arith, Attr, Stamp, Wcc, FileCall, FileKept, start_of, Entry, Fresh, History, Lawful, IsOf, Numbered, machine_of, reached-rows, IsAnswered, WasRead, WasWritten, WasCut, IsPage, IsShown}
 use Rattle.std.proofs.Common.{append-nil}
+use Rattle.page_cache.specs.Bytes.{page_at}
+use Rattle.core_answers.specs.pages.Read.{IsFound, in_page, in_reply}
 use Rattle.nfs_types.specs.declared.set_attr.SetAttr.{SetAttr}
 use Rattle.nfs_types.specs.declared.time.Time.{Time}
 use Rattle.nfs_file_calls.specs.declared.call.FileCall.TheVariants as files
 use Rattle.nfs_file_calls.specs.declared.owned.FileKept.TheVariants as kept
-use Rattle.page_cache.specs.Bytes.{page_at}
 use Rattle.world_model.specs.declared.message.Call.TheVariants as calls
 use Rattle.world_model.specs.declared.message.Reply.TheVariants as answers
 use Rattle.world_model.specs.declared.op.Op.TheVariants as ops
@@ -21,7 +22,6 @@ use Rattle.core_answers.proofs.bonds.AttrsShown.{answered-grow}
 use Rattle.core_answers.proofs.bonds.Executions.{answered-ran}
 use Rattle.core_answers.specs.pages.Held.{IsHeld, since_begun, with_stamp, ReadsHeld}
 use Rattle.core_answers.specs.pages.Kept as pages
-use Rattle.core_answers.specs.pages.Read.{IsFound, in_page, in_reply}
 use Rattle.core_answers.proofs.pages.PagesShown.{page-grows}
 use Rattle.core_answers.proofs.pages.PagesTrue.{true-page-of}
 use Rattle.core_answers.proofs.pages.ReadsShown.{had-read, until}

@@ -1,5 +1,7 @@
 -- What a read answers, along a history.
 use Rattle.core_answers.proofs.Prelude.{◌≡◌, ◌+◌, ◌-◌, inl, inr, ℕ, Bool, true, false, List, [], ◌∷◌, ◌++◌, length, take, Option, Some, None, Result, Ok, Err, refl, sym, ap, subst, ◌∙◌, append_assoc, arith, Mode, Opened, Pages, Pending, Fault, Entry, Began, Call, Reply, Op, Modes, Ended, IsOf, Terms, At-grow, At-below, Next, Shelf, Turn, ReadFile, Reading, nothing_of, machine_of, Mounted, FileMachine, Machine, Starts, Resumes, Takes, State, Busy, Over, Setup, View, Held, Given, is-given, held-begins, ThenOf, IsShown}
+use Rattle.core_facts.proofs.HeldSlots.{may}
+use Rattle.core_answers.specs.pages.Read.{IsFound, in_page, in_reply, WasPending, own, served, empty, ReadShown, ReadsShown}
 use Rattle.std.specs.FinMap as finite
 use Rattle.nfs_types.specs.declared.mode.Mode.TheVariants as modes
 use Rattle.world_model.specs.declared.answer.Answer.TheVariants as answers
@@ -12,11 +14,9 @@ use Rattle.file_ops.specs.Reading as reading
 use Rattle.op_machines.specs.declared.file_machine.FileMachine.TheVariants as files
 use Rattle.op_machines.specs.declared.machine.Machine.TheVariants as machines
 use Rattle.core_facts.specs.SlotAnswers.{GoesWith}
-use Rattle.core_facts.proofs.HeldSlots.{may}
 use Rattle.core_facts.proofs.SlotGrowth.{IsHeld, held-grow}
 use Rattle.core_answers.proofs.bonds.AttrsShown.{answered-last}
 use Rattle.core_answers.proofs.bonds.Keeping.{take-early, take-whole}
-use Rattle.core_answers.specs.pages.Read.{IsFound, in_page, in_reply, WasPending, own, served, empty, ReadShown, ReadsShown}
 use Rattle.core_answers.proofs.pages.Keeping.{HasPassed, WasTaken, BondLaws, reached-answered}
 use Rattle.core_answers.proofs.pages.MachinePages.{pages-starts, pages-resumes}
 use Rattle.core_answers.proofs.pages.PageCalls.{PageAwaits, ReadAwaits, PartAwaits, Both, both-asks}

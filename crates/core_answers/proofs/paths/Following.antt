@@ -1,13 +1,13 @@
 -- What the steps of operations keep of the shelf, and of themselves, holds along a history: what they take is the last record that came, and answers
 -- the call that they wait for, which was first sent at a place that the operation knows, or after it.
 use Rattle.core_answers.proofs.Prelude.{◌≡◌, ◌≢◌, ◌<◌, ◌≤◌, ◌+◌, ◌-◌, ◌⊎◌, inl, inr, ℕ, List, [], ◌∷◌, ◌++◌, length, take, map, max, Bool, true, false, nat_eq, Option, Some, None, MatchOption, position, slice_get, slice_set, Result, Ok, Err, refl, sym, ap, subst, ◌∙◌, append_assoc, arith, eqb-true, eq-eqb, cases_lt, xid_at, Waiting, failed_after, next_xid, WaitedAs, made_call, waiting_at, without, at_made, others_made, others_taken, gone, before_sent, before_failed, Refused, Fault, Answer, Entry, Began, Answered, Dialed, Executed, Foreign, Flushed, Reboot, Delivered, Failed, Clock, Call, Reply, Op, At, IsBusy, IsLost, Ended, UnderWay, EndsWith, SpellsCall, SpellsCallBy, SpellsReply, HasXid, proc_of, IsDelivered, FirstSent-grow, At-grow, At-below, At-back, At-last, At-one, At-cases, length_last, said_of, Says, Next, Send, Wait, Done, Shelf, Turn, machine_of, Mounted, Machine, Starts, Resumes, Takes, Lane, Purpose, State, Busy, Over, Setup, IsFresh, is_busy, lost_lane, IsOther, numbers_of, with_state, record_of, Makes, IsRefused, Leads, Stirs, Moves, moves_none, moves_more, counted, BeginsIf, TakesAt, View, turn_at, unmade_turn, in_flight, Counts, where_, calls_for, StepsTo, HearsRecord, Reaches, begins, goes, loses, last_reading, NoneBusy, IsMade, Tried, unsent, runs, IsOutstanding, counts-calls, begins-unbegun, Heard, dropped, replied, sent_now, FailedNow, goes_on, gives_up, failed_now, answered_now, taken_one, IsKnown, calls-some, calls-without, known-only, known-none, one_for, stirs-count, starts-count, hears-count, reached-count, none-busy, none-idle, was-sent, says-of, reached-shown, lost-grow, reached-since, LanesKnown, quiet-facts, lanes-stay, lanes-begin, lanes-under-way, reached-lanes, idle-numbers, number_of, at-set, at-push, at-position, get-push, get-remove, skip, in-map, to-map, comes-to-rest, none-moves, own-none, Rows, rows-stay, same-rows, rows-grow, silent-grow, taken-quiet, not-sent, taken-rows, made-known, made-asked, reached-rows, AskedOf, ThenOf, set-other, by-place, some-answer, stirs-stay, starts-stay, steps-stay, HadShown, time_next}
-use Rattle.world_model.specs.declared.answer.Fault.TheVariants as faults
 use Rattle.world_model.specs.declared.entry.Entry.TheVariants.{Sent}
-use Rattle.world_model.specs.Heard.{Heard as IsHeard}
 use Rattle.call_replies.specs.Says.{SpellsOne}
 use Rattle.core_facts.specs.Tries.{ended}
 use Rattle.core_facts.proofs.Cases.{heard}
 use Rattle.core_facts.proofs.Stories.{ended-grow, under-back, some-call, Going}
+use Rattle.world_model.specs.declared.answer.Fault.TheVariants as faults
+use Rattle.world_model.specs.Heard.{Heard as IsHeard}
 use Rattle.core_answers.proofs.bonds.Clocks.{time-begins}
 use Rattle.core_answers.proofs.bonds.FileCalls.{Asking, Keeps}
 use Rattle.core_answers.proofs.bonds.Keeping.{IsTold, AskLaws, ShelfLaws, IsLate, ToldSince, take-early, take-whole}

@@ -1,12 +1,13 @@
 -- A list, step by step: its walk leads to its directory, whose pages come one after the other, and its answer shows their names.
 use Rattle.core_answers.proofs.Prelude.{◌≡◌, ◌<◌, ◌≤◌, ◌+◌, inl, inr, ℕ, zero, suc, Bool, true, false, List, [], ◌∷◌, ◌++◌, length, Contains, Option, None, Result, Ok, Err, refl, sym, ap, subst, ◌∙◌, arith, if◌then◌else◌, nat_lt, Attr, Verf, DirKept, PlusRow, Step, More, End, ListFault, listing_limit, last_cookie, page_step, Answer, Fault, Value, Entry, Began, Call, Reply, Op, LastCookie, names_of, list_call, page_reply, IsDelivered, length_last, goes_again, fails_busy, Next, Shelf, Turn, ListDir, Visit, Walk, Mounted, Machine, machine_of, Starts, Resumes, Takes, in_flight, Awaits, OwnOr, then-as, ThenOf, IsAnswered, time_next}
 use Rattle.std.specs.Prelude.{◌↔◌}
+use Rattle.dir_list.specs.Listings.{counts, counted}
+use Rattle.core_facts.proofs.Awaited.{one-visit}
 use Rattle.std.specs.Cmp.Lexicographic.{slice_cmp}
 use Rattle.std.specs.List.Sorted.{IsStrictlySortedBy}
 use Rattle.std.specs.Ordering.{nat_cmp}
 use Rattle.nfs_dir_calls.specs.declared.keeping.DirKept.TheVariants as kept
 use Rattle.dir_list.specs.declared.progress.ListFault.TheVariants as list_faults
-use Rattle.dir_list.specs.Listings.{counts, counted}
 use Rattle.world_model.specs.declared.answer.Answer.TheVariants as answers
 use Rattle.world_model.specs.declared.answer.Fault.TheVariants as faults
 use Rattle.world_model.specs.declared.answer.Value.TheVariants as values
@@ -19,7 +20,6 @@ use Rattle.name_ops.specs.Visiting as visiting
 use Rattle.name_ops.specs.Walking as walking
 use Rattle.op_machines.specs.declared.machine.Machine.TheVariants as machines
 use Rattle.op_machines.specs.declared.name_machine.NameMachine.TheVariants as names
-use Rattle.core_facts.proofs.Awaited.{one-visit}
 use Rattle.core_answers.proofs.bonds.AttrsShown.{answered-grow, answered-last}
 use Rattle.core_answers.proofs.bonds.Keeping.{IsLate, take-early, take-whole}
 use Rattle.core_answers.proofs.bonds.StatsLed.{Both, Kept}

@@ -1,5 +1,6 @@
 -- An open finds its file by the reply to its own LOOKUP or CREATE of its last name, and its last reply is that to GETATTR of the file, or that one.
 use Rattle.core_answers.proofs.Prelude.{◌≡◌, ◌<◌, ◌==◌, inl, inr, ℕ, Bool, true, false, List, [], ◌∷◌, ◌++◌, length, Option, Some, None, Result, Ok, Err, refl, sym, ap, subst, arith, if◌then◌else◌, Attr, Wcc, Mode, DirKept, FileKept, looked, known_of, Answer, Fault, Entry, Call, Reply, IsDelivered, length_last, Next, Turn, OpenFile, Led, Opening, OpeningNext, OpeningStep, got_by, front_of, last_of, then-as, ThenOf, IsAnswered}
+use Rattle.file_ops.specs.Told.{found_by, made_by}
 use Rattle.std.specs.FinMap as finite
 use Rattle.nfs_dir_calls.specs.declared.call.DirCall.TheVariants as dirs
 use Rattle.nfs_dir_calls.specs.declared.create.Making.{Making}
@@ -16,7 +17,6 @@ use Rattle.file_ops.specs.declared.opening.OpeningNext.TheVariants as openings
 use Rattle.file_ops.specs.declared.opening.OpeningStep.TheVariants as opening_steps
 use Rattle.file_ops.specs.OpenFile as opens
 use Rattle.file_ops.specs.Opening as opening
-use Rattle.file_ops.specs.Told.{found_by, made_by}
 use Rattle.name_ops.specs.Looking.{look_up}
 use Rattle.core_answers.proofs.bonds.AttrsShown.{answered-last}
 use Rattle.core_answers.proofs.bonds.Walked.{LedBy, led-grows}

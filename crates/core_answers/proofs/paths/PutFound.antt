@@ -1,5 +1,6 @@
 -- A put finds its file as an open does, and ends well with the reply to a call on it.
 use Rattle.core_answers.proofs.Prelude.{◌≡◌, ◌<◌, ◌+◌, ℕ, Bool, true, false, List, length, Result, Ok, Err, refl, sym, subst, if◌then◌else◌, Answer, Fault, Entry, Call, Reply, is_first, Next, Shelf, Turn, Opening, OpeningNext, PutFile, Putting, Saving, Writing, joined, refusal_of, by-step, of_putting, PutAwaits, then-as, goes-steps, takes-steps, ThenOf}
+use Rattle.core_facts.proofs.SaveCommits.{EndsSo}
 use Rattle.world_model.specs.declared.answer.Answer.TheVariants as answers
 use Rattle.client_shelf.specs.declared.next.Next.TheVariants as nexts
 use Rattle.file_ops.specs.declared.opening.OpeningNext.TheVariants as openings
@@ -9,7 +10,6 @@ use Rattle.file_ops.specs.Opening as opening
 use Rattle.file_ops.specs.PutFile as puts
 use Rattle.file_ops.specs.Saves as saves
 use Rattle.file_ops.specs.Syncs as syncs
-use Rattle.core_facts.proofs.SaveCommits.{EndsSo}
 use Rattle.core_answers.proofs.bonds.FileCalls.{PutOn}
 use Rattle.core_answers.proofs.bonds.Learnt.{IsOn}
 use Rattle.core_answers.proofs.paths.Endings.{ends-map, ends-any, goes-not, takes-not}

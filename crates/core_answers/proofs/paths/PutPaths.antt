@@ -1,5 +1,6 @@
 -- A put's walk leads to its directory by recent names, and there it finds its file.
 use Rattle.core_answers.proofs.Prelude.{◌≡◌, ◌<◌, ◌≤◌, ◌+◌, ◌-◌, inl, ℕ, Bool, true, false, List, [], ◌∷◌, ◌++◌, length, Result, Ok, refl, sym, ap, subst, ◌∙◌, arith, Answer, Fault, Entry, Began, Call, Reply, Op, IsDelivered, length_last, Next, Shelf, Turn, OpenFile, Opening, PutFile, Putting, Walk, WalkNext, walk_of, Mounted, Machine, Opener, PathMachine, front_of, last_of, machine_of, file_of, Starts, Resumes, Takes, in_flight, PathOr, Awaits, of_path, WalkStep, go-step, took-step, then-as, ThenOf, time_next}
+use Rattle.op_machines.specs.Openers.{opening_in}
 use Rattle.world_model.specs.declared.answer.Answer.TheVariants as answers
 use Rattle.world_model.specs.declared.op.Op.TheVariants as ops
 use Rattle.client_shelf.specs.declared.next.Next.TheVariants as nexts
@@ -10,7 +11,6 @@ use Rattle.name_ops.specs.Walking as walking
 use Rattle.op_machines.specs.declared.file_machine.FileMachine.TheVariants as files
 use Rattle.op_machines.specs.declared.machine.Machine.TheVariants as machines
 use Rattle.op_machines.specs.declared.opener.Opener.TheVariants as openers
-use Rattle.op_machines.specs.Openers.{opening_in}
 use Rattle.op_machines.specs.PathSteps as paths
 use Rattle.core_answers.proofs.bonds.AttrsShown.{ShownIn}
 use Rattle.core_answers.proofs.bonds.Keeping.{ToldSince, IsLate, take-early, take-whole}

@@ -1,8 +1,8 @@
 -- Attributes and names together, and where a walk's path leads on an honest server.
 use Rattle.core_answers.proofs.Prelude.{◌≡◌, ◌<◌, ◌≤◌, ℕ, suc, List, ◌++◌, length, Some, sym, ap, subst, arith, Attr, stamp_of, Lookup, Answer, Entry, Executed, Call, Reply, Op, Fresh, History, Lawful, Modes, Rooted, Ended, At-below, Next, Machine, KnowsRoot, Awaits, AskedOf, Numbered, IsRecent, own, ShownRecently, IsAnswered}
+use Rattle.world_model.specs.Mounts.{Origin}
 use Rattle.world_model.specs.declared.entry.Entry.TheVariants.{Answered as AnsweredNow}
 use Rattle.world_model.specs.declared.message.Reply.TheVariants as replies
-use Rattle.world_model.specs.Mounts.{Origin}
 use Rattle.claims.specs.Recent as walks
 use Rattle.claims.specs.Recent.{Recent, Walked}
 use Rattle.world_model.proofs.Doing.{lookup_done}

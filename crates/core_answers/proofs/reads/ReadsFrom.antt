@@ -1,8 +1,8 @@
 -- Each byte that was pending is one that an operation gave.
 use Rattle.core_answers.proofs.Prelude.{◌≡◌, ◌+◌, ℕ, List, [], ◌∷◌, ◌++◌, take, Option, Some, None, refl, sym, subst, append_assoc, of_file, Entry, Modes, machine_of, Mounted, Setup, begins-unbegun, IsShown}
 use Rattle.std.proofs.Common.{append-nil}
-use Rattle.write_back.specs.Segments.{Cell, cell_at, byte_of}
 use Rattle.core_answers.specs.pages.Read.{WasPending}
+use Rattle.write_back.specs.Segments.{Cell, cell_at, byte_of}
 use Rattle.core_answers.specs.pages.Read as shown
 use Rattle.core_answers.proofs.pages.ReadsHeld.{reads-held}
 use Rattle.core_answers.proofs.pages.ReadsShown.{reads-shown}

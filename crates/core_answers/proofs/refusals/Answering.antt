@@ -1,14 +1,14 @@
 -- Stories of operations that know for which calls these wait, what their lane's slots hold as they begin, and of each call that is answered for which
 -- operation it was sent, and where. It is the engine of `core_answers` (`proofs/SlotTales`), which knows more of what came.
 use Rattle.core_answers.proofs.Prelude.{◌≡◌, ◌≢◌, ◌<◌, ◌≤◌, ◌+◌, ◌-◌, ◌⊎◌, inl, inr, ℕ, List, [], ◌∷◌, ◌++◌, length, map, Bool, true, false, nat_eq, Option, Some, None, MatchOption, position, slice_get, slice_set, Result, Err, refl, sym, ap, subst, ◌∙◌, arith, append_assoc, eqb-true, eq-eqb, cases_lt, xid_at, Waiting, failed_after, next_xid, WaitedAs, made_call, waiting_at, without, at_made, others_made, others_taken, gone, before_sent, before_failed, Answer, Refused, Fault, Entry, Began, Answered, Dialed, Executed, Foreign, Flushed, Reboot, Delivered, Failed, Clock, Call, Reply, Op, At, IsBusy, IsLost, HasXid, SpellsCall, SpellsCallBy, proc_of, Ended, UnderWay, IsDelivered, FirstSent-grow, At-grow, At-below, At-back, At-last, At-one, At-cases, length_last, said_of, Says, Next, Send, Wait, Done, Shelf, Turn, Machine, Starts, Resumes, Takes, Lane, Purpose, State, Busy, Over, Setup, is_busy, lost_lane, IsOther, numbers_of, IsFresh, with_state, record_of, Makes, IsRefused, Leads, Stirs, Moves, moves_none, moves_more, counted, BeginsIf, TakesAt, View, turn_at, unmade_turn, in_flight, IsUnbegun, Counts, where_, calls_for, IsSetUp, StepsTo, HearsRecord, Reaches, goes, last_reading, NoneBusy, IsMade, IsOutstanding, Tried, unsent, runs, counts-calls, Heard, dropped, replied, sent_now, FailedNow, goes_on, gives_up, failed_now, answered_now, taken_one, IsKnown, calls-some, calls-without, known-only, known-none, one_for, stirs-count, starts-count, hears-count, reached-count, none-busy, none-idle, ExpectLaws, AskedOf, KeptOf, set-other, by-place, some-answer, reached-shown, lost-grow, was-sent, says-of, LanesKnown, quiet-facts, lanes-stay, lanes-begin, lanes-under-way, reached-lanes, idle-numbers, number_of, at-set, at-push, at-position, get-push, get-remove, skip, in-map, to-map, reached-since, comes-to-rest, none-moves, own-none, Rows, rows-stay, same-rows, rows-grow, silent-grow, taken-quiet, not-sent, taken-rows, made-known, made-asked, reached-rows, stirs-stay, starts-stay, steps-stay, IsQuiet, Did}
-use Rattle.world_model.specs.declared.answer.Fault.TheVariants as faults
 use Rattle.world_model.specs.declared.entry.Entry.TheVariants.{Sent}
-use Rattle.world_model.specs.Heard.{Heard as IsHeard}
 use Rattle.client_core.specs.Steps.{IsUnmade}
 use Rattle.core_facts.specs.Reaches.{MayHear}
 use Rattle.core_facts.specs.Tries.{ended}
 use Rattle.core_facts.proofs.Cases.{heard}
 use Rattle.core_facts.proofs.Stories.{IsGiven, ended-grow, under-back, some-call, Going}
+use Rattle.world_model.specs.declared.answer.Fault.TheVariants as faults
+use Rattle.world_model.specs.Heard.{Heard as IsHeard}
 use Rattle.core_answers.proofs.refusals.Passing.{Passes, passes_fresh, passes_step, passes_lost, forget, Anything, passes-any}
 use Rattle.core_answers.proofs.refusals.SaidNone.{said-none}
 

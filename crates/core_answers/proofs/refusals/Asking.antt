@@ -1,19 +1,19 @@
 -- An operation asks for each call that was sent for it.
 use Rattle.core_answers.proofs.Prelude.{◌≡◌, ◌≤◌, ◌⊎◌, inl, inr, ℕ, Bool, true, false, List, [], ◌∷◌, ◌++◌, length, Option, Some, None, refl, sym, ap, subst, ◌∙◌, arith, Mode, Entry, Call, Reply, Op, Asks, Asked, SpellsCallBy, Rooted, PlaceOf, Terms, Asked-grow, Deed, Look, Seek, Move, Remove, Mounted, Machine, IsNamed, front_of, last_of, machine_of, Busy, Setup, own_or, removal_by, of_walk, in_flight, KnowsRoot, Awaits, awaits-laws, begins-unbegun, OwnOr, end-leads, RemoveAwaits, front-last, TaleLaws, reached-good}
+use Rattle.claims.specs.Asks.{IsWriter}
+use Rattle.op_machines.specs.Begun.{IsAsked}
+use Rattle.core_facts.specs.Naming.{IsOneCall}
+use Rattle.core_facts.proofs.Tales.{IsExpected}
 use Rattle.nfs_dir_calls.specs.declared.keeping.DirKept.TheVariants as kept
 use Rattle.world_model.specs.declared.message.Reply.TheVariants as replies
 use Rattle.world_model.specs.declared.op.Op.TheVariants as ops
-use Rattle.claims.specs.Asks.{IsWriter}
 use Rattle.claims.specs.Asks as asks
 use Rattle.name_ops.specs.Looking.{look_up}
 use Rattle.name_ops.specs.RemoveFile as removals
 use Rattle.name_ops.specs.Stat as stats
 use Rattle.name_ops.specs.Walking as walking
-use Rattle.op_machines.specs.Begun.{IsAsked}
-use Rattle.core_facts.specs.Naming.{IsOneCall}
 use Rattle.core_facts.proofs.OneCallAsks.{asks-from}
 use Rattle.core_facts.proofs.OneCallStory as one_call
-use Rattle.core_facts.proofs.Tales.{IsExpected}
 use Rattle.core_answers.specs.asks.RemoveCalls.{IsHiding}
 use Rattle.core_answers.proofs.asks.CallsAwaited.{Expects, expects-laws}
 use Rattle.core_answers.proofs.asks.PutAsks as put_asks

@@ -1,5 +1,6 @@
 -- Which faults a step of a sync, a close, a truncate or a put gives, and of a write as it begins: want of memory, and what it makes of what came of its call.
 use Rattle.core_answers.proofs.Prelude.{◌≡◌, ℕ, Bool, true, false, List, Option, Some, None, Result, Ok, Err, inl, inr, sym, subst, refl, if◌then◌else◌, Mode, Wcc, Opened, Fault, Call, Reply, Pending, of_file, last_end, is_first, Next, Repeat, Shelf, Turn, CloseFile, Closing, Removal, OpeningNext, Saving, SyncFile, Syncing, TruncateFile, Truncating, WriteFile, Writing, remove_of, closed_answer, refusal_of, joined, by-step, ends_as, PutFile, Putting, in_mode, of_open, FineResult, FineOption, FineAnswer, FineNext, fine-as}
+use Rattle.core_facts.proofs.Faults.{call-or-wait}
 use Rattle.nfs_types.specs.declared.mode.Mode.TheVariants as modes
 use Rattle.world_model.specs.declared.answer.Answer.TheVariants as answers
 use Rattle.world_model.specs.declared.answer.Fault.TheVariants as faults
@@ -17,7 +18,6 @@ use Rattle.file_ops.specs.TruncateFile as truncates
 use Rattle.file_ops.specs.WriteFile as writes
 use Rattle.file_ops.specs.declared.put_file.Putting.TheVariants as putting
 use Rattle.file_ops.specs.PutFile as puts
-use Rattle.core_facts.proofs.Faults.{call-or-wait}
 use Rattle.core_answers.proofs.answers.SaveFaults.{CallFaults, SaveFine, FitsSave, goes-fine, takes-fine}
 use Rattle.core_answers.proofs.answers.WriteFaults.{FineWriting, WriteFine, FitsWrite, writes-fine, write-resumes, write-takes}
 use Rattle.core_answers.proofs.refusals.FitReads.{FineOpening, FitsOpening, go-opening, opening-next, opening-took, led-on}

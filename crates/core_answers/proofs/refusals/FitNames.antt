@@ -1,5 +1,9 @@
 -- Which faults a step of an operation on names gives: want of memory, and what it makes of what came of its call.
 use Rattle.core_answers.proofs.Prelude.{◌≡◌, ℕ, Bool, true, false, List, Option, Some, None, Result, Ok, Err, inl, inr, refl, sym, subst, ◌||◌, if◌then◌else◌, Attr, Step, More, End, ListFault, page_step, Fault, Value, Call, Reply, Next, Shelf, Turn, ListDir, Stat, SymLink, Visit, VisitNext, Walk, WalkNext, found_by, look_again, text_call, TakesText, shown_answer, TakesShow, sym_link_call, sym_linked_told, ChangesByCopy, TakesSymLink, lacking, Opens, Link, Pair, PairNext, Deed, Look, Seek, Move, Remove, RemoveFile, Rename, access_call, access_attr, access_told, deed_call, deed_told, link_call, TakesLink, linked_told, moved_told, rename_call, TakesRename, NameMachine, FineResult, FineOption, FineAnswer, FineNext, fine-as}
+use Rattle.name_ops.specs.ReadLink.{TellsText}
+use Rattle.name_ops.specs.Showing.{Shows}
+use Rattle.name_ops.specs.SymLink.{CopiesBy}
+use Rattle.core_facts.proofs.Faults.{again-fine, call-or-wait}
 use Rattle.attr_cache.specs.Attrs as attrs
 use Rattle.world_model.specs.declared.answer.Answer.TheVariants as answers
 use Rattle.world_model.specs.declared.answer.Fault.TheVariants as faults
@@ -10,10 +14,7 @@ use Rattle.name_ops.specs.declared.visit.VisitNext.TheVariants as visits
 use Rattle.name_ops.specs.declared.walk.WalkNext.TheVariants as walks
 use Rattle.name_ops.specs.Changing as changing
 use Rattle.name_ops.specs.ListDir as listing
-use Rattle.name_ops.specs.ReadLink.{TellsText}
-use Rattle.name_ops.specs.Showing.{Shows}
 use Rattle.name_ops.specs.Stat as stats
-use Rattle.name_ops.specs.SymLink.{CopiesBy}
 use Rattle.name_ops.specs.Visiting as visiting
 use Rattle.name_ops.specs.Walking as walking
 use Rattle.silly_rename.specs.Plans.{plan_of}
@@ -22,7 +23,6 @@ use Rattle.name_ops.specs.Pairs as pairs
 use Rattle.name_ops.specs.RemoveFile as removals
 use Rattle.op_machines.specs.declared.name_machine.NameMachine.TheVariants as machines
 use Rattle.op_machines.specs.NameSteps as steps
-use Rattle.core_facts.proofs.Faults.{again-fine, call-or-wait}
 use Rattle.core_answers.proofs.answers.SaveFaults.{CallFaults}
 
 module _ (P : Fault → Type 0) (own : CallFaults P) where

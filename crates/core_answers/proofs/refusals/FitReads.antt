@@ -1,9 +1,10 @@
 -- Which faults a step of an opening, an open or a read gives: want of memory, and what it makes of what came of its call.
 use Rattle.core_answers.proofs.Prelude.{◌≡◌, ◌-◌, ◌||◌, ℕ, not, Bool, true, false, List, Option, Some, None, Result, Ok, Err, inl, inr, sym, subst, refl, if◌then◌else◌, Attr, Mode, Opened, Opens, Pages, known_of, Fault, Reply, Pending, Next, Repeat, Turn, OpenFile, Led, Opening, OpeningNext, ReadFile, Phase, Reading, Said, part, refusal, said_to, got_by, looked, OpeningStep, FineResult, FineNext, fine-as, fine-fault}
+use Rattle.open_files.specs.Slots.{Place}
+use Rattle.core_facts.proofs.Faults.{again-fine}
 use Rattle.std.specs.FinMap as finite
 use Rattle.nfs_types.specs.declared.mode.Mode.TheVariants as modes
 use Rattle.xdr_codec.specs.declared.blob.Memory as memory
-use Rattle.open_files.specs.Slots.{Place}
 use Rattle.world_model.specs.declared.answer.Answer.TheVariants as answers
 use Rattle.world_model.specs.declared.answer.Fault.TheVariants as faults
 use Rattle.client_shelf.specs.declared.next.Next.TheVariants as nexts
@@ -15,7 +16,6 @@ use Rattle.file_ops.specs.Opening as opening
 use Rattle.file_ops.specs.ReadFile as reads
 use Rattle.file_ops.specs.Reading as reading
 use Rattle.file_ops.specs.declared.opening.OpeningStep.TheVariants as opening_steps
-use Rattle.core_facts.proofs.Faults.{again-fine}
 use Rattle.core_answers.proofs.answers.SaveFaults.{CallFaults}
 
 module _ (P : Fault → Type 0) (own : CallFaults P) where

@@ -1,5 +1,8 @@
 -- What came of the call for which an operation waits is a reply to that call, so P holds of whatever the operation makes of it.
 use Rattle.core_answers.proofs.Prelude.{◌≡◌, ◌==◌, inl, inr, ℕ, Bool, true, false, List, Option, Some, None, Result, Ok, Err, refl, sym, ap, subst, ◌∙◌, if◌then◌else◌, Attr, Verf, DirKept, PlusRow, Fault, Call, Reply, look_up, page_reply, Pending, Sent, Turn, Closing, Opening, OpeningStep, PutFile, Putting, Phase, Reading, Saving, Syncing, Truncating, Writing, place_after, Said, part, refusal, said_to, DirDeed, ListDir, Pair, Deed, Look, Seek, Move, Remove, RemoveFile, Stat, Visit, Walk, access_call, deed_call, deed_told, link_call, text_call, rename_call, sym_link_call, FileMachine, Machine, NameMachine, PathMachine, file_of, PutAwaits, PathOr, WalkAwaits, OwnOr, FineResult, FineOption, flies_if, flies_save, flies_write, flies_sync, flies_close, flies_put, flies_file, flies_path, RemoveAwaits}
+use Rattle.core_facts.proofs.AllAwaited.{FileAwaits}
+use Rattle.core_facts.proofs.Awaited.{PairOr}
+use Rattle.core_facts.proofs.NamesAwaited.{NameAwaits}
 use Rattle.nfs_dir_calls.specs.declared.keeping.DirKept.TheVariants as found
 use Rattle.world_model.specs.declared.answer.Fault.TheVariants as faults
 use Rattle.world_model.specs.declared.message.Reply.TheVariants as replies
@@ -22,9 +25,6 @@ use Rattle.name_ops.specs.Walking as walking
 use Rattle.op_machines.specs.declared.file_machine.FileMachine.TheVariants as files
 use Rattle.op_machines.specs.declared.machine.Machine.TheVariants as machines
 use Rattle.op_machines.specs.declared.name_machine.NameMachine.TheVariants as names
-use Rattle.core_facts.proofs.AllAwaited.{FileAwaits}
-use Rattle.core_facts.proofs.Awaited.{PairOr}
-use Rattle.core_facts.proofs.NamesAwaited.{NameAwaits}
 use Rattle.core_answers.proofs.asks.CallsAwaited.{Expects, PathNames}
 use Rattle.core_answers.proofs.asks.FilesAwaited.{SyncNames, WriteNames, CloseNames, CutNames, StateNames, FileNames}
 use Rattle.core_answers.proofs.asks.ReadsAwaited.{PhaseNames, ReadNames}

@@ -1,12 +1,14 @@
 -- How an open runs, and for which calls it asks: as `proofs/rows/OpenAsks` has it, for a record of which it is known that it was sent for the open.
 use Rattle.core_answers.proofs.Prelude.{◌≡◌, ◌≤◌, ◌-◌, ◌⊎◌, inl, inr, ℕ, zero, suc, Bool, true, false, List, [], ◌∷◌, ◌++◌, length, take, drop, slice_get, Option, Some, None, Result, refl, sym, ap, subst, ◌∙◌, arith, append_assoc, if◌then◌else◌, All-nil, Attr, Mode, Answer, Fault, Entry, Began, Call, Reply, Op, Asks, look_up, Asked, Rooted, PlaceOf, Terms, IsDelivered, Asked-grow, Asked-wide, length_last, Next, Shelf, Turn, Opening, OpeningStep, Walk, walk_of, Mounted, Machine, PathMachine, IsNamed, front_of, last_of, machine_of, file_of, Starts, Resumes, Takes, State, Busy, Setup, of_name, of_walk, in_flight, IsCounted, Counts, Awaits, PathOr, awaits-laws, begins-unbegun, counts-calls, WalkAwaits, all-starts, all-resumes, all-takes, IsNameTold, NamesTold, names-later, LeadsTo, leads-from, leads-later, WalkLeads, walk-later, IsHeard, heard-tells, then-as, front-last, ends-later, OpeningStory, StepStory, has_to, IsFileOf, ThenOf, AskedOf, IsTold, IsQuiet, AsksFor, TaleLaws}
+use Rattle.claims.specs.Asks.{create_guarded, create_unchecked}
+use Rattle.core_facts.specs.InFlight.{of_file, path_by}
+use Rattle.core_facts.proofs.OpenStory.{MayMake, missing, found, made, GotLast, OpenAnswer}
 use Rattle.nfs_dir_calls.specs.declared.call.DirCall.TheVariants as dirs
 use Rattle.nfs_file_calls.specs.declared.call.FileCall.TheVariants as file_calls
 use Rattle.world_model.specs.declared.answer.Answer.TheVariants as answers
 use Rattle.world_model.specs.declared.answer.Fault.TheVariants as faults
 use Rattle.world_model.specs.declared.message.Call.TheVariants as calls
 use Rattle.world_model.specs.declared.op.Op.TheVariants as ops
-use Rattle.claims.specs.Asks.{create_guarded, create_unchecked}
 use Rattle.claims.specs.Asks as asks
 use Rattle.world_model.specs.Leads as leads
 use Rattle.client_shelf.specs.declared.next.Next.TheVariants as nexts
@@ -17,9 +19,7 @@ use Rattle.op_machines.specs.declared.machine.Machine.TheVariants as machines
 use Rattle.op_machines.specs.declared.opener.Opener.TheVariants as openers
 use Rattle.op_machines.specs.PathSteps as paths
 use Rattle.client_core.specs.declared.lane.State.TheVariants.{Over as Ends}
-use Rattle.core_facts.specs.InFlight.{of_file, path_by}
 use Rattle.core_facts.proofs.OpenPath.{OpenRuns, Over, Step, open-resumes, open-takes}
-use Rattle.core_facts.proofs.OpenStory.{MayMake, missing, found, made, GotLast, OpenAnswer}
 
 -- ---- lists of names
 

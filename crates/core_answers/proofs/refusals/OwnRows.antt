@@ -1,9 +1,9 @@
 -- The rows of statuses and of refusals by RPC: the call that a record refused is one that the operation asks for.
 use Rattle.core_answers.proofs.Prelude.{◌≡◌, ℕ, List, ◌++◌, length, sym, subst, arith, Fault, Entry, Call, Op, Asks, Terms, Mounted, Setup, View}
+use Rattle.claims.specs.Asks.{IsWriter}
 use Rattle.nfs_types.specs.declared.mode.Mode.TheVariants as modes
 use Rattle.world_model.specs.declared.answer.Fault.TheVariants as faults
 use Rattle.world_model.specs.declared.op.Op.TheVariants as ops
-use Rattle.claims.specs.Asks.{IsWriter}
 use Rattle.claims.specs.Asks as acts
 use Rattle.claims.specs.GoesOn.{GoesOn}
 use Rattle.claims.specs.GoesOn as on

@@ -1,8 +1,8 @@
 -- The views that a core passed through on its way along a history, each with a fact of it.
 use Rattle.core_answers.proofs.Prelude.{◌≡◌, ℕ, List, [], ◌∷◌, ◌++◌, length, Entry, Op, Machine, Setup, IsFresh, View, IsSetUp, StepsTo, Reaches, begins, goes, loses}
+use Rattle.core_facts.specs.Reaches.{MaySetUp}
 use Rattle.world_model.specs.Lost.{Loses}
 use Rattle.client_core.specs.Steps.{lost}
-use Rattle.core_facts.specs.Reaches.{MaySetUp}
 
 -- The view goes with the history, as by `Reaches` of core_facts; and G holds of the history and the view before each entry.
 pub data Passes (machine_of : ℕ → Op → Machine) (setup : Setup) (G : List Entry → View → Type 0) : List Entry → View → Type 0 where

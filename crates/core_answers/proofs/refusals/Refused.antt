@@ -1,11 +1,11 @@
 -- An operation is answered with a status of a server, a refusal by RPC or for a rule only where a record refused so a call that was sent for this very operation,
 -- and isn't the REMOVE of a last close.
 use Rattle.core_answers.proofs.Prelude.{◌≡◌, ◌≤◌, ◌+◌, ℕ, List, [], ◌∷◌, ◌++◌, length, option_map, Result, Ok, Err, inl, inr, refl, sym, ap, subst, ◌∙◌, arith, Waiting, Answer, Fault, Entry, Began, Delivered, Call, Reply, Op, Modes, Ended, UnderWay, FirstSent-grow, length_last, Says, Next, Shelf, Turn, CloseFile, Closing, Removal, Mounted, FileMachine, Machine, machine_of, Takes, Purpose, State, Busy, Over, Setup, View, of_closing, in_flight, Reaches, begins-unbegun, FineAnswer, is-given, good-over, ThenOf, AsksFor, Did}
+use Rattle.world_model.proofs.Growth.{Answers-grow}
 use Rattle.world_model.specs.declared.answer.Answer.TheVariants as answers
 use Rattle.world_model.specs.declared.answer.Fault.TheVariants as faults
 use Rattle.world_model.specs.declared.op.Op.TheVariants as ops
 use Rattle.claims.specs.PageRules.{RefusedSo, RefusesSo, refuses}
-use Rattle.world_model.proofs.Growth.{Answers-grow}
 use Rattle.client_shelf.specs.declared.next.Next.TheVariants as nexts
 use Rattle.file_ops.specs.declared.close_file.Closing.TheVariants as closing
 use Rattle.op_machines.specs.declared.file_machine.FileMachine.TheVariants as files

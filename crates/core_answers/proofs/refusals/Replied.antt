@@ -2,6 +2,11 @@
 use Rattle.core_answers.proofs.Prelude.{◌≡◌, ◌≢◌, ◌<◌, ◌+◌, ◌||◌, ◌==◌, ◌⊎◌, inl, inr, ℕ, Bool, true, false, List, [], ◌∷◌, length, Option, Some, None, Result, Ok, Err, refl, sym, subst, arith, if◌then◌else◌, nat_lt, eqb-true, eqb-false, Attr, Verf, Wcc, DirKept, PlusRow, FileCall, FileKept, ListFault, More, End, last_cookie, listing_limit, page_step, Fault, Value, Call, Reply, look_up, list_call, SpellsReply, Pending, Sent, Saving, write_told_by, written_by, commit_told, Said, part, refusal, said_to, breaks_rule, Turn, access_call, access_told, deed_call, deed_told, link_call, linked_told, found_by, moved_told, text_call, sym_link_call, sym_linked_told, FineOption, FineResult, fine-fault, write_of}
 use Rattle.std.specs.Prelude.{nat_eq, not, ◌&&◌}
 use Rattle.std.proofs.lemmas.Bool.{ltb-true}
+use Rattle.dir_list.specs.Listings.{counted}
+use Rattle.file_ops.specs.ReadReply.{said_by}
+use Rattle.name_ops.specs.Moving.{move_call}
+use Rattle.name_ops.specs.ReadLink.{TellsText}
+use Rattle.core_facts.proofs.Faults.{fine-some}
 use Rattle.nfs_dir_calls.specs.declared.call.DirCall.{DirCall}
 use Rattle.nfs_dir_calls.specs.declared.call.DirCall.TheVariants as dirs
 use Rattle.nfs_dir_calls.specs.declared.create.Making.{Making}
@@ -9,7 +14,6 @@ use Rattle.nfs_dir_calls.specs.declared.keeping.DirKept.TheVariants as found
 use Rattle.nfs_file_calls.specs.declared.call.FileCall.TheVariants as files
 use Rattle.nfs_file_calls.specs.declared.owned.FileKept.TheVariants as kept
 use Rattle.dir_list.specs.declared.progress.ListFault.TheVariants as list_faults
-use Rattle.dir_list.specs.Listings.{counted}
 use Rattle.world_model.specs.declared.answer.Fault.TheVariants as faults
 use Rattle.world_model.specs.declared.answer.Value.TheVariants as values
 use Rattle.world_model.specs.declared.message.Call.TheVariants as calls
@@ -17,17 +21,13 @@ use Rattle.world_model.specs.declared.message.Reply.TheVariants as replies
 use Rattle.world_model.specs.Heard.{status_of}
 use Rattle.claims.specs.PageRules.{RefusesSo, refuses, breaks, wrong_data, no_entry, WrongData, longer, unlike, nothing}
 use Rattle.world_model.specs.Rules.{wrong_committed, wrong_count}
-use Rattle.file_ops.specs.ReadReply.{said_by}
 use Rattle.file_ops.specs.Saves as saves
 use Rattle.file_ops.specs.Told as told
 use Rattle.file_ops.specs.TruncateFile as truncates
 use Rattle.name_ops.specs.declared.dir_change.DirDeed.TheVariants as deeds
 use Rattle.name_ops.specs.ListDir as listing
-use Rattle.name_ops.specs.Moving.{move_call}
-use Rattle.name_ops.specs.ReadLink.{TellsText}
 use Rattle.name_ops.specs.RemoveFile as removals
 use Rattle.name_ops.specs.Stat as stats
-use Rattle.core_facts.proofs.Faults.{fine-some}
 use Rattle.core_answers.proofs.answers.PieceSteps.{IsPiece}
 use Rattle.core_answers.proofs.answers.SaveFaults.{CallFaults, FitsSave}
 

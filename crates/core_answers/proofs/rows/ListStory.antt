@@ -2,9 +2,14 @@
 use Rattle.core_answers.proofs.Prelude.{◌≡◌, ◌≤◌, ◌+◌, ◌-◌, ◌⊎◌, inl, inr, ℕ, zero, suc, Bool, true, false, List, [], ◌∷◌, ◌++◌, length, take, drop, slice_get, filter, map, Contains, Option, Some, None, Result, Ok, Err, refl, sym, ap, subst, ◌∙◌, arith, if◌then◌else◌, All-nil, filter-append, map-append, length-append, nat_tests, Attr, Verf, DirKept, PlusRow, Step, More, End, ListFault, listing_limit, last_cookie, page_step, Answer, Fault, Value, Entry, Began, Answered, Call, Reply, Op, Asks, look_up, LastCookie, names_of, list_call, page_reply, Asked, Rooted, EndsWith, UnderWay, Terms, Asked-grow, Asked-wide, Rooted-wide, At-grow, At-back, length_last, goes_again, fails_busy, Next, Shelf, Turn, ListDir, Visit, Walk, Mounted, Machine, machine_of, Starts, Resumes, Takes, State, Busy, Over, Setup, of_name, of_walk, visit_by, in_flight, IsCounted, Counts, Awaits, awaits-laws, begins-unbegun, counts-calls, OwnOr, WalkAwaits, all-starts, all-resumes, all-takes, IsNameTold, NamesTold, names-later, LeadsTo, leads-from, leads-later, WalkLeads, IsHeard, heard-tells, then-as, VisitStory, ends-later, ends-until, ThenOf, AskedOf, IsTold, IsLastReply, IsQuiet, AsksFor, TaleLaws}
 use Rattle.std.proofs.Common.{nat_lt}
 use Rattle.std.specs.Prelude.{◌↔◌}
+use Rattle.dir_list.specs.Listings.{counts, counted}
+use Rattle.world_model.specs.Chains.{Chain, start, next}
+use Rattle.world_model.specs.Mounts.{Given}
+use Rattle.core_facts.specs.InFlight.{of_visit}
+use Rattle.core_facts.proofs.OneCalls.{visit-at, visit-then, walks-then, visit-later}
+use Rattle.core_facts.proofs.Tales.{WasAsked, NoneYet, reached-answered, reached-asked}
 use Rattle.nfs_dir_calls.specs.declared.keeping.DirKept.TheVariants as kept
 use Rattle.dir_list.specs.declared.progress.ListFault.TheVariants as list_faults
-use Rattle.dir_list.specs.Listings.{counts, counted}
 use Rattle.world_model.specs.declared.answer.Answer.TheVariants as answers
 use Rattle.world_model.specs.declared.answer.Fault.TheVariants as faults
 use Rattle.world_model.specs.declared.answer.Value.TheVariants as values
@@ -12,10 +17,8 @@ use Rattle.world_model.specs.declared.message.Reply.TheVariants as replies
 use Rattle.world_model.specs.declared.op.Op.TheVariants as ops
 use Rattle.claims.specs.Asks as asks
 use Rattle.claims.specs.CallsAsked.{NoneBegan}
-use Rattle.world_model.specs.Chains.{Chain, start, next}
 use Rattle.world_model.specs.Leads as leading
 use Rattle.world_model.specs.Leads.{Leads}
-use Rattle.world_model.specs.Mounts.{Given}
 use Rattle.claims.specs.OkRows.{ListOk, most_names}
 use Rattle.client_shelf.specs.declared.next.Next.TheVariants as nexts
 use Rattle.name_ops.specs.declared.walk.WalkNext.TheVariants as walks
@@ -24,10 +27,7 @@ use Rattle.name_ops.specs.Visiting as visiting
 use Rattle.name_ops.specs.Walking as walking
 use Rattle.op_machines.specs.declared.machine.Machine.TheVariants as machines
 use Rattle.op_machines.specs.declared.name_machine.NameMachine.TheVariants as names
-use Rattle.core_facts.specs.InFlight.{of_visit}
 use Rattle.core_answers.specs.rows.Listed.{ListsShown, IsMadeForList, ListsAsk}
-use Rattle.core_facts.proofs.OneCalls.{visit-at, visit-then, walks-then, visit-later}
-use Rattle.core_facts.proofs.Tales.{WasAsked, NoneYet, reached-answered, reached-asked}
 
 -- ---- lists of names
 

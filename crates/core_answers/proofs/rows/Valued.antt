@@ -1,6 +1,7 @@
 -- What operations on the file of a slot answer where they go well: nothing, and a read at most as many bytes as it was asked for.
 use Rattle.core_answers.proofs.Prelude.{◌≡◌, ◌≤◌, ◌-◌, ◌+◌, ℕ, zero, suc, max, Bool, true, false, List, [], ◌∷◌, ◌++◌, length, Option, Some, None, Result, Ok, Err, inl, inr, refl, sym, ap, subst, ◌∙◌, arith, if◌then◌else◌, Attr, Mode, Opened, Pages, Pending, of_file, last_end, Answer, Fault, Value, Call, Reply, goes_again, fails_busy, left, is_first, Next, Repeat, Shelf, Turn, CloseFile, Closing, Removal, ReadFile, Phase, Reading, Saving, SyncFile, Syncing, WriteFile, Writing, closed_answer, refusal_of, remove_of, remove_busy, place_after, Said, part, refusal, joined, got_by, by-step, ends_as}
 use Rattle.std.proofs.Common.{min}
+use Rattle.file_ops.specs.ReadReply.{says_busy}
 use Rattle.nfs_types.specs.declared.mode.Mode.TheVariants as modes
 use Rattle.xdr_codec.specs.declared.blob.Memory as memory
 use Rattle.write_back.proofs.EndAndBytes.{shown-length}
@@ -15,7 +16,6 @@ use Rattle.file_ops.specs.declared.write_file.Writing.TheVariants as writing
 use Rattle.file_ops.specs.Closes as closes
 use Rattle.file_ops.specs.Overlaid.{listed, byte_shown, size_shown, size_to, bytes_from}
 use Rattle.file_ops.specs.ReadFile as reads
-use Rattle.file_ops.specs.ReadReply.{says_busy}
 use Rattle.file_ops.specs.Reading as reading
 use Rattle.file_ops.specs.Saves as saves
 use Rattle.file_ops.specs.Syncs as syncs

@@ -1,5 +1,8 @@
 -- Along a history each WRITE that waits is one of an operation that sends bytes of its file, and each COMMIT of one that waits for it.
 use Rattle.core_answers.proofs.Prelude.{◌≡◌, ◌≤◌, ◌+◌, ◌-◌, ◌&&◌, ◌==◌, ℕ, Bool, true, false, List, Option, Some, None, Result, Ok, Err, refl, sym, ap, subst, ◌∙◌, arith, nat_lt, if◌then◌else◌, eqb-true, Fault, Call, Reply, chosen, Pending, of_file, Next, Shelf, Turn, is_first, CloseFile, Closing, PutFile, Putting, Saving, SyncFile, Syncing, Writing, by-step, Pair, Deed, Look, Seek, Move, Remove, RemoveFile, Walk, WalkNext, access_call, deed_call, link_call, found_by, look_again, text_call, rename_call, sym_link_call, FileMachine, Machine, NameMachine, Opener, PathMachine, file_of, slot_taken, begun_at, placed, Starts, Resumes, Takes, of_name, of_walk, visit_by, own_or, removal_by, of_saving, of_writing, of_syncing, of_closing, of_putting, in_flight, Counts, counts-calls, of_path, path-file, WalkAwaits, OwnOr, ExpectLaws, flies_path, flies_of, RemoveAwaits, AskedOf, KeptOf}
+use Rattle.core_facts.proofs.Awaited.{PairOr}
+use Rattle.core_facts.proofs.Flights.{resumes-stay, takes-stay}
+use Rattle.core_facts.proofs.NamesAwaited.{NameAwaits, Sends, name-goes, name-takes}
 use Rattle.client_shelf.specs.declared.next.Next.TheVariants as nexts
 use Rattle.file_ops.specs.declared.close_file.Closing.TheVariants as closing
 use Rattle.file_ops.specs.declared.put_file.Putting.TheVariants as putting
@@ -22,10 +25,7 @@ use Rattle.op_machines.specs.declared.name_machine.NameMachine.TheVariants as na
 use Rattle.op_machines.specs.FileSteps as steps
 use Rattle.op_machines.specs.PathSteps as paths
 use Rattle.core_facts.specs.InFlight.{pair_by, of_names, of_file as calls_of}
-use Rattle.core_facts.proofs.Awaited.{PairOr}
-use Rattle.core_facts.proofs.Flights.{resumes-stay, takes-stay}
 use Rattle.core_facts.proofs.NameLives.{WhileGoing}
-use Rattle.core_facts.proofs.NamesAwaited.{NameAwaits, Sends, name-goes, name-takes}
 use Rattle.core_answers.proofs.writes.CallFits.{commits_if, commits_save, commits_write, commits_sync, commits_close, commits_put, commits_file, Fits, other-fits, AskFits, file-starts, file-resumes, file-takes}
 use Rattle.core_answers.proofs.writes.Plain.{IsOther}
 

@@ -1,9 +1,10 @@
 -- What each step of an operation on a file makes of what is pending, and of the call that it asks for.
 use Rattle.core_answers.proofs.Prelude.{◌≡◌, ◌&&◌, ◌+◌, ℕ, Bool, true, false, not, List, Option, Some, None, Result, Ok, Err, refl, sym, ap, subst, ◌∙◌, inl, inr, Answer, Fault, Call, Reply, Wcc, last_end, nothing, Pending, of_file, OnFile, Opens, Repeat, Shelf, Turn, goes_again, left, is_first, Next, CloseFile, Closing, Removal, OpeningNext, PutFile, Putting, Saving, SyncFile, Syncing, TruncateFile, Truncating, WriteFile, Writing, is_full, closed_answer, refusal_of, remove_of, remove_busy, file_to_write, file_at, joined, by-step, ends_as, FileMachine}
+use Rattle.write_back.specs.Files.{with_bytes}
+use Rattle.file_ops.specs.Closings.{GivesIf, GivesUpBy}
 use Rattle.std.specs.FinMap as finite
 use Rattle.world_model.specs.declared.answer.Answer.TheVariants as answers
 use Rattle.write_back.specs.Landing.{with_cut}
-use Rattle.write_back.specs.Files.{with_bytes}
 use Rattle.client_shelf.specs.declared.next.Next.TheVariants as nexts
 use Rattle.file_ops.specs.declared.close_file.Closing.TheVariants as closing
 use Rattle.file_ops.specs.declared.opening.OpeningNext.TheVariants as openings
@@ -11,7 +12,6 @@ use Rattle.file_ops.specs.declared.put_file.Putting.TheVariants as putting
 use Rattle.file_ops.specs.declared.sync_file.Syncing.TheVariants as syncing
 use Rattle.file_ops.specs.declared.truncate_file.Truncating.TheVariants as truncating
 use Rattle.file_ops.specs.declared.write_file.Writing.TheVariants as writing
-use Rattle.file_ops.specs.Closings.{GivesIf, GivesUpBy}
 use Rattle.file_ops.specs.OpenFile as opens
 use Rattle.file_ops.specs.Opening as opening
 use Rattle.file_ops.specs.Quiet.{is_quiet}

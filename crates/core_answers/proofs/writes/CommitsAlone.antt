@@ -1,6 +1,9 @@
 -- While a COMMIT of a file waits nothing of it is in flight, and no WRITE of it waits.
 use Rattle.core_answers.proofs.Prelude.{◌≡◌, ◌≢◌, ◌≤◌, ◌⊎◌, inl, inr, ℕ, Bool, true, false, List, [], ◌∷◌, Option, Some, None, option_map, slice_get, refl, sym, ap, subst, ◌∙◌, arith, Waiting, waiting_at, of_file, Sent, piece_under, same-or, Entry, Call, Op, LaneFile, Next, Shelf, IsUnused, Closing, Opening, Putting, Saving, Syncing, Truncating, Writing, Mounted, FileMachine, Machine, Opener, PathMachine, machine_of, file_of, Lane, Purpose, Busy, Setup, View, of_writing, of_syncing, of_closing, of_truncating, of_putting, in_flight, Reaches, begins-unbegun, of_path, path-file, calls-some, flies_if, flies_save, flies_write, flies_sync, flies_close, flies_put, flies_file, flies_path, flies_of, Flies, Flown, sender, look_at, keeps-flown, Known, purpose_at, reached-all, lanes-under-way, TaleLaws, Did, reached-good}
 use Rattle.write_back.specs.Files.{HasNoPiece}
+use Rattle.core_facts.proofs.Flown.{flies_state}
+use Rattle.core_facts.proofs.Keeping.{lane-count, reached-kept}
+use Rattle.core_facts.proofs.Tales.{AllGood}
 use Rattle.world_model.specs.declared.message.Call.TheVariants as calls
 use Rattle.client_shelf.specs.declared.next.Next.TheVariants as nexts
 use Rattle.file_ops.specs.declared.close_file.Closing.TheVariants as closing
@@ -16,12 +19,9 @@ use Rattle.core_facts.specs.InFlight.{of_file as calls_of}
 use Rattle.core_facts.specs.Lanes.{AreApart}
 use Rattle.core_facts.proofs.AllSeats.{path_seat, seat_of, IsLive, OnPath}
 use Rattle.core_facts.proofs.FileSeats.{seat_write, seat_sync, seat_close, seat_put, seat_file, FileLive}
-use Rattle.core_facts.proofs.Flown.{flies_state}
-use Rattle.core_facts.proofs.Keeping.{lane-count, reached-kept}
 use Rattle.core_facts.proofs.Looks.{look-at}
 use Rattle.core_facts.proofs.Owning.{reached-owned}
 use Rattle.core_facts.proofs.Placing.{seat_state, seat_in}
-use Rattle.core_facts.proofs.Tales.{AllGood}
 use Rattle.core_answers.proofs.bonds.OneCall.{IsNfs, one-call}
 use Rattle.core_answers.specs.writes.Alone.{written_file, committed_file, IsWaiting, IsQuiet}
 use Rattle.core_answers.proofs.writes.AllFits.{commits_path, commits_of, CallFits, fits-laws}

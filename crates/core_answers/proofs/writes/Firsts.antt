@@ -1,10 +1,10 @@
 -- Who is the first in the order of a file, after another lane left its place or took one.
 use Rattle.core_answers.proofs.Prelude.{◌≡◌, ◌≢◌, ◌<◌, ◌≤◌, ℕ, zero, suc, Bool, true, false, cond, nat_eq, List, [], ◌∷◌, ◌++◌, length, Option, Some, None, option_map, position, slice_get, ◌⊎◌, inl, inr, refl, sym, ap, subst, ◌∙◌, arith, nat_lt, if◌then◌else◌, eqb-true, cases_lt, LaneFile, left, is_first}
 use Rattle.std.proofs.Common.{remove}
-use Rattle.std.specs.Option.{option_map_or, option_and_then}
-use Rattle.std.specs.List.{position_or_len}
 use Rattle.std.proofs.lemmas.Bool.{lt-ltb, le-ltb}
 use Rattle.client_shelf.specs.LaneFiles.{is_lane, is_file, added, leads}
+use Rattle.std.specs.Option.{option_map_or, option_and_then}
+use Rattle.std.specs.List.{position_or_len}
 
 some-place : (a b : LaneFile) → Some a ≡ Some b → a ≡ b
 some-place a b e = cc

@@ -2,6 +2,10 @@
 use Rattle.core_answers.proofs.Prelude.{◌≡◌, ◌≢◌, ◌≤◌, ◌+◌, ◌-◌, ◌&&◌, ◌||◌, ◌⊎◌, inl, inr, ℕ, Bool, true, false, List, [], ◌∷◌, ◌++◌, length, take, drop, Option, Some, None, option_map, refl, sym, ap, subst, ◌∙◌, arith, nat_lt, if◌then◌else◌, Verf, Segments, with_sent, Pending, of_file, OnFile, with_xid, Sent, FilePending, nothing, piece_under, renumbered, same-or}
 use Rattle.std.proofs.Common.{length-take, length-drop}
 use Rattle.std.specs.Prelude.{nat_le, nat_eq, slice_index}
+use Rattle.write_back.specs.Segments.{Segment, Cell, covers, cell_in, cell_at, end_of, head_of, tail_of, written, before, after, split_if, split, split_flying, cut_from}
+use Rattle.write_back.specs.Files.{with_bytes}
+use Rattle.write_back.specs.Landing.{landed, changed_part, landed_part, at_piece, at_xid, with_change, with_cut}
+use Rattle.write_back.specs.Pieces.{Flown, part_at, flown_in, fly_in, rest_of, rest_at, without, end_of_sent}
 use Rattle.std.proofs.lemmas.Bool.{ltb-true}
 use Rattle.std.proofs.lemmas.List.{get_or-take, get_or-drop}
 use Rattle.write_back.specs.declared.change.Change.{Change}
@@ -9,11 +13,7 @@ use Rattle.write_back.specs.declared.change.Change.TheVariants as by_change
 use Rattle.write_back.specs.declared.sent.Part.{Part}
 use Rattle.write_back.specs.declared.state.State.{State}
 use Rattle.write_back.specs.States.{is_in_flight}
-use Rattle.write_back.specs.Segments.{Segment, Cell, covers, cell_in, cell_at, end_of, head_of, tail_of, written, before, after, split_if, split, split_flying, cut_from}
 use Rattle.write_back.specs.Changes.{fate, left_of, fate_between, changed, all_changed}
-use Rattle.write_back.specs.Files.{with_bytes}
-use Rattle.write_back.specs.Landing.{landed, changed_part, landed_part, at_piece, at_xid, with_change, with_cut}
-use Rattle.write_back.specs.Pieces.{Flown, part_at, flown_in, fly_in, rest_of, rest_at, without, end_of_sent}
 use Rattle.write_back.specs.Places.{PutsInFlight}
 use Rattle.write_back.proofs.ByPlace.{covered}
 use Rattle.write_back.proofs.Keys.{low-of, high-of}

@@ -1,8 +1,10 @@
 -- Each byte that is pending is one that an operation gave.
 use Rattle.core_answers.proofs.Prelude.{◌≡◌, ◌+◌, ◌-◌, ℕ, List, [], ◌∷◌, ◌++◌, length, Bool, true, false, Option, Some, None, Result, Ok, Err, position, slice_get, refl, sym, ap, subst, ◌∙◌, arith, if◌then◌else◌, Mode, Waiting, waiting_at, Opened, Pending, of_file, nothing, Fault, Entry, Began, Answered, Delivered, Reply, Op, At, Modes, IsOf, Terms, At-grow, At-below, At-last, said_of, Next, Shelf, Turn, in_mode, of_open, file_to_write, Mounted, Machine, machine_of, Starts, Resumes, Takes, Lane, Purpose, Busy, Setup, is_busy, IsIdle, with_state, Stirs, counted, StartsLane, TakesAt, View, turn_at, unmade_turn, Reaches, begins-unbegun, taken_one, held-begins, Given, is-given, Known, at-push, at-set}
 use Rattle.std.proofs.Common.{replicate}
-use Rattle.std.specs.FinMap as finite
 use Rattle.std.specs.Prelude.{slice_index}
+use Rattle.claims.specs.Slots.{slot_of}
+use Rattle.core_facts.proofs.HeldSlots.{may}
+use Rattle.std.specs.FinMap as finite
 use Rattle.std.proofs.lemmas.Bool.{le-ltb}
 use Rattle.std.proofs.lemmas.Option.{slice_get-get_or}
 use Rattle.nfs_types.specs.declared.mode.Mode.TheVariants as modes
@@ -10,11 +12,9 @@ use Rattle.write_back.specs.Segments.{covers}
 use Rattle.write_back.proofs.Keys.{low-of, high-of}
 use Rattle.world_model.specs.declared.op.Op.TheVariants as ops
 use Rattle.claims.specs.Rights.{can_write}
-use Rattle.claims.specs.Slots.{slot_of}
 use Rattle.client_shelf.specs.declared.next.Next.TheVariants as nexts
 use Rattle.file_ops.specs.Syncs as syncs
 use Rattle.core_facts.specs.SlotAnswers.{GoesWith}
-use Rattle.core_facts.proofs.HeldSlots.{may}
 use Rattle.core_facts.proofs.SlotGrowth.{IsHeld, held-grow}
 use Rattle.core_answers.specs.writes.Written.{byte_from, byte_by, IsAtFile, IsWritten, PlaceWritten}
 use Rattle.core_answers.proofs.writes.AllBacks.{Brings, StartsWith, all-starts, all-resumes, all-takes}

@@ -1,8 +1,9 @@
 -- The operations that put nothing in flight ask for no WRITE and no COMMIT.
 use Rattle.core_answers.proofs.Prelude.{◌≡◌, ℕ, Bool, true, false, List, Option, Some, None, Result, Ok, Err, refl, sym, subst, ◌∙◌, inl, inr, if◌then◌else◌, Attr, Wcc, Attrs, Pages, Opens, Opened, Fault, Answer, Call, Reply, Pending, Repeat, Shelf, Turn, FileCall, Next, Opening, OpeningStep, OpeningNext, Led, OpenFile, ReadFile, Reading, Phase, TruncateFile, Truncating, fails_busy, goes_again, Said, part, refusal, joined, got_by}
+use Rattle.open_files.specs.Slots.{Place}
+use Rattle.file_ops.specs.ReadReply.{says_busy}
 use Rattle.std.specs.FinMap as finite
 use Rattle.xdr_codec.specs.declared.blob.Memory as memory
-use Rattle.open_files.specs.Slots.{Place}
 use Rattle.world_model.specs.declared.answer.Fault.TheVariants as faults
 use Rattle.world_model.specs.declared.answer.Answer.TheVariants as answers
 use Rattle.nfs_file_calls.specs.declared.call.FileCall.TheVariants as file_calls
@@ -13,7 +14,6 @@ use Rattle.file_ops.specs.declared.opening.OpeningNext.TheVariants as steps
 use Rattle.file_ops.specs.declared.opening.Led.TheVariants as leads
 use Rattle.file_ops.specs.declared.reading.Phase.TheVariants as phases
 use Rattle.file_ops.specs.declared.truncate_file.Truncating.TheVariants as truncating
-use Rattle.file_ops.specs.ReadReply.{says_busy}
 use Rattle.file_ops.specs.Opening as opening
 use Rattle.file_ops.specs.OpenFile as opens
 use Rattle.file_ops.specs.Reading as reading

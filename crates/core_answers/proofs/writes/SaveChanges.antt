@@ -1,12 +1,12 @@
 -- What each change of what is pending keeps that a save makes, each step of a save keeps.
 use Rattle.core_answers.proofs.Prelude.{◌≡◌, ◌||◌, ◌==◌, inl, inr, ℕ, Bool, true, false, List, [], ◌∷◌, length, Option, Some, None, Result, Ok, Err, refl, sym, subst, nat_lt, Verdict, AllStable, SendAgain, verdict_of, Verf, Wcc, Fault, Reply, lost, chosen, piece_of, with_sent, Pending, of_file, OnFile, with_xid, Sent, Segments, Repeat, Turn, goes_again, Sending, Committing, Resending, CommittingAgain, Saving, write_told, commit_told}
 use Rattle.commit_verf.specs.Decisions.{decided}
+use Rattle.write_back.specs.Landing.{landed, landed_part, at_xid, acked_by}
 use Rattle.nfs_file_calls.specs.declared.owned.FileKept.TheVariants as kept_replies
 use Rattle.world_model.specs.declared.message.Reply.TheVariants as replies
 use Rattle.world_model.specs.declared.answer.Fault.TheVariants as faults
 use Rattle.write_back.specs.declared.change.Change.{Change}
 use Rattle.write_back.specs.declared.change.Change.TheVariants as by_change
-use Rattle.write_back.specs.Landing.{landed, landed_part, at_xid, acked_by}
 use Rattle.write_back.specs.Places.{PutsInFlight}
 use Rattle.file_ops.specs.declared.saving.Phase.{Phase}
 use Rattle.file_ops.specs.Saves as saves

@@ -1,10 +1,10 @@
 -- The piece of a file in flight under an xid, after each change of what is pending.
 use Rattle.core_answers.proofs.Prelude.{◌≡◌, ◌≢◌, ◌⊎◌, inl, inr, ℕ, Bool, true, false, nat_eq, List, [], ◌∷◌, ◌++◌, Option, Some, None, refl, sym, ap, subst, ◌∙◌, if◌then◌else◌, eq-eqb, eqb-true, eqb-false, Pending, of_file, OnFile, with_xid, with_sent, Sent, FilePending, nothing, piece_under, renumbered, same-or}
 use Rattle.std.proofs.lemmas.Bool.{ne_eqb}
-use Rattle.write_back.specs.declared.change.Change.{Change}
 use Rattle.write_back.specs.Files.{with_bytes}
 use Rattle.write_back.specs.Landing.{landed, landed_part, at_piece, at_xid}
 use Rattle.write_back.specs.Pieces.{without}
+use Rattle.write_back.specs.declared.change.Change.{Change}
 use Rattle.file_ops.specs.Quiet.{is_quiet, are_none}
 
 some-sent : (a b : Sent) → Some a ≡ Some b → a ≡ b

@@ -1,5 +1,6 @@
 -- Each WRITE that waits has its piece in flight: the same bytes.
 use Rattle.core_answers.proofs.Prelude.{◌≡◌, ◌≢◌, ◌≤◌, ◌<◌, ◌+◌, ◌-◌, ◌&&◌, ◌==◌, inl, inr, ℕ, List, [], ◌∷◌, ◌++◌, length, Bool, true, false, nat_eq, Option, Some, None, option_map, position, Result, Ok, Err, refl, sym, ap, subst, ◌∙◌, arith, nat_lt, unwrap_or, eqb-true, eqb-false, Verdict, AllStable, SendAgain, verdict_of, Verf, Waiting, next_xid, made_call, waiting_at, without, waits_early, at_made, others_made, others_taken, gone, lost, chosen, piece_of, with_sent, Pending, of_file, OnFile, with_xid, Sent, FilePending, piece_under, Segments, Fault, Memory, Entry, Began, Delivered, Call, Reply, Op, SpellsCallBy, proc_of, said_of, Next, Repeat, Shelf, Turn, goes_again, Closing, Putting, Sending, Committing, Resending, CommittingAgain, Saving, Syncing, Writing, commit_told, IsUnused, Mounted, FileMachine, Machine, Opener, PathMachine, machine_of, file_of, Starts, Resumes, Takes, Purpose, Busy, Setup, is_busy, IsIdle, with_state, record_of, Makes, Leads, Stirs, counted, StartsLane, TakesAt, View, turn_at, unmade_turn, in_flight, Reaches, begins-unbegun, taken_one, flies_if, flies_save, flies_write, flies_sync, flies_close, flies_put, flies_file, flies_path, flies_of, Known, Rows, same-rows, taken-rows, made-known, made-asked, reached-good, write_of}
+use Rattle.core_facts.proofs.Keeping.{taker-is, taker-one}
 use Rattle.world_model.specs.declared.message.Call.TheVariants as calls
 use Rattle.client_shelf.specs.declared.next.Next.TheVariants as nexts
 use Rattle.file_ops.specs.declared.close_file.Closing.TheVariants as closing
@@ -12,7 +13,6 @@ use Rattle.file_ops.specs.Syncs as syncs
 use Rattle.file_ops.proofs.Landed.{lands-out}
 use Rattle.op_machines.specs.declared.file_machine.FileMachine.TheVariants as files
 use Rattle.op_machines.specs.declared.machine.Machine.TheVariants as machines
-use Rattle.core_facts.proofs.Keeping.{taker-is, taker-one}
 use Rattle.core_answers.proofs.bonds.OneCall.{one-call}
 use Rattle.core_answers.specs.writes.Alone.{written_file, IsWaiting}
 use Rattle.core_answers.specs.writes.Flights.{IsInFlight}

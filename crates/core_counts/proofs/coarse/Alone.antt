@@ -1,16 +1,16 @@
 -- As a WRITE of a file is made, no COMMIT of it waits; and as a COMMIT is made, nothing of the file is in flight.
 use Rattle.core_counts.proofs.Prelude.{◌≡◌, ◌⊎◌, inl, inr, ◌≤◌, ◌<◌, ℕ, zero, suc, List, [], ◌∷◌, Option, Some, None, refl, sym, ap, ◌∙◌, arith, cases_lt, FileCall, Waiting, next_xid, waiting_at, Entry, Call, Pending, HasNoPiece, of_file, piece_under, fly_in, IsUnused, Mounted, machine_of, Purpose, Setup, View, written_file, call_of, Shows, ShownCall, ShownCalls}
+use Rattle.write_back.specs.Pieces.{Sent}
+use Rattle.core_answers.specs.writes.Alone.{committed_file, IsWaiting, IsQuiet}
+use Rattle.model_writes.specs.Mirrors.{file_call_of, sized_call}
+use Rattle.step_pending.specs.Cells.{flight_of}
 use Rattle.std.specs.Option.{option_map}
 use Rattle.nfs_file_calls.specs.declared.call.FileCall.TheVariants as file_calls
 use Rattle.world_model.specs.declared.message.Call.TheVariants as calls
-use Rattle.write_back.specs.Pieces.{Sent}
-use Rattle.core_answers.specs.writes.Alone.{committed_file, IsWaiting, IsQuiet}
 use Rattle.core_answers.proofs.writes.CommitsAlone.{commits-alone}
 use Rattle.core_answers.proofs.writes.Under.{under-head}
 use Rattle.model_writes.specs.Machine as coarse
-use Rattle.model_writes.specs.Mirrors.{file_call_of, sized_call}
 use Rattle.model_writes.specs.Story as story
-use Rattle.step_pending.specs.Cells.{flight_of}
 use Rattle.core_counts.proofs.coarse.Onward.{Ahead}
 
 -- ---- which call is a COMMIT of a whole file

@@ -1,16 +1,16 @@
 -- What a step of any operation makes of the machine.
 use Rattle.core_counts.proofs.Prelude.{◌≡◌, ◌⊎◌, inl, inr, ◌+◌, ℕ, Bool, true, List, [], ◌∷◌, Result, Err, refl, sym, subst, Held, Fault, Call, Reply, Pending, of_file, with_bytes, HasNoPiece, IsNewest, OnFile, with_cut, nothing, Next, Shelf, Turn, Saving, IsUnused, Machine, Fits, Starts, Resumes, Takes, Purpose, Setup, After, TakesHas, NearAs, EachSound}
-use Rattle.world_model.specs.declared.answer.Fault.TheVariants as faults
 use Rattle.write_back.specs.Pieces.{Sent}
+use Rattle.core_answers.proofs.writes.Backs.{CarriesReply}
+use Rattle.core_session.proofs.order.Adds.{Bears}
+use Rattle.core_session.proofs.order.Sounds.{Sounds, SoundsFirst, SoundCall, bears-sounds, replies-sounds}
+use Rattle.world_model.specs.declared.answer.Fault.TheVariants as faults
 use Rattle.client_shelf.specs.declared.next.Next.TheVariants as nexts
 use Rattle.file_ops.specs.Quiet.{is_quiet, are_none}
 use Rattle.file_ops.specs.Saves as saves
 use Rattle.file_ops.specs.Syncs as syncs
 use Rattle.core_answers.proofs.writes.AllBacks.{Saves}
-use Rattle.core_answers.proofs.writes.Backs.{CarriesReply}
 use Rattle.core_session.proofs.order.Adds as adding
-use Rattle.core_session.proofs.order.Adds.{Bears}
-use Rattle.core_session.proofs.order.Sounds.{Sounds, SoundsFirst, SoundCall, bears-sounds, replies-sounds}
 use Rattle.model_writes.specs.Machine.{View}
 use Rattle.step_pending.proofs.Below.{rest-below, fly-below}
 use Rattle.step_pending.proofs.ComingIn.{comes-in}

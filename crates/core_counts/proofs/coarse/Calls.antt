@@ -1,9 +1,9 @@
 -- The calls that wait, as the machine shows them, after one was made or answered.
 use Rattle.core_counts.proofs.Prelude.{◌≡◌, ◌⊎◌, inl, inr, ◌+◌, ℕ, zero, suc, Bool, true, false, nat_eq, List, [], ◌∷◌, ◌++◌, Option, Some, None, refl, sym, ap, subst, ◌∙◌, arith, if◌then◌else◌, eqb-true, FileCall, Waiting, Held, next_xid, AreSound, waiting_at, without, at_made, others_made, others_taken, gone, Call, SpellsCallBy, Purpose, Setup, written_file, call_of, if-true, if-false, ShownCall, ShownCalls}
+use Rattle.model_writes.specs.Mirrors.{file_call_of, sized_call}
 use Rattle.nfs_file_calls.specs.declared.call.FileCall.TheVariants as file_calls
 use Rattle.world_model.specs.declared.message.Call.TheVariants as calls
 use Rattle.model_writes.specs.Machine.{Cell, Flight, View, PlacesAfter}
-use Rattle.model_writes.specs.Mirrors.{file_call_of, sized_call}
 use Rattle.model_writes.specs.Story as story
 use Rattle.core_counts.specs.coarse.Moves.{IsOther}
 use Rattle.core_counts.proofs.coarse.Views.{called, ended}

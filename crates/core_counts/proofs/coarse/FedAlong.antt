@@ -1,10 +1,10 @@
 -- Along a history the kept pages and names go on by steps of their machines.
 use Rattle.core_counts.proofs.Prelude.{◌≡◌, List, [], ◌∷◌, ◌++◌, refl, sym, ap, subst, ◌∙◌, append_assoc, append-nil, Pages, Entry, History, Lawful, Shelf, machine_of, Mounted, Setup, View, Numbered, Reaches, begins, goes, loses, until, WasRun}
-use Rattle.name_cache.specs.Names.{Entries}
 use Rattle.page_cache.specs.Pages.{nothing_kept}
+use Rattle.core_counts.specs.coarse.Fed.{Fed, CoreIsFed, PagesFed, NamesFed}
+use Rattle.name_cache.specs.Names.{Entries}
 use Rattle.law_names.specs.Feeds as feeds
 use Rattle.core_answers.proofs.pages.MachinePages.{pages-starts, pages-resumes, pages-takes}
-use Rattle.core_counts.specs.coarse.Fed.{Fed, CoreIsFed, PagesFed, NamesFed}
 use Rattle.core_counts.specs.coarse.FedNames as name_steps
 use Rattle.core_counts.specs.coarse.FedPages as page_steps
 use Rattle.core_counts.proofs.coarse.FedEach.{numbered-at, over-on, each-step}

@@ -1,16 +1,16 @@
 -- In each step, attributes that are kept afterwards were kept before, or a reply shows them.
 use Rattle.core_counts.proofs.Prelude.{◌≡◌, ◌≤◌, ◌⊎◌, inl, inr, ℕ, List, [], ◌∷◌, ◌++◌, All, Contains, sym, ap, subst, ◌∙◌, append_assoc, append-nil, All-nil, Attrs, Entry, Began, Delivered, Call, Reply, History, Lawful, Shelf, machine_of, Mounted, Setup, View, Numbered, Reaches, begins, goes, loses, begins-unbegun, Passes, until, WasRun}
 use Rattle.std.proofs.lemmas.List.Elements.{All-contains, Contains-get_or}
-use Rattle.attr_cache.specs.declared.kept.KeptAttr.{KeptAttr}
 use Rattle.attr_cache.specs.Attrs.{nothing_learnt}
+use Rattle.core_counts.specs.coarse.Fed.{EachStep, AttrsLearnt}
+use Rattle.core_counts.specs.coarse.FedAttrs.{WasShown, Learns}
+use Rattle.attr_cache.specs.declared.kept.KeptAttr.{KeptAttr}
 use Rattle.attr_cache.proofs.Entries.{LastsAtMost, Believed}
 use Rattle.core_answers.specs.bonds.Kept.{LastAtMost}
 use Rattle.core_answers.proofs.bonds.Learnt.{Good}
 use Rattle.core_answers.proofs.reads.Passed.{passed-along}
 use Rattle.core_answers.proofs.writes.Along.{KeepsAlong}
 use Rattle.core_answers.proofs.bonds.MachineAttrs.{attrs-starts, attrs-resumes, attrs-takes}
-use Rattle.core_counts.specs.coarse.Fed.{EachStep, AttrsLearnt}
-use Rattle.core_counts.specs.coarse.FedAttrs.{WasShown, Learns}
 use Rattle.core_counts.proofs.coarse.FedEach.{numbered-at, over-on, each-step}
 use Rattle.core_counts.proofs.coarse.FedSteps.{StepLaws, starts-step, stirs-step, takes-step}
 use Rattle.core_counts.proofs.coarse.FedUntil.{lawful-until}

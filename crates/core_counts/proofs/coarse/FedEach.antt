@@ -1,11 +1,11 @@
 -- A relation of the shelf before and after each step of an operation holds over each entry.
 use Rattle.core_counts.proofs.Prelude.{◌≡◌, inl, inr, ◌+◌, ℕ, List, [], ◌∷◌, ◌++◌, Bool, true, false, Option, Some, None, MatchOption, position, refl, sym, ap, subst, ◌∙◌, append_assoc, xid_at, Waiting, waiting_at, Entry, Began, Answered, Dialed, Sent, Executed, Foreign, Flushed, Reboot, Delivered, Failed, Clock, Op, History, Lawful, said_of, Shelf, machine_of, Mounted, Purpose, Setup, is_busy, moves_none, moves_more, BeginsIf, TakesAt, View, Numbered, StepsTo, HearsRecord, Reaches, goes, last_reading, begins-unbegun, dropped, replied, sent_now, FailedNow, goes_on, gives_up, failed_now, answered_now, taken_one, none-busy, heard-lost, reached-rows, Passes, until, WasRun}
-use Rattle.rpc_retry.specs.Take.{after_taking}
 use Rattle.client_core.specs.Steps.{Moves}
 use Rattle.core_facts.proofs.Cases.{Heard, heard}
 use Rattle.core_facts.proofs.Counting.{reached-count}
-use Rattle.core_answers.specs.pages.Passing as passing
 use Rattle.core_counts.specs.coarse.Fed.{EachStep}
+use Rattle.rpc_retry.specs.Take.{after_taking}
+use Rattle.core_answers.specs.pages.Passing as passing
 use Rattle.core_counts.proofs.coarse.FedSteps.{StepLaws, passed-known, ran, starts-step, stirs-step, takes-step}
 use Rattle.core_counts.proofs.coarse.FedUntil.{lawful-until}
 use Rattle.core_counts.proofs.coarse.Lost.{lost-shelf}

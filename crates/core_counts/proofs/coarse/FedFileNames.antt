@@ -2,6 +2,7 @@
 -- LOOKUP was answered with.
 -- ---- writes
 use Rattle.core_counts.proofs.Prelude.{◌≡◌, ◌-◌, ℕ, Bool, true, false, List, Option, Some, None, Result, Ok, Err, inl, inr, refl, ap, ◌∙◌, Fault, Call, Reply, of_file, last_end, is_first, Next, Shelf, Turn, CloseFile, Closing, Removal, Opening, OpeningNext, Saving, Writing, refusal_of, joined, file_at, OpeningStep, by-step, ends_as, WalkNext, file_to_write, FileMachine, Machine, PathMachine, file_of, slot_taken, begun_at, Starts, Resumes, Takes, PutFile, Putting}
+use Rattle.op_machines.specs.Openers.{placed}
 use Rattle.world_model.specs.declared.answer.Answer.TheVariants as answers
 use Rattle.client_shelf.specs.Unmade.{came_unmade}
 use Rattle.client_shelf.specs.declared.next.Next.TheVariants as nexts
@@ -20,7 +21,6 @@ use Rattle.file_ops.specs.TruncateFile.{found_file}
 use Rattle.op_machines.specs.declared.file_machine.FileMachine.TheVariants as files
 use Rattle.op_machines.specs.declared.machine.Machine.TheVariants as machines
 use Rattle.op_machines.specs.FileSteps as steps
-use Rattle.op_machines.specs.Openers.{placed}
 use Rattle.op_machines.specs.PathSteps as paths
 use Rattle.core_counts.proofs.coarse.FedNameSteps.{QuietLaws, CallTells, told-as, left-told, shelf-as, go-told, looked-told, walk-told, name-goes, name-takes}
 use Rattle.core_facts.proofs.FilesKept.{write-starts, write-resumes, write-takes, sync-starts, sync-resumes, sync-takes, truncate-starts, truncate-takes, put-resumes}

@@ -1,6 +1,10 @@
 -- Any fact of the kept names goes on holding after a step, if it does where a name is learnt from a LOOKUP, or looked at, and where those of a directory are
 -- dropped.
 use Rattle.core_counts.proofs.Prelude.{◌≡◌, ℕ, zero, suc, Bool, true, false, List, Option, Some, None, Result, Ok, Err, inl, inr, refl, sym, ap, subst, if◌then◌else◌, Attr, Stamp, stamp_of, DirKept, Fault, Value, Call, Reply, Next, Shelf, Turn, Link, ListDir, Pair, PairNext, Deed, Look, Seek, Move, Remove, RemoveFile, Rename, Stat, SymLink, Visit, Walk, WalkNext, TakesLink, look_up, found_by, look_again, moved_told, text_call, TakesText, TakesRename, TakesShow, sym_link_call, TakesSymLink, NameMachine, access_call, deed_call}
+use Rattle.name_ops.specs.Link.{link_call}
+use Rattle.name_ops.specs.Looking.{LookedNames}
+use Rattle.name_ops.specs.Rename.{rename_call}
+use Rattle.name_ops.specs.SymLink.{sym_linked_told, ChangesByCopy}
 use Rattle.attr_cache.specs.Attrs as attrs
 use Rattle.name_cache.specs.Names as names
 use Rattle.nfs_dir_calls.specs.declared.keeping.DirKept.TheVariants as kept
@@ -10,14 +14,10 @@ use Rattle.client_shelf.specs.Unmade.{names_after}
 use Rattle.name_ops.specs.declared.told.Told.{Told as ChangeTold}
 use Rattle.name_ops.specs.declared.walk.WalkNext.TheVariants as walks
 use Rattle.name_ops.specs.Changing as changing
-use Rattle.name_ops.specs.Link.{link_call}
 use Rattle.name_ops.specs.ListDir as listing
-use Rattle.name_ops.specs.Looking.{LookedNames}
 use Rattle.name_ops.specs.Pairs as pairs
 use Rattle.name_ops.specs.RemoveFile as removals
-use Rattle.name_ops.specs.Rename.{rename_call}
 use Rattle.name_ops.specs.Stat as stats
-use Rattle.name_ops.specs.SymLink.{sym_linked_told, ChangesByCopy}
 use Rattle.name_ops.specs.Visiting as visiting
 use Rattle.name_ops.specs.Walking as walking
 use Rattle.op_machines.specs.declared.name_machine.NameMachine.TheVariants as machines

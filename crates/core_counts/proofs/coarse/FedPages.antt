@@ -1,12 +1,12 @@
 -- What an operation makes of the kept pages, it makes by steps of their machine.
 use Rattle.core_counts.proofs.Prelude.{◌≡◌, ◌≤◌, ◌-◌, ◌&&◌, ◌||◌, ◌⊎◌, inl, inr, ℕ, Bool, true, false, nat_le, List, length, take, drop, Some, None, Result, Ok, refl, ap, subst, arith, if◌then◌else◌, nat_tests, length-take, Attr, Verf, Stamp, Wcc, stamp_of, start_of, Pages, after_page, saw, Fault, Executed, Call, Reply, At, History, kept_page}
 use Rattle.std.proofs.Common.{nat_lt}
+use Rattle.page_cache.specs.Pages.{opened, wrote, cut}
+use Rattle.file_ops.specs.Kept.{is_given, offered_told, offered}
 use Rattle.nfs_file_calls.specs.declared.call.FileCall.TheVariants as files
 use Rattle.nfs_file_calls.specs.declared.owned.FileKept.TheVariants as kept
-use Rattle.page_cache.specs.Pages.{opened, wrote, cut}
 use Rattle.world_model.specs.declared.message.Call.TheVariants as calls
 use Rattle.world_model.specs.declared.message.Reply.TheVariants as replies
-use Rattle.file_ops.specs.Kept.{is_given, offered_told, offered}
 use Rattle.file_ops.specs.TruncateFile.{size_call}
 use Rattle.law_pages.specs.Feeds.{IsOffered}
 use Rattle.core_answers.proofs.pages.FilePages.{QuietLaws, ToldLaws}

@@ -1,13 +1,14 @@
 -- A relation of the shelf before and after each step of an operation holds of each step of the core.
 use Rattle.core_counts.proofs.Prelude.{◌≡◌, ◌<◌, ◌+◌, ◌-◌, inl, inr, ℕ, List, [], ◌∷◌, ◌++◌, length, false, position, slice_get, Some, option_map, Result, Ok, Err, sym, ap, subst, ◌∙◌, append_assoc, append-nil, arith, xid_at, Waiting, waiting_at, Fault, Entry, Sent, Delivered, Call, Reply, Op, Heard, History, Lawful, HasXid, SpellsCall, FirstSent-grow, At-grow, At-below, At-back, At-last, length_last, said_of, Says, Next, Shelf, Turn, machine_of, Mounted, Machine, Starts, Resumes, Takes, Purpose, Busy, Setup, is_busy, with_state, Leads, Stirs, counted, StartsLane, TakesAt, View, turn_at, unmade_turn, Numbered, in_flight, HearsRecord, Reaches, IsMade, IsOutstanding, Tried, begins-unbegun, taken_one, was-sent, says-of, Known, reached-all, taker-is, taker-one, reached-rows, AskedOf, ThenOf, Passes, IsNfs, Both, nfs-of, WasRun}
 use Rattle.call_replies.specs.Says.{SpellsOne}
+use Rattle.core_facts.specs.Tries.{unsent, runs, ended}
+use Rattle.core_facts.proofs.Keeping.{reached-kept}
+use Rattle.core_answers.proofs.pages.PageCalls.{both-asks}
 use Rattle.client_shelf.specs.declared.next.Next.TheVariants as nexts
 use Rattle.core_facts.specs.Counted.{IsOfOperation}
-use Rattle.core_facts.specs.Tries.{unsent, runs, ended}
 use Rattle.core_facts.proofs.AllAwaited.{Awaits}
 use Rattle.core_facts.proofs.Flown.{Flown, keeps-flown}
 use Rattle.core_facts.proofs.Owning.{reached-owned}
-use Rattle.core_facts.proofs.Keeping.{reached-kept}
 use Rattle.core_answers.specs.bonds.Kept.{HadShown}
 use Rattle.core_answers.proofs.bonds.AttrsShown.{time-grows, answered-last}
 use Rattle.core_answers.proofs.bonds.Executions.{answered-ran}
@@ -17,7 +18,6 @@ use Rattle.core_answers.proofs.bonds.NamesShown.{awaits-asks}
 use Rattle.core_answers.proofs.bonds.Timed.{MadeAfter, reached-timed}
 use Rattle.core_answers.proofs.pages.FilePages.{IsSentAs}
 use Rattle.core_answers.proofs.pages.Keeping.{BondLaws, reached-known}
-use Rattle.core_answers.proofs.pages.PageCalls.{both-asks}
 use Rattle.core_answers.proofs.pages.PiecesCalled.{Spelled, called-sent}
 use Rattle.core_answers.proofs.reads.Passed.{passed-along}
 use Rattle.core_answers.proofs.writes.Along.{KeepsAlong}

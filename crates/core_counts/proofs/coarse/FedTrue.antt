@@ -1,9 +1,9 @@
 -- What the machine of pages keeps under a stamp is the file's page: so it is at first, and after each step.
 use Rattle.core_counts.proofs.Prelude.{inl, inr, ◌⊎◌, ◌≡◌, ◌≤◌, ◌+◌, ◌-◌, ◌*◌, ℕ, suc, true, List, [], ◌∷◌, length, take, drop, Some, refl, sym, ap, subst, ◌∙◌, All-nil, Stamp, Wcc, stamp_of, Keep, Kept, Stale, Differs, Pages, known_of, keep_answer, after_keep, History, Lawful}
 use Rattle.std.proofs.Common.{IsSome}
+use Rattle.page_cache.specs.Pages.{nothing_kept}
 use Rattle.page_cache.specs.Bytes as paged
 use Rattle.page_cache.specs.Bytes.{page_at, put_page, cut_page}
-use Rattle.page_cache.specs.Pages.{nothing_kept}
 use Rattle.page_cache.specs.Sound.{AreKnown}
 use Rattle.page_cache.proofs.Bytes.{page-cut, page-put}
 use Rattle.page_cache.proofs.Believed.{AreTrue, Follows, IsTrueUnder, true-page, true-shown, true-opened, true-saw, true-kept, true-wrote, true-cut}

@@ -1,7 +1,7 @@
 -- What came first of a lawful history is lawful.
 use Rattle.core_counts.proofs.Prelude.{◌≡◌, ◌<◌, ℕ, suc, List, ◌++◌, length, sym, ap, subst, arith, Entry, Began, Answered, Dialed, Sent, Executed, Foreign, Flushed, Reboot, Delivered, Failed, Clock, At, History, Lawful, At-grow, At-below, At-back, until}
-use Rattle.std.proofs.lemmas.List.{length-append}
 use Rattle.world_model.specs.Lawful.{LawfulAt, IsReplied, replied, refused}
+use Rattle.std.proofs.lemmas.List.{length-append}
 use Rattle.world_model.specs.Server.{Server}
 
 module _ (t : History) (h rest : List Entry) (along : t.entries ≡ h ++ rest) where

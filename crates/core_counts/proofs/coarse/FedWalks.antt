@@ -1,5 +1,8 @@
 -- Each walk of an operation stands where the names lead that it has gone through.
 use Rattle.core_counts.proofs.Prelude.{◌≡◌, ◌<◌, ◌≤◌, ◌-◌, ℕ, Bool, true, false, List, [], ◌∷◌, ◌++◌, length, take, Option, Some, None, Result, Ok, Err, inl, inr, refl, sym, ap, subst, ◌∙◌, arith, if◌then◌else◌, Attr, Fault, Entry, Began, Call, Reply, Op, length_last, Next, Shelf, Turn, Link, ListDir, Pair, PairNext, Deed, Look, Seek, Move, Remove, RemoveFile, Rename, Stat, SymLink, Visit, Walk, WalkNext, access_call, deed_call, TakesLink, look_again, found_by, text_call, TakesText, TakesRename, TakesShow, sym_link_call, TakesSymLink, Mounted, Machine, NameMachine, PathMachine, machine_of, file_of, slot_taken, begun_at, Starts, Resumes, Takes, Opens, State, Busy, Over, ThenOf}
+use Rattle.name_ops.specs.Link.{link_call}
+use Rattle.name_ops.specs.Rename.{rename_call}
+use Rattle.op_machines.specs.Openers.{placed}
 use Rattle.attr_cache.specs.Attrs as attrs
 use Rattle.world_model.specs.declared.op.Op.TheVariants as ops
 use Rattle.dir_list.specs.declared.progress.Step.{Step}
@@ -10,18 +13,15 @@ use Rattle.client_shelf.specs.declared.next.Next.TheVariants as nexts
 use Rattle.name_ops.specs.declared.visit.VisitNext.{VisitNext}
 use Rattle.name_ops.specs.declared.walk.WalkNext.TheVariants as walks
 use Rattle.name_ops.specs.Changing as changing
-use Rattle.name_ops.specs.Link.{link_call}
 use Rattle.name_ops.specs.ListDir as listing
 use Rattle.name_ops.specs.Pairs as pairs
 use Rattle.name_ops.specs.RemoveFile as removals
-use Rattle.name_ops.specs.Rename.{rename_call}
 use Rattle.name_ops.specs.Stat as stats
 use Rattle.name_ops.specs.Visiting as visiting
 use Rattle.name_ops.specs.Walking as walking
 use Rattle.op_machines.specs.declared.machine.Machine.TheVariants as machines
 use Rattle.op_machines.specs.declared.name_machine.NameMachine.TheVariants as names
 use Rattle.op_machines.specs.NameSteps as steps
-use Rattle.op_machines.specs.Openers.{placed}
 use Rattle.op_machines.specs.PathSteps as paths
 use Rattle.core_facts.proofs.AllAwaited.{PathOr, Awaits}
 use Rattle.core_facts.proofs.Awaited.{WalkAwaits, OwnOr, PairOr}

@@ -3,10 +3,10 @@
 use Rattle.core_counts.proofs.Prelude.{◌≡◌, inl, inr, ℕ, List, [], ◌∷◌, ◌++◌, Bool, true, false, Option, Some, None, MatchOption, position, refl, sym, ap, subst, ◌∙◌, xid_at, Waiting, failed_after, next_xid, waiting_at, awaited, at_sent, before_sent, Answer, Entry, Began, Answered, Dialed, Sent, Executed, Foreign, Flushed, Reboot, Delivered, Failed, Clock, Op, said_of, Shelf, Machine, Fits, Purpose, State, Setup, IsFresh, is_busy, IsIdle, numbers_of, Stirs, moves_none, moves_more, counted, StartsLane, BeginsIf, TakesAt, AnswersAt, View, MaySetUp, IsSetUp, StepsTo, HearsRecord, Reaches, begins, goes, loses, last_reading, dropped, replied, sent_now, FailedNow, goes_on, gives_up, failed_now, answered_now, taken_one, none-busy, heard-lost, Known, purpose_at, reached-all, LanesKnown, quiet-facts, lanes-stay, lanes-begin, lanes-under-way, Rows, rows-stay, same-rows, rows-grow, silent-grow, taken-quiet, not-sent, taken-rows, SameCalls, sent-purposes, stirs-stay, starts-stay, steps-stay}
 use Rattle.rpc_retry.proofs.Records.{before_failed}
 use Rattle.client_core.specs.Steps.{Moves}
-use Rattle.core_facts.specs.InFlight.{IsUnbegun}
 use Rattle.core_facts.proofs.Cases.{Heard, heard}
 use Rattle.core_facts.proofs.Counting.{stirs-count, starts-count, hears-count}
 use Rattle.core_answers.proofs.writes.Along.{failed-purposes}
+use Rattle.core_facts.specs.InFlight.{IsUnbegun}
 use Rattle.core_session.proofs.saves.HearingAlong.{IsPlain}
 use Rattle.core_counts.proofs.coarse.Onward.{Ahead, on-same, ahead-of}
 

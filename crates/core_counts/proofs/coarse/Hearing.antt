@@ -1,20 +1,20 @@
 -- What a reply makes of the machine, as an operation takes what came of its call.
 use Rattle.core_counts.proofs.Prelude.{◌≡◌, ◌⊎◌, inl, inr, ℕ, true, false, List, Option, Some, Result, Ok, refl, sym, ap, subst, ◌∙◌, decided, Verf, Wcc, Held, next_xid, AreSound, without, Fault, Call, Reply, Pending, of_file, OnFile, acked_by, at_xid, landed, landed_part, with_xid, FilePending, rest_at, piece_under, Turn, Saving, Purpose, Setup, SameUnder, EachSound, Shows, Hears, ShownCalls}
+use Rattle.write_back.specs.Pieces.{Sent}
+use Rattle.step_pending.specs.Cells.{IsRest, Leads}
+use Rattle.core_counts.specs.coarse.Runs.{heard_as}
 use Rattle.std.specs.Prelude.{unwrap_or}
 use Rattle.nfs_file_calls.specs.declared.owned.FileKept.TheVariants as kept
 use Rattle.world_model.specs.declared.message.Reply.TheVariants as replies
 use Rattle.write_back.specs.declared.change.Change.TheVariants as by_change
-use Rattle.write_back.specs.Pieces.{Sent}
 use Rattle.file_ops.specs.Saves as saves
 use Rattle.model_writes.specs.Machine as coarse
 use Rattle.model_writes.specs.Story as story
-use Rattle.step_pending.specs.Cells.{IsRest, Leads}
 use Rattle.step_pending.specs.Steps.{Renames, IsOf}
 use Rattle.step_pending.proofs.Hearing.{heard-leads}
 use Rattle.step_pending.proofs.Renaming.{renamed-leads}
 use Rattle.step_pending.proofs.Replied.{acked-leads, returned-leads, refused-leads}
 use Rattle.core_counts.specs.coarse.Moves as machine
-use Rattle.core_counts.specs.coarse.Runs.{heard_as}
 use Rattle.core_counts.proofs.coarse.Calls.{CommitOr, leaves-places, shown-ended}
 use Rattle.core_counts.proofs.coarse.Led.{Led}
 use Rattle.core_counts.proofs.coarse.Taken.{Fates}

@@ -2,13 +2,13 @@
 use Rattle.core_counts.proofs.Prelude.{◌≡◌, inl, inr, ◌⊎◌, ◌+◌, length, ℕ, Bool, true, false, [], ◌∷◌, Option, Some, None, refl, sym, subst, Held, Fault, Call, chosen, piece_of, Pending, of_file, OnFile, PutsInFlight, Segment, Segments, Next, Saving, IsUnused, Purpose, Setup, After, EachSound, Shows, Stops, Moves, ShownCalls}
 use Rattle.write_back.specs.Choice.{with_sent}
 use Rattle.write_back.specs.Files.{PutsPiece}
+use Rattle.step_pending.specs.Cells.{Leads}
 use Rattle.write_back.specs.Pieces.{Sent}
 use Rattle.client_shelf.specs.declared.next.Next.TheVariants as nexts
 use Rattle.file_ops.specs.Saves as saves
 use Rattle.file_ops.specs.Syncs as syncs
 use Rattle.model_writes.specs.Machine.{View}
 use Rattle.model_writes.specs.Story.{File}
-use Rattle.step_pending.specs.Cells.{Leads}
 use Rattle.step_pending.specs.Steps.{TakesOff}
 use Rattle.step_pending.proofs.TakingOff.{sent-leads}
 use Rattle.core_counts.proofs.coarse.Long.{piece-long}

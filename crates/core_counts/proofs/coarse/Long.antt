@@ -3,11 +3,11 @@ use Rattle.core_counts.proofs.Prelude.{◌≡◌, ◌<◌, ◌≤◌, ◌⊎◌,
 use Rattle.std.proofs.Common.{min, length-take}
 use Rattle.std.specs.Prelude.{nat_le, nat_eq, not}
 use Rattle.std.proofs.lemmas.Bool.{le-ltb, and_parts}
-use Rattle.write_back.specs.declared.state.State.{State}
 use Rattle.write_back.specs.declared.state.State.TheVariants.{Waiting}
 use Rattle.write_back.specs.Choice.{may_go, how_of_segment, run_from, chosen_from, bytes_in}
 use Rattle.write_back.specs.Pieces.{Sent, overlaps}
 use Rattle.write_back.specs.Segments.{AreApart, end_of, head_of}
+use Rattle.write_back.specs.declared.state.State.{State}
 use Rattle.write_back.proofs.Cells.{later-none}
 use Rattle.write_back.proofs.Flying.{overlaps-free}
 use Rattle.write_back.proofs.Gathering.{run-zero}

@@ -1,7 +1,7 @@
 -- As a session is lost, and from then on, what is kept stays as it is.
 use Rattle.core_counts.proofs.Prelude.{◌≡◌, inl, inr, ℕ, List, ◌∷◌, [], ◌++◌, Bool, true, false, length, refl, sym, ap, subst, ◌∙◌, Entry, Began, Answered, Dialed, Sent, Executed, Foreign, Flushed, Reboot, Delivered, Failed, Clock, Op, Machine, Busy, Setup, counted, BeginsIf, View, StepsTo, Reaches, last_reading, dropped, replied, sent_now, FailedNow, goes_on, gives_up, failed_now, answered_now, taken_one}
-use Rattle.core_facts.specs.Resting.{NoneBusy}
 use Rattle.core_facts.proofs.Cases.{Heard, heard}
+use Rattle.core_facts.specs.Resting.{NoneBusy}
 use Rattle.core_facts.proofs.Resting.{leads-lost, moves-lost, own-lost, own-none, none-moves, comes-to-rest}
 
 module _ (machine_of : ℕ → Op → Machine) (setup : Setup) where

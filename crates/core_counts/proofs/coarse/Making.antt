@@ -1,23 +1,23 @@
 -- What a step leads to: the call is made for which the operation asks, or reaches it as a refusal; or it waits, or has its answer.
 use Rattle.core_counts.proofs.Prelude.{◌≡◌, ◌≤◌, ◌≢◌, ◌⊎◌, inl, inr, ◌+◌, ℕ, Bool, true, false, length, List, [], ◌∷◌, ◌++◌, Option, Some, None, option_map, Err, refl, sym, ap, subst, ◌∙◌, arith, cases_lt, eqb-true, Waiting, Held, next_xid, made_call, waiting_at, waits_early, at_made, others_made, Entry, Call, SpellsCallBy, proc_of, Pending, of_file, OnFile, at_xid, landed, FilePending, piece_under, Next, Shelf, Turn, Saving, IsReady, IsUnused, Mounted, Machine, machine_of, Purpose, Setup, record_of, with_state, Makes, Refuses, IsRefused, Leads, View, turn_at, unmade_turn, Flies, flies_of, sender, look_at, nfs-of, Rows, made-known, made-asked, written_file, one-call, Asks, commits_of, After, Free, SameUnder, NearAs, unmade-has, Has, call_of, EachSound, Shows, Stops, MakesLong, Moves, Shown, ShownCalls}
-use Rattle.std.specs.Prelude.{nat_eq}
-use Rattle.nfs_file_calls.specs.declared.call.FileCall.TheVariants as files
-use Rattle.world_model.specs.declared.message.Call.TheVariants as calls
-use Rattle.write_back.specs.declared.change.Change.TheVariants as by_change
 use Rattle.write_back.specs.Pieces.{Sent}
-use Rattle.client_shelf.specs.declared.next.Next.TheVariants as nexts
-use Rattle.file_ops.specs.Saves as saves
-use Rattle.file_ops.specs.Syncs as syncs
 use Rattle.client_core.specs.Steps.{put_view}
 use Rattle.core_facts.proofs.Flown.{Flown}
 use Rattle.core_answers.specs.writes.Alone.{IsWaiting}
 use Rattle.core_answers.proofs.writes.OwnPieces.{carries-same, after-same}
 use Rattle.core_answers.proofs.writes.Under.{under-last}
 use Rattle.core_session.proofs.saves.WholeSteps.{HasPiece}
+use Rattle.core_counts.specs.coarse.Moves.{Move}
+use Rattle.std.specs.Prelude.{nat_eq}
+use Rattle.nfs_file_calls.specs.declared.call.FileCall.TheVariants as files
+use Rattle.world_model.specs.declared.message.Call.TheVariants as calls
+use Rattle.write_back.specs.declared.change.Change.TheVariants as by_change
+use Rattle.client_shelf.specs.declared.next.Next.TheVariants as nexts
+use Rattle.file_ops.specs.Saves as saves
+use Rattle.file_ops.specs.Syncs as syncs
 use Rattle.model_writes.specs.Machine as coarse
 use Rattle.model_writes.specs.Story as story
 use Rattle.core_counts.specs.coarse.Moves as machine
-use Rattle.core_counts.specs.coarse.Moves.{Move}
 use Rattle.core_counts.proofs.coarse.Alone.{waits-then, commits-file, no-commit, nothing-flies, grounded}
 use Rattle.core_counts.proofs.coarse.Bearing.{Stays, Since, WithCall, none-stays, takes-by}
 use Rattle.core_counts.proofs.coarse.Calls.{NoWrite, CommitOr, commit-or, shown-called}

@@ -1,5 +1,6 @@
 -- The bytes of any operation end within all places of a file.
 use Rattle.core_counts.proofs.Prelude.{◌≤◌, ◌+◌, ◌-◌, ◌^◌, ℕ, Bool, true, false, List, length, Result, refl, arith, Fault, Reply, Next, Shelf, Turn, Opens, PutFile, Putting, Text, WriteFile, Writing, FileMachine, Machine, PathMachine, Fits, file_of, Takes, PutHas, FileHas, PathHas, TakesHas, StartsHas, NearAs}
+use Rattle.core_session.proofs.order.Adds.{RoomHas}
 use Rattle.file_ops.specs.declared.put_file.Putting.TheVariants as putting
 use Rattle.file_ops.specs.declared.write_file.Text.TheVariants as texts
 use Rattle.file_ops.specs.declared.write_file.Writing.TheVariants as writing
@@ -10,7 +11,6 @@ use Rattle.op_machines.specs.declared.machine.Machine.TheVariants as machines
 use Rattle.op_machines.specs.FileFits.{FileFits}
 use Rattle.op_machines.specs.FileSteps as steps
 use Rattle.op_machines.specs.PathSteps as paths
-use Rattle.core_session.proofs.order.Adds.{RoomHas}
 
 -- ---- the bytes of an operation end within all places
 

@@ -1,5 +1,7 @@
 -- What is known of an operation that waits for WRITEs of a file, or for a COMMIT of one, is known of its save.
 use Rattle.core_counts.proofs.Prelude.{◌≡◌, ℕ, Bool, true, false, List, Option, Some, None, ap, Closing, Putting, Saving, Syncing, Writing, FileMachine, Machine, Opener, file_of, flies_if, flies_put, flies_file, flies_path, flies_of, commits_of}
+use Rattle.core_facts.proofs.Flights.{flies_save, flies_write, flies_sync, flies_close}
+use Rattle.core_answers.proofs.writes.AllFits.{commits_path}
 use Rattle.file_ops.specs.declared.close_file.Closing.TheVariants as closing
 use Rattle.file_ops.specs.declared.put_file.Putting.TheVariants as putting
 use Rattle.file_ops.specs.declared.sync_file.Syncing.TheVariants as syncing
@@ -7,9 +9,7 @@ use Rattle.file_ops.specs.declared.write_file.Writing.TheVariants as writing
 use Rattle.file_ops.specs.Saves as saves
 use Rattle.op_machines.specs.declared.file_machine.FileMachine.TheVariants as files
 use Rattle.op_machines.specs.declared.machine.Machine.TheVariants as machines
-use Rattle.core_facts.proofs.Flights.{flies_save, flies_write, flies_sync, flies_close}
 use Rattle.core_answers.proofs.writes.AllBacks.{Saves, PathSaves}
-use Rattle.core_answers.proofs.writes.AllFits.{commits_path}
 use Rattle.core_answers.proofs.writes.Backs.{SyncSaves, CloseSaves, WriteSaves, PutSaves, FileSaves}
 use Rattle.core_answers.proofs.writes.CallFits.{commits_if, commits_save, commits_write, commits_sync, commits_close, commits_put, commits_file}
 

@@ -1,17 +1,17 @@
 -- A WRITE that can't be made leaves each place as it was before its bytes took off.
 use Rattle.core_counts.proofs.Prelude.{inl, inr, ◌⊎◌, ◌≡◌, ◌≢◌, ℕ, ◌-◌, Bool, true, false, length, Option, Some, None, refl, sym, ap, subst, ◌∙◌, nat_lt, if◌then◌else◌, Change, Pending, of_file, OnFile, at_xid, landed, Flown, FilePending, flown_in, rest_at, fly_at, piece_under, PutsInFlight, Lands, cell_landed, newer_or, answer-return, lands-one-at, EachSound, Shows, if-true, if-false}
 use Rattle.std.proofs.Common.{IfSome}
+use Rattle.write_back.specs.Pieces.{Sent}
+use Rattle.step_pending.specs.Cells.{IsRest, flight_of}
 use Rattle.std.specs.Option.{option_map}
 use Rattle.write_back.specs.declared.change.Change.TheVariants as by_change
 use Rattle.write_back.specs.Choice.{with_sent}
-use Rattle.write_back.specs.Pieces.{Sent}
 use Rattle.write_back.specs.Segments as segments
 use Rattle.write_back.specs.Sound.{IsWhole}
 use Rattle.write_back.proofs.Flying.{flown-some, under-whole}
 use Rattle.model_writes.specs.Machine.{View}
 use Rattle.model_writes.specs.Story.{File}
 use Rattle.model_writes.proofs.AtLemmas.{same_file_or_not}
-use Rattle.step_pending.specs.Cells.{IsRest, flight_of}
 use Rattle.step_pending.proofs.Shown.{some-of}
 
 -- at each place the same is pending, and the same in flight

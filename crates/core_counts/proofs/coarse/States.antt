@@ -1,10 +1,10 @@
 -- The states to which the machine comes beside the core.
 use Rattle.core_counts.proofs.Prelude.{◌≡◌, List, [], Option, Some, None, refl, sym, subst, Held, waiting_at, Entry, Pending, Mounted, Shelf, Purpose, Setup, IsFresh, View, Shows, Moves, Shown, ShownCall}
-use Rattle.model_writes.specs.Machine as coarse
 use Rattle.step_pending.specs.Cells.{IsRest}
 use Rattle.core_counts.specs.coarse.Moves.{IsBegun, IsReached}
-use Rattle.core_counts.specs.coarse.Moves as machine
 use Rattle.core_counts.specs.coarse.Runs.{Runs, StatesReached}
+use Rattle.model_writes.specs.Machine as coarse
+use Rattle.core_counts.specs.coarse.Moves as machine
 use Rattle.core_counts.specs.coarse.Runs as runs
 use Rattle.core_counts.proofs.coarse.Along.{core-coarse}
 

@@ -1,15 +1,15 @@
 -- WRITEs that wait, and those that were sent, were long as they were made.
 use Rattle.core_counts.proofs.Prelude.{◌≡◌, ◌≤◌, ◌⊎◌, inl, inr, ◌+◌, ◌++◌, ℕ, Bool, true, false, List, [], ◌∷◌, length, Option, Some, None, refl, sym, ap, subst, ◌∙◌, arith, append_assoc, append-nil, length-append, eqb-true, eqb-false, Waiting, waiting_at, Entry, Sent, Call, At, SpellsCall, SpellsCallBy, At-cases, Mounted, Purpose, Setup, SendsIf, View, IsSetUp, one-call, call_of, of_file, Stops, MakesLong, Moves, Hears, ShownCall, Shown}
+use Rattle.client_core.specs.Steps.{SendsBy}
+use Rattle.core_counts.specs.coarse.Moves.{Move}
+use Rattle.core_counts.specs.coarse.Runs.{RestsAt, Runs}
 use Rattle.std.specs.Prelude.{nat_eq}
 use Rattle.nfs_file_calls.specs.declared.call.FileCall.TheVariants as files
 use Rattle.world_model.specs.declared.message.Call.TheVariants as calls
-use Rattle.client_core.specs.Steps.{SendsBy}
 use Rattle.law_calls.proofs.CallsWait.{xid_of_call}
 use Rattle.model_writes.specs.Machine as coarse
 use Rattle.model_writes.specs.Story as story
-use Rattle.core_counts.specs.coarse.Moves.{Move}
 use Rattle.core_counts.specs.coarse.Moves as machine
-use Rattle.core_counts.specs.coarse.Runs.{RestsAt, Runs}
 use Rattle.core_counts.specs.coarse.WereLong.{write_call, WasLong}
 use Rattle.core_counts.proofs.coarse.Calls.{CommitOr, commit-or}
 

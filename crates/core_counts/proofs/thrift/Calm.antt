@@ -1,9 +1,9 @@
 -- Of a session of one lane: in each view marks of files are older than the calls of those that read, and pages that are followed stay.
 use Rattle.core_counts.proofs.Prelude.{◌≡◌, ◌<◌, ◌≤◌, inl, inr, ℕ, Bool, true, false, nat_eq, List, [], ◌∷◌, ◌++◌, Option, Some, slice_get, slice_set, Result, Ok, Err, refl, sym, ap, subst, ◌∙◌, arith, eqb-true, eqb-false, Stamp, Waiting, next_xid, made_call, waiting_at, at_made, others_made, Pages, after_page, Answer, Fault, Entry, Reply, Call, proc_of, Next, Machine, Lane, Purpose, State, Busy, Over, Setup, record_of, IsRefused, Refuses, Leads, with_state, View, turn_at, unmade_turn, at-set, Rows, ThenOf, set-other}
+use Rattle.client_core.specs.Steps.{put_view, IsUnmade}
 use Rattle.world_model.specs.declared.answer.Fault.TheVariants as faults
 use Rattle.client_shelf.specs.Unmade.{is_unmade, came_unmade}
 use Rattle.client_shelf.specs.declared.next.Next.TheVariants as nexts
-use Rattle.client_core.specs.Steps.{put_view, IsUnmade}
 use Rattle.core_counts.proofs.thrift.Distinct.{Few}
 use Rattle.core_counts.proofs.thrift.Growth.{GoodPages, good-shown, good-known}
 use Rattle.core_counts.proofs.thrift.OtherPages.{good-later}

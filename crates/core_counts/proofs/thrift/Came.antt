@@ -1,11 +1,11 @@
 -- What a record that comes tells of the call that waits for it.
 use Rattle.core_counts.proofs.Prelude.{◌≡◌, ◌<◌, ℕ, List, [], ◌∷◌, ◌++◌, length, Some, slice_get, Ok, sym, subst, arith, append_assoc, xid_at, Waiting, waiting_at, Entry, Sent, Delivered, Call, Reply, At, Heard, HasXid, SpellsCall, SpellsReply, FirstSent-grow, At-grow, At-below, At-back, At-last, said_of, Says, Next, Mounted, Machine, machine_of, Purpose, Busy, Setup, View, HearsRecord, Reaches, IsMade, Tried, IsOutstanding, was-sent, says-of, reached-rows, ThenOf, Both}
-use Rattle.claims.specs.Thrifty.{CameWithin}
 use Rattle.call_replies.specs.Says.{SpellsOne}
-use Rattle.client_shelf.specs.declared.next.Next.TheVariants as nexts
 use Rattle.core_facts.specs.Tries.{unsent, runs, ended}
-use Rattle.core_answers.proofs.pages.Keeping as keeping
 use Rattle.core_answers.proofs.pages.PageCalls.{both-asks}
+use Rattle.claims.specs.Thrifty.{CameWithin}
+use Rattle.client_shelf.specs.declared.next.Next.TheVariants as nexts
+use Rattle.core_answers.proofs.pages.Keeping as keeping
 
 -- The call that is answered was first sent at a place, and the record spells this reply to it alone.
 pub record CameNow (h : List Entry) (rec : List ℕ) (xid : ℕ) (call : Waiting Purpose) (asked : Call) (reply : Reply) : Type 0 where

@@ -1,13 +1,13 @@
 -- Each page is kept once, and so no page gives way where the reads met no more pages than are kept.
 use Rattle.core_counts.proofs.Prelude.{◌≡◌, ◌≢◌, ◌≤◌, ℕ, zero, suc, Bool, true, false, not, cond, nat_eq, List, [], ◌∷◌, length, map, take, All, Option, Some, None, refl, sym, ap, subst, ◌∙◌, arith, option_map_or, remove_entry, All-nil, All-head, All-cons, All-weaker, PagePlace, is_place, fronted}
+use Rattle.std.specs.Map.{lookup_entry}
+use Rattle.std.proofs.lemmas.List.Elements.{All-tail, All-take, All-map}
+use Rattle.page_cache.specs.Pages.{without_file}
 use Rattle.std.specs.Prelude.{AllPairs}
 use Rattle.std.specs.Cmp.Lexicographic.{pointwise}
-use Rattle.std.specs.Map.{lookup_entry}
 use Rattle.std.proofs.lemmas.List.{length-map}
-use Rattle.std.proofs.lemmas.List.Elements.{All-tail, All-take, All-map}
 use Rattle.std.proofs.lemmas.List.Kept.{AllPairs-cons}
 use Rattle.lru.specs.LruCache.{promoted}
-use Rattle.page_cache.specs.Pages.{without_file}
 use Rattle.page_cache.proofs.Shown.{same_place}
 use Rattle.claims.specs.Thrifty.{FilePage, most_pages}
 

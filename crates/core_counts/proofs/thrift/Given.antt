@@ -1,17 +1,17 @@
 -- The step in which a page is given: the read that is under way takes the reply, and keeps the page.
 use Rattle.core_counts.proofs.Prelude.{◌≡◌, ◌<◌, ◌≤◌, ◌&&◌, ◌||◌, ◌⊎◌, inl, inr, not, ℕ, Bool, true, false, nat_eq, List, [], ◌∷◌, ◌++◌, length, Option, Some, Result, Ok, refl, sym, ap, subst, ◌∙◌, arith, if◌then◌else◌, eqb-true, cases_lt, nat_tests, Attr, Accepted, Pages, after_page, Pending, Answer, Fault, Entry, Began, Answered, Call, Reply, Op, At, SpellsReply, AnsweredBefore, EndsAt, UnderWay, At-grow, At-below, At-back, Next, Repeat, Turn, Phase, Reading, place_after, part, refusal, said_to, breaks_rule}
 use Rattle.std.proofs.Common.{nat_lt}
-use Rattle.nfs_file_calls.specs.declared.owned.FileKept.TheVariants as kept
 use Rattle.rpc_message.specs.Reply.{RpcReply, refusal_number, SpellsRefusal}
+use Rattle.world_model.specs.Operations.{Ended, answered, unanswered}
+use Rattle.file_ops.specs.ReadReply.{Said}
+use Rattle.nfs_file_calls.specs.declared.owned.FileKept.TheVariants as kept
 use Rattle.rpc_message.specs.declared.reply.ReplyFault.{ReplyFault}
 use Rattle.rpc_message.proofs.ReplyLaws.{reply_again}
 use Rattle.world_model.specs.declared.answer.Fault.TheVariants as faults
 use Rattle.world_model.specs.declared.message.Reply.TheVariants as replies
-use Rattle.world_model.specs.Operations.{Ended, answered, unanswered}
 use Rattle.claims.specs.PageRules.{WrongData, longer, unlike, nothing}
 use Rattle.file_ops.specs.declared.reading.Phase.TheVariants as phases
 use Rattle.file_ops.specs.Reading as reading
-use Rattle.file_ops.specs.ReadReply.{Said}
 use Rattle.core_session.proofs.current.FedPages.{gone-pages, settled-pages}
 
 -- ---- the part is noted, and then pages are looked at alone

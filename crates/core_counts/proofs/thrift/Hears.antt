@@ -1,15 +1,15 @@
 -- Along a session of one lane: where the reply to a call comes, pages that are followed stay.
 use Rattle.core_counts.proofs.Prelude.{◌≡◌, ◌<◌, ◌≤◌, ◌+◌, inl, ℕ, Bool, true, false, nat_eq, nat_le, List, [], ◌∷◌, ◌++◌, length, Option, Some, None, position, slice_get, Result, Ok, refl, sym, ap, subst, ◌∙◌, arith, option_map_or, eqb-true, eqb-false, nat_tests, Attr, Stamp, stamp_of, xid_at, Waiting, next_xid, waiting_at, without, others_taken, gone, Pages, Fault, Entry, Sent, Delivered, Call, Reply, At, SpellsCall, read_call, At-grow, At-below, length_last, said_of, breaks_rule, Mounted, machine_of, Lane, Purpose, Busy, Setup, is_busy, with_state, TakesAt, View, turn_at, HearsRecord, Reaches, begins-unbegun, taken_one, flies_of, Known, at-set, at-position, Rows, rows-stay, rows-grow, taken-quiet, not-sent, taken-rows, ThenOf, set-other, reached-good, NoCall, NoShelf, NoStory, no-laws, CallFits, fits-laws}
+use Rattle.page_cache.specs.Pages.{mark_of}
+use Rattle.claims.specs.Thrifty.{CameWithin, ChangesFile}
+use Rattle.core_facts.proofs.Tales.{IsExpected}
 use Rattle.nfs_file_calls.specs.declared.call.FileCall.TheVariants as file_calls
 use Rattle.nfs_file_calls.specs.declared.owned.FileKept.TheVariants as kept
-use Rattle.page_cache.specs.Pages.{mark_of}
 use Rattle.world_model.specs.declared.message.Call.TheVariants as calls
 use Rattle.world_model.specs.declared.message.Reply.TheVariants as replies
 use Rattle.claims.specs.Shown.{ShowsAttr, of_object, object_of}
-use Rattle.claims.specs.Thrifty.{CameWithin, ChangesFile}
 use Rattle.file_ops.specs.PagesOpened.{is_late, opened_pages}
 use Rattle.file_ops.specs.Reading as reading
-use Rattle.core_facts.proofs.Tales.{IsExpected}
 use Rattle.core_answers.proofs.bonds.Learnt.{IsOn}
 use Rattle.core_counts.proofs.thrift.Calm.{Kind, quiet, putting, saver, Young, leads-calm}
 use Rattle.core_counts.proofs.thrift.Came.{CameNow, CameLate, OutNow, out-now, came-now, came-within, came-late, Mine, mine-of}

@@ -1,13 +1,13 @@
 -- A page that is kept under its file's known stamp stays so, after each call of the cache that tells of no other state of the file and needs no room.
 use Rattle.core_counts.proofs.Prelude.{◌≡◌, ◌<◌, ◌≤◌, inl, inr, ℕ, Bool, true, false, not, cond, ◌||◌, nat_eq, nat_le, List, [], ◌∷◌, length, Option, Some, None, option_map, refl, sym, ap, subst, ◌∙◌, arith, if◌then◌else◌, option_map_or, remove_entry, eq-eqb, nat_tests, Stamp, PagePlace, FileState, Keep, Kept, Stale, Differs, Pages, state_of, known_of, is_place, fronted, keep_answer, after_keep, after_page, saw, same-self}
 use Rattle.std.proofs.Common.{max, option_and_then}
-use Rattle.std.specs.Cmp.Lexicographic.{pointwise}
 use Rattle.std.specs.Map.{lookup, lookup_entry}
+use Rattle.page_cache.specs.Pages.{mark_of, with_state, restarted, is_stamp, without_file, opened, opened_over, kept, saw_over}
+use Rattle.page_cache.proofs.Inserts.{same, same-is}
+use Rattle.std.specs.Cmp.Lexicographic.{pointwise}
 use Rattle.std.proofs.lemmas.List.{take_all}
 use Rattle.lru.specs.LruCache.{promoted}
 use Rattle.nfs_types.specs.Stamps.{same_stamp}
-use Rattle.page_cache.specs.Pages.{mark_of, with_state, restarted, is_stamp, without_file, opened, opened_over, kept, saw_over}
-use Rattle.page_cache.proofs.Inserts.{same, same-is}
 use Rattle.page_cache.proofs.Shown.{same_place}
 use Rattle.page_cache.proofs.States.{state_opened, state_kept, state_saw, state-with, state-opened, state-kept, state-saw, known-after, mark-after, Tells, keep-tells, is_stamp-is}
 

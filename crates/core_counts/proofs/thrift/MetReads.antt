@@ -1,7 +1,7 @@
 -- A page that a READ met is one of those that the range of a read meets.
 use Rattle.core_counts.proofs.Prelude.{◌<◌, inl, inr, ℕ, List, arith, Entry, Sent, At, SpellsCall, Terms, read_call, MeetsPage, Mounted, Setup, View, GoesFrom, session, early-or}
-use Rattle.claims.specs.Pages.{InsidePages}
 use Rattle.claims.specs.Thrifty.{FilePage, IsMet}
+use Rattle.claims.specs.Pages.{InsidePages}
 use Rattle.core_session.proofs.calls.Causes.{under-now}
 use Rattle.core_counts.proofs.thrift.ReadsLong.{reads, none-early}
 

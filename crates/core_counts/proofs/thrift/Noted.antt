@@ -1,11 +1,11 @@
 -- What becomes of the kept pages where the part that a READ gave is noted: those that are followed stay, and the pages that it gave are kept.
 use Rattle.core_counts.proofs.Prelude.{◌≡◌, ◌<◌, ◌≤◌, ◌+◌, ◌-◌, ◌/◌, ◌&&◌, ◌||◌, ◌==◌, ◌⊎◌, inl, inr, ℕ, zero, suc, Bool, true, false, nat_le, List, length, take, drop, Option, Some, None, option_map, refl, sym, ap, subst, ◌∙◌, arith, if◌then◌else◌, remove_entry, cases_lt, eq-eqb, nat_tests, Attr, Stamp, stamp_of, FileState, Kept, start_of, Pages, state_of, known_of, saw, keep_answer, is_place, same-self, kept_page}
 use Rattle.std.proofs.Common.{nat_lt}
+use Rattle.page_cache.specs.Pages.{answer_over, kept}
+use Rattle.file_ops.specs.Kept.{is_given, offered_told, offered, offered_from}
 use Rattle.std.specs.Option.{option_and_then}
 use Rattle.std.proofs.lemmas.List.{length-drop}
-use Rattle.page_cache.specs.Pages.{answer_over, kept}
 use Rattle.page_cache.proofs.States.{state_kept, state-kept}
-use Rattle.file_ops.specs.Kept.{is_given, offered_told, offered, offered_from}
 use Rattle.file_ops.specs.Reading as reading
 use Rattle.claims.specs.Thrifty.{GivesPage, whole, last}
 use Rattle.core_counts.proofs.thrift.Distinct.{Few}

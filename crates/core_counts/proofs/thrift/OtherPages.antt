@@ -2,8 +2,8 @@
 use Rattle.core_counts.proofs.Prelude.{◌≡◌, ◌≤◌, ℕ, Bool, true, false, List, [], ◌∷◌, map, Option, Some, None, option_map, refl, sym, ap, ◌∙◌, arith, if◌then◌else◌, All-weaker, Stamp, Wcc, FileState, Pages, state_of, known_of, is_place}
 use Rattle.std.proofs.Common.{option_and_then}
 use Rattle.std.proofs.lemmas.List.Elements.{All-map}
-use Rattle.page_cache.specs.Bytes.{put_page, cut_page}
 use Rattle.page_cache.specs.Pages.{is_of_other, changed_page, changed_over, led_on, led_to, wrote, cut}
+use Rattle.page_cache.specs.Bytes.{put_page, cut_page}
 use Rattle.page_cache.proofs.Inserts.{same, same-is}
 use Rattle.page_cache.proofs.States.{state_changed, state-wrote, state-cut, known-after, mark-after}
 use Rattle.core_counts.proofs.thrift.Distinct.{Entry, Distinct, Few, IsApart, distinct-others}

@@ -1,11 +1,11 @@
 -- What is known of each kept page, by its file and its number alone, stays known after each call of the cache.
 use Rattle.core_counts.proofs.Prelude.{◌≡◌, ◌<◌, ◌≤◌, ◌+◌, ◌-◌, ◌/◌, ◌&&◌, ◌||◌, ◌==◌, ◌⊎◌, inl, inr, ℕ, zero, suc, Bool, true, false, nat_le, List, [], length, take, drop, All, Option, Some, None, refl, arith, if◌then◌else◌, option_map_or, nat_tests, Attr, Stamp, Wcc, stamp_of, PagePlace, FileState, Keep, Kept, Stale, Differs, start_of, Pages, state_of, is_place, fronted, keep_answer, after_keep, saw, kept_page}
 use Rattle.std.proofs.Common.{max, nat_lt}
-use Rattle.std.proofs.lemmas.List.{length-drop}
 use Rattle.page_cache.specs.Bytes.{put_page, cut_page}
 use Rattle.page_cache.specs.Pages.{with_state, restarted, is_stamp, opened, opened_over, kept, saw_over, led_on, led_to, changed_over, wrote, cut}
-use Rattle.page_cache.proofs.Entries.{All-promoted, All-fronted, All-others, All-changed}
 use Rattle.file_ops.specs.Kept.{is_given, offered_told, offered, offered_from}
+use Rattle.std.proofs.lemmas.List.{length-drop}
+use Rattle.page_cache.proofs.Entries.{All-promoted, All-fronted, All-others, All-changed}
 use Rattle.file_ops.specs.Reading as reading
 use Rattle.file_ops.specs.Saves.{untold}
 use Rattle.core_answers.proofs.pages.FilePages.{QuietLaws}

@@ -1,6 +1,7 @@
 -- Along a history each kept page was met by a READ that was sent before, and what a read asks for is as long as may be.
 use Rattle.core_counts.proofs.Prelude.{◌≡◌, ℕ, List, [], ◌∷◌, ◌++◌, length, Option, Some, None, Result, Ok, refl, sym, ap, subst, ◌∙◌, All-nil, All-weaker, Pages, Fault, Entry, Began, Sent, Call, Reply, Op, At-grow, Next, Shelf, Turn, ReadFile, Phase, Reading, Bytes, Mounted, FileMachine, Machine, machine_of, Starts, Resumes, Takes, State, Busy, Over, Setup, View, Reaches, ThenOf, Both}
 use Rattle.page_cache.specs.Pages.{nothing_kept}
+use Rattle.core_answers.proofs.pages.PageCalls.{PageAwaits, both-asks}
 use Rattle.world_model.specs.declared.op.Op.TheVariants as ops
 use Rattle.client_shelf.specs.declared.next.Next.TheVariants as nexts
 use Rattle.file_ops.specs.declared.reading.Phase.TheVariants as phases
@@ -9,7 +10,6 @@ use Rattle.op_machines.specs.declared.machine.Machine.TheVariants as machines
 use Rattle.core_answers.proofs.pages.FilePages.{IsSentAs}
 use Rattle.core_answers.proofs.pages.Keeping.{BondLaws, WasTaken, Known, reached-known}
 use Rattle.core_answers.proofs.pages.MachinePages.{pages-starts, pages-resumes}
-use Rattle.core_answers.proofs.pages.PageCalls.{PageAwaits, both-asks}
 use Rattle.core_counts.proofs.thrift.PageNames.{Of, quiet-all}
 use Rattle.core_counts.proofs.thrift.PageSteps.{IsOther, other-takes}
 use Rattle.core_counts.proofs.thrift.Parts.{WasMet, AllMet, IsPart, whole, ends, met, PhaseLong}

@@ -1,9 +1,9 @@
 -- How many bytes a READ asks for, and why no more.
 use Rattle.core_counts.proofs.Prelude.{◌≡◌, ◌≤◌, ◌+◌, ◌-◌, ◌/◌, inl, inr, ℕ, zero, suc, Bool, true, false, nat_le, List, length, Option, Some, None, refl, arith, if◌then◌else◌, cases_lt, nat_tests, start_of, Pages, page_of, is_place, after_page, Entry, Sent, At, SpellsCall, read_call, MeetsPage, Phase, Reading, Bytes, place_after, next_page}
 use Rattle.std.proofs.Common.{is_some}
+use Rattle.file_ops.specs.Gather.{Planned, stopped, planned, most_asked, next_plan, next_count}
 use Rattle.page_cache.proofs.Entries.{All-page, All-promoted}
 use Rattle.file_ops.specs.declared.reading.Phase.TheVariants as phases
-use Rattle.file_ops.specs.Gather.{Planned, stopped, planned, most_asked, next_plan, next_count}
 use Rattle.core_counts.proofs.thrift.PageNames.{Of, AllOf}
 
 -- A READ of the file that was sent met the page.

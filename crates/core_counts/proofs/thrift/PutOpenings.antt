@@ -1,5 +1,7 @@
 -- Puts before their bytes are pending: their steps, and what becomes of the kept pages.
 use Rattle.core_counts.proofs.Prelude.{◌≡◌, ◌≤◌, ◌-◌, ◌⊎◌, inl, inr, ℕ, Bool, true, false, List, Result, Ok, Err, refl, sym, ap, subst, ◌∙◌, if◌then◌else◌, Pages, after_page, Answer, Fault, Call, Reply, Next, Shelf, Turn, WalkNext, Led, Opening, OpeningNext, PutFile, Putting, Machine, Opener, PathMachine, file_of, slot_taken, begun_at, Starts, Resumes, Takes, ThenOf, kept-as, Both}
+use Rattle.op_machines.specs.Openers.{opening_in, placed}
+use Rattle.core_answers.proofs.pages.NamePages.{SamePages, walk-takes-kept}
 use Rattle.world_model.specs.declared.answer.Answer.TheVariants as answers
 use Rattle.world_model.specs.declared.answer.Fault.TheVariants as faults
 use Rattle.client_shelf.specs.declared.next.Next.TheVariants as nexts
@@ -14,11 +16,9 @@ use Rattle.op_machines.specs.declared.file_machine.FileMachine.TheVariants as fi
 use Rattle.op_machines.specs.declared.machine.Machine.TheVariants as machines
 use Rattle.op_machines.specs.declared.opener.Opener.TheVariants as openers
 use Rattle.op_machines.specs.FileSteps as steps
-use Rattle.op_machines.specs.Openers.{opening_in, placed}
 use Rattle.op_machines.specs.PathSteps as paths
 use Rattle.core_answers.proofs.bonds.FileCalls.{OpeningOn, PutOn, FileAsks}
 use Rattle.core_answers.proofs.bonds.MachineCalls.{PathOn, Asks}
-use Rattle.core_answers.proofs.pages.NamePages.{SamePages, walk-takes-kept}
 use Rattle.core_session.proofs.current.FedPages.{as-shelf}
 use Rattle.core_session.proofs.kept.OwnTold.{added-same}
 use Rattle.core_counts.proofs.thrift.SaverSteps.{PutSaves, stays-any, stays-done, adds-then}

@@ -1,5 +1,8 @@
 -- Each READ of a session is as long as may be.
 use Rattle.core_counts.proofs.Prelude.{◌≡◌, ◌≤◌, ◌+◌, ◌-◌, ◌*◌, ◌%◌, ◌==◌, inl, inr, ℕ, zero, suc, Bool, true, false, List, [], length, Option, Some, None, refl, sym, subst, ◌∙◌, arith, append-nil, if◌then◌else◌, eqb-true, Entry, Sent, Call, Op, IsCause, mounts, informs, asked, At, SpellsCall, UnderWay, IsOf, Terms, read_call, At-grow, At-below, ReadFile, Phase, Reading, place_after, Mounted, Machine, machine_of, Busy, Setup, View, of_phase, of_reading, in_flight, begins-unbegun, Given, is-given, Expects, expects-laws, PhaseNames, ReadNames, PhaseAt, ReadAt, one-call, IsSession, GoesFrom, Outgoing, session, early-or}
+use Rattle.claims.specs.Thrifty.{IsLong, MetEarlier}
+use Rattle.file_ops.specs.Base.{pages_size}
+use Rattle.core_session.proofs.calls.Outgoing.{sent-nfs}
 use Rattle.std.specs.Int.{div_ceil}
 use Rattle.std.proofs.lemmas.Grind.{div_ceil_times}
 use Rattle.nfs_file_calls.specs.declared.call.FileCall.TheVariants as calls_of
@@ -10,10 +13,8 @@ use Rattle.claims.specs.Asks.{Asks, Acts}
 use Rattle.claims.specs.Asks as asks
 use Rattle.claims.specs.Pages.{page_from, InsidePages}
 use Rattle.world_model.specs.ReadSize.{ReadSized, page_bytes}
-use Rattle.claims.specs.Thrifty.{IsLong, MetEarlier}
 use Rattle.claims.specs.Thrifty as thrift
 use Rattle.file_ops.specs.declared.reading.Phase.TheVariants as phases
-use Rattle.file_ops.specs.Base.{pages_size}
 use Rattle.op_machines.specs.declared.file_machine.FileMachine.TheVariants as files
 use Rattle.op_machines.specs.declared.machine.Machine.TheVariants as machines
 use Rattle.core_facts.proofs.Stories.{good-over}
@@ -21,7 +22,6 @@ use Rattle.core_answers.specs.asks.PutCalls as room
 use Rattle.core_answers.proofs.asks.ReadAsks.{ReadIn, ReadRuns, ReadStory, read-laws}
 use Rattle.core_session.specs.calls.Made.{IsBeside, makes_room, removes}
 use Rattle.core_session.proofs.calls.Causes.{Now, Spelt, under-now, rooted-here, cause, sized-grow}
-use Rattle.core_session.proofs.calls.Outgoing.{sent-nfs}
 use Rattle.core_counts.specs.thrift.Reads.{ReadsLong}
 use Rattle.core_counts.proofs.thrift.Parts.{WasMet, IsPart, whole, ends, met, PhaseLong}
 use Rattle.core_counts.proofs.thrift.PartSteps.{LongIn}

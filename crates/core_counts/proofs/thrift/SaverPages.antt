@@ -1,5 +1,7 @@
 -- What an operation that makes bytes stable, or sets a size, makes of the kept pages where it sends no WRITE.
 use Rattle.core_counts.proofs.Prelude.{◌≡◌, ◌-◌, ℕ, Bool, true, false, List, Option, Some, None, Result, Ok, Err, inl, inr, refl, ap, ◌∙◌, if◌then◌else◌, Fault, Reply, is_first, goes_again, Next, Shelf, Turn, Closing, CloseFile, Removal, PutFile, Putting, Saving, SyncFile, Syncing, WriteFile, Writing, is_full, remove_busy, refusal_of, joined, by-step, ends_as, flies_if, flies_put, kept-as}
+use Rattle.core_facts.proofs.Flights.{flies_save, flies_write, flies_sync, flies_close}
+use Rattle.core_answers.proofs.pages.NamePages.{SamePages}
 use Rattle.world_model.specs.declared.answer.Answer.TheVariants as answers
 use Rattle.client_shelf.specs.declared.next.Next.TheVariants as nexts
 use Rattle.file_ops.specs.declared.close_file.Closing.TheVariants as closing
@@ -11,8 +13,6 @@ use Rattle.file_ops.specs.PutFile as puts
 use Rattle.file_ops.specs.Saves as saves
 use Rattle.file_ops.specs.Syncs as syncs
 use Rattle.file_ops.specs.WriteFile as writes
-use Rattle.core_facts.proofs.Flights.{flies_save, flies_write, flies_sync, flies_close}
-use Rattle.core_answers.proofs.pages.NamePages.{SamePages}
 use Rattle.core_counts.proofs.thrift.SaverSteps.{StateSaves}
 
 -- ---- steps that leave them

@@ -1,5 +1,7 @@
 -- Operations that make bytes stable or set a size, as any operation: what their steps lead to, and what becomes of the kept pages.
 use Rattle.core_counts.proofs.Prelude.{◌≡◌, ◌≤◌, ◌-◌, ℕ, Bool, true, false, List, [], Option, Some, None, Result, Ok, Err, refl, sym, ap, subst, ◌∙◌, Stamp, Wcc, FileCall, Pages, Answer, Fault, Call, Reply, Next, Shelf, Turn, PutFile, Truncating, FileMachine, Machine, Opener, PathMachine, file_of, Starts, Resumes, Takes, flies_file, flies_path, flies_of, ThenOf, written_file, kept-as}
+use Rattle.core_answers.specs.writes.Alone.{write_in}
+use Rattle.core_answers.proofs.pages.NamePages.{SamePages}
 use Rattle.nfs_file_calls.specs.declared.call.FileCall.TheVariants as file_calls
 use Rattle.world_model.specs.declared.message.Call.TheVariants as calls
 use Rattle.claims.specs.Thrifty.{ChangesFile}
@@ -16,8 +18,6 @@ use Rattle.op_machines.specs.declared.machine.Machine.TheVariants as machines
 use Rattle.op_machines.specs.declared.opener.Opener.TheVariants as openers
 use Rattle.op_machines.specs.FileSteps as steps
 use Rattle.op_machines.specs.PathSteps as paths
-use Rattle.core_answers.specs.writes.Alone.{write_in}
-use Rattle.core_answers.proofs.pages.NamePages.{SamePages}
 use Rattle.core_answers.proofs.pages.PageCalls.{PageAwaits}
 use Rattle.core_session.proofs.kept.OwnTold.{takes-wrote}
 use Rattle.core_counts.proofs.thrift.Distinct.{Few}

@@ -1,9 +1,12 @@
 -- What an open, a read or an operation on names makes of the kept pages where its call was answered, and of its moment.
 use Rattle.core_counts.proofs.Prelude.{◌≡◌, ◌≤◌, ℕ, Bool, true, false, List, Option, Some, None, Result, Ok, Err, refl, sym, ap, subst, ◌∙◌, if◌then◌else◌, Attr, Stamp, Attrs, FileKept, Pages, known_of, after_page, Pending, Fault, Call, Reply, Next, Repeat, Shelf, Turn, WalkNext, Led, Opening, OpeningStep, OpeningNext, ReadFile, Phase, Reading, place_after, part, refusal, said_to, said_by, breaks_rule, got_by, FileMachine, Machine, NameMachine, Opener, PathMachine, file_of, Takes, kept-as, Both}
+use Rattle.page_cache.specs.Pages.{opened}
+use Rattle.op_machines.specs.Openers.{placed}
+use Rattle.core_answers.proofs.pages.NamePages.{walk-takes-kept, name-takes-kept}
+use Rattle.core_answers.proofs.pages.PageCalls.{PhaseAwaits, ReadAwaits}
 use Rattle.xdr_codec.specs.declared.blob.Memory as memory
 use Rattle.nfs_file_calls.specs.declared.call.FileCall.TheVariants as file_calls
 use Rattle.nfs_file_calls.specs.declared.owned.FileKept.TheVariants as kept
-use Rattle.page_cache.specs.Pages.{opened}
 use Rattle.world_model.specs.declared.answer.Fault.TheVariants as faults
 use Rattle.world_model.specs.declared.message.Call.TheVariants as calls
 use Rattle.world_model.specs.declared.message.Reply.TheVariants as replies
@@ -22,13 +25,10 @@ use Rattle.op_machines.specs.declared.file_machine.FileMachine.TheVariants as fi
 use Rattle.op_machines.specs.declared.machine.Machine.TheVariants as machines
 use Rattle.op_machines.specs.declared.opener.Opener.TheVariants as openers
 use Rattle.op_machines.specs.FileSteps as steps
-use Rattle.op_machines.specs.Openers.{placed}
 use Rattle.op_machines.specs.PathSteps as paths
 use Rattle.core_answers.proofs.bonds.FileCalls.{StepOn, OpeningOn, ReadOn, FileAsks}
 use Rattle.core_answers.proofs.bonds.Learnt.{IsOn}
 use Rattle.core_answers.proofs.bonds.MachineCalls.{PathOn, Asks}
-use Rattle.core_answers.proofs.pages.NamePages.{walk-takes-kept, name-takes-kept}
-use Rattle.core_answers.proofs.pages.PageCalls.{PhaseAwaits, ReadAwaits}
 use Rattle.core_session.proofs.current.FedPages.{as-shelf, gone-pages, settled-pages, file-resumes, got-is, told-opens, by-opens}
 use Rattle.core_session.proofs.current.OpenMarks.{IsOpening}
 use Rattle.core_session.proofs.current.ReadMarks.{ReadIn}

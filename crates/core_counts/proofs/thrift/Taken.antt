@@ -1,6 +1,9 @@
 -- As the reply comes that gives a page, the page is kept.
 use Rattle.core_counts.proofs.Prelude.{◌≡◌, ◌<◌, ◌≤◌, ℕ, Bool, true, false, List, [], ◌∷◌, ◌++◌, length, Option, Some, None, option_map, position, slice_get, Result, Ok, Err, refl, sym, ap, subst, ◌∙◌, arith, append_assoc, if◌then◌else◌, xid_at, DirKept, FileKept, Accepted, Waiting, waiting_at, FileState, state_of, Fault, Entry, Began, Sent, Delivered, Call, Reply, At, HasXid, SpellsCall, SpellsReply, EndsAt, UnderWay, Terms, read_call, At-grow, At-back, At-last, said_of, Says, ReadFile, Phase, Reading, place_after, breaks_rule, Mounted, Machine, machine_of, Takes, Purpose, Busy, Setup, is_busy, TakesAt, View, turn_at, in_flight, of_phase, of_reading, HearsRecord, Reaches, begins-unbegun, taken_one, Given, is-given, Known, lanes-under-way, Expects, expects-laws, PhaseNames, ReadNames, NoCall, NoShelf, NoStory, no-laws, one-call}
 use Rattle.std.proofs.Common.{nat_lt}
+use Rattle.rpc_message.specs.Reply.{RpcReply, Refused, Denied, reply_at}
+use Rattle.claims.specs.Thrifty.{TookPage}
+use Rattle.call_replies.specs.Says.{said_by}
 use Rattle.nfs_file_calls.specs.declared.call.FileCall.TheVariants as calls_of
 use Rattle.nfs_file_calls.specs.declared.owned.FileKept.TheVariants as kept
 use Rattle.xdr_codec.specs.declared.reader.XdrFault.{XdrFault}
@@ -10,7 +13,6 @@ use Rattle.nfs_file_calls.specs.Calls.{is_file_proc}
 use Rattle.nfs_file_calls.specs.Replies.{file_reply_at}
 use Rattle.rpc_message.specs.declared.reply.ReplyFault.{ReplyFault}
 use Rattle.rpc_message.specs.declared.reply.ReplyFault.TheVariants.{NotReply, Xdr}
-use Rattle.rpc_message.specs.Reply.{RpcReply, Refused, Denied, reply_at}
 use Rattle.world_model.specs.Rules.{most_bytes}
 use Rattle.world_model.specs.declared.answer.Fault.TheVariants as faults
 use Rattle.world_model.specs.declared.message.Call.TheVariants as calls
@@ -18,10 +20,8 @@ use Rattle.world_model.specs.declared.message.Reply.TheVariants as replies
 use Rattle.world_model.specs.declared.op.Op.TheVariants as ops
 use Rattle.world_model.specs.Heard.{Refuses}
 use Rattle.claims.specs.PageRules.{refuses, breaks, wrong_data, WrongData}
-use Rattle.claims.specs.Thrifty.{TookPage}
 use Rattle.call_replies.specs.Records.{results_read}
 use Rattle.call_replies.specs.Results.{dir_said, file_said}
-use Rattle.call_replies.specs.Says.{said_by}
 use Rattle.file_ops.specs.declared.reading.Phase.TheVariants as phases
 use Rattle.file_ops.specs.ReadFile as reads
 use Rattle.file_ops.specs.Reading as reading

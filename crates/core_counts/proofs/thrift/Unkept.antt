@@ -1,10 +1,10 @@
 -- Which pages a READ doesn't meet: none that is kept as it is planned.
 use Rattle.core_counts.proofs.Prelude.{◌≡◌, ◌<◌, ◌≤◌, ◌+◌, ◌-◌, ◌*◌, ◌/◌, ◌%◌, ◌⊎◌, inl, inr, ℕ, zero, suc, Bool, true, false, nat_eq, nat_le, List, [], ◌∷◌, length, All, Option, Some, None, refl, sym, ap, ◌∙◌, arith, if◌then◌else◌, cases_lt, eq-eqb, nat_tests, All-nil, All-cons, All-weaker, PagePlace, start_of, Pages, page_of, is_place, after_page, same-self, MeetsPage, Bytes, place_after, next_page}
 use Rattle.std.proofs.Common.{is_some}
+use Rattle.file_ops.specs.Gather.{Planned, stopped, planned, most_asked, next_plan, next_count}
 use Rattle.std.specs.Cmp.Lexicographic.{pointwise}
 use Rattle.std.specs.Map.{lookup}
 use Rattle.page_cache.proofs.Entries.{All-page, All-promoted}
-use Rattle.file_ops.specs.Gather.{Planned, stopped, planned, most_asked, next_plan, next_count}
 use Rattle.core_counts.proofs.thrift.PageNames.{Of, AllOf}
 
 -- another page than this one of the file

@@ -2,6 +2,8 @@
 use Rattle.core_counts.proofs.Prelude.{◌≡◌, ◌<◌, ◌≤◌, ◌+◌, ◌-◌, ◌/◌, ◌%◌, ◌&&◌, ◌||◌, ◌==◌, inl, inr, not, ℕ, zero, suc, Bool, true, false, nat_eq, List, length, take, Option, Some, None, Result, Ok, Err, refl, sym, ap, subst, ◌∙◌, arith, if◌then◌else◌, nat_tests, length-take, All-weaker, Attr, Mode, FileKept, Opened, Pages, page_of, known_of, after_page, Pending, Fault, Reply, MeetsPage, Next, Repeat, Turn, Found, ReadFile, Phase, Reading, Bytes, place_after, with_more, next_page, part, refusal, said_to, said_by, breaks_rule, got_by}
 use Rattle.std.proofs.Common.{nat_lt}
 use Rattle.std.proofs.lemmas.List.{length-append}
+use Rattle.file_ops.specs.Base.{is_whole}
+use Rattle.file_ops.specs.Gather.{Gathered, is_past, found_of, base_with, taken, then_taken, gathered}
 use Rattle.xdr_codec.specs.declared.blob.Memory as memory
 use Rattle.nfs_types.specs.declared.mode.Mode.TheVariants as modes
 use Rattle.nfs_file_calls.specs.declared.owned.FileKept.TheVariants as kept
@@ -9,8 +11,6 @@ use Rattle.world_model.specs.declared.answer.Fault.TheVariants as faults
 use Rattle.world_model.specs.declared.message.Reply.TheVariants as replies
 use Rattle.file_ops.specs.declared.gather.Found.TheVariants as found
 use Rattle.file_ops.specs.declared.reading.Phase.TheVariants as phases
-use Rattle.file_ops.specs.Base.{is_whole}
-use Rattle.file_ops.specs.Gather.{Gathered, is_past, found_of, base_with, taken, then_taken, gathered}
 use Rattle.file_ops.specs.PagesOpened.{PagesOpened}
 use Rattle.file_ops.specs.ReadFile as reads
 use Rattle.file_ops.specs.Reading as reading

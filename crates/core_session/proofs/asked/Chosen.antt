@@ -1,7 +1,7 @@
 -- A record that was sent for a write, fill or put that makes room: something of its file was pending since the operation began, and there was need of room.
 use Rattle.core_session.proofs.Prelude.{◌≡◌, inl, inr, ℕ, List, ◌++◌, length, refl, sym, subst, ◌∙◌, Entry, Call, Op, Asks, IsWriter, UnderWay, Terms, Mounted, IsAsked, IsNamed, machine_of, Busy, Setup, View, begins-unbegun, Always, over-laws, good-over, reached-good, Names, Expects, expects-laws, NoCall, IsSession}
-use Rattle.world_model.specs.declared.op.Op.TheVariants as ops
 use Rattle.claims.specs.Asks.{NeedsRoom, HadPending}
+use Rattle.world_model.specs.declared.op.Op.TheVariants as ops
 use Rattle.claims.specs.Asks as asks
 use Rattle.core_answers.proofs.asks.PutAsks as puts
 use Rattle.core_session.specs.calls.Made as made

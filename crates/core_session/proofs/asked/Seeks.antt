@@ -1,5 +1,6 @@
 -- The file that an operation saves to make room: it stays the same along the operation's steps, and where one is chosen, something of it is pending.
 use Rattle.core_session.proofs.Prelude.{◌≡◌, ◌⊎◌, ◌-◌, inl, inr, ℕ, Bool, true, false, List, Result, Ok, Err, refl, sym, ap, subst, ◌∙◌, Fault, Reply, Pending, Next, Shelf, Turn, left, is_first, OpeningNext, PutFile, Putting, Saving, WriteFile, Writing, is_full, file_to_write, joined, by-step, ends_as, WalkNext, FileMachine, Machine, Opener, PathMachine, file_of, slot_taken, begun_at, Starts, Resumes, Takes, EndsSo, takes-not}
+use Rattle.op_machines.specs.Openers.{placed}
 use Rattle.world_model.specs.declared.answer.Answer.TheVariants as answers
 use Rattle.client_shelf.specs.declared.next.Next.TheVariants as nexts
 use Rattle.file_ops.specs.declared.opening.OpeningNext.TheVariants as openings
@@ -16,7 +17,6 @@ use Rattle.op_machines.specs.declared.file_machine.FileMachine.TheVariants as fi
 use Rattle.op_machines.specs.declared.machine.Machine.TheVariants as machines
 use Rattle.op_machines.specs.declared.opener.Opener.TheVariants as openers
 use Rattle.op_machines.specs.FileSteps as steps
-use Rattle.op_machines.specs.Openers.{placed}
 use Rattle.op_machines.specs.PathSteps as paths
 use Rattle.core_answers.proofs.asks.SavedCalls.{goes-on, takes-on}
 use Rattle.core_session.proofs.order.Adds.{PutHas, FileHas, PathHas, TakesHas}

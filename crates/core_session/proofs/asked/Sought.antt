@@ -1,12 +1,12 @@
 -- Of the file that an operation saves to make room something was pending, at a view of the core since the operation began.
 use Rattle.core_session.proofs.Prelude.{◌≡◌, ◌≤◌, ◌⊎◌, inl, inr, ℕ, List, [], ◌∷◌, ◌++◌, length, remove, Bool, true, false, Option, Some, None, MatchOption, position, slice_get, slice_set, Result, Err, refl, sym, ap, subst, ◌∙◌, arith, Fault, Entry, Reply, Op, UnderWay, said_of, Pending, of_file, Segments, Cell, covers, cell_at, newest_at, Next, Shelf, Turn, Mounted, Machine, machine_of, Lane, Purpose, State, Busy, Over, Setup, is_busy, with_state, IsRefused, Leads, Stirs, Moves, moves_none, moves_more, counted, StartsLane, BeginsIf, TakesAt, View, turn_at, unmade_turn, StepsTo, Reaches, begins, goes, loses, last_reading, Heard, dropped, replied, sent_now, FailedNow, goes_on, gives_up, failed_now, answered_now, taken_one, at-set, get-push, get-remove, skip, to-map, under-back, set-other, by-place, Began, Answered, Dialed, Sent, Executed, Foreign, Flushed, Reboot, Delivered, Failed, Clock, length_last, FilePending, Flown, nothing, fly_at, fly_in, flown_in, IsSound, IsOver, covered, flown-some, some-of, numbers_of, heard-lost, number_of, idle-numbers}
-use Rattle.world_model.specs.declared.op.Op.TheVariants as ops
 use Rattle.write_back.specs.Segments.{AreApart, cell_in}
-use Rattle.client_shelf.specs.declared.next.Next.TheVariants as nexts
 use Rattle.client_core.specs.Steps.{IsBusyAt, HearsOwn}
 use Rattle.core_facts.proofs.Cases.{heard}
-use Rattle.write_back.specs.Pieces.{Sent as SentPiece}
 use Rattle.write_back.specs.Sound.{AreSent}
+use Rattle.world_model.specs.declared.op.Op.TheVariants as ops
+use Rattle.client_shelf.specs.declared.next.Next.TheVariants as nexts
+use Rattle.write_back.specs.Pieces.{Sent as SentPiece}
 use Rattle.core_session.proofs.order.Basis.{reached-basis}
 use Rattle.core_session.proofs.asked.Empty.{IsEmpty}
 use Rattle.core_session.proofs.order.Unmade.{unmade-has}

@@ -1,5 +1,6 @@
 -- What an operation may add, it has where it adds it.
 use Rattle.core_session.proofs.Prelude.{ℕ, List, Bool, true, false, Result, Fault, Reply, Next, Shelf, Turn, PutFile, Putting, WriteFile, Writing, FileMachine, Machine, PathMachine, file_of, Takes, RoomIs}
+use Rattle.core_answers.proofs.writes.Backs.{PutIs, FileBrings}
 use Rattle.file_ops.specs.declared.put_file.Putting.TheVariants as putting
 use Rattle.file_ops.specs.declared.write_file.Writing.TheVariants as writing
 use Rattle.file_ops.specs.PutFile as puts
@@ -9,7 +10,6 @@ use Rattle.op_machines.specs.declared.machine.Machine.TheVariants as machines
 use Rattle.op_machines.specs.FileSteps as steps
 use Rattle.op_machines.specs.PathSteps as paths
 use Rattle.core_answers.proofs.writes.AllBacks.{Brings, PathBrings}
-use Rattle.core_answers.proofs.writes.Backs.{PutIs, FileBrings}
 use Rattle.core_session.proofs.order.Adds.{RoomHas, PutHas, FileHas, PathHas, TakesHas}
 
 module _ (wsize : ℕ) (sent turn : Turn) (came : Result Reply Fault) where

@@ -1,5 +1,7 @@
 -- The operation for which a record was sent asks for its call, or the call is one of those of which that isn't said.
 use Rattle.core_session.proofs.Prelude.{◌≡◌, ◌≤◌, ◌⊎◌, inl, inr, ℕ, List, ◌++◌, length, refl, sym, subst, arith, Entry, Call, Op, Asks, Acts, SpellsCallBy, Rooted, info_call, UnderWay, Terms, Asked, Asked-grow, Asked-wide, Mounted, IsAsked, IsNamed, machine_of, Busy, Setup, View, Awaits, awaits-laws, begins-unbegun, good-over, over-laws, Always, reached-good, IsForRoom, Expects, expects-laws, NoCall, SentFor, IsSession}
+use Rattle.world_model.specs.Heard.{Refused}
+use Rattle.world_model.proofs.Growth.{Refused-grow, Refused-wide}
 use Rattle.nfs_file_calls.specs.declared.call.FileCall.TheVariants as files
 use Rattle.world_model.specs.declared.message.Call.TheVariants as calls
 use Rattle.world_model.specs.declared.message.Reply.TheVariants as replies
@@ -7,8 +9,6 @@ use Rattle.nfs_file_calls.specs.declared.owned.FileKept.TheVariants as kept
 use Rattle.world_model.specs.declared.op.Op.TheVariants as ops
 use Rattle.claims.specs.Asks as asks
 use Rattle.world_model.specs.ReadSize.{ReadSized, told, untold}
-use Rattle.world_model.specs.Heard.{Refused}
-use Rattle.world_model.proofs.Growth.{Refused-grow, Refused-wide}
 use Rattle.core_facts.specs.Naming.{IsOneCall}
 use Rattle.core_facts.proofs.OneCallAsks.{AsksNow, asks-from}
 use Rattle.core_facts.proofs.OneCallStory as one_calls

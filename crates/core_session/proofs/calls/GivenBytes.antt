@@ -1,5 +1,9 @@
 -- Along a history each byte that is pending of a file is one that an operation writes there: of its slot's file, or of the one to which its path leads.
 use Rattle.core_session.proofs.Prelude.{◌≡◌, ◌≤◌, ◌+◌, ◌-◌, ◌⊎◌, inl, inr, ℕ, List, [], ◌∷◌, ◌++◌, length, Bool, true, false, Option, Some, None, Result, Ok, Err, position, slice_get, slice_set, replicate, refl, sym, ap, subst, ◌∙◌, arith, slice_index, if◌then◌else◌, le-ltb, eqb-true, slice_get-get_or, Mode, xid_at, Waiting, waiting_at, Opened, covers, Pending, of_file, nothing, low-of, high-of, Answer, Fault, Entry, Began, Answered, Delivered, Reply, Op, At, IsBusy, Modes, AnsweredBefore, UnderWay, IsOf, slot_of, At-grow, At-below, At-last, At-cases, length_last, said_of, Next, Shelf, Turn, file_to_write, Mounted, Machine, IsNamed, machine_of, Starts, Resumes, Takes, Lane, Purpose, State, Busy, Over, Setup, is_busy, IsOther, numbers_of, IsIdle, with_state, IsRefused, Leads, Stirs, counted, StartsLane, TakesAt, View, turn_at, unmade_turn, Reaches, HearsRecord, begins-unbegun, taken_one, may, held-begins, Given, is-given, Known, lanes-under-way, idle-numbers, number_of, LeadsTo, leads-from, at-set, at-push, at-position, get-push, get-remove, skip, to-map, IsHeld, held-grow, by-place, set-other, under-back, byte_from, byte_by, After, CarriesReply, any-saves}
+use Rattle.file_ops.specs.Opens.{in_mode, of_open}
+use Rattle.core_facts.proofs.LaneMarks.{Rests}
+use Rattle.core_facts.proofs.SlotGrowth.{ended-back}
+use Rattle.core_answers.proofs.writes.Mapped.{back-map, brings-map}
 use Rattle.std.specs.FinMap as finite
 use Rattle.nfs_types.specs.declared.mode.Mode.TheVariants as modes
 use Rattle.world_model.specs.declared.op.Op.TheVariants as ops
@@ -8,14 +12,10 @@ use Rattle.world_model.specs.Mounts as origins
 use Rattle.claims.specs.Rights.{can_write}
 use Rattle.client_shelf.specs.declared.next.Next.TheVariants as nexts
 use Rattle.file_ops.specs.Syncs as syncs
-use Rattle.file_ops.specs.Opens.{in_mode, of_open}
-use Rattle.core_facts.proofs.LaneMarks.{Rests}
 use Rattle.core_facts.proofs.Marks.{answered-grow}
-use Rattle.core_facts.proofs.SlotGrowth.{ended-back}
 use Rattle.core_answers.proofs.writes.AllBacks.{Brings, StartsWith}
 use Rattle.core_answers.proofs.writes.Brings.{starts-brings, resumes-brings, takes-brings}
 use Rattle.core_answers.proofs.writes.Given.{OfBack, on-file-given, none-given, landed-given, landed-part-given, decided-given, cut-file-given, xid-given, bytes-given, sent-given}
-use Rattle.core_answers.proofs.writes.Mapped.{back-map, brings-map}
 use Rattle.core_answers.proofs.writes.SaveChanges.{IsKept, goes-kept, takes-kept}
 use Rattle.core_session.proofs.saves.HearingAlong.{KeepsHearing, reached-hearing}
 use Rattle.core_session.proofs.order.Adds.{Moves, Bears, TakesHas, StartsHas, all-starts, all-resumes, all-takes}

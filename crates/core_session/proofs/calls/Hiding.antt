@@ -1,9 +1,9 @@
 -- A remove looks for a hidden name, and takes one, only for a file that was open when it looked its name up.
 use Rattle.core_session.proofs.Prelude.{◌≡◌, ℕ, Bool, true, false, List, Option, Some, None, Result, Ok, Err, refl, sym, ap, subst, ◌∙◌, Opens, IsOpen, Fault, Reply, Op, Next, Shelf, Turn, Deed, Look, Seek, Move, RemoveFile, WalkNext, found_by, look_again, Mounted, Machine, NameMachine, machine_of, Starts, Resumes, Takes}
+use Rattle.name_ops.specs.declared.remove_file.Deed.TheVariants.{Remove}
 use Rattle.std.specs.Prelude.{MatchBool}
 use Rattle.silly_rename.specs.Plans.{plan_of}
 use Rattle.world_model.specs.declared.op.Op.TheVariants as ops
-use Rattle.name_ops.specs.declared.remove_file.Deed.TheVariants.{Remove}
 use Rattle.name_ops.specs.declared.walk.WalkNext.TheVariants as walks
 use Rattle.name_ops.specs.RemoveFile as removals
 use Rattle.name_ops.specs.Walking as walking

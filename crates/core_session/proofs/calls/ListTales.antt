@@ -3,6 +3,9 @@ use Rattle.core_session.proofs.Prelude.{◌≡◌, ◌≤◌, ◌+◌, ◌-◌, 
 use Rattle.std.proofs.Common.{nat_lt, filter, Contains}
 use Rattle.std.specs.Prelude.{◌↔◌}
 use Rattle.std.proofs.lemmas.List.Elements.{filter-append}
+use Rattle.world_model.specs.Mounts.{Given}
+use Rattle.core_facts.specs.InFlight.{visit_by, of_visit}
+use Rattle.core_facts.proofs.Tales.{IsLastReply}
 use Rattle.std.proofs.lemmas.List.{map-append, length-append}
 use Rattle.nfs_dir_calls.specs.declared.keeping.DirKept.TheVariants as kept
 use Rattle.nfs_dir_calls.specs.declared.plus_page.PlusRow.{PlusRow}
@@ -20,7 +23,6 @@ use Rattle.claims.specs.Asks as asks
 use Rattle.world_model.specs.Chains.{Chain, start, next, LastCookie, names_of, list_call, page_reply}
 use Rattle.world_model.specs.Leads as leading
 use Rattle.world_model.specs.Leads.{Leads}
-use Rattle.world_model.specs.Mounts.{Given}
 use Rattle.claims.specs.OkRows.{ListOk, most_names}
 use Rattle.client_shelf.specs.declared.next.Next.TheVariants as nexts
 use Rattle.name_ops.specs.declared.walk.WalkNext.TheVariants as walks
@@ -29,9 +31,7 @@ use Rattle.name_ops.specs.Visiting as visiting
 use Rattle.name_ops.specs.Walking as walking
 use Rattle.op_machines.specs.declared.machine.Machine.TheVariants as machines
 use Rattle.op_machines.specs.declared.name_machine.NameMachine.TheVariants as names
-use Rattle.core_facts.specs.InFlight.{visit_by, of_visit}
 use Rattle.core_facts.proofs.OneCalls.{then-as, VisitStory, visit-at, visit-then, walks-then, visit-later}
-use Rattle.core_facts.proofs.Tales.{IsLastReply}
 
 -- ---- lists of names
 

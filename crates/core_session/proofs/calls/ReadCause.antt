@@ -1,12 +1,12 @@
 -- What a read asks for, of a record that was sent for it.
 use Rattle.core_session.proofs.Prelude.{◌≡◌, ◌≤◌, ℕ, true, List, ◌++◌, Option, Some, None, refl, sym, ap, subst, ◌∙◌, arith, Entry, Call, Op, Asks, IsOf, Terms, Phase, Reading, place_after, Mounted, Machine, machine_of, Busy, Setup, in_flight, begins-unbegun, Held, held-later, always-later, Given, is-given, good-over, Expects, expects-laws, SentFor, of-slot}
+use Rattle.core_facts.specs.InFlight.{of_phase, of_reading}
 use Rattle.nfs_file_calls.specs.declared.call.FileCall.TheVariants as calls_of
 use Rattle.world_model.specs.declared.message.Call.TheVariants as calls
 use Rattle.world_model.specs.declared.op.Op.TheVariants as ops
 use Rattle.claims.specs.Asks as asks
 use Rattle.file_ops.specs.declared.reading.Phase.TheVariants as phases
 use Rattle.file_ops.specs.Reading as reading
-use Rattle.core_facts.specs.InFlight.{of_phase, of_reading}
 use Rattle.core_answers.proofs.asks.ReadRanges.{inside}
 use Rattle.core_answers.proofs.asks.ReadsAwaited.{PhaseNames, ReadNames}
 use Rattle.core_answers.proofs.asks.ReadSteps.{PhaseAt, ReadAt}

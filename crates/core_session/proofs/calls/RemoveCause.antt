@@ -1,17 +1,17 @@
 -- What a remove asks for, of a record that was sent for it.
 use Rattle.core_session.proofs.Prelude.{◌≡◌, ◌≤◌, ℕ, List, [], ◌∷◌, ◌++◌, length, Option, Some, None, refl, sym, ap, subst, ◌∙◌, arith, Entry, Call, Reply, Asks, HeldOpen, Asked, Rooted, PlaceOf, Terms, Asked-grow, Deed, Look, Seek, Move, Mounted, Machine, IsNamed, front_of, last_of, removal_by, of_walk, in_flight, end-leads, RemoveAwaits, front-last, Expects, RemoveRuns, walk-looks, leads-on}
+use Rattle.name_ops.specs.declared.remove_file.Deed.TheVariants.{Remove}
+use Rattle.core_answers.proofs.asks.RemoveSteps.{IsFineOf, HasDeed}
+use Rattle.core_answers.proofs.asks.WalkAsks.{front-asks}
 use Rattle.nfs_dir_calls.specs.declared.keeping.DirKept.TheVariants as kept
 use Rattle.world_model.specs.declared.message.Reply.TheVariants as replies
 use Rattle.world_model.specs.declared.op.Op.TheVariants as ops
 use Rattle.claims.specs.Asks as asks
-use Rattle.name_ops.specs.declared.remove_file.Deed.TheVariants.{Remove}
 use Rattle.name_ops.specs.Looking.{look_up}
 use Rattle.name_ops.specs.RemoveFile as removals
 use Rattle.name_ops.specs.Walking as walking
 use Rattle.core_session.proofs.calls.Hiding.{Hides, SomeHides, DeedHides}
 use Rattle.core_session.proofs.calls.HidingHeld.{open-grow}
-use Rattle.core_answers.proofs.asks.RemoveSteps.{IsFineOf, HasDeed}
-use Rattle.core_answers.proofs.asks.WalkAsks.{front-asks}
 
 module _ (m : Mounted) (terms : Terms) (before after : List Entry) (x y : ℕ) (path : List (List ℕ)) (call : Call) (named : IsNamed path) (there : length before ≡ y)
     (rooted : Rooted terms.origin (before ++ after) y m.root) where

@@ -2,14 +2,14 @@
 -- takes off has no more bytes than a WRITE may have.
 use Rattle.core_session.proofs.Prelude.{◌≡◌, ◌≤◌, ◌-◌, ◌&&◌, nat_eq, take, arith, length-append, ◌||◌, ◌==◌, inl, inr, ℕ, Bool, true, false, List, [], ◌∷◌, length, Option, Some, None, Result, Ok, Err, refl, sym, subst, nat_lt, if◌then◌else◌, Verdict, AllStable, SendAgain, decided, verdict_of, Verf, Wcc, Fault, Reply, Change, lost, chosen, piece_of, with_sent, Pending, of_file, OnFile, landed, landed_part, at_xid, with_xid, PutsInFlight, Segments, Repeat, Turn, goes_again, Sending, Committing, Resending, CommittingAgain, Saving, write_told, commit_told}
 use Rattle.std.proofs.Common.{length-take}
+use Rattle.write_back.specs.Choice.{may_go, how_of_segment, run_from, chosen_from, bytes_in}
+use Rattle.write_back.specs.Landing.{acked_by}
+use Rattle.write_back.specs.Segments.{end_of, head_of}
 use Rattle.nfs_file_calls.specs.declared.owned.FileKept.TheVariants as kept_replies
 use Rattle.world_model.specs.declared.message.Reply.TheVariants as replies
 use Rattle.world_model.specs.declared.answer.Fault.TheVariants as faults
 use Rattle.write_back.specs.declared.change.Change.TheVariants as by_change
-use Rattle.write_back.specs.Choice.{may_go, how_of_segment, run_from, chosen_from, bytes_in}
-use Rattle.write_back.specs.Landing.{acked_by}
 use Rattle.write_back.specs.Pieces.{Sent}
-use Rattle.write_back.specs.Segments.{end_of, head_of}
 use Rattle.file_ops.specs.declared.saving.Phase.{Phase}
 use Rattle.file_ops.specs.Saves as saves
 

@@ -1,18 +1,18 @@
 -- Each piece in flight has no more bytes than the session's size of WRITE.
 use Rattle.core_session.proofs.Prelude.{◌≡◌, ◌≢◌, ◌≤◌, ◌⊎◌, inl, inr, ℕ, Bool, true, false, nat_eq, length, List, [], ◌∷◌, ◌++◌, Option, Some, None, Result, Err, sym, ap, subst, ◌∙◌, arith, if◌then◌else◌, Waiting, Fault, Entry, Reply, Op, FilePending, nothing, piece_under, with_sent, at_xid, landed, landed_part, with_cut, with_xid, Pending, of_file, OnFile, with_bytes, same-or, decided, said_of, Next, Shelf, Turn, Mounted, Machine, machine_of, Starts, Resumes, Takes, Purpose, Busy, Setup, with_state, Leads, Stirs, counted, StartsLane, TakesAt, View, turn_at, unmade_turn, StepsTo, Reaches, begins, goes, loses, last_reading, begins-unbegun, Heard, dropped, replied, sent_now, FailedNow, goes_on, gives_up, failed_now, answered_now, taken_one, Known, Stays, After, CarriesReply, any-saves}
 use Rattle.std.specs.Prelude.{⊤}
-use Rattle.world_model.specs.declared.entry.Entry.TheVariants as entries
 use Rattle.write_back.specs.Pieces.{Sent, without, renumbered}
 use Rattle.write_back.specs.Landing.{at_piece}
-use Rattle.client_shelf.specs.declared.next.Next.TheVariants as nexts
-use Rattle.file_ops.specs.Syncs as syncs
 use Rattle.core_facts.proofs.Cases.{heard}
 use Rattle.core_facts.proofs.Walks.{begins-stay, hears-for-stay}
-use Rattle.core_answers.proofs.writes.AllBacks.{all-starts, all-resumes, all-takes}
 use Rattle.core_answers.proofs.writes.Backs.{Carries}
+use Rattle.core_answers.proofs.writes.Mapped.{any-asks, any-brings, any-starts}
+use Rattle.world_model.specs.declared.entry.Entry.TheVariants as entries
+use Rattle.client_shelf.specs.declared.next.Next.TheVariants as nexts
+use Rattle.file_ops.specs.Syncs as syncs
+use Rattle.core_answers.proofs.writes.AllBacks.{all-starts, all-resumes, all-takes}
 use Rattle.core_session.proofs.saves.HearingAlong.{KeepsHearing, reached-hearing}
 use Rattle.core_session.proofs.calls.SizedSaves.{IsKept, goes-kept, takes-kept}
-use Rattle.core_answers.proofs.writes.Mapped.{any-asks, any-brings, any-starts}
 
 -- ---- the size stays as it was set up
 

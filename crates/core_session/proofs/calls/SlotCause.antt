@@ -1,7 +1,9 @@
 -- What a sync, a close or a truncate asks for, of a record that was sent for it.
 use Rattle.core_session.proofs.Prelude.{◌≡◌, ◌≤◌, ◌⊎◌, inl, inr, ℕ, List, ◌++◌, length, refl, sym, ap, subst, ◌∙◌, arith, Entry, Call, Op, Asks, UnderWay, IsOf, Terms, Closing, Syncing, Truncating, Mounted, FileMachine, Machine, machine_of, Busy, Setup, of_syncing, of_closing, of_truncating, in_flight, begins-unbegun, Held, held-later, always-later, Given, is-given, good-over, Expects, expects-laws, SyncNames, CloseNames, FileNames, Saves, SentFor, WorksAt, SlotRuns, SlotStory, slot-laws, of-slot}
-use Rattle.world_model.specs.declared.op.Op.TheVariants as ops
 use Rattle.claims.specs.Asks.{Stabilizes}
+use Rattle.core_answers.proofs.asks.FilesAwaited.{CutNames}
+use Rattle.core_answers.proofs.asks.SlotFiles.{SyncAt, CloseAt, CutAt, IsWorker}
+use Rattle.world_model.specs.declared.op.Op.TheVariants as ops
 use Rattle.claims.specs.Asks as asks
 use Rattle.file_ops.specs.declared.close_file.Closing.TheVariants as closing
 use Rattle.file_ops.specs.declared.sync_file.Syncing.TheVariants as syncing
@@ -10,8 +12,6 @@ use Rattle.file_ops.specs.TruncateFile as truncates
 use Rattle.op_machines.specs.declared.file_machine.FileMachine.TheVariants as files
 use Rattle.op_machines.specs.declared.machine.Machine.TheVariants as machines
 use Rattle.core_answers.specs.asks.SlotCalls.{IsRemoval}
-use Rattle.core_answers.proofs.asks.FilesAwaited.{CutNames}
-use Rattle.core_answers.proofs.asks.SlotFiles.{SyncAt, CloseAt, CutAt, IsWorker}
 
 module _ (terms : Terms) (h : List Entry) (x n : ℕ) (call : Call) where
   saves-asks : (op : Op) (f s : List ℕ) → Stabilizes terms h x n op f → s ≡ f → Saves s call → Asks terms h x n op call

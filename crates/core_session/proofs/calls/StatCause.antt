@@ -1,11 +1,11 @@
 -- What a stat asks for, of a record that was sent for it.
 use Rattle.core_session.proofs.Prelude.{◌≡◌, ◌≤◌, ℕ, Bool, true, false, List, ◌++◌, length, refl, subst, arith, Entry, Call, Asks, Rooted, Terms, Mounted, Machine, of_walk, in_flight, OwnOr, end-leads, Expects, walk-looks, leads-on}
+use Rattle.core_facts.specs.InFlight.{own_or}
+use Rattle.core_answers.proofs.asks.WalkAsks.{whole-asks}
 use Rattle.world_model.specs.declared.op.Op.TheVariants as ops
 use Rattle.claims.specs.Asks as asks
 use Rattle.name_ops.specs.Stat as stats
-use Rattle.core_facts.specs.InFlight.{own_or}
 use Rattle.core_answers.proofs.asks.StatSteps.{StatRuns}
-use Rattle.core_answers.proofs.asks.WalkAsks.{whole-asks}
 
 module _ (m : Mounted) (terms : Terms) (before after : List Entry) (x y : ℕ) (path : List (List ℕ)) (call : Call) (there : length before ≡ y)
     (rooted : Rooted terms.origin (before ++ after) y m.root) where

@@ -1,9 +1,9 @@
 -- Where each answer that is ready was noted, what the table of opens has, a slot holds by the history.
 use Rattle.core_session.proofs.Prelude.{◌≡◌, ◌⊎◌, inl, inr, ℕ, suc, List, [], ◌∷◌, Bool, true, false, nat_eq, Option, Some, None, slice_get, refl, sym, ap, subst, ◌∙◌, length, eqb-true, eqb-false, Answer, Entry, Modes, Opened, Opens, IsOpen, Closing, Mounted, Machine, machine_of, Lane, State, Busy, Over, Setup, IsOther, numbers_of, View, Reaches, lanes-under-way, reached-lanes, IsHeld, Agrees, Kind, plainly, kind_of, StoryOf, Slots, reached-slots}
+use Rattle.core_facts.proofs.Slots.{opening, closing}
 use Rattle.std.specs.FinMap as finite
 use Rattle.file_ops.specs.declared.close_file.Closing.TheVariants as closing_states
 use Rattle.core_facts.proofs.CloseSlots.{ClosingHas}
-use Rattle.core_facts.proofs.Slots.{opening, closing}
 
 -- a lane with this number, or none
 pub record IsLane (n : ℕ) (lanes : List Lane) : Type 0 where

@@ -1,13 +1,13 @@
 -- Each call of a session was asked for, or is one of those of which that isn't said.
 use Rattle.core_session.proofs.Prelude.{◌≡◌, ◌≤◌, ◌<◌, ◌+◌, ◌⊎◌, inl, inr, ℕ, List, length, refl, sym, subst, arith, cases_lt, Entry, Began, Sent, Call, Op, NoneBegan, IsCaused, KeepsTo, At, HasXid, SpellsCall, SpellsCallBy, Rooted, info_call, Terms, Rooted-wide, At-below, At-back, Mounted, IsAsked, machine_of, Setup, View, KnowsRoot, begins-unbegun, one-xid, reached-rows, one-call, Expects, expects-laws, IsSession, GoesFrom, CallsAskedBut, Notes}
-use Rattle.rpc_message.proofs.CallLaws.{call_xid}
 use Rattle.claims.specs.CallsAsked.{IsCause, mounts, informs, asked, AreSetUp, mount, inform}
-use Rattle.world_model.specs.LanesTogether.{HasBegun}
 use Rattle.world_model.specs.Messages.{head_of}
 use Rattle.world_model.specs.Mounts.{Sized, mount_call}
 use Rattle.world_model.proofs.Growth.{Rooted-grow, Sized-grow, Sized-wide}
 use Rattle.core_session.specs.calls.Sessions.{KnowsSizes}
 use Rattle.core_session.specs.calls.Whole.{IsCausedBeside, SessionsCallsAsked, AllCallsAsked}
+use Rattle.rpc_message.proofs.CallLaws.{call_xid}
+use Rattle.world_model.specs.LanesTogether.{HasBegun}
 use Rattle.core_session.proofs.calls.Causes.{Now, Spelt, IsPlain, under-now, cause, reads-keep, spelt-plain, sized-grow}
 use Rattle.core_session.proofs.calls.Outgoing.{Outgoing, sent-nfs}
 use Rattle.core_session.proofs.room.Onward.{Onward, SentOn, reached-on}

@@ -1,12 +1,12 @@
 -- Each WRITE that a session sends carries a byte: each piece in flight has one.
 use Rattle.core_session.proofs.Prelude.{◌≡◌, ℕ, List, [], length, ap, arith, inl, inr, of_file, Entry, Sent, Call, At, SpellsCall, info_call, Terms, Mounted, machine_of, Setup, View, begins-unbegun, Expects, expects-laws, one-call, GoesFrom}
+use Rattle.world_model.specs.Mounts.{mount_call}
+use Rattle.core_session.specs.calls.Whole.{WritesCarryBytes}
 use Rattle.nfs_file_calls.specs.declared.call.FileCall.TheVariants as files
 use Rattle.write_back.proofs.Flying.{under-whole}
 use Rattle.world_model.specs.declared.message.Call.TheVariants as calls
 use Rattle.claims.specs.CallsAsked.{IsCause, mounts, informs, asked}
-use Rattle.world_model.specs.Mounts.{mount_call}
 use Rattle.core_session.proofs.order.Basis.{reached-basis}
-use Rattle.core_session.specs.calls.Whole.{WritesCarryBytes}
 use Rattle.core_session.proofs.calls.Causes.{Now}
 use Rattle.core_session.proofs.calls.Outgoing.{Outgoing, sent-nfs}
 use Rattle.core_session.proofs.calls.Whole.{session, early-or}

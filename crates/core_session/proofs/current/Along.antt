@@ -1,8 +1,8 @@
 -- What holds of a history and the core's view that goes with it, if each step of a lane and each entry keep it, as long as the session isn't lost; where
 -- an operation takes what came, the record that was heard is known, and between the steps, through which views the core passed.
 use Rattle.core_session.proofs.Prelude.{◌≡◌, inl, inr, ℕ, List, [], ◌∷◌, ◌++◌, Bool, true, false, Option, Some, None, MatchOption, position, refl, sym, ap, subst, ◌∙◌, xid_at, Waiting, failed_after, waiting_at, before_sent, before_failed, Answer, Entry, Began, Answered, Dialed, Sent, Executed, Foreign, Flushed, Reboot, Delivered, Failed, Clock, Op, said_of, Shelf, Machine, Fits, Purpose, State, Setup, IsFresh, is_busy, IsIdle, numbers_of, Stirs, Moves, moves_none, moves_more, counted, StartsLane, BeginsIf, TakesAt, AnswersAt, View, IsUnbegun, MaySetUp, IsSetUp, StepsTo, HearsRecord, Reaches, begins, goes, loses, last_reading, Heard, dropped, replied, sent_now, FailedNow, goes_on, gives_up, failed_now, answered_now, taken_one, stirs-count, starts-count, hears-count, none-busy, heard-lost, Known, purpose_at, reached-all, LanesKnown, quiet-facts, lanes-stay, lanes-begin, lanes-under-way, Rows, rows-stay, same-rows, rows-grow, silent-grow, taken-quiet, not-sent, taken-rows, SameCalls, sent-purposes, failed-purposes, stirs-stay, starts-stay, steps-stay, Passes}
-use Rattle.rpc_retry.specs.Take.{awaited}
 use Rattle.core_facts.proofs.Cases.{heard}
+use Rattle.rpc_retry.specs.Take.{awaited}
 use Rattle.core_answers.specs.pages.Passing as passing
 
 -- no operation begins or is answered, and no record comes

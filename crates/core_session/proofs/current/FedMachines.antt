@@ -1,14 +1,14 @@
 -- What each step of any operation makes of the kept pages, where it is known of which call a reply tells and when that was made.
 use Rattle.core_session.proofs.Prelude.{◌≡◌, ◌-◌, ℕ, Bool, true, false, List, Result, Ok, refl, Pages, after_page, Fault, Call, Reply, Next, Shelf, Turn, WalkNext, Machine, Opener, PathMachine, file_of, slot_taken, begun_at, Starts, Resumes, Takes, IsSentAs, Both}
+use Rattle.op_machines.specs.Openers.{placed}
+use Rattle.core_answers.proofs.pages.PageCalls.{FileAwaits}
 use Rattle.name_ops.specs.declared.walk.WalkNext.TheVariants as walks
 use Rattle.name_ops.specs.Walking as walking
 use Rattle.op_machines.specs.declared.machine.Machine.TheVariants as machines
 use Rattle.op_machines.specs.declared.opener.Opener.TheVariants as openers
-use Rattle.op_machines.specs.Openers.{placed}
 use Rattle.op_machines.specs.PathSteps as paths
 use Rattle.core_answers.proofs.bonds.MachineCalls.{PathOn}
 use Rattle.core_answers.proofs.pages.NamePages.{kept-as, walk-takes-kept, name-goes-kept, name-takes-kept}
-use Rattle.core_answers.proofs.pages.PageCalls.{FileAwaits}
 use Rattle.core_session.proofs.current.FedPages.{FedLaws, as-shelf, file-starts, file-resumes, file-takes}
 
 module _ (T : Pages → Type 0) (shows : (file : List ℕ) (index : ℕ) (c : Pages) → T c → T (after_page file index c)) where

@@ -1,17 +1,24 @@
 -- What each step of an operation on files makes of the kept pages, where it is known of which call a reply tells and when that was made.
 use Rattle.core_session.proofs.Prelude.{◌≡◌, ◌+◌, ◌-◌, ◌/◌, ◌&&◌, ◌||◌, ◌==◌, ℕ, zero, suc, Bool, true, false, nat_le, List, [], length, take, Option, Some, None, Result, Ok, Err, inl, inr, refl, sym, ap, subst, ◌∙◌, arith, if◌then◌else◌, eqb-true, nat_tests, Attr, Verf, Stamp, Wcc, Mode, stamp_of, looked, FileKept, start_of, Pages, page_of, known_of, after_page, saw, cut, Fault, Call, Reply, Pending, of_file, piece_under, last_end, is_first, goes_again, Next, Repeat, Shelf, Turn, Closing, CloseFile, Removal, Found, Led, Opening, OpeningStep, OpeningNext, PutFile, Putting, ReadFile, Phase, Reading, Saving, SyncFile, Syncing, TruncateFile, Truncating, WriteFile, Writing, is_full, place_after, is_whole, remove_busy, refusal_of, Gathered, written_by, write_told, offered, file_to_write, opened_pages, PagesOpened, part, refusal, said_to, said_by, breaks_rule, file_at, joined, made_by, got_by, by-step, ends_as, FileMachine, ReadOn, IsOn, IsSentAs, PhaseAwaits, ReadAwaits}
 use Rattle.std.proofs.Common.{nat_lt, unwrap_or, is_some}
-use Rattle.xdr_codec.specs.declared.blob.Memory as memory
 use Rattle.nfs_types.specs.Stamps.{same_stamp}
 use Rattle.attr_cache.specs.Attrs.{Attrs}
+use Rattle.page_cache.specs.Pages.{opened, wrote}
+use Rattle.write_back.specs.Pieces.{Sent}
+use Rattle.file_ops.specs.Base.{Bytes}
+use Rattle.file_ops.specs.Gather.{Planned}
+use Rattle.file_ops.specs.Judging.{write_told_by}
+use Rattle.file_ops.specs.Kept.{offered_from}
+use Rattle.file_ops.specs.Told.{found_by}
+use Rattle.core_answers.proofs.bonds.FileCalls.{StepOn, OpeningOn, PutOn, FileAsks}
+use Rattle.core_answers.proofs.pages.PageCalls.{SizeAwaits, FileAwaits}
+use Rattle.xdr_codec.specs.declared.blob.Memory as memory
 use Rattle.nfs_file_calls.specs.declared.call.FileCall.TheVariants as file_calls
 use Rattle.nfs_file_calls.specs.declared.owned.FileKept.TheVariants as kept
-use Rattle.page_cache.specs.Pages.{opened, wrote}
 use Rattle.world_model.specs.declared.answer.Answer.TheVariants as answers
 use Rattle.world_model.specs.declared.answer.Fault.TheVariants as faults
 use Rattle.world_model.specs.declared.message.Call.TheVariants as calls
 use Rattle.world_model.specs.declared.message.Reply.TheVariants as replies
-use Rattle.write_back.specs.Pieces.{Sent}
 use Rattle.client_shelf.specs.declared.next.Next.TheVariants as nexts
 use Rattle.file_ops.specs.declared.close_file.Closing.TheVariants as closing
 use Rattle.file_ops.specs.declared.gather.Found.TheVariants as founds
@@ -23,27 +30,20 @@ use Rattle.file_ops.specs.declared.reading.Phase.TheVariants as phases
 use Rattle.file_ops.specs.declared.sync_file.Syncing.TheVariants as syncing
 use Rattle.file_ops.specs.declared.truncate_file.Truncating.TheVariants as truncating
 use Rattle.file_ops.specs.declared.write_file.Writing.TheVariants as writing
-use Rattle.file_ops.specs.Base.{Bytes}
 use Rattle.file_ops.specs.Closes as closes
 use Rattle.file_ops.specs.Gather as gather
-use Rattle.file_ops.specs.Gather.{Planned}
-use Rattle.file_ops.specs.Judging.{write_told_by}
-use Rattle.file_ops.specs.Kept.{offered_from}
 use Rattle.file_ops.specs.Opening as opening
 use Rattle.file_ops.specs.PutFile as puts
 use Rattle.file_ops.specs.ReadFile as reads
 use Rattle.file_ops.specs.Reading as reading
 use Rattle.file_ops.specs.Saves as saves
 use Rattle.file_ops.specs.Syncs as syncs
-use Rattle.file_ops.specs.Told.{found_by}
 use Rattle.file_ops.specs.TruncateFile as truncates
 use Rattle.file_ops.specs.WriteFile as writes
 use Rattle.file_ops.proofs.Failed.{failed-as}
 use Rattle.op_machines.specs.declared.file_machine.FileMachine.TheVariants as files
 use Rattle.op_machines.specs.FileSteps as steps
 use Rattle.core_answers.proofs.pages.NamePages.{SamePages, kept-as}
-use Rattle.core_answers.proofs.bonds.FileCalls.{StepOn, OpeningOn, PutOn, FileAsks}
-use Rattle.core_answers.proofs.pages.PageCalls.{SizeAwaits, FileAwaits}
 
 -- ---- steps that leave them
 

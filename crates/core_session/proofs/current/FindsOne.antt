@@ -1,5 +1,7 @@
 -- What an open found is one file: that which its last reply names.
 use Rattle.core_session.proofs.Prelude.{◌≡◌, ℕ, List, Option, Some, Result, Ok, Err, sym, ap, subst, ◌∙◌, arith, Attr, Wcc, DirCall, DirKept, Entry, Sent, Delivered, Call, Reply, At, HasXid, SpellsCall, SpellsReply, Modes, LastReply, Finds, At-one, IsNfs, one-call}
+use Rattle.world_model.specs.Messages.{SpellsResults}
+use Rattle.claims.specs.Slots.{asked, looked_up, made}
 use Rattle.xdr_codec.specs.declared.reader.XdrFault.{XdrFault}
 use Rattle.nfs_dir_calls.specs.declared.call.DirCall.TheVariants as dirs
 use Rattle.nfs_dir_calls.specs.declared.keeping.DirKept.TheVariants as found
@@ -11,8 +13,6 @@ use Rattle.rpc_message.specs.Reply.{RpcReply, Accepted, Refused as RpcRefused, D
 use Rattle.rpc_message.proofs.ReplyLaws.{reply_again}
 use Rattle.world_model.specs.declared.message.Call.TheVariants as calls
 use Rattle.world_model.specs.declared.message.Reply.TheVariants as replies
-use Rattle.world_model.specs.Messages.{SpellsResults}
-use Rattle.claims.specs.Slots.{asked, looked_up, made}
 
 -- ---- a record is one reply
 

@@ -1,9 +1,9 @@
 -- The mark of a file and what is told of its known stamp, after each call of the page cache.
 use Rattle.core_session.proofs.Prelude.{◌≡◌, ◌<◌, ◌≤◌, ℕ, Bool, true, false, ◌||◌, nat_le, List, Option, Some, None, option_map, refl, sym, ap, subst, ◌∙◌, arith, nat_tests, Attr, Stamp, Wcc, stamp_of, FileState, Pages, state_of, after_page, saw, cut}
 use Rattle.std.proofs.Common.{max, if◌then◌else◌}
+use Rattle.page_cache.specs.Pages.{is_stamp, both_same, opened, keep_answer, after_keep, kept, led_to, wrote}
 use Rattle.page_cache.specs.declared.state.Keep.{Keep}
 use Rattle.page_cache.specs.declared.state.Keep.TheVariants.{Stale, Differs, Kept}
-use Rattle.page_cache.specs.Pages.{is_stamp, both_same, opened, keep_answer, after_keep, kept, led_to, wrote}
 use Rattle.page_cache.proofs.Inserts.{same, same-is}
 use Rattle.page_cache.proofs.States.{both_same-is, state_opened, state_kept, state_saw, state_changed, state-opened, state-kept, state-saw, state-wrote, state-cut, Tells, keep-tells}
 

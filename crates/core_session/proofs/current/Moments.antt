@@ -1,19 +1,19 @@
 -- Which calls were first sent since an operation began, by the moments that the core gave out, and what the known stamp of a file is since then.
 use Rattle.core_session.proofs.Prelude.{◌≡◌, ◌<◌, ◌≤◌, ◌-◌, ◌⊎◌, inl, inr, ℕ, Bool, true, false, nat_le, List, [], ◌∷◌, ◌++◌, length, take, Option, Some, None, option_map, Result, Ok, refl, sym, ap, subst, ◌∙◌, arith, if◌then◌else◌, option_map_or, nat_tests, Attr, Stamp, stamp_of, Waiting, waiting_at, FileState, Pages, state_of, known_of, saw, after_page, Fault, Entry, Sent, Call, Reply, At, HasXid, of_object, At-cases, length_last, Turn, offered, opened_pages, Purpose, View, IsUnsent, IsAnswered, answered-last, IsOn, from-start, IsSeen, shown, WasRegular}
 use Rattle.std.proofs.Common.{max}
+use Rattle.page_cache.specs.Pages.{opened, wrote}
+use Rattle.claims.specs.Shown.{object_of, object_attr}
+use Rattle.file_ops.specs.Kept.{told_of, is_given, kept_page, offered_told}
+use Rattle.file_ops.specs.PagesOpened.{is_late, no_wcc}
+use Rattle.core_session.specs.current.Seen.{written, cut}
 use Rattle.nfs_file_calls.specs.declared.call.FileCall.TheVariants as files
 use Rattle.nfs_file_calls.specs.declared.owned.FileKept.TheVariants as kept
-use Rattle.page_cache.specs.Pages.{opened, wrote}
 use Rattle.page_cache.proofs.Inserts.{same-self}
 use Rattle.page_cache.proofs.States.{state_opened, state_changed, state-opened, state-wrote}
 use Rattle.world_model.specs.declared.message.Call.TheVariants as calls
 use Rattle.world_model.specs.declared.message.Reply.TheVariants as replies
-use Rattle.claims.specs.Shown.{object_of, object_attr}
-use Rattle.file_ops.specs.Kept.{told_of, is_given, kept_page, offered_told}
-use Rattle.file_ops.specs.PagesOpened.{is_late, no_wcc}
 use Rattle.file_ops.specs.Saves.{untold}
 use Rattle.file_ops.specs.TruncateFile.{size_call}
-use Rattle.core_session.specs.current.Seen.{written, cut}
 use Rattle.core_session.proofs.current.FedPages.{FedLaws}
 use Rattle.core_session.proofs.current.Marks.{IsMarked, marked-shown, marked-opened, marked-saw, marked-kept, marked-wrote, marked-cut}
 

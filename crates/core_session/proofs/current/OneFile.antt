@@ -1,10 +1,10 @@
 -- Two opens that a slot holds at once are of one file.
 use Rattle.core_session.proofs.Prelude.{◌≡◌, ◌<◌, ◌≤◌, ◌⊎◌, inl, inr, ℕ, List, [], ◌∷◌, ◌++◌, length, refl, sym, subst, arith, cases_lt, Answer, Value, Entry, Began, Answered, Op, At, AnsweredBefore, Ended, Finds, InSlot, Terms, At-back, At-below, At-cases, At-one, Mounted, Machine, machine_of, Setup, numbers_of, View, StepsTo, Reaches, begins, goes, loses, GoesWith, LanesKnown, idle-numbers, reached-lanes}
+use Rattle.core_facts.specs.Reaches.{BeginsOp}
 use Rattle.world_model.specs.declared.answer.Answer.TheVariants as answers
 use Rattle.world_model.specs.declared.answer.Fault.TheVariants as faults
 use Rattle.world_model.specs.declared.op.Op.TheVariants as ops
 use Rattle.claims.specs.Rights.{taken}
-use Rattle.core_facts.specs.Reaches.{BeginsOp}
 use Rattle.core_facts.proofs.Marks.{answered-grow}
 use Rattle.core_facts.proofs.SlotTheorems.{places-exact}
 use Rattle.core_session.proofs.current.FindsOne.{finds-one}

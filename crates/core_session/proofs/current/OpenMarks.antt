@@ -1,18 +1,19 @@
 -- What an open makes of its own moment, and which pages it leaves where it goes well.
 use Rattle.core_session.proofs.Prelude.{◌≡◌, ◌-◌, ◌==◌, ◌&&◌, inl, inr, ℕ, Bool, true, false, List, Option, Some, None, Result, Ok, Err, refl, sym, ap, subst, ◌∙◌, if◌then◌else◌, eqb-true, Attr, Mode, Stamp, Wcc, stamp_of, Opened, Place, Opens, Pages, known_of, Answer, Fault, Call, Reply, Next, Shelf, Turn, looked, OpenFile, Led, Opening, OpeningNext, made_by, got_by, OpeningStep, opened_pages, WalkNext, Machine, Opener, PathMachine, file_of, slot_taken, begun_at, Starts, Resumes, Takes, ThenOf, IsOn}
-use Rattle.std.specs.FinMap as finite
 use Rattle.nfs_types.specs.Stamps.{same_stamp}
+use Rattle.page_cache.specs.Pages.{opened}
+use Rattle.attr_cache.specs.Attrs.{Attrs}
+use Rattle.file_ops.specs.Told.{found_by}
+use Rattle.op_machines.specs.Openers.{placed, opening_in}
+use Rattle.std.specs.FinMap as finite
 use Rattle.nfs_dir_calls.specs.declared.keeping.DirKept.TheVariants as found
 use Rattle.nfs_file_calls.specs.declared.owned.FileKept.TheVariants as kept
-use Rattle.page_cache.specs.Pages.{opened}
 use Rattle.page_cache.proofs.States.{same_stamp-is}
 use Rattle.world_model.specs.declared.answer.Answer.TheVariants as answers
 use Rattle.world_model.specs.declared.answer.Fault.TheVariants as faults
 use Rattle.world_model.specs.declared.message.Reply.TheVariants as replies
 use Rattle.client_shelf.specs.declared.next.Next.TheVariants as nexts
-use Rattle.attr_cache.specs.Attrs.{Attrs}
 use Rattle.file_ops.specs.declared.opening.Led.TheVariants as leads
-use Rattle.file_ops.specs.Told.{found_by}
 use Rattle.file_ops.specs.declared.opening.OpeningNext.TheVariants as openings
 use Rattle.file_ops.specs.declared.opening.OpeningStep.TheVariants as opening_steps
 use Rattle.file_ops.specs.OpenFile as opens
@@ -23,7 +24,6 @@ use Rattle.op_machines.specs.declared.file_machine.FileMachine.TheVariants as fi
 use Rattle.op_machines.specs.declared.machine.Machine.TheVariants as machines
 use Rattle.op_machines.specs.declared.opener.Opener.TheVariants as openers
 use Rattle.op_machines.specs.FileSteps as steps
-use Rattle.op_machines.specs.Openers.{placed, opening_in}
 use Rattle.op_machines.specs.PathSteps as paths
 use Rattle.core_answers.proofs.bonds.FileCalls.{StepOn, OpeningOn, FileAsks}
 use Rattle.core_answers.proofs.bonds.MachineCalls.{PathOn, PathAsks, Asks}

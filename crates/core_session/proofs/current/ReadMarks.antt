@@ -1,5 +1,6 @@
 -- What a read makes of its own moment, and which pages it leaves where it has asked for its file's attributes.
 use Rattle.core_session.proofs.Prelude.{◌≡◌, ◌-◌, inl, inr, ℕ, Bool, true, false, ◌&&◌, List, Option, Some, None, Result, Ok, Err, refl, sym, ap, subst, ◌∙◌, if◌then◌else◌, Attr, Mode, Opened, Pages, after_page, Pending, Fault, Reply, Next, Repeat, Shelf, Turn, ReadFile, Phase, Reading, PagesOpened, opened_pages, part, refusal, got_by, machine_of, Mounted, FileMachine, Machine, Starts, Resumes, Takes, ThenOf}
+use Rattle.file_ops.specs.ReadReply.{Said}
 use Rattle.std.specs.FinMap as finite
 use Rattle.xdr_codec.specs.declared.blob.Memory as memory
 use Rattle.nfs_types.specs.declared.mode.Mode.TheVariants as modes
@@ -11,7 +12,6 @@ use Rattle.client_shelf.specs.declared.next.Next.TheVariants as nexts
 use Rattle.file_ops.specs.declared.reading.Phase.TheVariants as phases
 use Rattle.file_ops.specs.ReadFile as reads
 use Rattle.file_ops.specs.Reading as reading
-use Rattle.file_ops.specs.ReadReply.{Said}
 use Rattle.op_machines.specs.declared.file_machine.FileMachine.TheVariants as files
 use Rattle.op_machines.specs.declared.machine.Machine.TheVariants as machines
 use Rattle.core_session.proofs.current.FedPages.{got-is, gone-pages, settled-pages}

@@ -1,12 +1,12 @@
 -- Bytes by their places in what a read shows, where nothing is pending at a place of the server's.
 use Rattle.core_session.proofs.Prelude.{◌≡◌, ◌<◌, ◌≤◌, ◌+◌, ◌⊎◌, inl, inr, ℕ, zero, suc, List, [], ◌∷◌, length, length-append, slice_get, Option, Some, None, option_map, refl, sym, ap, ◌∙◌, arith, cases_lt, slice_get_within, slice_get-get_or, Pending, of_file, newest_at, last_end, shown_over, was_pending, FilePending, IsSound, end-some, HasOr}
 use Rattle.std.proofs.Common.{slice_index, unwrap_or}
-use Rattle.std.proofs.lemmas.List.{get_or_append_left, get_or_push}
 use Rattle.write_back.specs.Segments.{shown}
 use Rattle.file_ops.specs.Overlaid.{byte_or, byte_shown, listed, size_to, size_shown}
+use Rattle.write_back.proofs.EndAndBytes.{newest-is, end-none, shown-length}
+use Rattle.std.proofs.lemmas.List.{get_or_append_left, get_or_push}
 use Rattle.file_ops.proofs.Overlays.{shown-at, byte-shown}
 use Rattle.write_back.specs.Waits.{IsClear, byte_pending}
-use Rattle.write_back.proofs.EndAndBytes.{newest-is, end-none, shown-length}
 
 length-listed : (f : ℕ → ℕ) (n : ℕ) → length (listed f n) ≡ n
 length-listed f zero = refl

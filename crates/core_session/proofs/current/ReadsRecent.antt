@@ -1,19 +1,20 @@
 -- On an honest server what a read found are bytes that the file had since its open began.
 use Rattle.core_session.proofs.Prelude.{◌≡◌, ◌<◌, ◌≤◌, ◌+◌, ◌⊎◌, inl, inr, ℕ, suc, Bool, true, false, List, [], ◌∷◌, ◌++◌, length, length-append, take, drop, slice_get, Option, Some, None, refl, sym, ap, subst, ◌∙◌, append_assoc, append-nil, arith, cases_lt, length-take, length-drop, slice_get_within, Stamp, FileCall, FileKept, start_of, Cell, cell_at, byte_of, of_file, Entry, Began, Op, At, Fresh, History, Lawful, Modes, HeldSize, ReadsBytes, Bytes, Entries, Text, InSlot, IsOf, Terms, At-grow, At-one, Numbered, HasStamp, serves, Mounted, machine_of, Setup, View, GoesWith, begins-unbegun, always-later, reached-rows, HadShown, IsAnswered, IsPage, page-grows, IsAged, SeenFrom, WasRegular, RecentThen, IsFound, in_page, in_reply, IsEnd, by_known, by_page, by_reply}
+use Rattle.page_cache.specs.Bytes.{page_at}
+use Rattle.claims.specs.ReadTrue.{HeldByte, Since, each_read, opened}
+use Rattle.world_model.specs.Server.{Listed, IsSound}
+use Rattle.claims.specs.Slots.{Opens}
+use Rattle.law_reads.specs.Kept.{Done}
+use Rattle.law_reads.proofs.KeptBytes.{reads}
+use Rattle.core_session.specs.current.Read.{IsShown}
 use Rattle.nfs_file_calls.specs.declared.call.FileCall.TheVariants as files
 use Rattle.nfs_file_calls.specs.declared.owned.FileKept.TheVariants as kept
-use Rattle.page_cache.specs.Bytes.{page_at}
 use Rattle.world_model.specs.declared.message.Call.TheVariants as calls
 use Rattle.world_model.specs.declared.message.Reply.TheVariants as answers
 use Rattle.world_model.specs.declared.op.Op.TheVariants as ops
-use Rattle.claims.specs.ReadTrue.{HeldByte, Since, each_read, opened}
 use Rattle.claims.specs.ReadTrue as since_
-use Rattle.world_model.specs.Server.{Listed, IsSound}
 use Rattle.world_model.specs.Server as sound
-use Rattle.claims.specs.Slots.{Opens}
-use Rattle.law_reads.specs.Kept.{Done}
 use Rattle.law_reads.proofs.Bytes.{part_stands}
-use Rattle.law_reads.proofs.KeptBytes.{reads}
 use Rattle.core_answers.specs.bonds.Aged.{TakesReadings}
 use Rattle.core_answers.specs.bonds.Ages.{IsRecent, young}
 use Rattle.core_answers.proofs.bonds.AttrsShown.{answered-grow}
@@ -27,7 +28,6 @@ use Rattle.core_answers.specs.writes.Written.{IsWritten}
 use Rattle.core_answers.proofs.writes.Given.{cell-given}
 use Rattle.core_answers.proofs.writes.PendingWritten.{Known_, keeps-written, written-later}
 use Rattle.core_session.specs.current.Read as shown
-use Rattle.core_session.specs.current.Read.{IsShown}
 use Rattle.core_session.specs.current.Recent.{IsSoFar, own, held, past, ReadsRecent}
 use Rattle.core_session.proofs.current.Good.{aged-grows, earlier}
 use Rattle.core_session.proofs.current.OneFile.{one-held}

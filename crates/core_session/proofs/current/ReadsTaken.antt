@@ -1,5 +1,10 @@
 -- What a read answers, along a history, and since when the server showed so.
 use Rattle.core_session.proofs.Prelude.{◌≡◌, ◌≤◌, ◌+◌, ◌-◌, ◌⊎◌, inl, inr, ℕ, Bool, true, false, List, [], ◌∷◌, ◌++◌, length, Option, Some, None, Result, Ok, Err, refl, sym, ap, subst, ◌∙◌, append_assoc, arith, Attr, stamp_of, of_object, IsAnswered, LastAtMost, Mode, Opened, Stamp, Pages, known_of, Pending, Fault, Entry, Began, Call, Reply, Op, Modes, Ended, IsOf, Terms, At-grow, At-below, Next, Shelf, Turn, ReadFile, Repeat, Phase, Reading, place_after, nothing_of, opened_pages, machine_of, Mounted, FileMachine, Machine, Starts, Resumes, Takes, State, Busy, Over, Setup, View, GoesWith, may, Held, Given, is-given, held-begins, always-later, IsHeld, held-grow, ThenOf, answered-last, RecentThen, IsFound, in_page, in_reply, IsEnd, by_known, by_page, by_reply, IsAged, IsSeen, SeenFrom, shown, WasRegular, ReadOn, IsOn, ReadAwaits, Both, both-asks, Good, quiet-good, page-grows, from-start}
+use Rattle.file_ops.specs.Base.{Bytes}
+use Rattle.core_session.specs.current.Read.{WasPast, IsShown, own, served, empty, PassedThen, ReadShown}
+use Rattle.core_answers.proofs.pages.PageCalls.{PageAwaits, PartAwaits}
+use Rattle.core_answers.proofs.pages.PageLaws.{told-good-laws}
+use Rattle.core_answers.proofs.pages.PagesShown.{GoodShelf, good-grows, takes-good, none-good}
 use Rattle.std.specs.FinMap as finite
 use Rattle.world_model.specs.declared.message.Call.TheVariants as calls
 use Rattle.nfs_file_calls.specs.declared.call.FileCall.TheVariants as file_calls
@@ -12,13 +17,11 @@ use Rattle.world_model.specs.declared.message.Reply.TheVariants as replies
 use Rattle.world_model.specs.declared.op.Op.TheVariants as ops
 use Rattle.client_shelf.specs.declared.next.Next.TheVariants as nexts
 use Rattle.file_ops.specs.declared.reading.Phase.TheVariants as phases
-use Rattle.file_ops.specs.Base.{Bytes}
 use Rattle.file_ops.specs.ReadFile as reads
 use Rattle.file_ops.specs.Reading as reading
 use Rattle.op_machines.specs.declared.file_machine.FileMachine.TheVariants as files
 use Rattle.op_machines.specs.declared.machine.Machine.TheVariants as machines
 use Rattle.core_answers.specs.pages.Read.{WasPending}
-use Rattle.core_session.specs.current.Read.{WasPast, IsShown, own, served, empty, PassedThen, ReadShown}
 use Rattle.core_session.proofs.current.FedPages as fed
 use Rattle.core_session.proofs.current.Good as marked
 use Rattle.core_session.proofs.current.Along.{KeepsMoments, of-moments}
@@ -32,9 +35,6 @@ use Rattle.core_session.proofs.current.Moments.{IsMoment, SinceIn, newly-opened,
 use Rattle.core_answers.proofs.bonds.MachineCalls.{Asks}
 use Rattle.core_answers.proofs.pages.FilePages.{pages-opened, noted-pages}
 use Rattle.core_answers.proofs.pages.MachinePages.{pages-starts, pages-resumes}
-use Rattle.core_answers.proofs.pages.PageCalls.{PageAwaits, PartAwaits}
-use Rattle.core_answers.proofs.pages.PageLaws.{told-good-laws}
-use Rattle.core_answers.proofs.pages.PagesShown.{GoodShelf, good-grows, takes-good, none-good}
 use Rattle.core_session.proofs.current.ReadStory.{AlignedIn, EndsSo, GoodFor, HadBack, ReadAt, Answered, from-settled, takes-read, framed-begins, begins-reach}
 
 -- ---- one entry more

@@ -1,18 +1,18 @@
 -- On an honest server a stamp that was shown since a place is one that the file had at a moment since then.
 use Rattle.core_session.proofs.Prelude.{◌≡◌, refl, ◌<◌, ◌≤◌, inl, inr, ℕ, suc, List, ◌++◌, length, length-append, Option, Some, sym, ap, subst, ◌∙◌, arith, cases_lt, Attr, SetAttr, Time, Stamp, Wcc, stamp_of, FileCall, FileKept, Entry, Call, Reply, resized, Fresh, History, HoldsSized, SetsAttr, Lawful, Server, Object, Holds, Bytes, Entries, Text, Numbered, HasStamp, serves, IsAnswered, IsSeen, shown, WasRegular}
+use Rattle.world_model.specs.Server.{IsSound}
+use Rattle.law_reads.specs.Kept.{Done, Leads}
+use Rattle.law_reads.proofs.KeptBytes.{writes, later, put_before, put_after, stamp_there}
+use Rattle.core_session.specs.current.Seen.{written, cut}
 use Rattle.nfs_file_calls.specs.declared.call.FileCall.TheVariants as files
 use Rattle.nfs_file_calls.specs.declared.owned.FileKept.TheVariants as kept
 use Rattle.world_model.specs.declared.message.Call.TheVariants as calls
 use Rattle.world_model.specs.declared.message.Reply.TheVariants as answers
-use Rattle.world_model.specs.Server.{IsSound}
 use Rattle.world_model.specs.Server as sound
 use Rattle.world_model.specs.Service.{Serves, refused, broken_off, done}
 use Rattle.world_model.specs.Steps.{TrueOf, TrueStamp, TrueWcc}
-use Rattle.law_reads.specs.Kept.{Done, Leads}
-use Rattle.law_reads.proofs.KeptBytes.{writes, later, put_before, put_after, stamp_there}
 use Rattle.core_answers.proofs.bonds.AttrsShown.{answered-grow}
 use Rattle.core_answers.proofs.bonds.Executions.{answered-ran, shown-had}
-use Rattle.core_session.specs.current.Seen.{written, cut}
 use Rattle.core_session.proofs.current.StampStays.{stamp-stays, is-file}
 
 -- what a SETATTR that was answered did

@@ -1,9 +1,9 @@
 -- On an honest server that gives each change another stamp, a file that has a stamp again had it all the time.
 use Rattle.core_session.proofs.Prelude.{◌≡◌, ◌≤◌, ◌<◌, inl, inr, ℕ, zero, suc, Bool, true, false, ◌&&◌, ◌==◌, List, length, Some, refl, sym, ap, subst, ◌∙◌, arith, cases_lt, eq-eqb, Time, Stamp, stamp_of, Fresh, History, Lawful, Holds, Bytes, Entries, Text, Object, HasStamp}
 use Rattle.nfs_types.specs.Stamps.{same_time, same_stamp}
-use Rattle.page_cache.proofs.States.{same_stamp-is}
 use Rattle.world_model.specs.Fresh.{file_stamp}
 use Rattle.world_model.specs.Server.{Listed}
+use Rattle.page_cache.proofs.States.{same_stamp-is}
 use Rattle.world_model.proofs.Lasting.{SameSort, lasts}
 
 both-so : (a b : Bool) → a ≡ true → b ≡ true → (a && b) ≡ true

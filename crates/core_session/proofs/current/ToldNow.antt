@@ -1,8 +1,8 @@
 -- What a record that is heard tells: it answers the call that its operation waits for, which was first sent at a place.
 use Rattle.core_session.proofs.Prelude.{◌≡◌, ◌<◌, ℕ, List, [], ◌∷◌, ◌++◌, length, Some, Ok, sym, subst, arith, xid_at, Waiting, waiting_at, Entry, Sent, Delivered, Call, Reply, HasXid, SpellsCall, SpellsReply, LastReply, FirstSent-grow, At-grow, At-below, At-back, At-last, length_last, said_of, Says, Mounted, machine_of, Purpose, Setup, View, HearsRecord, Reaches, IsMade, Tried, unsent, IsOutstanding, was-sent, says-of, reached-rows, IsAnswered}
-use Rattle.world_model.specs.Heard.{Heard}
 use Rattle.call_replies.specs.Says.{SpellsOne}
 use Rattle.core_facts.specs.Tries.{runs, ended}
+use Rattle.world_model.specs.Heard.{Heard}
 
 -- the record answers a call that was first sent at a place
 answers-call : (h : List Entry) (rec : List ℕ) (xid from : ℕ) (asked : Call) (bytes : List ℕ) → IsOutstanding h xid bytes from → SpellsCall xid asked bytes → HasXid rec xid

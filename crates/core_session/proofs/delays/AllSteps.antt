@@ -1,6 +1,9 @@
 -- Which faults a step of an operation gives: want of memory, those of its slot, those that it keeps, and what it makes of what came of its call where that isn't made
 -- again. A save that sends no bytes wasn't refused.
 use Rattle.core_session.proofs.Prelude.{◌≡◌, ◌-◌, ◌⊎◌, inl, inr, ℕ, Bool, true, false, List, Option, Some, None, Result, refl, sym, ap, subst, ◌∙◌, Mode, Opened, Fault, Call, Reply, Op, Pending, Next, Repeat, fails_busy, goes_again, Shelf, Turn, Walk, WalkNext, found_by, look_again, Closing, Putting, Saving, Syncing, Writing, file_to_write, file_at, Mounted, FileMachine, Machine, Opener, PathMachine, machine_of, file_of, slot_taken, begun_at, Starts, Resumes, Takes, FineOption, FineNext, fine-as, CallFaults, FitsWalk, FitsOpening}
+use Rattle.op_machines.specs.Openers.{placed}
+use Rattle.core_answers.proofs.refusals.FitNames.{FineWalk, FitsName, go-fine, walk-took, name-goes, name-takes}
+use Rattle.core_answers.proofs.refusals.FitReads.{FitsRead, go-opening, opening-next, opening-took, led-on, open-starts, open-follows, read-starts, read-resumes, read-takes}
 use Rattle.std.specs.FinMap as finite
 use Rattle.nfs_types.specs.declared.mode.Mode.TheVariants as modes
 use Rattle.world_model.specs.declared.answer.Fault.TheVariants as faults
@@ -19,10 +22,7 @@ use Rattle.op_machines.specs.declared.file_machine.FileMachine.TheVariants as fi
 use Rattle.op_machines.specs.declared.machine.Machine.TheVariants as machines
 use Rattle.op_machines.specs.declared.opener.Opener.TheVariants as openers
 use Rattle.op_machines.specs.FileSteps as steps
-use Rattle.op_machines.specs.Openers.{placed}
 use Rattle.op_machines.specs.PathSteps as paths
-use Rattle.core_answers.proofs.refusals.FitNames.{FineWalk, FitsName, go-fine, walk-took, name-goes, name-takes}
-use Rattle.core_answers.proofs.refusals.FitReads.{FitsRead, go-opening, opening-next, opening-took, led-on, open-starts, open-follows, read-starts, read-resumes, read-takes}
 use Rattle.core_answers.proofs.refusals.FitFiles.{FitsCut, of-open, truncate-starts, truncate-resumes, truncate-takes}
 use Rattle.core_session.proofs.delays.FileSteps.{FitsSync, FitsClose, FitsPut, FineSyncing, FineClosing, FinePutting, FinePut, write-starts, sync-starts, sync-resumes, sync-takes, close-starts, close-resumes, close-takes, put-starts, put-resumes, put-takes}
 use Rattle.core_session.proofs.delays.SaveSteps.{FineSave}

@@ -1,6 +1,7 @@
 -- Which faults a step of a sync, a close or a put gives, and of a write as it begins: want of memory, and what it makes of what came of its call where that isn't
 -- made again.
 use Rattle.core_session.proofs.Prelude.{◌≡◌, ℕ, Bool, true, false, List, Option, Some, None, Result, Ok, Err, inl, inr, sym, subst, refl, Fault, Reply, Pending, of_file, last_end, is_first, Next, Repeat, Shelf, Turn, CloseFile, Closing, Removal, Pages, Led, Opening, OpeningNext, Saving, SyncFile, Syncing, WriteFile, Writing, remove_of, closed_answer, refusal_of, joined, by-step, ends_as, PutFile, Putting, FineResult, FineOption, FineAnswer, FineNext, fine-as, CallFaults, FineLed, FitsOpening}
+use Rattle.core_answers.proofs.refusals.FitReads.{FineOpening, go-opening, opening-next, opening-took, led-on}
 use Rattle.world_model.specs.declared.answer.Answer.TheVariants as answers
 use Rattle.world_model.specs.declared.answer.Fault.TheVariants as faults
 use Rattle.client_shelf.specs.declared.next.Next.TheVariants as nexts
@@ -17,7 +18,6 @@ use Rattle.file_ops.specs.declared.put_file.Putting.TheVariants as putting
 use Rattle.file_ops.specs.PutFile as puts
 use Rattle.core_session.proofs.delays.SaveSteps.{FineSave, SaveFine, FitsSave, begun-save, goes-fine, takes-fine}
 use Rattle.core_session.proofs.delays.WriteSteps.{FineWriting, WriteFine, FitsWrite, writes-fine, write-resumes, write-takes}
-use Rattle.core_answers.proofs.refusals.FitReads.{FineOpening, go-opening, opening-next, opening-took, led-on}
 
 module _ (P : Fault → Type 0) (own : CallFaults P) where
   -- ---- writes

@@ -2,9 +2,6 @@
 -- was sent, and where, and what the step is told that takes the answer. It is the engine of `core_answers` (`proofs/refusals/Answering`), which knows the
 -- latter too.
 use Rattle.core_session.proofs.Prelude.{◌≡◌, ◌≢◌, ◌<◌, ◌≤◌, ◌+◌, ◌-◌, ◌⊎◌, inl, inr, ℕ, List, [], ◌∷◌, ◌++◌, length, map, Bool, true, false, nat_eq, Option, Some, None, MatchOption, position, slice_get, slice_set, Result, Err, refl, sym, ap, subst, ◌∙◌, arith, append_assoc, eqb-true, eq-eqb, cases_lt, xid_at, Waiting, failed_after, next_xid, made_call, waiting_at, without, at_made, others_made, others_taken, gone, before_sent, before_failed, Answer, Refused, Fault, Entry, Began, Answered, Dialed, Sent, Executed, Foreign, Flushed, Reboot, Delivered, Failed, Clock, Call, Reply, Op, At, IsBusy, IsLost, HasXid, SpellsCall, SpellsCallBy, proc_of, Ended, UnderWay, IsDelivered, FirstSent-grow, At-grow, At-below, At-back, At-last, At-one, At-cases, length_last, said_of, Says, Next, Send, Wait, Done, Shelf, Turn, Machine, Starts, Resumes, Takes, Lane, Purpose, State, Busy, Over, Setup, is_busy, lost_lane, IsOther, numbers_of, IsFresh, with_state, record_of, Makes, IsRefused, Leads, Stirs, Moves, moves_none, moves_more, counted, BeginsIf, TakesAt, View, turn_at, unmade_turn, in_flight, IsUnbegun, Counts, calls_for, IsSetUp, StepsTo, HearsRecord, MayHear, goes, last_reading, NoneBusy, IsMade, IsOutstanding, Tried, unsent, counts-calls, Heard, dropped, replied, sent_now, FailedNow, goes_on, gives_up, failed_now, answered_now, taken_one, IsKnown, calls-some, known-only, stirs-count, starts-count, hears-count, reached-count, none-busy, ExpectLaws, AskedOf, ended-grow, under-back, set-other, by-place, some-answer, was-sent, says-of, LanesKnown, quiet-facts, lanes-stay, lanes-begin, lanes-under-way, reached-lanes, idle-numbers, number_of, at-set, at-push, at-position, get-push, get-remove, skip, in-map, to-map, reached-since, comes-to-rest, none-moves, own-none, Rows, rows-stay, same-rows, rows-grow, silent-grow, taken-quiet, not-sent, taken-rows, made-known, made-asked, reached-rows, stirs-stay, starts-stay, steps-stay, IsQuiet, Did, IsHeardNow, IsUnmadeFault}
-use Rattle.rpc_retry.specs.Records.{WaitedAs}
-use Rattle.world_model.specs.declared.answer.Fault.TheVariants as faults
-use Rattle.world_model.specs.Heard.{Heard as IsHeard}
 use Rattle.client_core.specs.Steps.{IsUnmade}
 use Rattle.core_facts.specs.Counted.{where_}
 use Rattle.core_facts.specs.Tries.{runs, ended}
@@ -12,6 +9,9 @@ use Rattle.core_facts.proofs.Cases.{heard}
 use Rattle.core_facts.proofs.Counting.{calls-without, known-none, one_for, none-idle}
 use Rattle.core_facts.proofs.Steps.{KeptOf}
 use Rattle.core_facts.proofs.Stories.{IsGiven, some-call, Going}
+use Rattle.rpc_retry.specs.Records.{WaitedAs}
+use Rattle.world_model.specs.declared.answer.Fault.TheVariants as faults
+use Rattle.world_model.specs.Heard.{Heard as IsHeard}
 use Rattle.core_facts.proofs.Losing.{reached-shown, lost-grow}
 use Rattle.core_answers.proofs.refusals.Passing.{Passes, passes_fresh, passes_step, passes_lost, forget}
 use Rattle.core_answers.proofs.refusals.SaidNone.{said-none}

@@ -1,11 +1,12 @@
 -- P holds of what any operation makes of what came of its call, where that isn't made again: where it may be made again, since it wasn't put off then; and else
 -- where P holds of that too.
 use Rattle.core_session.proofs.Prelude.{◌≡◌, ◌||◌, ◌==◌, inl, inr, ℕ, Bool, true, false, List, length, Option, Some, None, Result, Ok, Err, refl, sym, subst, nat_lt, Wcc, Verf, FileKept, Fault, Call, Reply, Pending, Next, Repeat, Shelf, Turn, fails_busy, goes_again, Closing, Led, PutFile, Putting, Saving, Syncing, Writing, written_by, write_told, commit_told, found_by, FileMachine, Machine, NameMachine, PathMachine, Takes, file_of, FineOption, FineNext, fine-as, CallFaults, FitsWalk, FineLed}
+use Rattle.client_shelf.specs.Busy.{is_busy}
+use Rattle.core_facts.proofs.Faults.{fine-fault, fine-some}
 use Rattle.nfs_file_calls.specs.declared.owned.FileKept.TheVariants as kept
 use Rattle.world_model.specs.declared.answer.Fault.TheVariants as faults
 use Rattle.world_model.specs.declared.message.Reply.TheVariants as replies
 use Rattle.client_shelf.specs.declared.next.Next.TheVariants as nexts
-use Rattle.client_shelf.specs.Busy.{is_busy}
 use Rattle.file_ops.specs.declared.close_file.Closing.TheVariants as closing
 use Rattle.file_ops.specs.declared.opening.Led.TheVariants as leads
 use Rattle.file_ops.specs.declared.put_file.Putting.TheVariants as putting
@@ -16,7 +17,6 @@ use Rattle.file_ops.specs.Saves as saves
 use Rattle.name_ops.specs.Walking as walking
 use Rattle.op_machines.specs.declared.file_machine.FileMachine.TheVariants as files
 use Rattle.op_machines.specs.declared.machine.Machine.TheVariants as machines
-use Rattle.core_facts.proofs.Faults.{fine-fault, fine-some}
 use Rattle.core_answers.proofs.answers.SaveFaults as once
 use Rattle.core_answers.proofs.answers.WriteFaults as once_write
 use Rattle.core_answers.proofs.refusals.FitAll as one

@@ -1,5 +1,6 @@
 -- A step that no reply made possible leaves the calls that are made again as they are.
 use Rattle.core_session.proofs.Prelude.{◌≡◌, ◌-◌, ℕ, Bool, true, false, List, Option, Some, None, Result, Ok, Err, inl, inr, refl, ap, ◌∙◌, if◌then◌else◌, Fault, of_file, last_end, is_first, Next, Shelf, Turn, CloseFile, Closing, PutFile, Putting, Saving, SyncFile, Syncing, TruncateFile, WriteFile, Writing, refusal_of, file_to_write, file_at, joined, by-step, ends_as, Pair, Deed, RemoveFile, Stat, Visit, Walk, WalkNext, FileMachine, Machine, NameMachine, PathMachine, file_of, slot_taken, begun_at, Starts, Resumes}
+use Rattle.op_machines.specs.Openers.{placed}
 use Rattle.world_model.specs.declared.answer.Answer.TheVariants as answers
 use Rattle.client_shelf.specs.declared.next.Next.TheVariants as nexts
 use Rattle.file_ops.specs.declared.close_file.Closing.TheVariants as closing
@@ -23,7 +24,6 @@ use Rattle.op_machines.specs.declared.machine.Machine.TheVariants as machines
 use Rattle.op_machines.specs.declared.name_machine.NameMachine.TheVariants as names
 use Rattle.op_machines.specs.FileSteps as steps
 use Rattle.op_machines.specs.NameSteps.{NameGoes}
-use Rattle.op_machines.specs.Openers.{placed}
 use Rattle.op_machines.specs.PathSteps as paths
 
 -- the same calls are made again

@@ -1,8 +1,8 @@
 -- The rows of NFS3ERR_JUKEBOX (RFC 1813, section 2.6): the call that a record refused is one for which the operation asked.
 use Rattle.core_session.proofs.Prelude.{◌≡◌, ◌⊎◌, inl, inr, ℕ, List, refl, subst, arith, Refused, Entry, Call, Op, Asks, IsWriter, GoesOn, Ended, RefusedBy, Terms, jukebox, Mounted, IsAsked, machine_of, Setup, View, IsForRoom, GoesSo}
+use Rattle.claims.specs.GoesOn.{FewPutOff}
 use Rattle.world_model.specs.declared.answer.Fault.TheVariants as faults
 use Rattle.claims.specs.Asks as acts
-use Rattle.claims.specs.GoesOn.{FewPutOff}
 use Rattle.claims.specs.GoesOn as on
 use Rattle.core_session.specs.outcomes.Refusals.{MakesNoRoom}
 use Rattle.core_session.proofs.outcomes.OwnAsks.{asks-or-rooms, own-last}

@@ -2,10 +2,10 @@
 -- bytes it wasn't refused.
 use Rattle.core_session.proofs.Prelude.{◌≡◌, ◌+◌, ◌==◌, ◌&&◌, ℕ, Bool, true, false, List, [], ◌∷◌, Option, Some, None, Result, Ok, Err, inl, inr, refl, sym, ap, subst, ◌∙◌, nat_lt, Verdict, AllStable, SendAgain, Verf, Fault, Memory, Reply, Next, Repeat, Turn, fails_busy, goes_again, chosen, Pending, of_file, Segments, Sending, Committing, Resending, CommittingAgain, Saving, commit_told, FineResult, FineOption, FineNext, CallFaults}
 use Rattle.std.specs.Prelude.{is_none}
+use Rattle.core_facts.proofs.Faults.{fine-some}
 use Rattle.file_ops.specs.declared.saving.Phase.{Phase}
 use Rattle.file_ops.specs.Saves as saves
 use Rattle.file_ops.specs.Syncs as syncs
-use Rattle.core_facts.proofs.Faults.{fine-some}
 
 clash : (R : Type 0) (b : Bool) → b ≡ true → b ≡ false → R
 clash R b is not = absurd (let wrong : true ≡ false = sym is ∙ not in cc)

@@ -1,12 +1,12 @@
 -- An operation is answered with NFS3ERR_JUKEBOX (RFC 1813, section 2.6) only where a record refused so a call that was sent for this very operation, which had been put
 -- off at three places of it before, and isn't the REMOVE of a last close.
 use Rattle.core_session.proofs.Prelude.{◌≡◌, ◌≤◌, ◌<◌, ◌+◌, ◌&&◌, ℕ, List, [], ◌∷◌, ◌++◌, length, Bool, true, false, option_map, Result, Ok, Err, inl, inr, refl, sym, ap, subst, ◌∙◌, arith, nat_lt, eq-eqb, lt-ltb, ltb-false, Waiting, without, Answer, Fault, Entry, Began, Delivered, Call, Reply, Op, Modes, RefusesSo, Ended, jukebox, FirstSent-grow, Answers-grow, length_last, Says, Next, Shelf, Turn, goes_again, CloseFile, Closing, Removal, Mounted, Machine, machine_of, Takes, Purpose, State, Busy, Over, Setup, View, of_closing, in_flight, Reaches, begins-unbegun, FineAnswer, reached-rows, ThenOf, AsksFor, Did, CloseNames, Saves, IsPiece, CallFaults, IsHeardNow, IsUnmadeFault, machine-fits}
+use Rattle.claims.specs.PageRules.{RefusedSo, refuses}
+use Rattle.client_shelf.specs.Busy.{is_busy}
 use Rattle.world_model.specs.declared.answer.Answer.TheVariants as answers
 use Rattle.world_model.specs.declared.answer.Fault.TheVariants as faults
 use Rattle.world_model.specs.declared.op.Op.TheVariants as ops
-use Rattle.claims.specs.PageRules.{RefusedSo, refuses}
 use Rattle.client_shelf.specs.declared.next.Next.TheVariants as nexts
-use Rattle.client_shelf.specs.Busy.{is_busy}
 use Rattle.client_shelf.specs.Repeats.{times_of, ended}
 use Rattle.file_ops.specs.declared.close_file.Closing.TheVariants as closing
 use Rattle.core_answers.specs.asks.SlotCalls.{IsRemoval}

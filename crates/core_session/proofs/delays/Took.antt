@@ -1,7 +1,7 @@
 -- What a step that takes what came of a call makes of the calls that are made again (RFC 1813, section 2.6, NFS3ERR_JUKEBOX).
 use Rattle.core_session.proofs.Prelude.{◌≡◌, ◌&&◌, ◌==◌, ℕ, Bool, true, false, List, Option, Some, None, Result, Ok, Err, refl, sym, ap, subst, ◌∙◌, nat_lt, eqb-true, Fault, jukebox, Repeat, Turn, fails_busy, goes_again, FineResult, FineOption}
-use Rattle.world_model.specs.declared.answer.Fault.TheVariants as faults
 use Rattle.client_shelf.specs.Busy.{is_busy, repeats_after}
+use Rattle.world_model.specs.declared.answer.Fault.TheVariants as faults
 use Rattle.name_ops.specs.Changing as changing
 
 -- Whether the call was put off; the calls that are made again then. Where it is made again, A; where it was put off, P of that; else C.

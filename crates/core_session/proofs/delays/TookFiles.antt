@@ -1,6 +1,15 @@
 -- An operation on a file makes a call again that was put off, as often as it may; a save also the WRITE of a piece, and its COMMIT.
 use Rattle.core_session.proofs.Prelude.{◌≡◌, ◌≤◌, ◌&&◌, ◌||◌, ◌==◌, ℕ, Bool, true, false, List, Option, Some, None, Result, Ok, Err, inl, inr, refl, sym, ap, subst, ◌∙◌, arith, nat_lt, eqb-true, Attr, Verf, Wcc, DirKept, FileKept, Fault, Call, Reply, status_of, jukebox, Pending, Pages, Opens, left, Next, Repeat, Shelf, Turn, fails_busy, goes_again, CloseFile, Closing, Removal, OpenFile, Led, Opening, OpeningNext, PutFile, Putting, ReadFile, Reading, Sending, Committing, Resending, CommittingAgain, Saving, SyncFile, Syncing, TruncateFile, Truncating, WriteFile, Writing, place_after, remove_of, remove_busy, written_by, write_told, commit_told, part, refusal, said_to, got_by, by-step, ends_as, WalkNext, FileMachine, Machine, PathMachine, file_of, Takes, of_writing, of_syncing, of_closing, of_truncating, of_putting, of_walk, path_by, in_flight, PathOr, FineNext, flies_if, flies_save, flies_write, flies_sync, flies_close, flies_put, flies_file, flies_path, Expects, PathNames, SyncNames, WriteNames, CloseNames, StateNames, FileNames, Saves, IsPiece, CallFaults, CallFits, FitsWalk, FineLed, FitsOpening}
 use Rattle.std.specs.Prelude.{is_none}
+use Rattle.client_shelf.specs.Busy.{is_busy, repeats_after}
+use Rattle.file_ops.specs.Closings.{busy_by}
+use Rattle.file_ops.specs.ReadReply.{Said, says_busy}
+use Rattle.core_facts.specs.InFlight.{of_phase, of_reading, of_file}
+use Rattle.core_facts.proofs.AllAwaited.{PutAwaits, FileAwaits}
+use Rattle.core_answers.proofs.asks.FilesAwaited.{CutNames}
+use Rattle.core_answers.proofs.answers.SaveFaults.{FitsSave}
+use Rattle.core_answers.proofs.writes.AllFits.{commits_path}
+use Rattle.core_answers.proofs.refusals.FitReads.{FitsPhase, FitsRead, FineSaid}
 use Rattle.nfs_dir_calls.specs.declared.keeping.DirKept.TheVariants as found
 use Rattle.nfs_file_calls.specs.declared.call.FileCall.TheVariants as calls_of
 use Rattle.nfs_file_calls.specs.declared.owned.FileKept.TheVariants as kept
@@ -9,7 +18,6 @@ use Rattle.world_model.specs.declared.message.Call.TheVariants as calls
 use Rattle.world_model.specs.declared.message.Reply.TheVariants as replies
 use Rattle.write_back.specs.Pieces.{Sent}
 use Rattle.client_shelf.specs.declared.next.Next.TheVariants as nexts
-use Rattle.client_shelf.specs.Busy.{is_busy, repeats_after}
 use Rattle.file_ops.specs.declared.close_file.Closing.TheVariants as closing
 use Rattle.file_ops.specs.declared.opening.Led.TheVariants as leads
 use Rattle.file_ops.specs.declared.opening.OpeningNext.TheVariants as openings
@@ -21,13 +29,11 @@ use Rattle.file_ops.specs.declared.sync_file.Syncing.TheVariants as syncing
 use Rattle.file_ops.specs.declared.truncate_file.Truncating.TheVariants as truncating
 use Rattle.file_ops.specs.declared.write_file.Writing.TheVariants as writing
 use Rattle.file_ops.specs.Closes as closes
-use Rattle.file_ops.specs.Closings.{busy_by}
 use Rattle.file_ops.specs.OpenFile as opens
 use Rattle.file_ops.specs.Opening as opening
 use Rattle.file_ops.specs.PutFile as puts
 use Rattle.file_ops.specs.ReadFile as reads
 use Rattle.file_ops.specs.Reading as reading
-use Rattle.file_ops.specs.ReadReply.{Said, says_busy}
 use Rattle.file_ops.specs.Saves as saves
 use Rattle.file_ops.specs.Syncs as syncs
 use Rattle.file_ops.specs.TruncateFile as truncates
@@ -38,17 +44,11 @@ use Rattle.op_machines.specs.declared.file_machine.FileMachine.TheVariants as fi
 use Rattle.op_machines.specs.declared.machine.Machine.TheVariants as machines
 use Rattle.op_machines.specs.FileSteps as steps
 use Rattle.op_machines.specs.PathSteps as paths
-use Rattle.core_facts.specs.InFlight.{of_phase, of_reading, of_file}
-use Rattle.core_facts.proofs.AllAwaited.{PutAwaits, FileAwaits}
-use Rattle.core_answers.proofs.asks.FilesAwaited.{CutNames}
 use Rattle.core_answers.proofs.asks.ReadsAwaited.{PhaseNames, ReadNames}
-use Rattle.core_answers.proofs.answers.SaveFaults.{FitsSave}
 use Rattle.core_answers.proofs.answers.WriteFaults.{FitsWrite}
-use Rattle.core_answers.proofs.writes.AllFits.{commits_path}
 use Rattle.core_answers.proofs.writes.CallFits.{Fits, commits_save, commits_write, commits_sync, commits_close, commits_put, commits_file}
 use Rattle.core_answers.proofs.refusals.FitAll.{FitsFile, FitsPath, FitsMachine}
 use Rattle.core_answers.proofs.refusals.FitFiles.{FitsSync, FitsClose, FitsCut, FitsPut}
-use Rattle.core_answers.proofs.refusals.FitReads.{FitsPhase, FitsRead, FineSaid}
 use Rattle.core_session.proofs.delays.Rests.{Same, same, writes-same, close-follows, put-follows, writes-on, adds-bytes, follows-path}
 use Rattle.core_session.proofs.delays.SaveSteps.{Gives}
 use Rattle.core_session.proofs.delays.Took.{Took, took-as, fault-busy, result-busy, result-calm, again-busy, again-no}

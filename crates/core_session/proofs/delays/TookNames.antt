@@ -1,5 +1,13 @@
 -- An operation on names makes a call again that was put off, as often as it may.
 use Rattle.core_session.proofs.Prelude.{◌≡◌, ◌≢◌, ◌≤◌, ◌==◌, ℕ, Bool, true, false, List, Option, Some, None, Result, Ok, Err, inl, inr, refl, sym, ap, subst, ◌∙◌, arith, eqb-true, Attr, DirKept, Fault, Value, Call, Reply, jukebox, Next, Shelf, Turn, fails_busy, goes_again, ListDir, Pair, Deed, Look, Seek, Move, RemoveFile, Stat, Visit, Walk, WalkNext, deed_call, found_by, look_again, moved_told, NameMachine, of_name, of_walk, removal_by, WalkAwaits, OwnOr, FineResult, FineOption, FineNext, fine-as, RemoveAwaits, CallFaults, FitsWalk}
+use Rattle.client_shelf.specs.Busy.{is_busy}
+use Rattle.name_ops.specs.declared.remove_file.Deed.TheVariants.{Remove}
+use Rattle.name_ops.specs.DirChange.{deed_told}
+use Rattle.name_ops.specs.Looking.{look_up}
+use Rattle.core_facts.specs.InFlight.{visit_by, pair_by, own_or, one_if, of_names}
+use Rattle.core_facts.proofs.Awaited.{PairOr}
+use Rattle.core_facts.proofs.NamesAwaited.{NameAwaits}
+use Rattle.core_answers.proofs.refusals.FitNames.{FitsOwn, FitsStat, FitsPair, FitsTwo, FitsDeed, FitsRemoval, FitsName, TextFits, PageFits, name-takes}
 use Rattle.nfs_dir_calls.specs.declared.keeping.DirKept.TheVariants as found
 use Rattle.dir_list.specs.declared.progress.ListFault.{ListFault}
 use Rattle.dir_list.specs.declared.progress.ListFault.TheVariants as list_faults
@@ -7,10 +15,8 @@ use Rattle.world_model.specs.declared.answer.Fault.TheVariants as faults
 use Rattle.world_model.specs.declared.answer.Value.TheVariants as values
 use Rattle.world_model.specs.declared.message.Reply.TheVariants as replies
 use Rattle.client_shelf.specs.declared.next.Next.TheVariants as nexts
-use Rattle.client_shelf.specs.Busy.{is_busy}
 use Rattle.name_ops.specs.declared.link.Link.{Link}
 use Rattle.name_ops.specs.declared.pair.PairNext.{PairNext}
-use Rattle.name_ops.specs.declared.remove_file.Deed.TheVariants.{Remove}
 use Rattle.name_ops.specs.declared.rename.Rename.{Rename}
 use Rattle.name_ops.specs.declared.sym_link.SymLink.{SymLink}
 use Rattle.name_ops.specs.declared.told.Told.{Told}
@@ -19,10 +25,8 @@ use Rattle.name_ops.specs.declared.visit.VisitNext.TheVariants as visits
 use Rattle.name_ops.specs.declared.walk.WalkNext.TheVariants as walks
 use Rattle.name_ops.specs.Access.{access_call, access_attr, access_told}
 use Rattle.name_ops.specs.Changing as changing
-use Rattle.name_ops.specs.DirChange.{deed_told}
 use Rattle.name_ops.specs.Link.{link_call, linked_told, TakesLink}
 use Rattle.name_ops.specs.ListDir as listing
-use Rattle.name_ops.specs.Looking.{look_up}
 use Rattle.name_ops.specs.Pairs as pairs
 use Rattle.name_ops.specs.ReadLink.{text_call, TellsText, TakesText}
 use Rattle.name_ops.specs.RemoveFile as removals
@@ -34,10 +38,6 @@ use Rattle.name_ops.specs.Visiting as visiting
 use Rattle.name_ops.specs.Walking as walking
 use Rattle.op_machines.specs.declared.name_machine.NameMachine.TheVariants as machines
 use Rattle.op_machines.specs.NameSteps.{NameTakes}
-use Rattle.core_facts.specs.InFlight.{visit_by, pair_by, own_or, one_if, of_names}
-use Rattle.core_facts.proofs.Awaited.{PairOr}
-use Rattle.core_facts.proofs.NamesAwaited.{NameAwaits}
-use Rattle.core_answers.proofs.refusals.FitNames.{FitsOwn, FitsStat, FitsPair, FitsTwo, FitsDeed, FitsRemoval, FitsName, TextFits, PageFits, name-takes}
 use Rattle.core_session.proofs.delays.Took.{Took, took-as, result-busy, option-busy, result-calm, option-calm, fault-busy, again-busy, again-no}
 
 same-repeats : (a b : Shelf) → a ≡ b → a.repeats ≡ b.repeats

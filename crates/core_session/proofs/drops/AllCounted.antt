@@ -1,5 +1,6 @@
 -- No step of any operation lowers the number of the last write.
 use Rattle.core_session.proofs.Prelude.{◌≡◌, ◌≤◌, ◌-◌, ℕ, Bool, true, false, List, Option, Some, None, Result, ap, arith, Fault, Reply, of_file, last_end, goes_again, is_first, Next, Shelf, Turn, CloseFile, Closing, Saving, refusal_of, remove_busy, file_to_write, file_at, joined, by-step, WalkNext, walk-takes-kept, FileMachine, Machine, PathMachine, file_of, slot_taken, begun_at, Starts, Resumes, Takes, name-goes-kept, name-takes-kept}
+use Rattle.op_machines.specs.Openers.{placed}
 use Rattle.file_ops.specs.declared.close_file.Closing.TheVariants as closing
 use Rattle.file_ops.specs.Closes as closes
 use Rattle.file_ops.specs.Saves as saves
@@ -9,7 +10,6 @@ use Rattle.name_ops.specs.Walking as walking
 use Rattle.op_machines.specs.declared.file_machine.FileMachine.TheVariants as files
 use Rattle.op_machines.specs.declared.machine.Machine.TheVariants as machines
 use Rattle.op_machines.specs.FileSteps as steps
-use Rattle.op_machines.specs.Openers.{placed}
 use Rattle.op_machines.specs.PathSteps as paths
 use Rattle.core_session.proofs.drops.Counted.{Up, up, level, on}
 use Rattle.core_session.proofs.drops.Counted as plain

@@ -1,5 +1,6 @@
 -- What guards a written byte, as an operation begins, as an answer is noted, and as a lone byte comes in.
 use Rattle.core_session.proofs.Prelude.{◌≡◌, ◌≢◌, ◌⊎◌, ◌≤◌, ◌<◌, inl, inr, ℕ, zero, suc, List, [], ◌∷◌, ◌++◌, length, remove, Bool, true, false, nat_eq, Option, Some, None, option_map, position, slice_get, refl, sym, ap, subst, ◌∙◌, arith, nat_lt, if◌then◌else◌, option_map_or, eqb-true, eqb-false, Opened, Opens, Entry, Op, Modes, LaneFile, Next, Shelf, is_lane, added, left, CloseFile, Closing, Saving, file_at, joined, Mounted, Machine, machine_of, Starts, Lane, State, Busy, Over, Setup, IsIdle, numbers_of, counted, StartsLane, View, turn_at, AreApart, Reaches, begins-unbegun, seat_close, idle-numbers, number_of, get-push, before-push, at-push, get-remove, skip, to-map, look-at, look-idle, Sits, same-sits, seat_with, seat-own, seat-other, joins, seat_state, seat_in, Kind, plainly, kind_of, BeginsAs, Agrees, reached-slots, IsFirst, Turned, file_in, save_in, IsClose, IsSaving, IsGuarded, slot, past}
+use Rattle.core_facts.proofs.Slots.{opening, closing}
 use Rattle.std.specs.FinMap as finite
 use Rattle.world_model.specs.declared.answer.Answer.TheVariants as answers
 use Rattle.world_model.specs.declared.answer.Fault.TheVariants as faults
@@ -9,7 +10,6 @@ use Rattle.file_ops.specs.Saves as saves
 use Rattle.op_machines.specs.declared.file_machine.FileMachine.TheVariants as files
 use Rattle.op_machines.specs.declared.machine.Machine.TheVariants as machines
 use Rattle.core_facts.proofs.AllSeats.{begins-fresh}
-use Rattle.core_facts.proofs.Slots.{opening, closing}
 use Rattle.core_session.proofs.drops.AllCounted.{up-starts}
 use Rattle.core_session.proofs.drops.Drops.{closer-kind, ended-slot}
 use Rattle.core_session.proofs.drops.CloseGoes.{goes-starts}

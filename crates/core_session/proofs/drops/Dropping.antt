@@ -1,12 +1,12 @@
 -- After a close gave up what was pending of its file: what is owed until a record comes, as lanes make their steps and operations begin.
 use Rattle.core_session.proofs.Prelude.{◌≡◌, ◌≢◌, ◌⊎◌, inl, inr, ℕ, List, [], ◌∷◌, ◌++◌, Bool, true, false, nat_eq, Option, Some, None, option_map, slice_get, refl, sym, ap, subst, ◌∙◌, arith, eqb-true, eqb-false, Opened, Opens, IsOpen, Answer, Refused, Entry, Answered, Delivered, Modes, length_last, CloseFile, Closing, file_at, Machine, Lane, Busy, Over, View, MayHear, at-set, Kind, plainly, kind_of, set-other, ended-grow, IsFirst, IsPast, NonePast, IsOwed, WasLeft, IsDropped}
+use Rattle.core_facts.proofs.Slots.{opening, closing}
+use Rattle.core_session.specs.drops.Dropped.{IsReady, IsRefused, ready, noted}
 use Rattle.std.specs.FinMap as finite
 use Rattle.world_model.specs.declared.op.Op.TheVariants as ops
 use Rattle.file_ops.specs.declared.close_file.Closing.TheVariants as closings
 use Rattle.op_machines.specs.declared.file_machine.FileMachine.TheVariants as files
 use Rattle.op_machines.specs.declared.machine.Machine.TheVariants as machines
-use Rattle.core_facts.proofs.Slots.{opening, closing}
-use Rattle.core_session.specs.drops.Dropped.{IsReady, IsRefused, ready, noted}
 use Rattle.core_session.proofs.drops.Closers.{ClosingAt}
 use Rattle.core_session.proofs.drops.Drops.{OwnLed, closer, other, WasCloser, WasNone}
 use Rattle.core_session.proofs.drops.Growing.{of-grow, under-grow, still-on}

@@ -1,5 +1,7 @@
 -- What is known of the operations under way as to slots, along a history; and what a step of a lane makes of it.
 use Rattle.core_session.proofs.Prelude.{◌≡◌, ◌≢◌, ℕ, List, [], ◌∷◌, ◌++◌, length, Option, Some, None, option_map, slice_get, slice_set, Result, refl, sym, ap, subst, ◌∙◌, arith, Opened, Opens, Answer, Entry, Began, Answered, Fault, Reply, Op, At, Modes, UnderWay, IsOf, At-last, Next, Send, Wait, Done, Shelf, Turn, CloseFile, Closing, file_at, joined, Machine, Starts, Resumes, Takes, Lane, State, Busy, Over, AreApart, at-set, Agrees, IsPlain, Kind, plainly, kind_of, BeginsAs, set-other, by-place, CloseTurn, IsFirst}
+use Rattle.core_facts.proofs.SlotGrowth.{IsShown}
+use Rattle.core_facts.proofs.Slots.{opening, closing}
 use Rattle.std.specs.FinMap as finite
 use Rattle.world_model.specs.declared.answer.Answer.TheVariants as answers
 use Rattle.world_model.specs.declared.answer.Fault.TheVariants as faults
@@ -8,8 +10,6 @@ use Rattle.file_ops.specs.declared.close_file.Closing.TheVariants as closings
 use Rattle.file_ops.specs.Closes as closes
 use Rattle.op_machines.specs.declared.file_machine.FileMachine.TheVariants as files
 use Rattle.op_machines.specs.declared.machine.Machine.TheVariants as machines
-use Rattle.core_facts.proofs.SlotGrowth.{IsShown}
-use Rattle.core_facts.proofs.Slots.{opening, closing}
 use Rattle.core_session.proofs.drops.Closers.{ClosingAt}
 use Rattle.core_session.proofs.drops.Growing.{slot-grow, of-grow, under-grow}
 use Rattle.core_session.proofs.drops.SlotKinds.{IsCloserOf, KindTold, StateTold, OthersSame, OnlyLess, quiet-same, CloserState, CloserLed, closer-led, close-begins, close-goes, close-hears, OtherTold, OtherState, other-led, other-begins, other-goes, other-hears}

@@ -1,10 +1,10 @@
 -- A close that is refused, whose file no slot holds then: its answer is owed, and it alone is past its sync.
 use Rattle.core_session.proofs.Prelude.{◌≡◌, ◌≢◌, ◌⊎◌, inl, inr, ℕ, List, [], ◌∷◌, ◌++◌, length, Bool, true, false, nat_eq, Some, None, slice_get, refl, sym, ap, subst, ◌∙◌, arith, eqb-true, eqb-false, Opens, IsOpen, Refused, Fault, Entry, Began, Op, Modes, UnderWay, IsOf, At-last, length_last, left, CloseFile, Closing, joined, Lane, State, Busy, Over, IsIdle, numbers_of, View, AreApart, seat_of, seat_close, idle-numbers, number_of, get-push, at-push, to-map, look-at, look-idle, Sits, same-sits, seat_with, seat-own, seat-other, joins, seat_state, seat_in, first-left, first-added, same-first, CloseTurn, IsFirst, Turned, IsPast, NonePast, IsOwed}
+use Rattle.core_session.specs.drops.Dropped.{IsReady, ready, StillBetween}
 use Rattle.world_model.specs.declared.op.Op.TheVariants as ops
 use Rattle.file_ops.specs.declared.close_file.Closing.TheVariants as closings
 use Rattle.op_machines.specs.declared.file_machine.FileMachine.TheVariants as files
 use Rattle.op_machines.specs.declared.machine.Machine.TheVariants as machines
-use Rattle.core_session.specs.drops.Dropped.{IsReady, ready, StillBetween}
 use Rattle.core_session.proofs.drops.Closers.{ClosingAt, ClosedAt}
 use Rattle.core_session.proofs.drops.Drops.{WasCloser}
 use Rattle.core_session.proofs.drops.Dropping.{was-at, now-at}

@@ -1,10 +1,10 @@
 -- What a history shows of slots and closes, it shows with one entry more.
 use Rattle.core_session.proofs.Prelude.{◌≡◌, ◌⊎◌, ◌<◌, ◌≤◌, inl, inr, ℕ, suc, List, [], ◌∷◌, ◌++◌, length, refl, ap, ◌∙◌, arith, Answer, Refused, Entry, Began, Answered, Delivered, Op, At, Modes, AnsweredBefore, UnderWay, InSlot, IsOf, GivesUp, itself, beside, At-grow, At-back, At-below, At-cases, At-one, length_last, IsHeld, held-grow, ended-grow, WasLeft}
-use Rattle.world_model.specs.declared.op.Op.TheVariants as ops
 use Rattle.world_model.specs.Operations.{NoneCame}
 use Rattle.claims.specs.Touched.{Left}
 use Rattle.core_facts.proofs.SlotGrowth.{held-back, ended-back}
 use Rattle.core_session.specs.drops.Dropped.{StillBetween}
+use Rattle.world_model.specs.declared.op.Op.TheVariants as ops
 
 -- which open a slot holds isn't said
 pub record HeldSo (m : Modes) (h : List Entry) (n lane slot : ℕ) (f : List ℕ) : Type 0 where

@@ -1,5 +1,6 @@
 -- What guards a written byte, along the steps of lanes: of a close, of another operation, and of one that begins.
 use Rattle.core_session.proofs.Prelude.{◌≡◌, ◌⊎◌, ◌≤◌, ◌+◌, ◌-◌, inl, inr, ℕ, List, Some, None, position, slice_get, slice_set, Result, Err, refl, sym, ap, subst, ◌∙◌, arith, Opened, Place, Opens, IsOpen, Waiting, waiting_at, Answer, Fault, Entry, Reply, Op, Modes, said_of, Next, Send, Wait, Done, Shelf, Turn, CloseFile, Closing, Removal, Saving, Machine, Resumes, Takes, Lane, Purpose, State, Busy, Setup, is_busy, IsRefused, Stirs, TakesAt, View, turn_at, in_flight, AreApart, IsLive, taken_one, Known, taker-one, lanes-under-way, Kind, plainly, kind_of, IsFirst, save_in, IsSaving, IsGuarded}
+use Rattle.core_facts.proofs.Slots.{opening, closing}
 use Rattle.std.specs.FinMap as finite
 use Rattle.open_files.proofs.Laws.{get-put_other}
 use Rattle.world_model.specs.declared.answer.Answer.TheVariants as answers
@@ -7,7 +8,6 @@ use Rattle.file_ops.specs.declared.close_file.Closing.TheVariants as closings
 use Rattle.op_machines.specs.declared.file_machine.FileMachine.TheVariants as files
 use Rattle.op_machines.specs.declared.machine.Machine.TheVariants as machines
 use Rattle.core_facts.proofs.OpenSlots.{OpenTook, table_stays, puts_open, opener-takes, plain-takes}
-use Rattle.core_facts.proofs.Slots.{opening, closing}
 use Rattle.core_session.proofs.drops.AllCounted.{up-resumes, up-takes}
 use Rattle.core_session.proofs.drops.Closers.{ClosingAt}
 use Rattle.core_session.proofs.drops.CloseGoes.{GoesAs, saves_on, freed, removes, OnItsWay, EndsAs, CloserGoes, both-in, StateOf, goes-resumes, goes-takes}

@@ -1,10 +1,10 @@
 -- What is known of the operations under way as to slots: each step of a lane and each entry keeps it.
 use Rattle.core_session.proofs.Prelude.{◌≡◌, ◌≢◌, ◌⊎◌, ◌+◌, ◌-◌, inl, inr, ℕ, List, [], ◌∷◌, ◌++◌, length, remove, false, Some, None, position, slice_get, slice_set, sym, ap, subst, ◌∙◌, arith, Opens, Waiting, waiting_at, Answer, Entry, Began, Answered, Delivered, Op, Modes, UnderWay, At-last, length_last, said_of, LaneFile, Shelf, CloseFile, Closing, joined, Mounted, Machine, machine_of, Lane, Purpose, State, Busy, Over, Setup, IsFresh, is_busy, IsIdle, numbers_of, Stirs, counted, StartsLane, TakesAt, AnswersAt, View, turn_at, in_flight, of_closing, AreApart, Reaches, taken_one, Known, taker-one, lanes-under-way, idle-numbers, number_of, get-push, get-remove, skip, to-map, reached-slots, SameCalls, CloseTurn, IsFirst, Turned}
+use Rattle.core_facts.proofs.Lists.{skip-other}
+use Rattle.core_answers.proofs.writes.AllTurns.{TurnOf, keeps-turned}
 use Rattle.file_ops.specs.declared.close_file.Closing.TheVariants as closings
 use Rattle.op_machines.specs.declared.file_machine.FileMachine.TheVariants as files
 use Rattle.op_machines.specs.declared.machine.Machine.TheVariants as machines
-use Rattle.core_facts.proofs.Lists.{skip-other}
-use Rattle.core_answers.proofs.writes.AllTurns.{TurnOf, keeps-turned}
 use Rattle.core_session.proofs.drops.Drops.{LaneTold, LanesTold, lane-moved, lane-grows, lanes-set, OwnLed, WasCloser, HadFile, WasNone, HadNone, own-told, own-others, own-goes, own-hears, own-begins}
 use Rattle.core_session.proofs.drops.SlotKinds.{begins-as, OnlyLess}
 use Rattle.core_session.proofs.drops.KnowingAlong.{IsPlain}

@@ -1,14 +1,14 @@
 -- An answer is noted while a close's answer is owed: it was the last one of the file's closes, or another one is owed still.
 use Rattle.core_session.proofs.Prelude.{◌≡◌, ◌≢◌, ◌⊎◌, ◌≤◌, ◌<◌, inl, inr, ℕ, suc, zero, List, [], ◌∷◌, ◌++◌, length, Bool, true, false, nat_eq, Option, Some, None, slice_get, refl, sym, ap, subst, ◌∙◌, arith, eqb-true, eqb-false, cases_lt, Mode, Opened, Opens, IsOpen, Answer, Entry, Began, Answered, Op, At, Ended, AnsweredBefore, UnderWay, InSlot, IsOf, Terms, GivesUp, itself, beside, At-grow, At-last, At-below, At-one, At-cases, length_last, Mounted, machine_of, Lane, State, Busy, Over, Setup, IsOther, numbers_of, AnswersAt, View, AreApart, IsOpenLine, GoesWith, Known, Runs, lanes-under-way, number_of, get-remove, still-there, skip, to-map, Agrees, SlotsAgree, Kind, plainly, kind_of, StoryOf, Slots, reached-slots, ended-grow, some-answer, IsPast, NonePast, IsOwed, WasLeft, IsDropped}
+use Rattle.claims.specs.Touched.{Left}
+use Rattle.core_facts.proofs.Slots.{opening, closing}
+use Rattle.core_session.specs.drops.Dropped.{IsReady, IsRefused, ready, noted}
 use Rattle.std.specs.FinMap as finite
 use Rattle.world_model.specs.declared.answer.Answer.TheVariants as answers
 use Rattle.world_model.specs.declared.op.Op.TheVariants as ops
-use Rattle.claims.specs.Touched.{Left}
 use Rattle.op_machines.specs.declared.file_machine.FileMachine.TheVariants as files
 use Rattle.op_machines.specs.declared.machine.Machine.TheVariants as machines
 use Rattle.core_facts.proofs.Marks.{last-same}
-use Rattle.core_facts.proofs.Slots.{opening, closing}
-use Rattle.core_session.specs.drops.Dropped.{IsReady, IsRefused, ready, noted}
 use Rattle.core_session.proofs.drops.Drops.{closer-kind}
 use Rattle.core_session.proofs.drops.Dropping.{past-or-open}
 use Rattle.core_session.proofs.drops.Growing.{of-grow, under-grow, still-on, was-left-grow}

@@ -1,5 +1,7 @@
 -- The file that a slot holds is one: that of its one open, whose last reply names one file.
 use Rattle.core_session.proofs.Prelude.{◌≡◌, ◌<◌, ◌≤◌, ◌⊎◌, inl, inr, ℕ, List, [], ◌∷◌, ◌++◌, length, Option, Some, slice_get, Result, Ok, Err, refl, sym, ap, subst, ◌∙◌, arith, cases_lt, Attr, Wcc, DirCall, DirKept, Answer, Value, Entry, Began, Answered, Dialed, Sent, Executed, Foreign, Flushed, Reboot, Delivered, Failed, Clock, Call, Reply, Op, At, HasXid, SpellsCall, SpellsReply, Modes, Ended, AnsweredBefore, LastReply, Finds, InSlot, Terms, At-below, At-cases, At-one, Mounted, Machine, machine_of, Setup, numbers_of, View, IsNfs, one-call, StepsTo, Reaches, begins, goes, loses, GoesWith, reached-lanes, idle-numbers, ended-grow}
+use Rattle.world_model.specs.Messages.{SpellsResults}
+use Rattle.claims.specs.Slots.{asked, looked_up, made}
 use Rattle.xdr_codec.specs.declared.reader.XdrFault.{XdrFault}
 use Rattle.nfs_dir_calls.specs.declared.call.DirCall.TheVariants as dirs
 use Rattle.nfs_dir_calls.specs.declared.keeping.DirKept.TheVariants as found
@@ -15,9 +17,7 @@ use Rattle.world_model.specs.declared.message.Call.TheVariants as calls
 use Rattle.world_model.specs.declared.message.Reply.TheVariants as replies
 use Rattle.world_model.specs.declared.op.Op.TheVariants as ops
 use Rattle.claims.specs.Caused.{IsTried}
-use Rattle.world_model.specs.Messages.{SpellsResults}
 use Rattle.claims.specs.Rights.{taken}
-use Rattle.claims.specs.Slots.{asked, looked_up, made}
 use Rattle.core_facts.proofs.SlotTheorems.{places-exact}
 
 -- ---- a record is one reply

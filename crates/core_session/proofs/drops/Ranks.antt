@@ -1,8 +1,8 @@
 -- Which lane stands before which in the order of files, after another lane left its place or took one; who is the first stands before all others of its file.
 use Rattle.core_session.proofs.Prelude.{◌≡◌, ◌≢◌, ◌<◌, ◌≤◌, ◌+◌, ℕ, zero, suc, Bool, true, false, cond, nat_eq, List, [], ◌∷◌, ◌++◌, length, remove, Option, Some, None, option_map, position, slice_get, Result, refl, sym, ap, ◌∙◌, arith, nat_lt, if◌then◌else◌, option_map_or, eqb-true, Fault, Reply, LaneFile, Next, Send, Wait, Done, Shelf, Turn, is_lane, added, left, is_first, Machine, Starts, Resumes, Takes, in_flight, Counts, IsCounted, IsUnbegun, counts-calls, IsLive, IsFreshFor, still-there, before-push, Sits}
 use Rattle.std.specs.Option.{option_and_then}
-use Rattle.std.specs.Cmp.Lexicographic.{bytes_decides}
 use Rattle.client_shelf.specs.LaneFiles.{is_file, leads}
+use Rattle.std.specs.Cmp.Lexicographic.{bytes_decides}
 use Rattle.core_facts.proofs.AllSeats as seats
 use Rattle.core_facts.proofs.FileSeats.{Seats}
 use Rattle.core_answers.proofs.writes.Firsts.{position-cons}

@@ -1,12 +1,12 @@
 -- What is known of each operation under way as to slots: an open opens its slot, a close knows the file that its slot held, and others touch none.
 use Rattle.core_session.proofs.Prelude.{◌≡◌, ◌≢◌, ◌⊎◌, inl, inr, ℕ, List, Bool, true, false, nat_eq, Some, None, Result, Err, refl, sym, ap, subst, ◌∙◌, eqb-true, eqb-false, Place, Opens, Answer, Fault, Entry, Call, Reply, Op, Modes, IsOf, Next, Send, Wait, Done, Shelf, Turn, CloseFile, Closing, file_at, joined, Mounted, Machine, machine_of, Starts, Resumes, Takes, State, Busy, Over, IsPlain, Kind, plainly, kind_of, BeginsAs, ThenOf, CloseTurn, IsFirst, IsRefused}
+use Rattle.core_facts.proofs.OpenSlots.{plain-starts, plain-resumes, plain-takes, IsOpener, opener-starts, opener-resumes, opener-takes, OpenTook, table_stays, puts_open, FindsBy, by_attrs, by_lookup, by_create}
+use Rattle.core_facts.proofs.Slots.{opening, closing}
 use Rattle.std.specs.FinMap as finite
 use Rattle.open_files.proofs.Laws.{get-put_other}
 use Rattle.world_model.specs.declared.op.Op.TheVariants as ops
 use Rattle.op_machines.specs.declared.file_machine.FileMachine.TheVariants as files
 use Rattle.op_machines.specs.declared.machine.Machine.TheVariants as machines
-use Rattle.core_facts.proofs.OpenSlots.{plain-starts, plain-resumes, plain-takes, IsOpener, opener-starts, opener-resumes, opener-takes, OpenTook, table_stays, puts_open, FindsBy, by_attrs, by_lookup, by_create}
-use Rattle.core_facts.proofs.Slots.{opening, closing}
 use Rattle.core_session.proofs.drops.Closers.{ClosingAt, ClosedAt, CloserThen, CloserSteps, closer-starts, closer-resumes, closer-takes}
 use Rattle.core_session.proofs.drops.Leading.{Leading, settles, unmade, Settles}
 

@@ -1,13 +1,13 @@
 -- Where each answer that is ready was noted, and the table has no slot that holds the file of a close past its sync, that close's slot alone holds the file by
 -- the history.
 use Rattle.core_session.proofs.Prelude.{◌≡◌, ◌⊎◌, ◌≤◌, ◌<◌, inl, inr, ℕ, List, length, Bool, true, false, nat_eq, Option, Some, None, slice_get, refl, sym, ap, subst, ◌∙◌, arith, eqb-true, eqb-false, cases_lt, Mode, Opened, IsOpen, Answer, Entry, Began, Answered, Op, At, Ended, AnsweredBefore, UnderWay, InSlot, IsOf, Terms, At-below, At-one, CloseFile, Mounted, Machine, machine_of, State, Busy, Over, Setup, IsOther, numbers_of, View, AreApart, GoesWith, lanes-under-way, reached-lanes, seat_in, Agrees, SlotsAgree, Kind, plainly, kind_of, StoryOf, Slots, reached-slots, same-first, IsPast}
+use Rattle.core_facts.proofs.Slots.{opening, closing}
 use Rattle.std.specs.FinMap as finite
 use Rattle.world_model.specs.declared.answer.Answer.TheVariants as answers
 use Rattle.world_model.specs.declared.op.Op.TheVariants as ops
 use Rattle.claims.specs.Asks.{HeldAlone}
 use Rattle.op_machines.specs.declared.file_machine.FileMachine.TheVariants as files
 use Rattle.op_machines.specs.declared.machine.Machine.TheVariants as machines
-use Rattle.core_facts.proofs.Slots.{opening, closing}
 use Rattle.core_session.proofs.calls.TableHeld.{AllNoted, IsLane, lane-or}
 use Rattle.core_session.proofs.drops.Drops.{closer-kind}
 use Rattle.core_session.proofs.drops.Dropping.{past-or-open}

@@ -1,14 +1,14 @@
 -- A record that was sent for a close: this asks for its call, or the call is the REMOVE of the place where the file of its slot was hidden.
 use Rattle.core_session.proofs.Prelude.{◌≡◌, ◌≤◌, ◌⊎◌, inl, inr, ℕ, List, [], ◌∷◌, ◌++◌, length, Some, refl, sym, subst, ◌∙◌, arith, Entry, Began, Call, Op, Asks, At, Rooted, UnderWay, IsOf, Terms, Rooted-wide, At-grow, At-below, At-one, length_last, Closing, Removal, remove_of, Mounted, FileMachine, Machine, machine_of, Busy, Setup, View, of_closing, in_flight, begins-unbegun, Held, held-later, always-later, Given, is-given, reached-slots, good-over, Expects, CloseNames, Saves, of-slot, WorksAt, SlotRuns, SlotStory, slot-laws, IsSession, IsPast}
-use Rattle.world_model.specs.declared.op.Op.TheVariants as ops
 use Rattle.claims.specs.Asks.{Stabilizes, HeldAlone, RemovesHidden}
+use Rattle.core_answers.proofs.asks.SlotFiles.{CloseAt}
+use Rattle.world_model.specs.declared.op.Op.TheVariants as ops
 use Rattle.claims.specs.Asks as asks
 use Rattle.claims.specs.Hidden.{HiddenAt}
 use Rattle.file_ops.specs.declared.close_file.Closing.TheVariants as closing_states
 use Rattle.op_machines.specs.declared.file_machine.FileMachine.TheVariants as files
 use Rattle.op_machines.specs.declared.machine.Machine.TheVariants as machines
 use Rattle.core_facts.proofs.Slots.{ClosingNow}
-use Rattle.core_answers.proofs.asks.SlotFiles.{CloseAt}
 use Rattle.core_session.proofs.calls.Causes.{Now, Spelt, under-now}
 use Rattle.core_session.proofs.calls.Outgoing.{Outgoing}
 use Rattle.core_session.proofs.calls.TableHeld.{AllNoted}

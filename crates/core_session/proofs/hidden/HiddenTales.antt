@@ -1,5 +1,8 @@
 -- Each place of the table of hidden files is one where a remove has hidden its file, and so is each of which a close removes it.
 use Rattle.core_session.proofs.Prelude.{◌≡◌, ◌⊎◌, inl, inr, ℕ, Bool, true, false, List, [], ◌∷◌, ◌++◌, length, Option, Some, None, slice_get, Result, Ok, Err, refl, sym, ap, subst, ◌∙◌, arith, DirKept, Wcc, Waiting, waiting_at, Fault, Entry, Began, Delivered, Call, Reply, Op, At, Asked, SpellsCall, SpellsReply, UnderWay, Asked-grow, Asked-wide, At-grow, Says, Next, Shelf, Turn, Closing, Deed, Move, RemoveFile, moved_told, Mounted, FileMachine, Machine, NameMachine, front_of, last_of, machine_of, Purpose, State, Busy, Over, Setup, View, Reaches, IsOutstanding, Awaits, awaits-laws, begins-unbegun, LeadsTo, end-leads, leads-later, RemoveAwaits, Did, Expects, expects-laws, RemoveRuns, NoCall, CameOf, heard_of, unmade, SlotLaws}
+use Rattle.name_ops.specs.Moving.{move_call}
+use Rattle.core_answers.proofs.asks.RemoveSteps.{HasDeed}
+use Rattle.core_answers.proofs.refusals.Answering.{IsSeen, IsToldOf, AllGood, reached-good}
 use Rattle.std.specs.FinMap as finite
 use Rattle.std.specs.Ordering.{nat_cmp}
 use Rattle.std.specs.Cmp.Lexicographic.{slice_cmp}
@@ -11,15 +14,12 @@ use Rattle.client_shelf.specs.declared.next.Next.TheVariants as nexts
 use Rattle.file_ops.specs.declared.close_file.Closing.TheVariants as closing
 use Rattle.file_ops.specs.Closings.{Places}
 use Rattle.name_ops.specs.Looking.{look_up}
-use Rattle.name_ops.specs.Moving.{move_call}
 use Rattle.name_ops.specs.RemoveFile as removals
 use Rattle.op_machines.specs.declared.file_machine.FileMachine.TheVariants as files
 use Rattle.op_machines.specs.declared.machine.Machine.TheVariants as machines
 use Rattle.op_machines.specs.declared.name_machine.NameMachine.TheVariants as names
 use Rattle.core_facts.proofs.Tales.{reached-good as tales-good}
 use Rattle.core_answers.proofs.asks.RemoveAsks as removes
-use Rattle.core_answers.proofs.asks.RemoveSteps.{HasDeed}
-use Rattle.core_answers.proofs.refusals.Answering.{IsSeen, IsToldOf, AllGood, reached-good}
 use Rattle.core_session.proofs.hidden.MoveTales.{Gave, SomeGave, GaveBefore, reached-gave}
 use Rattle.core_session.proofs.hidden.Places.{WasHidden, hidden-later}
 use Rattle.core_session.proofs.hidden.SillyNames.{Moved}

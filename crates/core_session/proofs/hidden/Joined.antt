@@ -1,10 +1,10 @@
 -- Each call of a session was asked for, but those that make room.
 use Rattle.core_session.proofs.Prelude.{◌≡◌, ◌⊎◌, inl, inr, ℕ, List, refl, sym, subst, Entry, Sent, Call, Op, Asks, NoneBegan, IsCaused, KeepsTo, At, SpellsCallBy, UnderWay, Terms, Mounted, IsAsked, machine_of, Setup, View, begins-unbegun, GoesFrom, CallsAskedBut, Notes}
+use Rattle.claims.specs.CallsAsked.{asked}
+use Rattle.core_session.specs.calls.Whole.{IsCausedBeside}
 use Rattle.world_model.specs.declared.op.Op.TheVariants as ops
 use Rattle.claims.specs.Asks as asks
-use Rattle.claims.specs.CallsAsked.{asked}
 use Rattle.core_session.specs.calls.Made as before_made
-use Rattle.core_session.specs.calls.Whole.{IsCausedBeside}
 use Rattle.core_session.proofs.calls.Causes.{Now, Spelt, under-now, cause, reads-keep}
 use Rattle.core_session.proofs.calls.Outgoing.{Outgoing}
 use Rattle.core_session.proofs.calls.OwnBytes.{own-bytes}

@@ -1,20 +1,20 @@
 -- While a remove takes a hidden name, each call of it that waits was first sent after the LOOKUP of its name gave the file.
 use Rattle.core_session.proofs.Prelude.{◌≡◌, ◌≤◌, ◌+◌, inl, inr, ℕ, Bool, true, false, List, [], ◌∷◌, ◌++◌, length, Option, Some, None, slice_get, Result, Ok, Err, refl, sym, ap, subst, ◌∙◌, arith, Attr, DirKept, Opens, Waiting, waiting_at, Answer, Fault, Entry, Began, Call, Reply, Op, Asked, UnderWay, EndsWith, Asked-grow, Asked-wide, length_last, Next, Shelf, Turn, Deed, Look, Seek, Move, RemoveFile, WalkNext, found_by, look_again, Mounted, Machine, NameMachine, machine_of, Starts, Resumes, Takes, Purpose, Busy, Setup, View, in_flight, Reaches, Awaits, RemoveAwaits, ThenOf}
+use Rattle.name_ops.specs.declared.remove_file.Deed.TheVariants.{Remove}
+use Rattle.name_ops.specs.Looking.{look_up}
+use Rattle.core_facts.specs.InFlight.{one_if}
+use Rattle.core_facts.proofs.NamesAwaited.{NameAwaits}
 use Rattle.nfs_dir_calls.specs.declared.keeping.DirKept.TheVariants as kept
 use Rattle.silly_rename.specs.Plans.{plan_of}
 use Rattle.world_model.specs.declared.message.Reply.TheVariants as replies
 use Rattle.world_model.specs.declared.op.Op.TheVariants as ops
 use Rattle.client_shelf.specs.declared.next.Next.TheVariants as nexts
-use Rattle.name_ops.specs.declared.remove_file.Deed.TheVariants.{Remove}
 use Rattle.name_ops.specs.declared.walk.WalkNext.TheVariants as walks
-use Rattle.name_ops.specs.Looking.{look_up}
 use Rattle.name_ops.specs.RemoveFile as removals
 use Rattle.name_ops.specs.Walking as walking
 use Rattle.op_machines.specs.declared.machine.Machine.TheVariants as machines
 use Rattle.op_machines.specs.declared.name_machine.NameMachine.TheVariants as names
 use Rattle.op_machines.specs.NameSteps as steps
-use Rattle.core_facts.specs.InFlight.{one_if}
-use Rattle.core_facts.proofs.NamesAwaited.{NameAwaits}
 use Rattle.core_answers.proofs.bonds.Keeping.{ShelfLaws}
 use Rattle.core_answers.proofs.bonds.NamesShown.{awaits-asks}
 use Rattle.core_answers.proofs.paths.Following.{IsAfter, FromPlace, FollowLaws, IsHeld, reached-known}

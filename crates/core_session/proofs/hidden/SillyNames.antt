@@ -1,5 +1,7 @@
 -- What a step of an operation on names leaves of the places of hidden files: all, but where a remove has hidden one.
 use Rattle.core_session.proofs.Prelude.{◌≡◌, ◌⊎◌, ℕ, Bool, true, false, List, Option, Some, None, Result, Ok, Err, inl, inr, refl, ap, ◌∙◌, if◌then◌else◌, Attr, Fault, Value, Call, Reply, Next, Shelf, Turn, ListDir, Stat, Visit, Walk, WalkNext, found_by, look_again, Pair, Deed, Look, Seek, Move, RemoveFile, deed_call, moved_told, NameMachine}
+use Rattle.name_ops.specs.declared.remove_file.Deed.TheVariants.{Remove}
+use Rattle.name_ops.specs.DirChange.{deed_told}
 use Rattle.name_ops.specs.declared.sym_link.SymLink.{SymLink}
 use Rattle.name_ops.specs.declared.told.Told.{Told}
 use Rattle.name_ops.specs.declared.walk.WalkNext.TheVariants as walks
@@ -13,10 +15,8 @@ use Rattle.name_ops.specs.Visiting as visiting
 use Rattle.name_ops.specs.Walking as walking
 use Rattle.name_ops.specs.declared.link.Link.{Link}
 use Rattle.name_ops.specs.declared.pair.PairNext.{PairNext}
-use Rattle.name_ops.specs.declared.remove_file.Deed.TheVariants.{Remove}
 use Rattle.name_ops.specs.declared.rename.Rename.{Rename}
 use Rattle.name_ops.specs.Access.{access_call, access_attr, access_told}
-use Rattle.name_ops.specs.DirChange.{deed_told}
 use Rattle.name_ops.specs.Link.{TakesLink}
 use Rattle.name_ops.specs.Pairs as pairs
 use Rattle.name_ops.specs.RemoveFile as removals

@@ -1,12 +1,13 @@
 -- What holds of each place where a file is hidden holds of those that closes take from there: which steps change them.
 use Rattle.core_session.proofs.Prelude.{◌≡◌, ◌-◌, ◌⊎◌, inl, inr, ℕ, Bool, true, false, cond, List, Option, Some, None, Result, Ok, Err, refl, sym, ap, subst, ◌∙◌, if◌then◌else◌, Fault, Reply, of_file, last_end, Next, Shelf, Turn, is_first, goes_again, Removal, CloseFile, Closing, Saving, remove_busy, refusal_of, file_to_write, file_at, joined, by-step, RemoveFile, WalkNext, FileMachine, Machine, Opener, PathMachine, file_of, begun_at, slot_taken, Starts, Resumes, Takes}
+use Rattle.file_ops.specs.Closings.{Places}
+use Rattle.op_machines.specs.Openers.{placed}
 use Rattle.std.specs.FinMap as finite
 use Rattle.std.specs.Ordering.{eq_by_cmp, nat_cmp}
 use Rattle.std.specs.Cmp.Lexicographic.{slice_cmp, nat_list_cmp_total}
 use Rattle.std.specs.Cmp.{Equal-is}
 use Rattle.file_ops.specs.declared.close_file.Closing.TheVariants as closing
 use Rattle.file_ops.specs.Closes as closes
-use Rattle.file_ops.specs.Closings.{Places}
 use Rattle.file_ops.specs.Saves as saves
 use Rattle.file_ops.specs.TruncateFile as truncates
 use Rattle.name_ops.specs.declared.walk.WalkNext.TheVariants as walks
@@ -16,7 +17,6 @@ use Rattle.op_machines.specs.declared.machine.Machine.TheVariants as machines
 use Rattle.op_machines.specs.declared.name_machine.NameMachine.TheVariants as names
 use Rattle.op_machines.specs.declared.opener.Opener.TheVariants as openers
 use Rattle.op_machines.specs.FileSteps as steps
-use Rattle.op_machines.specs.Openers.{placed}
 use Rattle.op_machines.specs.PathSteps as paths
 use Rattle.core_session.proofs.hidden.SillyFiles as on_files
 use Rattle.core_session.proofs.hidden.SillyNames as on_names

@@ -1,8 +1,8 @@
 -- What a refused close gave up: it is owed, or the history shows it, through each step and entry.
 use Rattle.core_session.proofs.Prelude.{◌≡◌, ◌≤◌, ◌<◌, ◌⊎◌, inl, inr, ℕ, suc, Bool, List, [], ◌∷◌, ◌++◌, length, refl, sym, ap, subst, arith, append-nil, append_assoc, length-append, Entry, Answered, Modes, Terms, GivesUp, itself, beside, At-grow, length_last, Mounted, Setup, View, MayHear, ended-grow, IsOwed, IsDropped, WasLeft}
+use Rattle.claims.specs.Touched.{Left}
 use Rattle.world_model.specs.declared.answer.Answer.TheVariants as answers
 use Rattle.world_model.specs.declared.op.Op.TheVariants as ops
-use Rattle.claims.specs.Touched.{Left}
 use Rattle.core_session.proofs.drops.Dropping.{dropped-heard}
 use Rattle.core_session.proofs.drops.Growing.{slot-back, of-grow, none-came-grow}
 use Rattle.core_session.proofs.syncs.Fate.{later, busy, refused, well}

@@ -1,8 +1,8 @@
 -- A short answer of a read ends where nothing is pending any more.
 use Rattle.core_session.proofs.Prelude.{◌≡◌, ◌<◌, ◌≤◌, ◌+◌, inl, inr, ℕ, zero, suc, List, [], ◌∷◌, length, length-append, Option, Some, None, refl, ◌∙◌, arith, cases_lt, Pending, of_file, FilePending, newest_at, last_end, IsSound, end-some, shown_over, was_pending}
-use Rattle.write_back.specs.Waits.{IsClear, byte_pending}
 use Rattle.write_back.proofs.EndAndBytes.{newest-is, end-none, shown-length}
 use Rattle.file_ops.specs.Overlaid.{byte_shown, listed, size_to, size_shown}
+use Rattle.write_back.specs.Waits.{IsClear, byte_pending}
 
 length-listed : (f : ℕ → ℕ) (n : ℕ) → length (listed f n) ≡ n
 length-listed f zero = refl

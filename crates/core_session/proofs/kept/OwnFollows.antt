@@ -1,8 +1,8 @@
 -- What a step makes of the pages of its file, at the reply to an own change.
 use Rattle.core_session.proofs.Prelude.{◌≡◌, ◌-◌, ℕ, true, false, List, [], Some, slice_get, Result, Ok, refl, sym, subst, ◌∙◌, Verf, Wcc, FileCall, FileKept, Waiting, waiting_at, Pages, cut, Fault, Entry, Call, Reply, SpellsCall, one_file_call, Next, Shelf, Turn, Mounted, Machine, machine_of, Takes, Purpose, Busy, Setup, View, Reaches, IsMade, begins-unbegun, flies_of, Known, reached-good, NoCall, NoShelf, NoStory, no-laws, CallFits, fits-laws}
+use Rattle.page_cache.specs.Pages.{wrote}
 use Rattle.nfs_file_calls.specs.declared.call.FileCall.TheVariants as files
 use Rattle.nfs_file_calls.specs.declared.owned.FileKept.TheVariants as kept
-use Rattle.page_cache.specs.Pages.{wrote}
 use Rattle.world_model.specs.declared.message.Call.TheVariants as calls
 use Rattle.world_model.specs.declared.message.Reply.TheVariants as replies
 use Rattle.client_shelf.specs.Unmade.{came_unmade}

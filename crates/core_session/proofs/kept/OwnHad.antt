@@ -1,18 +1,18 @@
 -- On an honest server a stamp that was shown since the reply to an own WRITE is one that the file had at a moment since that was executed; and so are the bytes
 -- that a read found under such stamps.
 use Rattle.core_session.proofs.Prelude.{◌≡◌, ◌<◌, ◌≤◌, inl, inr, ℕ, suc, List, ◌++◌, length, length-append, drop, slice_get, Option, Some, true, refl, sym, ap, subst, ◌∙◌, arith, cases_lt, length-take, length-drop, Attr, SetAttr, Time, Verf, Stamp, Wcc, stamp_of, start_of, Entry, Call, Reply, resized, Fresh, HoldsSized, SetsAttr, History, Lawful, HeldSize, Server, Object, Holds, Bytes, Entries, Text, Numbered, HasStamp, serves, IsAnswered}
+use Rattle.claims.specs.ReadTrue.{HeldByte}
+use Rattle.world_model.specs.Server.{Listed, IsSound}
+use Rattle.law_reads.specs.Kept.{Done, Leads}
+use Rattle.law_reads.proofs.KeptBytes.{reads, writes, later, put_before, put_after, stamp_there}
 use Rattle.nfs_file_calls.specs.declared.call.FileCall.TheVariants as files
 use Rattle.nfs_file_calls.specs.declared.owned.FileKept.TheVariants as kept
 use Rattle.world_model.specs.declared.message.Call.TheVariants as calls
 use Rattle.world_model.specs.declared.message.Reply.TheVariants as answers
-use Rattle.claims.specs.ReadTrue.{HeldByte}
-use Rattle.world_model.specs.Server.{Listed, IsSound}
 use Rattle.world_model.specs.Server as sound
 use Rattle.world_model.specs.Service.{Serves, refused, broken_off, done}
 use Rattle.world_model.specs.Steps.{TrueOf, TrueStamp, TrueWcc}
-use Rattle.law_reads.specs.Kept.{Done, Leads}
 use Rattle.law_reads.proofs.Bytes.{part_stands}
-use Rattle.law_reads.proofs.KeptBytes.{reads, writes, later, put_before, put_after, stamp_there}
 use Rattle.core_answers.proofs.bonds.AttrsShown.{answered-grow}
 use Rattle.core_answers.proofs.bonds.Executions.{shown-had}
 use Rattle.core_session.proofs.current.ReadsRecent.{page-is, done-by, bytes-same}

@@ -1,14 +1,14 @@
 -- A read shows a byte that was made stable before it began, unless it was touched, and doesn't end before it.
 use Rattle.core_session.proofs.Prelude.{◌≡◌, ◌≢◌, ◌<◌, ◌≤◌, ◌+◌, ◌⊎◌, inl, inr, ℕ, suc, true, List, ◌++◌, length, length-append, Option, Some, None, slice_get, refl, sym, ap, subst, ◌∙◌, append_assoc, arith, cases_lt, slice_get_within, Stamp, stamp_of, of_file, newest_at, Entry, Fresh, History, Lawful, Once, PendingWithin, ReadsBytes, Bytes, Object, Server, HasBytes, IsOf, Terms, Wrote, Touched, written, At-below, Numbered, writes-byte, HasStamp, Evidence, WroteAt, Mounted, machine_of, Setup, View, KnowsRoot, GoesWith, always-later, reached-rows, KeepsBriefly, IsSaved, OnlySetsUp, PutsNamed}
+use Rattle.claims.specs.Touched.{foreign, cut}
+use Rattle.law_own.proofs.OneByte.{HasByte, wrote-byte, one-byte, touched-later}
+use Rattle.law_reads.specs.Kept.{Done}
+use Rattle.claims.specs.Settled.{written_at}
 use Rattle.nfs_file_calls.specs.declared.call.FileCall.TheVariants as files
 use Rattle.nfs_file_calls.specs.declared.owned.FileKept.TheVariants as kept
 use Rattle.world_model.specs.declared.op.Op.TheVariants as ops
 use Rattle.claims.specs.Pending.{Pending}
-use Rattle.claims.specs.Touched.{foreign, cut}
-use Rattle.law_own.proofs.OneByte.{HasByte, wrote-byte, one-byte, touched-later}
-use Rattle.law_reads.specs.Kept.{Done}
 use Rattle.law_stable.proofs.Bytes.{some_or_past}
-use Rattle.claims.specs.Settled.{written_at}
 use Rattle.law_stable.specs.Stable.{HoldsNow}
 use Rattle.core_session.proofs.current.ReadsRecent.{file-of}
 use Rattle.core_session.proofs.current.ReadsTaken.{of-grows}

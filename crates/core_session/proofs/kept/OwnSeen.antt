@@ -1,13 +1,13 @@
 -- Which stamps of a file the server showed since an own change of it was answered: that to which the reply leads, and what came after.
 use Rattle.core_session.proofs.Prelude.{◌≡◌, ◌<◌, ◌≤◌, ◌-◌, ℕ, Bool, true, false, nat_le, List, [], ◌∷◌, ◌++◌, length, take, Option, Some, None, option_map, Result, Ok, refl, sym, ap, subst, ◌∙◌, arith, if◌then◌else◌, option_map_or, nat_tests, Attr, Stamp, stamp_of, FileState, Pages, state_of, known_of, saw, after_page, Fault, Entry, Call, Reply, of_object, Turn, offered, opened_pages, IsAnswered, answered-last, IsOn, from-start, Wcc}
-use Rattle.nfs_file_calls.specs.declared.call.FileCall.TheVariants as files
-use Rattle.nfs_file_calls.specs.declared.owned.FileKept.TheVariants as kept
 use Rattle.page_cache.specs.Pages.{opened, wrote}
-use Rattle.world_model.specs.declared.message.Call.TheVariants as calls
-use Rattle.world_model.specs.declared.message.Reply.TheVariants as replies
 use Rattle.claims.specs.Shown.{ShowsAttr, object_of, object_attr}
 use Rattle.file_ops.specs.Kept.{told_of, is_given, kept_page, offered_told}
 use Rattle.file_ops.specs.PagesOpened.{is_late, no_wcc}
+use Rattle.nfs_file_calls.specs.declared.call.FileCall.TheVariants as files
+use Rattle.nfs_file_calls.specs.declared.owned.FileKept.TheVariants as kept
+use Rattle.world_model.specs.declared.message.Call.TheVariants as calls
+use Rattle.world_model.specs.declared.message.Reply.TheVariants as replies
 use Rattle.file_ops.specs.Saves.{untold}
 use Rattle.file_ops.specs.TruncateFile.{size_call}
 use Rattle.core_answers.specs.pages.Kept.{WasWritten, WasCut}

@@ -1,9 +1,9 @@
 -- A read shows the bytes that this client wrote before: they are pending as it begins or ends, or were made stable before it began.
 use Rattle.core_session.proofs.Prelude.{◌≡◌, ◌<◌, ◌≤◌, ◌+◌, ◌⊎◌, inl, inr, ℕ, suc, Bool, true, false, nat_eq, List, ◌++◌, length, length-append, Option, Some, None, slice_get, refl, sym, ap, subst, ◌∙◌, append_assoc, arith, eqb-true, eqb-false, Verf, IsOpen, Entry, Op, Fresh, History, Lawful, Once, ReadsBytes, SettledBy, MadeFirm, at_once, by_commit, IsOf, Terms, Wrote, Touched, written, At-below, writes-byte, Mounted, Machine, machine_of, Setup, View, KnowsRoot, GoesWith, always-later, pending_in, KeepsBriefly, IsSaved, OnlySetsUp, PutsNamed}
+use Rattle.law_own.proofs.OneByte.{HasByte, wrote-byte, one-byte}
 use Rattle.nfs_file_calls.specs.declared.call.FileCall.TheVariants as files
 use Rattle.world_model.specs.declared.op.Op.TheVariants as ops
 use Rattle.claims.specs.Pending.{Pending}
-use Rattle.law_own.proofs.OneByte.{HasByte, wrote-byte, one-byte}
 use Rattle.core_session.proofs.current.ReadsRecent.{file-of, reads-recent}
 use Rattle.core_session.proofs.current.ReadsTaken.{of-grows}
 use Rattle.core_session.proofs.settled.Leaving.{are-saved}

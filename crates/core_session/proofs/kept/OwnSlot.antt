@@ -1,9 +1,9 @@
 -- While a read is under way, or about to begin, the table of opens has its file.
 use Rattle.core_session.proofs.Prelude.{suc, ◌≡◌, ◌<◌, ◌≤◌, ◌⊎◌, inl, inr, ℕ, Bool, true, false, nat_eq, List, [], ◌∷◌, ◌++◌, length, Option, Some, None, option_map, slice_get, refl, sym, ap, subst, ◌∙◌, arith, eqb-true, eqb-false, cases_lt, Opened, Opens, IsOpen, Answer, Entry, Began, Answered, Op, At, Ended, AnsweredBefore, UnderWay, IsOf, InSlot, slot_of, Terms, At-grow, At-one, At-back, file_at, Mounted, machine_of, State, Busy, Over, Setup, View, Reaches, GoesWith, IsHeld, Agrees, plainly, kind_of, SlotsAgree, StoryOf, reached-slots, ReadsBytes, Lane, IsOther, numbers_of, reached-lanes, lanes-under-way}
-use Rattle.std.specs.FinMap as finite
-use Rattle.world_model.specs.declared.op.Op.TheVariants as ops
 use Rattle.core_facts.proofs.SlotGrowth.{IsShown}
 use Rattle.core_facts.proofs.Slots.{closing}
+use Rattle.std.specs.FinMap as finite
+use Rattle.world_model.specs.declared.op.Op.TheVariants as ops
 use Rattle.core_session.proofs.drops.OneFile.{slot-file, one-by-one}
 use Rattle.core_session.proofs.syncs.SlotHeld.{held-shorter, answered-back}
 

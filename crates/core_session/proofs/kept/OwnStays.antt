@@ -1,19 +1,19 @@
 -- Where the WRITE of a byte that was made stable was executed, it is in the file from then on: by the law of stable bytes, also before it is stable.
 use Rattle.core_session.proofs.Prelude.{sym, ap, take, slice_get, ◌==◌, ◌≡◌, ◌≢◌, ◌<◌, ◌≤◌, ◌⊎◌, inl, inr, ◌+◌, ℕ, suc, List, length, Option, Some, refl, subst, ◌∙◌, arith, slice_get_within, SetAttr, Time, DirCall, FileCall, Entry, Began, Call, NoneBegan, At, History, Lawful, SpellsCall, Once, AnsweredBefore, Evidence, MadeFirm, at_once, by_commit, Terms, Cuts, FirstSent, NoForeign, info_call, one_file_call, one-call, Mounted, Setup, View, GoesWith, OnlySetsUp, IsSaved, cases_lt, eqb-true, Verf, Bytes, Object, Server, HasBytes, At-below, Numbered}
+use Rattle.claims.specs.Settled.{HoldsStable, written_at}
+use Rattle.claims.specs.Touched.{Covers}
+use Rattle.law_stable.specs.OwnCalls.{Alters, writes, sizes, HeardBefore, OwnCalls}
+use Rattle.core_session.specs.settled.Settling.{IsSetUpCall, mounts, informs, IsSetUpRecord}
+use Rattle.std.proofs.lemmas.Bool.{cases_Bool}
 use Rattle.nfs_dir_calls.specs.declared.call.DirCall.TheVariants as dirs
 use Rattle.nfs_dir_calls.specs.declared.create.Making.TheVariants as makings
 use Rattle.nfs_file_calls.specs.declared.call.FileCall.TheVariants as files
 use Rattle.world_model.specs.declared.message.Call.TheVariants as calls
 use Rattle.world_model.specs.declared.op.Op.TheVariants as ops
-use Rattle.claims.specs.Settled.{HoldsStable, written_at}
-use Rattle.claims.specs.Touched.{Covers}
-use Rattle.law_stable.specs.OwnCalls.{Alters, writes, sizes, HeardBefore, OwnCalls}
-use Rattle.core_session.specs.settled.Settling.{IsSetUpCall, mounts, informs, IsSetUpRecord}
 use Rattle.core_session.specs.order.Altering as order
 use Rattle.core_session.specs.order.Sizes.{IsTruncate}
 use Rattle.core_session.proofs.order.Earliers.{earlier-heard}
 use Rattle.core_session.proofs.order.Cuts.{sizes-asked, no-sizes-made}
-use Rattle.std.proofs.lemmas.Bool.{cases_Bool}
 use Rattle.nfs_file_calls.specs.declared.owned.FileKept.TheVariants as kept
 use Rattle.world_model.specs.declared.entry.Entry.TheVariants as entries
 use Rattle.world_model.specs.declared.message.Reply.TheVariants as replies

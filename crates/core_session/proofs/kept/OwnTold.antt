@@ -1,11 +1,12 @@
 -- After the reply to an own WRITE the pages of its file follow what it tells.
 use Rattle.core_session.proofs.Prelude.{◌≡◌, ◌-◌, ◌||◌, ◌==◌, ℕ, Bool, true, false, List, [], length, take, Option, Some, None, Result, Ok, Err, inl, inr, refl, sym, ap, subst, ◌∙◌, if◌then◌else◌, Verf, Wcc, FileKept, Pages, Fault, Reply, of_file, piece_under, is_first, Next, Shelf, Turn, Closing, CloseFile, PutFile, Putting, Saving, SyncFile, Syncing, WriteFile, Writing, is_full, refusal_of, written_by, write_told, joined, by-step, ends_as, FileMachine, Machine, PathMachine, file_of, Takes, flies_if, flies_save, flies_write, flies_sync, flies_close, flies_put, flies_file, flies_path, flies_of}
 use Rattle.std.proofs.Common.{nat_lt}
-use Rattle.nfs_file_calls.specs.declared.owned.FileKept.TheVariants as kept
 use Rattle.page_cache.specs.Pages.{wrote}
+use Rattle.write_back.specs.Pieces.{Sent}
+use Rattle.file_ops.specs.Judging.{write_told_by}
+use Rattle.nfs_file_calls.specs.declared.owned.FileKept.TheVariants as kept
 use Rattle.world_model.specs.declared.answer.Answer.TheVariants as answers
 use Rattle.world_model.specs.declared.message.Reply.TheVariants as replies
-use Rattle.write_back.specs.Pieces.{Sent}
 use Rattle.client_shelf.specs.Unmade.{is_unmade, came_unmade}
 use Rattle.client_shelf.specs.declared.next.Next.TheVariants as nexts
 use Rattle.file_ops.specs.declared.close_file.Closing.TheVariants as closing
@@ -13,7 +14,6 @@ use Rattle.file_ops.specs.declared.put_file.Putting.TheVariants as putting
 use Rattle.file_ops.specs.declared.sync_file.Syncing.TheVariants as syncing
 use Rattle.file_ops.specs.declared.write_file.Writing.TheVariants as writing
 use Rattle.file_ops.specs.Closes as closes
-use Rattle.file_ops.specs.Judging.{write_told_by}
 use Rattle.file_ops.specs.PutFile as puts
 use Rattle.file_ops.specs.Saves as saves
 use Rattle.file_ops.specs.Syncs as syncs

@@ -1,5 +1,6 @@
 -- The file to which an operation is about to add bytes has a state in the page cache.
 use Rattle.core_session.proofs.Prelude.{◌≡◌, ◌-◌, ℕ, Bool, true, false, List, Result, Ok, Err, refl, sym, ap, subst, ◌∙◌, inl, inr, Fault, Reply, Next, Shelf, Turn, left, is_first, OpeningNext, PutFile, Putting, Saving, WriteFile, Writing, is_full, file_to_write, joined, by-step, ends_as, WalkNext, FileMachine, Machine, Opener, PathMachine, file_of, slot_taken, begun_at, Starts, Resumes, Takes, Opens, Pages, RoomIs}
+use Rattle.op_machines.specs.Openers.{placed}
 use Rattle.world_model.specs.declared.answer.Answer.TheVariants as answers
 use Rattle.client_shelf.specs.declared.next.Next.TheVariants as nexts
 use Rattle.file_ops.specs.declared.opening.OpeningNext.TheVariants as openings
@@ -15,7 +16,6 @@ use Rattle.op_machines.specs.declared.file_machine.FileMachine.TheVariants as fi
 use Rattle.op_machines.specs.declared.machine.Machine.TheVariants as machines
 use Rattle.op_machines.specs.declared.opener.Opener.TheVariants as openers
 use Rattle.op_machines.specs.FileSteps as steps
-use Rattle.op_machines.specs.Openers.{placed}
 use Rattle.op_machines.specs.PathSteps as paths
 use Rattle.core_session.proofs.order.Adds.{RoomHas, PutHas, FileHas, PathHas, TakesHas, StartsHas}
 use Rattle.core_session.proofs.kept.OwnTold.{added-same}

@@ -1,5 +1,6 @@
 -- Each file with pending bytes has a state in the page cache.
 use Rattle.core_session.proofs.Prelude.{◌≡◌, ◌⊎◌, inl, inr, ℕ, List, [], ◌∷◌, ◌++◌, length, Bool, true, false, Option, Some, None, slice_get, slice_set, position, Result, Ok, Err, refl, sym, ap, subst, ◌∙◌, arith, Putting, Writing, FileMachine, Opener, file_of, Pages, Flown, fly_at, nothing, Cell, cell_at, covers, IsSound, IsOver, fly-some, IsMade, LastAtMost, written_file, IsInFlight, writes-whole, After, CarriesReply, RoomIs, any-saves, eqb-true, Waiting, waiting_at, Pending, of_file, Fault, Entry, Began, Reply, Op, Modes, IsOf, said_of, Next, Shelf, Turn, Mounted, Machine, machine_of, Starts, Resumes, Takes, Lane, Purpose, State, Busy, Over, Setup, is_busy, IsOther, numbers_of, IsIdle, with_state, IsRefused, Leads, Stirs, counted, StartsLane, TakesAt, View, turn_at, unmade_turn, Reaches, begins-unbegun, taken_one, Given, is-given, at-set, at-push, at-position, get-push, get-remove, skip, by-place, set-other}
+use Rattle.core_answers.proofs.writes.Mapped.{back-map}
 use Rattle.file_ops.specs.declared.put_file.Putting.TheVariants as putting
 use Rattle.file_ops.specs.declared.write_file.Writing.TheVariants as writing
 use Rattle.op_machines.specs.declared.file_machine.FileMachine.TheVariants as files
@@ -8,7 +9,6 @@ use Rattle.nfs_file_calls.specs.declared.call.FileCall.TheVariants as file_calls
 use Rattle.world_model.specs.declared.message.Call.TheVariants as calls
 use Rattle.claims.specs.Touched.{Covers}
 use Rattle.core_answers.proofs.writes.Given.{OfBack, cell-given, on-file-given, none-given, landed-given, landed-part-given, decided-given, cut-file-given, xid-given, bytes-given, sent-given}
-use Rattle.core_answers.proofs.writes.Mapped.{back-map}
 use Rattle.core_session.proofs.calls.GivenBytes.{begun-with}
 use Rattle.core_session.proofs.current.Along.{KeepsMoments, reached-moments}
 use Rattle.core_session.proofs.current.FedMachines.{pages-starts, pages-resumes, pages-takes}

@@ -2,13 +2,13 @@
 use Rattle.core_session.proofs.Prelude.{◌≡◌, ◌-◌, ℕ, Bool, true, false, List, [], take, Option, Some, None, option_map, Result, Ok, Err, refl, sym, ap, subst, ◌∙◌, arith, if◌then◌else◌, option_map_or, Attr, Stamp, stamp_of, FileState, Pages, state_of, after_page, Fault, Call, Reply, Turn, Led, Opening, OpeningNext, offered, opened_pages}
 use Rattle.std.specs.Prelude.{nat_le}
 use Rattle.page_cache.specs.Pages.{opened, wrote}
+use Rattle.file_ops.specs.Kept.{told_of, is_given, kept_page, offered_told}
+use Rattle.file_ops.specs.PagesOpened.{is_late, no_wcc}
 use Rattle.page_cache.proofs.Inserts.{same-self}
 use Rattle.page_cache.proofs.States.{state_opened, state-opened}
 use Rattle.file_ops.specs.declared.opening.Led.TheVariants as leads
 use Rattle.file_ops.specs.declared.opening.OpeningNext.TheVariants as openings
-use Rattle.file_ops.specs.Kept.{told_of, is_given, kept_page, offered_told}
 use Rattle.file_ops.specs.Opening as opening
-use Rattle.file_ops.specs.PagesOpened.{is_late, no_wcc}
 use Rattle.file_ops.specs.Saves.{untold}
 use Rattle.core_session.proofs.current.FedPages.{FedLaws}
 use Rattle.core_session.proofs.current.Marks.{IsMarked, marked-shown, marked-opened, marked-saw, marked-kept, marked-wrote, marked-cut}

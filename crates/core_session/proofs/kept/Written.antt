@@ -1,12 +1,12 @@
 -- A byte that a write, fill or put wrote is pending, or was made stable, unless it was touched.
 use Rattle.core_session.proofs.Prelude.{false, ◌≡◌, ◌<◌, ◌≤◌, ◌-◌, inl, inr, ℕ, zero, suc, Bool, List, [], ◌++◌, length, replicate, Option, Some, None, slice_get, refl, sym, ap, subst, ◌∙◌, arith, append-nil, if◌then◌else◌, le-ltb, of_file, Flown, rest_at, fly_at, Cell, newest_at, EachSound, Fault, Value, Entry, Began, Ended, Terms, Wrote, At-below, Mounted, machine_of, Setup, View, NoneReady, begins-unbegun, byte_from, TouchedUntil}
+use Rattle.claims.specs.Touched.{Covers}
+use Rattle.core_session.specs.syncs.Until.{written, given_up}
 use Rattle.write_back.specs.Waits.{byte_pending}
 use Rattle.write_back.proofs.EndAndBytes.{newest-is}
 use Rattle.world_model.specs.declared.answer.Answer.TheVariants as answers
 use Rattle.world_model.specs.declared.op.Op.TheVariants as ops
-use Rattle.claims.specs.Touched.{Covers}
 use Rattle.claims.specs.Touched as touched_by
-use Rattle.core_session.specs.syncs.Until.{written, given_up}
 use Rattle.core_session.proofs.pending.Onwards.{refused-not}
 use Rattle.core_session.proofs.syncs.Aparts.{Apart, apart-done}
 use Rattle.core_session.proofs.syncs.Ends.{ended-back, fate-ends}

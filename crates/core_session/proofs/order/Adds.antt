@@ -1,6 +1,10 @@
 -- What each step of any operation makes of what is pending, as in `core_answers.proofs.writes`; where bytes are added, it is known that there was room for
 -- them, and how the operation came to their file.
 use Rattle.core_session.proofs.Prelude.{◌≡◌, ◌&&◌, ◌+◌, ◌-◌, ℕ, Bool, true, false, not, List, Option, Some, None, Result, Ok, Err, refl, sym, ap, subst, ◌∙◌, inl, inr, Wcc, Fault, Value, Call, Reply, last_end, nothing, with_cut, Pending, of_file, OnFile, with_bytes, Opens, Shelf, Turn, goes_again, left, is_first, Next, CloseFile, Closing, Removal, OpeningNext, PutFile, Putting, Saving, SyncFile, Syncing, TruncateFile, Truncating, WriteFile, Writing, is_full, GivesUpBy, closed_answer, refusal_of, remove_of, remove_busy, file_to_write, is_quiet, file_at, joined, by-step, ends_as, WalkNext, walk-takes-kept, FileMachine, Machine, PathMachine, file_of, slot_taken, begun_at, Starts, Resumes, Takes, name-goes-kept, name-takes-kept, After, CarriesReply}
+use Rattle.file_ops.specs.Closings.{GivesIf}
+use Rattle.name_ops.proofs.Keeps.{IsKept}
+use Rattle.op_machines.specs.Openers.{placed}
+use Rattle.core_answers.proofs.writes.Backs.{SyncSaves, CloseSaves, WriteSaves, PutSaves, FileSaves, waits-after, done-after, asks-after, plain-after, back-of}
 use Rattle.std.specs.FinMap as finite
 use Rattle.world_model.specs.declared.answer.Answer.TheVariants as answers
 use Rattle.client_shelf.specs.declared.next.Next.TheVariants as nexts
@@ -10,7 +14,6 @@ use Rattle.file_ops.specs.declared.put_file.Putting.TheVariants as putting
 use Rattle.file_ops.specs.declared.sync_file.Syncing.TheVariants as syncing
 use Rattle.file_ops.specs.declared.truncate_file.Truncating.TheVariants as truncating
 use Rattle.file_ops.specs.declared.write_file.Writing.TheVariants as writing
-use Rattle.file_ops.specs.Closings.{GivesIf}
 use Rattle.file_ops.specs.OpenFile as opens
 use Rattle.file_ops.specs.Opening as opening
 use Rattle.file_ops.specs.Closes as closes
@@ -21,14 +24,11 @@ use Rattle.file_ops.specs.TruncateFile as truncates
 use Rattle.file_ops.specs.WriteFile as writes
 use Rattle.name_ops.specs.declared.walk.WalkNext.TheVariants as walks
 use Rattle.name_ops.specs.Walking as walking
-use Rattle.name_ops.proofs.Keeps.{IsKept}
 use Rattle.op_machines.specs.declared.file_machine.FileMachine.TheVariants as files
 use Rattle.op_machines.specs.declared.machine.Machine.TheVariants as machines
 use Rattle.op_machines.specs.FileSteps as steps
-use Rattle.op_machines.specs.Openers.{placed}
 use Rattle.op_machines.specs.PathSteps as paths
 use Rattle.core_answers.proofs.writes.AllBacks.{Saves, PathSaves}
-use Rattle.core_answers.proofs.writes.Backs.{SyncSaves, CloseSaves, WriteSaves, PutSaves, FileSaves, waits-after, done-after, asks-after, plain-after, back-of}
 use Rattle.core_answers.proofs.writes.Plain.{PlainAsks, OpeningAsks, go-asks, took-asks, opening-plain, open-starts, open-resumes, open-takes, read-starts, read-resumes, read-takes, truncate-starts, truncate-resumes, truncate-takes}
 
 -- ---- what is carried through a step

@@ -1,5 +1,6 @@
 -- Along a history what is pending of each file is sound, and numbered below the next write.
 use Rattle.core_session.proofs.Prelude.{◌≡◌, ◌≤◌, ◌+◌, ◌⊎◌, inl, inr, ℕ, List, [], ◌∷◌, ◌++◌, length, false, Option, Some, None, option_map, position, slice_get, Err, refl, sym, ap, subst, ◌∙◌, arith, Waiting, next_xid, waiting_at, waits_early, Entry, Began, Delivered, Call, Op, said_of, Next, Shelf, IsUnused, Mounted, Machine, machine_of, Fits, Starts, Resumes, Takes, EachSound, nothing-sound, Lane, Purpose, Busy, Over, Setup, is_busy, IsIdle, with_state, IsRefused, Leads, Stirs, counted, StartsLane, TakesAt, View, turn_at, unmade_turn, Reaches, begins-unbegun, taken_one, Known, purpose_at, at-push, at-set, Rows, waits-late}
+use Rattle.core_answers.proofs.writes.PiecesCarried.{Flying, keeps-flying}
 use Rattle.write_back.specs.Files.{IsNewest}
 use Rattle.client_shelf.specs.declared.next.Next.TheVariants as nexts
 use Rattle.file_ops.specs.Ready.{IsReady}
@@ -9,7 +10,6 @@ use Rattle.op_machines.proofs.AllLaws as laws
 use Rattle.core_facts.proofs.Flights.{Flies}
 use Rattle.core_facts.proofs.Flown.{Flown, sender, look_at}
 use Rattle.core_answers.proofs.writes.Holding.{LanesHave, StateHas, lanes-without, lanes-push, lanes-set}
-use Rattle.core_answers.proofs.writes.PiecesCarried.{Flying, keeps-flying}
 use Rattle.core_session.proofs.saves.HearingAlong.{KeepsHearing, reached-hearing}
 use Rattle.core_session.proofs.order.Sounds.{starts-sound, resumes-sound, takes-sounds}
 

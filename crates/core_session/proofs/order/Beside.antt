@@ -1,8 +1,15 @@
 -- In the view before a WRITE of a file is sent no other call waits that may change one of its places.
 use Rattle.core_session.proofs.Prelude.{◌≡◌, ◌≤◌, ◌<◌, ◌+◌, ◌⊎◌, inl, inr, ℕ, Bool, true, false, List, length, Option, Some, None, slice_get, refl, sym, ap, subst, ◌∙◌, arith, Waiting, waiting_at, covers, Pending, of_file, Flown, flown_in, piece_under, covered, flown-some, fly-under, SetAttr, Time, Entry, Call, LaneFile, Closing, Opening, Putting, Saving, Syncing, Truncating, Writing, EachSound, some-of, flown-from, Mounted, FileMachine, Machine, Opener, PathMachine, machine_of, file_of, Lane, Purpose, Busy, Setup, View, of_writing, of_syncing, of_closing, of_truncating, of_putting, in_flight, AreApart, Reaches, begins-unbegun, seat_of, IsLive, calls-some, seat_close, seat_put, flies_if, flies_save, flies_write, flies_sync, flies_close, flies_put, flies_file, flies_path, flies_of, Known, reached-all, reached-kept, lanes-under-way, look-at, reached-owned, seat_state, seat_in, IsExpected, reached-good, one-call, written_file, IsWaiting, IsInFlight, CallFits, fits-laws, Turned, same-first, IsFirst, CloseTurn, writes-whole, Expects, expects-laws, NoCall, NoShelf, NoStory, no-laws}
-use Rattle.nfs_file_calls.specs.declared.call.FileCall.TheVariants as file_calls
 use Rattle.write_back.specs.Pieces.{Sent}
 use Rattle.write_back.proofs.Flying.{under-whole}
+use Rattle.core_facts.proofs.AllCounts.{of_path, path-file}
+use Rattle.core_facts.proofs.AllSeats.{path_seat, OnPath}
+use Rattle.core_facts.proofs.FileSeats.{seat_write, seat_sync, seat_file, FileLive}
+use Rattle.core_facts.proofs.Keeping.{lane-count}
+use Rattle.core_facts.proofs.Tales.{AllGood}
+use Rattle.core_answers.proofs.writes.AllTurns.{PathTurn, TurnOf, keeps-turned}
+use Rattle.core_answers.proofs.writes.Turns.{SyncTurn, WriteTurn, TruncateTurn, PutTurn, FileTurn}
+use Rattle.nfs_file_calls.specs.declared.call.FileCall.TheVariants as file_calls
 use Rattle.world_model.specs.declared.message.Call.TheVariants as calls
 use Rattle.file_ops.specs.declared.close_file.Closing.TheVariants as closing
 use Rattle.file_ops.specs.declared.put_file.Putting.TheVariants as putting
@@ -14,14 +21,7 @@ use Rattle.op_machines.specs.declared.file_machine.FileMachine.TheVariants as fi
 use Rattle.op_machines.specs.declared.machine.Machine.TheVariants as machines
 use Rattle.core_facts.specs.Counted.{AreOwned}
 use Rattle.core_facts.specs.InFlight.{of_file as calls_of}
-use Rattle.core_facts.proofs.AllCounts.{of_path, path-file}
-use Rattle.core_facts.proofs.AllSeats.{path_seat, OnPath}
-use Rattle.core_facts.proofs.FileSeats.{seat_write, seat_sync, seat_file, FileLive}
-use Rattle.core_facts.proofs.Keeping.{lane-count}
-use Rattle.core_facts.proofs.Tales.{AllGood}
-use Rattle.core_answers.proofs.writes.AllTurns.{PathTurn, TurnOf, keeps-turned}
 use Rattle.core_answers.proofs.writes.CommitsAlone.{tales}
-use Rattle.core_answers.proofs.writes.Turns.{SyncTurn, WriteTurn, TruncateTurn, PutTurn, FileTurn}
 use Rattle.core_answers.proofs.writes.Under.{under-xid}
 use Rattle.core_session.specs.order.Altering.{Alters, writes, sizes}
 use Rattle.core_session.proofs.order.Basis.{reached-basis}

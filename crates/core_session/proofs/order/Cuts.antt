@@ -1,5 +1,8 @@
 -- Each SETATTR with a size is that of a truncate of the file, and no CREATE has a size.
 use Rattle.core_session.proofs.Prelude.{◌≡◌, ◌⊎◌, inl, inr, ℕ, Bool, true, false, List, [], ◌∷◌, ◌++◌, length, Option, Some, None, Result, refl, sym, ap, subst, ◌∙◌, SetAttr, Time, Fault, Entry, Began, Reply, Op, SpellsCall, UnderWay, IsOf, Terms, Next, Shelf, Turn, TruncateFile, Truncating, Mounted, FileMachine, Machine, machine_of, Starts, Resumes, Takes, State, Busy, Over, Setup, begins-unbegun, Held, held-later, always-later, Given, is-given, ThenOf, Always, over-laws, good-over, one-call, Expects, expects-laws, SentFor, of-slot, WorksAt, SlotRuns, SlotStory, slot-laws}
+use Rattle.core_facts.proofs.Stories.{StoryLaws}
+use Rattle.core_answers.proofs.asks.Sendings.{under-until, reached-sent}
+use Rattle.core_answers.proofs.asks.SlotFiles.{CutAt}
 use Rattle.nfs_dir_calls.specs.declared.call.DirCall.TheVariants as dirs
 use Rattle.nfs_dir_calls.specs.declared.create.Making.TheVariants as makings
 use Rattle.nfs_file_calls.specs.declared.call.FileCall.TheVariants as file_calls
@@ -10,9 +13,6 @@ use Rattle.file_ops.specs.declared.truncate_file.Truncating.TheVariants as trunc
 use Rattle.file_ops.specs.TruncateFile as truncates
 use Rattle.op_machines.specs.declared.file_machine.FileMachine.TheVariants as files
 use Rattle.op_machines.specs.declared.machine.Machine.TheVariants as machines
-use Rattle.core_facts.proofs.Stories.{StoryLaws}
-use Rattle.core_answers.proofs.asks.Sendings.{under-until, reached-sent}
-use Rattle.core_answers.proofs.asks.SlotFiles.{CutAt}
 use Rattle.core_session.specs.order.Sizes.{IsTruncate, SizesAsked, NoSizesMade}
 use Rattle.core_session.proofs.order.Tame.{Tame, IsCut, expects-tame}
 

@@ -1,11 +1,11 @@
 -- Each call that may change a place of a file was answered before a WRITE that covers the place is sent.
 use Rattle.core_session.proofs.Prelude.{◌≡◌, ◌<◌, ◌≤◌, ◌+◌, ◌⊎◌, inl, inr, ℕ, List, length, Some, sym, subst, arith, Waiting, waiting_at, Entry, Sent, Delivered, Call, NoneBegan, At, HasXid, SpellsCall, SpellsCallBy, FirstSent, At-grow, At-back, Mounted, machine_of, Purpose, Setup, View, Reaches, Tried, unsent, one-xid, reached-rows, IsNfs, one-call, IsWaiting, HeardBefore}
+use Rattle.core_facts.specs.Tries.{runs, ended}
+use Rattle.core_session.specs.order.Altering.{Alters, writes, sizes}
 use Rattle.nfs_file_calls.specs.declared.call.FileCall.TheVariants as file_calls
 use Rattle.world_model.specs.declared.message.Call.TheVariants as calls
-use Rattle.core_facts.specs.Tries.{runs, ended}
 use Rattle.core_answers.specs.asks.Xids.{IsAmong}
 use Rattle.core_answers.proofs.asks.XidAsks.{xids-kept}
-use Rattle.core_session.specs.order.Altering.{Alters, writes, sizes}
 use Rattle.core_session.specs.order.Earlier.{EarlierHeard}
 use Rattle.core_session.proofs.order.Answered.{Waits, SentOf, reached-heeds, reached-sending}
 use Rattle.core_session.proofs.order.Beside.{beside}

@@ -1,5 +1,7 @@
 -- A put, step by step: its walk leads to its directory, its opening to its file, and its bytes are of that file.
 use Rattle.core_session.proofs.Prelude.{◌≡◌, ◌-◌, ℕ, Bool, true, false, List, [], ◌∷◌, ◌++◌, length, take, Result, Ok, Err, refl, sym, ap, subst, ◌∙◌, arith, Fault, Entry, Call, Reply, is_first, Next, Shelf, Turn, Opening, OpeningNext, PutFile, Putting, Saving, WriteFile, Writing, joined, by-step, Walk, WalkNext, walk_of, Machine, Opener, PathMachine, IsNamed, front_of, last_of, PathOr, NamesTold, LeadsTo, leads-later, WalkLeads, end-leads, IsHeard, RoomIs}
+use Rattle.core_facts.proofs.AllAwaited.{PutAwaits}
+use Rattle.core_facts.proofs.Leading.{walk-later, go-leads, took-leads}
 use Rattle.nfs_types.specs.declared.mode.Mode.TheVariants as modes
 use Rattle.world_model.specs.declared.answer.Answer.TheVariants as answers
 use Rattle.world_model.specs.Leads as leads
@@ -17,9 +19,7 @@ use Rattle.name_ops.specs.Walking as walking
 use Rattle.op_machines.specs.declared.machine.Machine.TheVariants as machines
 use Rattle.op_machines.specs.declared.opener.Opener.TheVariants as openers
 use Rattle.op_machines.specs.PathSteps as paths
-use Rattle.core_facts.proofs.AllAwaited.{PutAwaits}
 use Rattle.core_facts.proofs.Awaited.{WalkStep, go-step, took-step}
-use Rattle.core_facts.proofs.Leading.{walk-later, go-leads, took-leads}
 use Rattle.core_answers.proofs.asks.PutOpenings.{PutOpening, PutNext, go-opening, took-next, first-opening, opening-later}
 use Rattle.core_answers.proofs.asks.SavedCalls.{SavesOn, goes-on, takes-on}
 use Rattle.core_answers.proofs.asks.PutSteps.{put-of}

@@ -1,9 +1,9 @@
 -- A put whose path leads to a file before it is answered writes its bytes there, as a whole history sees it.
 use Rattle.core_session.proofs.Prelude.{◌≡◌, ◌<◌, ◌≤◌, ◌⊎◌, inl, inr, ℕ, zero, suc, Bool, true, false, nat_eq, List, [], ◌∷◌, ◌++◌, length, Option, Some, None, slice_get, refl, sym, ap, subst, ◌∙◌, arith, eqb-true, eqb-false, cases_lt, Answer, Entry, Began, Answered, Dialed, Sent, Executed, Foreign, Flushed, Reboot, Delivered, Failed, Clock, Op, At, Modes, Origin, Rooted, AnsweredBefore, WritesByte, Rooted-wide, At-one, KnowsRoot, LeadsTo, leads-from}
-use Rattle.world_model.specs.declared.op.Op.TheVariants as ops
-use Rattle.world_model.specs.Leads.{Leads}
 use Rattle.world_model.specs.Operations.{EndsAt, answered, unanswered}
 use Rattle.claims.specs.Touched.{Covers}
+use Rattle.world_model.specs.declared.op.Op.TheVariants as ops
+use Rattle.world_model.specs.Leads.{Leads}
 use Rattle.claims.specs.Touched as touched
 
 -- ---- when an operation ends

@@ -1,10 +1,11 @@
 -- Each step of any operation leaves what is pending of each file sound, as long as it began so.
 use Rattle.core_session.proofs.Prelude.{◌≡◌, ◌≢◌, ◌≤◌, ◌<◌, ◌+◌, ◌-◌, ◌^◌, ◌||◌, ◌⊎◌, inl, inr, ℕ, Bool, true, false, List, [], ◌∷◌, length, Result, refl, sym, subst, ◌∙◌, arith, nat_lt, if◌then◌else◌, ltb-false, Fault, Call, Reply, Segments, Pending, of_file, all_pending, OnFile, with_cut, FilePending, nothing, same-or, Next, Repeat, Shelf, Turn, Opens, PutFile, Putting, Saving, WriteFile, Writing, is_full, is_quiet, IsUnused, by-step, FileMachine, Machine, PathMachine, Fits, file_of, Starts, Resumes, Takes, EachSound, After, CarriesReply, any-saves}
 use Rattle.std.specs.Prelude.{nat_le, Contains}
-use Rattle.std.proofs.lemmas.List.Elements.{Contains-append_cases, Contains-append_left, Contains-append_right}
 use Rattle.write_back.specs.Segments.{cut_from, head_of, end_of}
 use Rattle.write_back.specs.Files.{numbers_of, IsNewest}
 use Rattle.write_back.specs.Pieces.{Sent}
+use Rattle.file_ops.specs.Quiet.{are_none}
+use Rattle.std.proofs.lemmas.List.Elements.{Contains-append_cases, Contains-append_left, Contains-append_right}
 use Rattle.write_back.specs.Sound.{most_pending}
 use Rattle.write_back.proofs.Adding.{sound-cut}
 use Rattle.client_shelf.specs.declared.next.Next.TheVariants as nexts
@@ -13,7 +14,6 @@ use Rattle.file_ops.specs.declared.write_file.Text.{Text}
 use Rattle.file_ops.specs.declared.write_file.Text.TheVariants as texts
 use Rattle.file_ops.specs.declared.write_file.Writing.TheVariants as writing
 use Rattle.file_ops.specs.PutFile as puts
-use Rattle.file_ops.specs.Quiet.{are_none}
 use Rattle.file_ops.specs.Saves as saves
 use Rattle.file_ops.specs.Syncs as syncs
 use Rattle.file_ops.specs.WriteFile as writes

@@ -1,5 +1,10 @@
 -- Which calls set a size: the SETATTR of a truncate alone.
 use Rattle.core_session.proofs.Prelude.{◌≡◌, ◌≤◌, ◌⊎◌, inl, inr, ℕ, Bool, true, false, List, Option, Some, None, refl, sym, ap, subst, arith, Mode, Call, look_up, Closing, Opening, OpeningStep, Putting, Phase, Reading, Syncing, TruncateFile, Truncating, Writing, Pair, Deed, RemoveFile, Visit, Walk, deed_call, Machine, NameMachine, Opener, PathMachine, file_of, of_name, of_walk, removal_by, of_writing, of_putting, of_syncing, of_closing, of_truncating, path_by, in_flight, PathOr, WalkAwaits, OwnOr, RemoveAwaits, Expects, PathNames, SyncNames, WriteNames, CloseNames, StateNames, Saves}
+use Rattle.core_facts.specs.InFlight.{of_visit, visit_by, of_pair, pair_by, own_or, of_reading, of_phase, of_file, of_names}
+use Rattle.core_facts.proofs.AllAwaited.{OpeningAwaits, PutAwaits}
+use Rattle.core_facts.proofs.Awaited.{VisitAwaits, PairOr, PairAwaits}
+use Rattle.core_facts.proofs.NamesAwaited.{NameAwaits}
+use Rattle.core_answers.proofs.asks.FilesAwaited.{CutNames}
 use Rattle.nfs_types.specs.declared.mode.Mode.TheVariants as modes
 use Rattle.nfs_dir_calls.specs.declared.call.DirCall.TheVariants as dirs
 use Rattle.nfs_dir_calls.specs.declared.create.Making.TheVariants as makings
@@ -23,11 +28,6 @@ use Rattle.op_machines.specs.declared.file_machine.FileMachine.TheVariants as fi
 use Rattle.op_machines.specs.declared.machine.Machine.TheVariants as machines
 use Rattle.op_machines.specs.declared.name_machine.NameMachine.TheVariants as names
 use Rattle.op_machines.specs.declared.opener.Opener.TheVariants as openers
-use Rattle.core_facts.specs.InFlight.{of_visit, visit_by, of_pair, pair_by, own_or, of_reading, of_phase, of_file, of_names}
-use Rattle.core_facts.proofs.AllAwaited.{OpeningAwaits, PutAwaits}
-use Rattle.core_facts.proofs.Awaited.{VisitAwaits, PairOr, PairAwaits}
-use Rattle.core_facts.proofs.NamesAwaited.{NameAwaits}
-use Rattle.core_answers.proofs.asks.FilesAwaited.{CutNames}
 use Rattle.core_answers.proofs.asks.ReadsAwaited.{PhaseNames, ReadNames}
 
 -- it sets no size

@@ -1,5 +1,8 @@
 -- Where nothing goes wrong, each operation goes well, or has a reason of its own why not.
 use Rattle.core_session.proofs.Prelude.{◌≡◌, ◌≢◌, ◌≤◌, ◌⊎◌, inl, inr, ℕ, List, ◌++◌, length, refl, sym, ap, subst, ◌∙◌, arith, Answer, Fault, Entry, Delivered, Call, Op, Asks, At, GoesOn, status_of, History, Lawful, IsLost, SpellsCall, info_call, Ended, RefusesSo, RefusedBy, Terms, Mounted, machine_of, Setup, View, Notes, KnowsRoot, IsForRoom, IsNfs, one-call, GoesFrom, CallsAskedBut}
+use Rattle.world_model.specs.Heard.{Heard}
+use Rattle.world_model.specs.Mounts.{mount_call}
+use Rattle.claims.specs.PageRules.{RefusedSo}
 use Rattle.rpc_message.specs.Reply.{SpellsRefusal}
 use Rattle.nfs_file_calls.specs.declared.call.FileCall.TheVariants as files
 use Rattle.world_model.specs.declared.answer.Answer.TheVariants as answers
@@ -8,10 +11,7 @@ use Rattle.world_model.specs.declared.message.Call.TheVariants as calls
 use Rattle.claims.specs.CallsAsked.{IsCause, mounts, informs, asked}
 use Rattle.claims.specs.Complete as complete
 use Rattle.claims.specs.Complete.{Undisturbed, AllGoOn, IsOwn}
-use Rattle.world_model.specs.Heard.{Heard}
-use Rattle.world_model.specs.Mounts.{mount_call}
 use Rattle.claims.specs.PageRules as pages
-use Rattle.claims.specs.PageRules.{RefusedSo}
 use Rattle.core_facts.proofs.LostAnswers.{lost-answers}
 use Rattle.core_answers.specs.asks.PutCalls as rooms
 use Rattle.core_session.specs.calls.Made.{IsBeside, makes_room, removes}

@@ -1,5 +1,8 @@
 -- An open that looks up what it made, since the reply to its CREATE gave no file handle, made that CREATE before (RFC 1813, section 3.3.8).
 use Rattle.core_session.proofs.Prelude.{◌≡◌, ◌-◌, ◌==◌, ℕ, Bool, true, false, List, [], ◌∷◌, ◌++◌, length, Option, Some, None, Result, Ok, Err, refl, sym, ap, subst, ◌∙◌, arith, if◌then◌else◌, Attr, Mode, looked, known_of, Fault, Entry, Began, Call, Reply, Op, create_unchecked, Asked, FirstSent-grow, length_last, Next, Shelf, Turn, OpenFile, Led, Opening, OpeningStep, PutFile, made_by, got_by, WalkNext, Mounted, Machine, Opener, PathMachine, machine_of, file_of, slot_taken, begun_at, Starts, Resumes, Takes, State, Busy, Over, Setup, Awaits, PathOr, Did, TaleLaws, NoCall, NoShelf}
+use Rattle.file_ops.specs.Told.{found_by}
+use Rattle.op_machines.specs.Openers.{placed}
+use Rattle.core_facts.proofs.AllAwaited.{FileAwaits}
 use Rattle.nfs_types.specs.declared.mode.Mode.TheVariants as modes
 use Rattle.nfs_dir_calls.specs.declared.call.DirCall.TheVariants as dirs
 use Rattle.world_model.specs.declared.answer.Fault.TheVariants as faults
@@ -11,16 +14,13 @@ use Rattle.file_ops.specs.declared.opening.Led.TheVariants as leads
 use Rattle.file_ops.specs.declared.opening.OpeningStep.TheVariants as opening_steps
 use Rattle.file_ops.specs.OpenFile as opens
 use Rattle.file_ops.specs.Opening as opening
-use Rattle.file_ops.specs.Told.{found_by}
 use Rattle.name_ops.specs.declared.walk.WalkNext.TheVariants as walks
 use Rattle.name_ops.specs.Walking as walking
 use Rattle.op_machines.specs.declared.file_machine.FileMachine.TheVariants as files
 use Rattle.op_machines.specs.declared.machine.Machine.TheVariants as machines
 use Rattle.op_machines.specs.declared.opener.Opener.TheVariants as openers
 use Rattle.op_machines.specs.FileSteps as steps
-use Rattle.op_machines.specs.Openers.{placed}
 use Rattle.op_machines.specs.PathSteps as paths
-use Rattle.core_facts.proofs.AllAwaited.{FileAwaits}
 
 -- ---- what leads to that LOOKUP
 

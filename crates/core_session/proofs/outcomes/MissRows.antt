@@ -1,16 +1,16 @@
 -- The rows of NFS3ERR_NOENT, of an open that may make its file and of a remove: the record refused a call for which the operation asked, and from which it
 -- doesn't go on.
 use Rattle.core_session.proofs.Prelude.{◌≡◌, ◌≢◌, ℕ, suc, List, [], ◌∷◌, ◌++◌, length, take, drop, refl, sym, ap, subst, ◌∙◌, arith, append_assoc, Entry, Call, Op, Asks, IsWriter, look_up, create_unchecked, GoesOn, Rooted, Ended, PlaceOf, IsLastRemove, RefusedBy, Terms, jukebox, FirstSent-grow, Rooted-wide, Mounted, IsNamed, front_of, last_of, Setup, View, front-last, leads-on, GoesSo}
+use Rattle.claims.specs.GoesOn.{IsNotOnTheWay, MadeWithin}
+use Rattle.core_answers.proofs.asks.WalkAsks.{Looks, split-at}
 use Rattle.std.proofs.lemmas.List.{length-append}
 use Rattle.nfs_types.specs.declared.mode.Mode.TheVariants as modes
 use Rattle.world_model.specs.declared.answer.Answer.TheVariants as answers
 use Rattle.world_model.specs.declared.answer.Fault.TheVariants as faults
 use Rattle.world_model.specs.declared.op.Op.TheVariants as ops
 use Rattle.claims.specs.Asks as acts
-use Rattle.claims.specs.GoesOn.{IsNotOnTheWay, MadeWithin}
 use Rattle.claims.specs.GoesOn as on
 use Rattle.world_model.specs.Leads.{Leads}
-use Rattle.core_answers.proofs.asks.WalkAsks.{Looks, split-at}
 use Rattle.core_answers.specs.refusals.Asked.{AskedOr, asked, rooms, hides, removes as takes_away}
 use Rattle.core_answers.proofs.refusals.Asking.{row-of}
 use Rattle.core_session.proofs.outcomes.Missing.{MayMissAt, opens, removes, Missed, on_way, own, made, other, MissedRefusal, missed-refused}

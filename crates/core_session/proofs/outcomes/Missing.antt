@@ -1,6 +1,12 @@
 -- An open that may make its file, and a remove, are refused with NFS3ERR_NOENT only where a record refused so a call from which they don't go on: the LOOKUP of
 -- a name on their way, a call that is no LOOKUP, or that of the last name, by an open that made it before and by a remove.
 use Rattle.core_session.proofs.Prelude.{◌≡◌, ◌≤◌, ◌+◌, inl, inr, ℕ, Bool, true, false, List, [], ◌∷◌, ◌++◌, length, Option, Some, None, Result, Ok, Err, refl, sym, ap, subst, ◌∙◌, arith, append_assoc, if◌then◌else◌, eqb-false, cases_lt, Mode, DirKept, Answer, Fault, Entry, Began, Delivered, Call, Reply, Op, look_up, create_unchecked, Modes, Ended, RefusesSo, FirstSent-grow, Answers-grow, length_last, Says, Next, Shelf, Turn, OpeningStep, Deed, Look, Seek, Move, Mounted, Machine, PathMachine, IsNamed, front_of, last_of, machine_of, file_of, Takes, State, Busy, Over, Setup, View, of_walk, path_by, removal_by, in_flight, Reaches, Awaits, PathOr, awaits-laws, begins-unbegun, FineAnswer, RemoveAwaits, ThenOf, AsksFor, Did, reached-good, Expects, expects-laws, RemoveRuns, NoCall, walk-looks, IsPiece, CallFaults, CallFits, fits-laws, IsHeardNow, CameOf, heard_of, unmade, IsUnmadeFault, SlotLaws, reached-answered, FineLed, FitsOpening, machine-fits, SentCall}
+use Rattle.claims.specs.PageRules.{RefusedSo}
+use Rattle.name_ops.specs.declared.remove_file.Deed.TheVariants.{Remove}
+use Rattle.core_facts.specs.InFlight.{of_file}
+use Rattle.core_answers.proofs.asks.WalkAsks.{Looks}
+use Rattle.core_answers.proofs.refusals.Answering.{IsSeen, IsToldOf}
+use Rattle.core_answers.proofs.refusals.SentCalls.{sent-later}
 use Rattle.nfs_types.specs.declared.mode.Mode.TheVariants as modes
 use Rattle.nfs_dir_calls.specs.declared.call.DirCall.TheVariants as dirs
 use Rattle.nfs_dir_calls.specs.declared.create.Making.{Making}
@@ -12,28 +18,22 @@ use Rattle.world_model.specs.declared.message.Call.TheVariants as calls
 use Rattle.world_model.specs.declared.message.Reply.TheVariants as replies
 use Rattle.world_model.specs.declared.op.Op.TheVariants as ops
 use Rattle.claims.specs.GoesOn.{MadeWithin}
-use Rattle.claims.specs.PageRules.{RefusedSo}
 use Rattle.client_shelf.specs.declared.next.Next.TheVariants as nexts
 use Rattle.file_ops.specs.declared.opening.Led.TheVariants as leads
 use Rattle.file_ops.specs.declared.opening.OpeningStep.TheVariants as opening_steps
 use Rattle.file_ops.specs.Opening as opening
 use Rattle.file_ops.specs.Told as told
-use Rattle.name_ops.specs.declared.remove_file.Deed.TheVariants.{Remove}
 use Rattle.name_ops.specs.RemoveFile as removals
 use Rattle.op_machines.specs.declared.opener.Opener.TheVariants as openers
-use Rattle.core_facts.specs.InFlight.{of_file}
 use Rattle.core_facts.proofs.OpenPath.{OpenRuns}
 use Rattle.core_answers.proofs.asks.RemoveAsks as removing
 use Rattle.core_answers.proofs.asks.Sendings as plain
-use Rattle.core_answers.proofs.asks.WalkAsks.{Looks}
 use Rattle.core_answers.proofs.answers.Both.{both-laws}
-use Rattle.core_answers.proofs.refusals.Answering.{IsSeen, IsToldOf}
 use Rattle.core_answers.proofs.refusals.FitAll as steps
 use Rattle.core_answers.proofs.refusals.FitNames.{FitsRemoval}
 use Rattle.core_answers.proofs.refusals.OpenAsking as asking
 use Rattle.core_answers.proofs.refusals.Refused as refusals
 use Rattle.core_answers.proofs.refusals.Replied.{Given}
-use Rattle.core_answers.proofs.refusals.SentCalls.{sent-later}
 use Rattle.core_session.proofs.outcomes.MadeFirst.{FoundMade, PathMade, MadeStory, made-laws}
 
 -- ---- which operation it is

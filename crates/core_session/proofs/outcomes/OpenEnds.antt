@@ -1,5 +1,6 @@
 -- A step of an open ends it well only at the reply to its GETATTR, or at one that gave a file of which attributes are kept.
 use Rattle.core_session.proofs.Prelude.{◌≡◌, ◌==◌, ◌&&◌, inl, inr, ℕ, Bool, true, false, List, Option, Some, None, Result, Ok, Err, refl, sym, ap, subst, ◌∙◌, if◌then◌else◌, eqb-true, Attr, Mode, known_of, Fault, Value, Call, Reply, Next, Shelf, Turn, OpenFile, Led, Opening, OpeningNext, OpeningStep, made_by, got_by, Walk, WalkNext, PathMachine}
+use Rattle.file_ops.specs.Told.{found_by}
 use Rattle.std.specs.FinMap as finite
 use Rattle.nfs_types.specs.declared.mode.Mode.TheVariants as modes
 use Rattle.attr_cache.specs.Attrs as attrs
@@ -12,7 +13,6 @@ use Rattle.file_ops.specs.declared.opening.OpeningNext.TheVariants as openings
 use Rattle.file_ops.specs.declared.opening.OpeningStep.TheVariants as opening_steps
 use Rattle.file_ops.specs.OpenFile as opens
 use Rattle.file_ops.specs.Opening as opening
-use Rattle.file_ops.specs.Told.{found_by}
 use Rattle.name_ops.specs.declared.walk.WalkNext.TheVariants as walks
 use Rattle.name_ops.specs.Walking as walking
 use Rattle.op_machines.specs.declared.opener.Opener.TheVariants as openers

@@ -1,5 +1,9 @@
 -- The LOOKUP or CREATE of an open that gave its file, and kept attributes that a reply showed.
 use Rattle.core_session.proofs.Prelude.{◌≡◌, ℕ, Bool, true, false, List, [], ◌∷◌, ◌++◌, length, Option, Some, None, Result, Ok, Err, refl, ap, subst, arith, if◌then◌else◌, Attr, Mode, DirKept, Fault, Entry, Call, Reply, look_up, Asked, status_of, EndsWith, Asked-grow, Asked-wide, length_last, Opening, OpeningStep, made_by, got_by, last_of, IsAnswered}
+use Rattle.claims.specs.Asks.{MakesFile}
+use Rattle.world_model.proofs.Growth.{Heard-wide}
+use Rattle.file_ops.specs.Told.{found_by}
+use Rattle.core_answers.specs.bonds.Kept.{WasShown}
 use Rattle.attr_cache.specs.Attrs as attrs
 use Rattle.attr_cache.specs.declared.kept.KeptAttr.{KeptAttr}
 use Rattle.attr_cache.proofs.Entries.{Believed, looked-kept}
@@ -8,15 +12,11 @@ use Rattle.nfs_dir_calls.specs.declared.keeping.DirKept.TheVariants as dir_kept
 use Rattle.world_model.specs.declared.answer.Fault.TheVariants as faults
 use Rattle.world_model.specs.declared.message.Call.TheVariants as calls
 use Rattle.world_model.specs.declared.message.Reply.TheVariants as replies
-use Rattle.claims.specs.Asks.{MakesFile}
 use Rattle.claims.specs.Shown.{ShownWithin, given_object}
-use Rattle.world_model.proofs.Growth.{Heard-wide}
 use Rattle.file_ops.specs.declared.opening.Led.TheVariants as leads
 use Rattle.file_ops.specs.declared.opening.OpeningStep.TheVariants as opening_steps
 use Rattle.file_ops.specs.Opening as opening
-use Rattle.file_ops.specs.Told.{found_by}
 use Rattle.core_facts.proofs.OpenStory.{OpeningStory, OpeningTold, StepStory, makes-file}
-use Rattle.core_answers.specs.bonds.Kept.{WasShown}
 use Rattle.core_answers.proofs.bonds.AttrsShown.{ShownIn}
 use Rattle.core_answers.proofs.bonds.Learnt.{Good, Tells}
 

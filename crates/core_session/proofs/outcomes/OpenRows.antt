@@ -1,12 +1,12 @@
 -- The row of an open that goes well.
 use Rattle.core_session.proofs.Prelude.{◌≡◌, ◌+◌, ◌⊎◌, inl, inr, ℕ, true, List, ◌++◌, length, refl, sym, subst, ◌∙◌, arith, Mode, Entry, Call, Reply, Asks, Asked, Rooted, PlaceOf, Terms, Asked-grow, Rooted-wide, Mounted, IsNamed, front_of, last_of, machine_of, Setup, Awaits, awaits-laws, begins-unbegun, LeadsTo, front-last, leads-on, LastAtMost, reached-answered}
+use Rattle.core_facts.proofs.OneCallStory.{ends-until}
 use Rattle.nfs_file_calls.specs.declared.call.FileCall.TheVariants as file_calls
 use Rattle.world_model.specs.declared.answer.Answer.TheVariants as answers
 use Rattle.world_model.specs.declared.message.Call.TheVariants as calls
 use Rattle.world_model.specs.declared.op.Op.TheVariants as ops
 use Rattle.claims.specs.Asks as asks
 use Rattle.claims.specs.OkRows.{OpenOk, asked, known, FindsFile, looked_up, made, OkRow}
-use Rattle.core_facts.proofs.OneCallStory.{ends-until}
 use Rattle.core_facts.proofs.OpenStory.{OpenShown, IsFileOf}
 use Rattle.core_facts.proofs.OpenStory as story
 use Rattle.core_answers.proofs.refusals.OpenAsking as asking

@@ -1,5 +1,7 @@
 -- How an open goes well: with the reply to its GETATTR, or with the one that gave its file, of which attributes are kept.
 use Rattle.core_session.proofs.Prelude.{◌≡◌, ◌≤◌, ◌+◌, ◌⊎◌, inl, inr, ℕ, Bool, true, false, List, [], ◌∷◌, ◌++◌, length, Result, refl, sym, subst, ◌∙◌, arith, Attr, Mode, Answer, Fault, Value, Entry, Began, Delivered, Call, Reply, Op, IsDelivered, Asked-grow, Asked-wide, length_last, Next, Shelf, Turn, OpenFile, Opening, walk_of, Mounted, Machine, PathMachine, IsNamed, front_of, last_of, machine_of, file_of, slot_taken, Starts, Resumes, Takes, State, Busy, Setup, of_walk, path_by, in_flight, Awaits, PathOr, LeadsTo, leads-later, ends-later, IsQuiet, Did, TaleLaws, walk-looks, LastAtMost, one-call, CameOf, heard_of, unmade, SlotLaws}
+use Rattle.core_facts.specs.InFlight.{of_file}
+use Rattle.core_answers.proofs.refusals.Answering.{IsSeen}
 use Rattle.world_model.specs.declared.answer.Answer.TheVariants as answers
 use Rattle.world_model.specs.declared.answer.Value.TheVariants as values
 use Rattle.world_model.specs.declared.op.Op.TheVariants as ops
@@ -8,7 +10,6 @@ use Rattle.client_shelf.specs.declared.next.Next.TheVariants as nexts
 use Rattle.file_ops.specs.Opening as opening
 use Rattle.op_machines.specs.declared.opener.Opener.TheVariants as openers
 use Rattle.client_core.specs.declared.lane.State.TheVariants.{Over as Ends}
-use Rattle.core_facts.specs.InFlight.{of_file}
 use Rattle.core_facts.proofs.OpenPath.{OpenRuns}
 use Rattle.core_facts.proofs.OpenStory.{IsFileOf, found, made, OpenShown, OpeningTold, LedStory, led-on}
 use Rattle.core_answers.proofs.bonds.AttrsShown.{ShownIn, attr-laws, fresh-attrs, no-story}
@@ -16,7 +17,6 @@ use Rattle.core_answers.proofs.bonds.Keeping.{Known, IsAsked, reached-known}
 use Rattle.core_answers.proofs.bonds.Learnt.{Good}
 use Rattle.core_answers.proofs.bonds.MachineAttrs.{attrs-takes}
 use Rattle.core_answers.proofs.bonds.MachineCalls.{Asks, asks-laws}
-use Rattle.core_answers.proofs.refusals.Answering.{IsSeen}
 use Rattle.core_answers.proofs.refusals.OpenAsking as asking
 use Rattle.core_answers.proofs.refusals.SentCalls.{nfs-of}
 use Rattle.core_session.proofs.outcomes.OpenEnds.{IsUnwell, resumes-unwell, starts-unwell, KnownAt, known-at, WellLed, opened, knew, err-unwell, EndsWell, takes-well}

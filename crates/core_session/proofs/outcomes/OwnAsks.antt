@@ -1,9 +1,9 @@
 -- An operation asked for the call of its own that a record refused, whichever it is; or it is a write, fill or put, which made room by it.
 use Rattle.core_session.proofs.Prelude.{◌⊎◌, inl, inr, ℕ, List, refl, subst, Entry, Call, Op, Asks, IsWriter, IsLastRemove, Terms, Mounted, IsAsked, machine_of, Setup, View, begins-unbegun, IsForRoom, GoesSo, SentCall}
+use Rattle.core_answers.specs.refusals.Rowed.{AsksPlainly}
 use Rattle.world_model.specs.declared.op.Op.TheVariants as ops
 use Rattle.claims.specs.Asks as asks
 use Rattle.core_answers.specs.refusals.Asked.{AskedOr, asked, rooms, hides, removes}
-use Rattle.core_answers.specs.refusals.Rowed.{AsksPlainly}
 use Rattle.core_answers.proofs.refusals.Asking as asking
 use Rattle.core_answers.proofs.refusals.Refused.{NoRemoval}
 use Rattle.core_session.proofs.outcomes.RemoveRefusals.{asks-for}

@@ -1,5 +1,6 @@
 -- An operation is refused for the kind of a file only if it wants one, and for too many names only if it lists them.
 use Rattle.core_session.proofs.Prelude.{◌≡◌, ◌+◌, ℕ, List, [], ◌∷◌, ◌++◌, length, option_map, Result, Ok, Err, sym, ap, subst, ◌∙◌, Waiting, Answer, Fault, Entry, Began, Call, Reply, Op, RefusesSo, Says, Next, Shelf, Turn, Mounted, Machine, machine_of, Takes, Purpose, State, Busy, Over, Setup, in_flight, begins-unbegun, FineAnswer, ThenOf, AsksFor, Did, Expects, expects-laws, IsPiece, CallFaults, one-call, CallFits, fits-laws, machine-fits, CameOf, heard_of, unmade, IsUnmadeFault, SlotLaws, reached-answered}
+use Rattle.core_answers.proofs.refusals.Answering.{IsSeen}
 use Rattle.world_model.specs.declared.answer.Answer.TheVariants as answers
 use Rattle.world_model.specs.declared.answer.Fault.TheVariants as faults
 use Rattle.world_model.specs.Heard.{Refuses}
@@ -9,7 +10,6 @@ use Rattle.core_answers.proofs.answers.Both.{both-laws}
 use Rattle.core_answers.proofs.answers.Writing.{written-reached}
 use Rattle.core_answers.proofs.refusals.FitAll as steps
 use Rattle.core_answers.proofs.refusals.Replied.{Given}
-use Rattle.core_answers.proofs.refusals.Answering.{IsSeen}
 use Rattle.core_answers.proofs.refusals.SentCalls.{nfs-of}
 use Rattle.core_session.specs.outcomes.Refusals.{IsItsOwn, FaultsTheirOwn}
 use Rattle.core_session.proofs.outcomes.Sorts.{IsSort, sort-on, begins-sort, starts-so, resumes-so, takes-so}

@@ -1,15 +1,15 @@
 -- The rows of all operations that are refused, as each has its own.
 use Rattle.core_session.proofs.Prelude.{◌≡◌, ◌≢◌, ◌==◌, ℕ, Bool, true, false, List, refl, sym, subst, arith, eqb-true, eqb-false, Refused, Fault, Entry, Op, Ended, RefusedBy, Terms, jukebox, Mounted, IsAsked, Setup, View, GoesSo}
+use Rattle.claims.specs.RefusalRows.{RefusalRow}
+use Rattle.core_answers.specs.refusals.Rowed.{MayMiss, IsFinal, AsksPlainly}
 use Rattle.nfs_types.specs.declared.mode.Mode.TheVariants as modes
 use Rattle.world_model.specs.declared.answer.Fault.TheVariants as faults
 use Rattle.world_model.specs.declared.op.Op.TheVariants as ops
-use Rattle.claims.specs.RefusalRows.{RefusalRow}
 use Rattle.core_facts.proofs.LostAnswers.{lost-answers}
 use Rattle.core_facts.proofs.OpenTheorems.{kinds-shown}
 use Rattle.core_facts.proofs.SlotTheorems.{places-caused}
 use Rattle.core_answers.proofs.answers.ManyStory.{many-shown}
 use Rattle.core_answers.proofs.answers.PutRows.{put-kinds-shown}
-use Rattle.core_answers.specs.refusals.Rowed.{MayMiss, IsFinal, AsksPlainly}
 use Rattle.core_answers.proofs.refusals.OwnRows.{refusals-rowed}
 use Rattle.core_session.specs.outcomes.Refusals.{WantsFile, IsList, MakesNoRoom, IsRowed, RefusalRowsShown}
 use Rattle.core_session.proofs.outcomes.MissRows.{open-missed, remove-missed}

@@ -1,5 +1,6 @@
 -- The row of a remove that is refused: the call that a record refused is one for which it asked, also where it hides its file.
 use Rattle.core_session.proofs.Prelude.{◌≡◌, ◌≤◌, ℕ, List, ◌++◌, length, refl, sym, subst, arith, Fault, Entry, Call, Op, Asks, HeldOpen, GoesOn, Rooted, IsLastRemove, RefusedBy, Terms, Mounted, IsNamed, front_of, last_of, machine_of, Busy, Setup, in_flight, KnowsRoot, begins-unbegun, reached-good, Expects, expects-laws, RemoveRuns, NoCall, SentCall}
+use Rattle.core_answers.proofs.refusals.SentCalls.{as-sent}
 use Rattle.world_model.specs.declared.answer.Fault.TheVariants as faults
 use Rattle.world_model.specs.declared.op.Op.TheVariants as ops
 use Rattle.claims.specs.GoesOn as on
@@ -10,7 +11,6 @@ use Rattle.core_session.proofs.calls.HidingHeld.{hiding-held}
 use Rattle.core_session.proofs.calls.RemoveCause.{remove-asks}
 use Rattle.core_answers.specs.refusals.Rowed.{IsFinal}
 use Rattle.core_answers.proofs.refusals.Refused.{OwnRefusal, Shown, own-later, own-refused}
-use Rattle.core_answers.proofs.refusals.SentCalls.{as-sent}
 use Rattle.core_session.specs.outcomes.Removed.{RemovesRefused}
 
 -- ---- the call, as it was first sent

@@ -1,12 +1,12 @@
 -- The row of a remove that goes well.
 use Rattle.core_session.proofs.Prelude.{◌≡◌, ℕ, List, ◌++◌, length, refl, sym, subst, arith, Value, Entry, Call, Reply, Acts, HeldOpen, look_up, Asked, Rooted, PlaceOf, Terms, Asked-grow, Rooted-wide, Mounted, IsNamed, front_of, last_of, machine_of, begins-unbegun, LeadsTo, front-last, Expects, expects-laws, NoCall, leads-on, reached-answered}
+use Rattle.core_facts.proofs.OneCallStory.{ends-until}
 use Rattle.nfs_dir_calls.specs.declared.keeping.DirKept.TheVariants as kept
 use Rattle.world_model.specs.declared.answer.Answer.TheVariants as answers
 use Rattle.world_model.specs.declared.message.Reply.TheVariants as replies
 use Rattle.world_model.specs.declared.op.Op.TheVariants as ops
 use Rattle.claims.specs.Asks as asks
 use Rattle.claims.specs.OkRows.{ActOk}
-use Rattle.core_facts.proofs.OneCallStory.{ends-until}
 use Rattle.core_answers.proofs.asks.RemoveAsks.{Shelved}
 use Rattle.core_session.proofs.calls.HidingHeld.{open-grow}
 use Rattle.core_session.specs.outcomes.Removed.{RemovesWell}

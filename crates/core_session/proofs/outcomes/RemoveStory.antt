@@ -1,5 +1,8 @@
 -- How a remove goes well: what its path leads to, and, of a file that it hides, that a slot held it and that nothing had its new name.
 use Rattle.core_session.proofs.Prelude.{◌≡◌, ◌≤◌, ℕ, List, [], ◌∷◌, ◌++◌, length, Option, Some, Result, Ok, Err, refl, sym, ap, subst, ◌∙◌, arith, Answer, Fault, Value, Entry, Began, Delivered, Call, Reply, Op, HeldOpen, look_up, status_of, EndsWith, Terms, IsDelivered, Asked-grow, Asked-wide, length_last, Next, Shelf, Turn, Deed, Look, Seek, Move, RemoveFile, Mounted, Machine, front_of, last_of, machine_of, Starts, Resumes, Takes, State, Busy, Over, Setup, LeadsTo, leads-later, end-leads, RemoveAwaits, ends-later, IsQuiet, Did, TaleLaws, Expects, RemoveRuns, NoCall, CameOf, heard_of, unmade, SlotLaws}
+use Rattle.name_ops.specs.declared.remove_file.Deed.TheVariants.{Remove}
+use Rattle.core_answers.proofs.asks.RemoveSteps.{IsFound, IsFree, IsFineOf, HasDeed}
+use Rattle.core_answers.proofs.refusals.Answering.{IsSeen}
 use Rattle.nfs_dir_calls.specs.declared.call.DirCall.TheVariants as dirs
 use Rattle.world_model.specs.declared.answer.Answer.TheVariants as answers
 use Rattle.world_model.specs.declared.message.Call.TheVariants as calls
@@ -9,14 +12,11 @@ use Rattle.claims.specs.OkRows.{value_of}
 use Rattle.nfs_dir_calls.specs.declared.keeping.DirKept.TheVariants as kept
 use Rattle.world_model.specs.declared.message.Reply.TheVariants as replies
 use Rattle.client_shelf.specs.declared.next.Next.TheVariants as nexts
-use Rattle.name_ops.specs.declared.remove_file.Deed.TheVariants.{Remove}
 use Rattle.name_ops.specs.Moving.{move_call}
 use Rattle.name_ops.specs.RemoveFile as removals
 use Rattle.core_answers.proofs.asks.RemoveAsks.{RemoveStory, Shelved, remove-laws}
-use Rattle.core_answers.proofs.asks.RemoveSteps.{IsFound, IsFree, IsFineOf, HasDeed}
 use Rattle.core_session.proofs.calls.Hiding.{Hides, SomeHides, DeedHides, hides-map}
 use Rattle.core_session.proofs.calls.HidingHeld.{open-grow, hiding-held}
-use Rattle.core_answers.proofs.refusals.Answering.{IsSeen}
 use Rattle.core_session.proofs.outcomes.RemoveEnds.{IsUnwell, remove-goes-unwell, DoesIt, EndsWell, remove-takes-well}
 use Rattle.core_session.proofs.outcomes.Telling.{replied, told-so}
 

@@ -1,5 +1,6 @@
 -- The rows of a write, fill or put that a record refused: it asked for the call, or made room by it.
 use Rattle.core_session.proofs.Prelude.{◌≡◌, ◌≢◌, ◌≤◌, ◌⊎◌, inl, inr, ℕ, List, ◌++◌, length, refl, sym, subst, ◌∙◌, arith, cases_lt, Mode, Answer, Fault, Entry, Began, Answered, Sent, Call, Op, Asks, IsWriter, At, GoesOn, Rooted, Ended, UnderWay, IsLastRemove, RefusedBy, Terms, jukebox, At-one, Mounted, IsAsked, IsNamed, machine_of, Busy, Setup, View, in_flight, KnowsRoot, begins-unbegun, good-over, over-laws, Always, reached-good, IsForRoom, Expects, expects-laws, NoCall, GoesSo, SentCall}
+use Rattle.core_answers.proofs.refusals.SentCalls.{as-sent}
 use Rattle.nfs_types.specs.declared.mode.Mode.TheVariants as modes
 use Rattle.world_model.specs.declared.answer.Answer.TheVariants as answers
 use Rattle.world_model.specs.declared.answer.Fault.TheVariants as faults
@@ -11,7 +12,6 @@ use Rattle.core_answers.proofs.asks.PutAsks as puts
 use Rattle.core_answers.proofs.asks.PutAsks.{Sending, rooted-now, put-asks}
 use Rattle.core_session.proofs.calls.WriteCause.{IsStore, WriteStory, write-laws, write-asks}
 use Rattle.core_answers.proofs.refusals.Refused.{OwnRefusal, Shown, own-later, own-refused}
-use Rattle.core_answers.proofs.refusals.SentCalls.{as-sent}
 use Rattle.core_session.specs.outcomes.Rooms.{IsNoJukebox, RefusedForRoom}
 
 -- ---- the call, as it was first sent

@@ -1,6 +1,9 @@
 -- A lawful server's record that answers a call tells of an execution of it, and breaks no rule (as `core_answers.proofs.completes` has it, for calls of which
 -- it isn't known that an operation asks for them).
 use Rattle.core_session.proofs.Prelude.{◌≡◌, ◌<◌, ◌≤◌, ◌⊎◌, inl, inr, ℕ, suc, Bool, true, false, List, [], ◌∷◌, length, Some, Result, Ok, Err, sym, ap, subst, ◌∙◌, arith, DirKept, FileKept, Entry, Sent, Executed, Delivered, Call, Reply, Op, Asks, Acts, At, History, Lawful, HasXid, SpellsCall, SpellsReply, RefusesSo, Terms, IsNfs, one-call}
+use Rattle.world_model.specs.Lawful.{IsReplied, replied, refused}
+use Rattle.world_model.specs.Messages.{SpellsResults}
+use Rattle.claims.specs.PageRules.{WrongData, BreaksPage}
 use Rattle.xdr_codec.specs.declared.reader.XdrFault.{XdrFault}
 use Rattle.nfs_dir_calls.specs.declared.call.DirCall.TheVariants as dirs
 use Rattle.nfs_dir_calls.specs.declared.keeping.DirKept.TheVariants as found
@@ -21,10 +24,7 @@ use Rattle.world_model.specs.declared.message.Call.TheVariants as calls
 use Rattle.world_model.specs.declared.message.Reply.TheVariants as replies
 use Rattle.claims.specs.Asks as asks
 use Rattle.world_model.specs.Heard.{Heard}
-use Rattle.world_model.specs.Lawful.{IsReplied, replied, refused}
-use Rattle.world_model.specs.Messages.{SpellsResults}
 use Rattle.claims.specs.PageRules as pages
-use Rattle.claims.specs.PageRules.{WrongData, BreaksPage}
 use Rattle.world_model.specs.Rules as rules
 use Rattle.world_model.specs.Rules.{Breaks, IsNotReply}
 use Rattle.world_model.proofs.Doing.{read_done, write_done, list_done}

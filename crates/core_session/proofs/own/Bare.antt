@@ -1,5 +1,9 @@
 -- Past the size of a truncate that went well the server has no byte but zeros, unless the place was touched since.
 use Rattle.core_session.proofs.Prelude.{◌≡◌, ◌<◌, ◌≤◌, ◌+◌, ◌⊎◌, inl, inr, ℕ, suc, List, length, Some, None, slice_get, refl, sym, ap, subst, ◌∙◌, arith, cases_lt, slice_get_within, Entry, Answered, Sent, Call, Reply, Acts, NoneBegan, At, status_of, History, Lawful, SpellsCall, Once, EndsWith, Bytes, Object, Server, HasBytes, IsOf, Terms, Truncated, Touched, written, FirstSent, At-one, Numbered, CutBy, NoForeign, one_file_call, Mounted, machine_of, Setup, View, KnowsRoot, Notes, GoesWith, notes-reach, reached-rows, OnlySetsUp, PutsNamed}
+use Rattle.claims.specs.Touched.{foreign}
+use Rattle.law_stable.specs.Cut.{OwnZeros, IsBare}
+use Rattle.law_stable.specs.OwnCalls.{HeardBefore}
+use Rattle.core_session.specs.settled.Settling.{IsSetUpCall, mounts, informs, IsSetUpRecord}
 use Rattle.nfs_file_calls.specs.declared.call.FileCall.TheVariants as files
 use Rattle.nfs_file_calls.specs.declared.owned.FileKept.TheVariants as kept
 use Rattle.world_model.specs.declared.answer.Answer.TheVariants as answers
@@ -7,13 +11,9 @@ use Rattle.world_model.specs.declared.message.Call.TheVariants as calls
 use Rattle.world_model.specs.declared.op.Op.TheVariants as ops
 use Rattle.claims.specs.Asks as asks
 use Rattle.claims.specs.OkRows.{ActOk}
-use Rattle.claims.specs.Touched.{foreign}
-use Rattle.law_stable.specs.Cut.{OwnZeros, IsBare}
-use Rattle.law_stable.specs.OwnCalls.{HeardBefore}
 use Rattle.law_stable.proofs.Zeros.{cut_stays}
 use Rattle.core_answers.proofs.answers.CutRows.{truncates-ok}
 use Rattle.core_session.specs.order.Altering as order
-use Rattle.core_session.specs.settled.Settling.{IsSetUpCall, mounts, informs, IsSetUpRecord}
 use Rattle.core_session.proofs.order.Earliers.{earlier-heard}
 use Rattle.core_session.proofs.pending.Begins.{one-file}
 use Rattle.core_session.specs.own.Cuts.{CutsStayBare}

@@ -1,8 +1,8 @@
 -- What a step makes of the pages of a file, at the reply to a SETATTR of its size.
 use Rattle.core_session.proofs.Prelude.{◌≡◌, ◌≤◌, ◌-◌, ◌⊎◌, inl, inr, ℕ, false, List, [], Option, Some, None, Result, Ok, Err, refl, sym, ap, subst, ◌∙◌, arith, SetAttr, Time, Wcc, FileKept, Pages, cut, Fault, Call, Reply, SpellsCall, one_file_call, Shelf, Turn, TruncateFile, Truncating, Mounted, Machine, machine_of, Takes, Busy, Setup, in_flight, begins-unbegun, calls-some, known-only, lanes-under-way, IsExpected, reached-good, Expects, expects-laws, NoCall, NoShelf, NoStory, no-laws}
+use Rattle.page_cache.specs.Pages.{wrote}
 use Rattle.nfs_file_calls.specs.declared.call.FileCall.TheVariants as files
 use Rattle.nfs_file_calls.specs.declared.owned.FileKept.TheVariants as kept
-use Rattle.page_cache.specs.Pages.{wrote}
 use Rattle.world_model.specs.declared.message.Call.TheVariants as calls
 use Rattle.world_model.specs.declared.message.Reply.TheVariants as replies
 use Rattle.client_shelf.specs.Unmade.{is_unmade, came_unmade}

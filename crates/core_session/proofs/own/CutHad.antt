@@ -1,11 +1,11 @@
 -- On an honest server a stamp that a file may have since a truncate is one that it had at a moment since the size was set.
 use Rattle.core_session.proofs.Prelude.{◌≡◌, ◌<◌, ◌≤◌, inl, inr, ℕ, suc, List, ◌++◌, length, Option, Some, refl, sym, ap, subst, ◌∙◌, arith, cases_lt, Attr, SetAttr, Time, Stamp, Wcc, stamp_of, Entry, resized, Fresh, History, HoldsSized, SetsAttr, Lawful, Holds, Bytes, Entries, Text, Object, Numbered, HasStamp, serves}
+use Rattle.law_reads.specs.Kept.{Done}
+use Rattle.law_reads.proofs.KeptBytes.{writes, later, put_before, put_after, stamp_there}
 use Rattle.nfs_file_calls.specs.declared.call.FileCall.TheVariants as files
 use Rattle.nfs_file_calls.specs.declared.owned.FileKept.TheVariants as kept
 use Rattle.world_model.specs.Steps.{TrueOf, TrueStamp, TrueWcc}
 use Rattle.world_model.proofs.Doing.{setattr_done}
-use Rattle.law_reads.specs.Kept.{Done}
-use Rattle.law_reads.proofs.KeptBytes.{writes, later, put_before, put_after, stamp_there}
 use Rattle.core_session.specs.current.Seen as seen_by
 use Rattle.core_session.proofs.current.ReadsRecent.{done-by}
 use Rattle.core_session.proofs.current.SeenTrue.{HadSince, had-since}

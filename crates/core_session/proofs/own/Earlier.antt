@@ -1,10 +1,10 @@
 -- Each WRITE of a place past the size of a SETATTR was answered before that is sent.
 use Rattle.core_session.proofs.Prelude.{◌≡◌, ◌<◌, ◌≤◌, ◌+◌, ◌⊎◌, inl, inr, ℕ, List, length, Option, Some, refl, sym, subst, arith, SetAttr, Time, Entry, Sent, Delivered, Call, NoneBegan, At, HasXid, SpellsCall, SpellsCallBy, FirstSent, At-grow, At-back, Mounted, machine_of, Setup, View, Reaches, one-xid, reached-rows, one-call, IsWaiting, HeardBefore}
+use Rattle.core_session.specs.order.Altering.{sizes}
 use Rattle.nfs_file_calls.specs.declared.call.FileCall.TheVariants as file_calls
 use Rattle.world_model.specs.declared.message.Call.TheVariants as calls
 use Rattle.core_answers.specs.asks.Xids.{IsAmong}
 use Rattle.core_answers.proofs.asks.XidAsks.{xids-kept}
-use Rattle.core_session.specs.order.Altering.{sizes}
 use Rattle.core_session.proofs.order.Answered.{Waits, SentOf, reached-heeds, reached-sending}
 use Rattle.core_session.proofs.order.Beside.{beside}
 use Rattle.core_session.proofs.order.Earliers.{waits-as}

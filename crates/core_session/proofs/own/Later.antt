@@ -1,10 +1,10 @@
 -- Where a WRITE is sent, the newest byte that is pending at a place of it was given by an operation; and so it wasn't cut off since.
 use Rattle.core_session.proofs.Prelude.{◌≡◌, ◌≢◌, ◌<◌, ◌≤◌, ◌⊎◌, inl, inr, ℕ, true, List, length, Option, Some, None, refl, sym, ap, subst, ◌∙◌, arith, of_file, Flown, fly_at, Cell, byte_of, covers, cell_at, IsSound, IsOver, fly-some, Entry, Began, Sent, NoneBegan, At, SpellsCall, AnsweredBefore, Terms, WritesByte, RefusedWrite, Truncated, writes-byte, one_file_call, Mounted, machine_of, Setup, View, KnowsRoot, GoesWith, IsMade, begins-unbegun, reached-rows, written_file, IsInFlight, writes-whole, PutsNamed}
+use Rattle.claims.specs.Touched.{Covers}
+use Rattle.law_own.proofs.OneByte.{no-truncate}
 use Rattle.nfs_file_calls.specs.declared.call.FileCall.TheVariants as file_calls
 use Rattle.world_model.specs.declared.message.Call.TheVariants as calls
 use Rattle.world_model.specs.declared.op.Op.TheVariants as ops
-use Rattle.claims.specs.Touched.{Covers}
-use Rattle.law_own.proofs.OneByte.{no-truncate}
 use Rattle.core_session.specs.pending.Held.{IsUnsettled}
 use Rattle.core_session.proofs.order.Basis.{reached-basis}
 use Rattle.core_session.proofs.pending.Unsettled.{held-at}

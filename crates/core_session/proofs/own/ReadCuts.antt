@@ -1,17 +1,17 @@
 -- Past the size of a truncate that went well before it began, a read shows zeros, unless the place was touched since.
 use Rattle.core_session.proofs.Prelude.{◌≡◌, ◌<◌, ◌≤◌, ◌+◌, ℕ, suc, true, List, ◌++◌, length, length-append, Some, slice_get, refl, sym, ap, subst, ◌∙◌, append_assoc, arith, Stamp, start_of, of_file, newest_at, Entry, Began, At, Fresh, History, Lawful, Once, PendingWithin, ReadsBytes, HasBytes, IsOf, Terms, Truncated, Touched, written, At-below, Numbered, writes-byte, serves, CutBy, Mounted, machine_of, Setup, View, KnowsRoot, Notes, GoesWith, always-later, notes-reach, reached-rows, IsPage, LastAtMost, KeepsBriefly, OnlySetsUp, PutsNamed}
+use Rattle.page_cache.specs.Bytes.{page_at}
+use Rattle.claims.specs.ReadTrue.{ReadCut}
+use Rattle.law_own.proofs.OneByte.{no-truncate, touched-later}
+use Rattle.law_reads.proofs.KeptBytes.{reads}
+use Rattle.law_stable.specs.Cut.{IsBare}
 use Rattle.nfs_file_calls.specs.declared.call.FileCall.TheVariants as files
 use Rattle.nfs_file_calls.specs.declared.owned.FileKept.TheVariants as kept
-use Rattle.page_cache.specs.Bytes.{page_at}
 use Rattle.world_model.specs.declared.message.Call.TheVariants as calls
 use Rattle.world_model.specs.declared.message.Reply.TheVariants as replies
 use Rattle.world_model.specs.declared.op.Op.TheVariants as ops
 use Rattle.claims.specs.Pending.{Pending}
-use Rattle.claims.specs.ReadTrue.{ReadCut}
-use Rattle.law_own.proofs.OneByte.{no-truncate, touched-later}
 use Rattle.law_reads.proofs.Bytes.{part_stands}
-use Rattle.law_reads.proofs.KeptBytes.{reads}
-use Rattle.law_stable.specs.Cut.{IsBare}
 use Rattle.law_stable.proofs.Executions.{Ran, ran}
 use Rattle.core_session.proofs.current.ReadsRecent.{file-of, done-by, page-is}
 use Rattle.core_session.proofs.current.ReadsTaken.{of-grows}

@@ -1,18 +1,18 @@
 -- Past a size that was set there are zeros alone, from the moment on at which it was set.
 use Rattle.core_session.proofs.Prelude.{inl, inr, ◌≡◌, ◌<◌, ◌≤◌, ◌+◌, ◌-◌, ℕ, zero, suc, List, [], ◌∷◌, ◌++◌, length, take, drop, replicate, Option, Some, slice_get, refl, sym, ap, subst, ◌∙◌, arith, cases_lt, slice_get_within, SetAttr, Entry, Call, Reply, resized, At, SetsAttr, HoldsSized, History, Lawful, Holds, Bytes, Entries, Text, Server, Once, Numbered, CutBy, NoForeign}
 use Rattle.std.proofs.lemmas.Option.{slice_get_past}
+use Rattle.world_model.specs.Bytes.{filled, put_at, committed_part}
+use Rattle.law_stable.specs.Cut.{OwnZeros, IsZeroAt, IsBare}
 use Rattle.nfs_file_calls.specs.declared.call.FileCall.TheVariants as files
 use Rattle.nfs_file_calls.specs.declared.owned.FileKept.TheVariants as kept
 use Rattle.world_model.specs.declared.entry.Entry.TheVariants as entries
 use Rattle.world_model.specs.declared.message.Call.TheVariants as calls
 use Rattle.world_model.specs.declared.message.Reply.TheVariants as replies
-use Rattle.world_model.specs.Bytes.{filled, put_at, committed_part}
 use Rattle.claims.specs.Touched.{ChangesPlace, writes}
 use Rattle.world_model.proofs.Doing.{setattr_done}
 use Rattle.world_model.proofs.FileSteps as steps
 use Rattle.world_model.proofs.FileSteps.{BytesGo, BytesStep, bytes_step}
 use Rattle.world_model.proofs.Lasting.{entry_at}
-use Rattle.law_stable.specs.Cut.{OwnZeros, IsZeroAt, IsBare}
 use Rattle.law_stable.proofs.Bytes.{get_front, get_back, length_resized, placed, put_here, put_above, some_or_past, number_is, committed_stands}
 use Rattle.law_stable.proofs.Executions.{Ran}
 use Rattle.law_stable.proofs.Spared.{first_call}

@@ -2,9 +2,9 @@
 use Rattle.core_session.proofs.Prelude.{◌≡◌, ◌≤◌, ◌<◌, ◌+◌, ◌-◌, ℕ, Bool, true, false, List, [], ◌∷◌, length, Option, Some, None, refl, sym, ap, subst, ◌∙◌, arith, slice_index, le-leb, is_in_flight, Pending, of_file, OnFile, HasNoPiece, with_bytes, with_cut, FilePending, Flown, fly_at, fly_in, rest_at, Segments, Cell, covers, cell_at, last_end, IsOver, low-of, high-of, EachSound, IsClearUpTo}
 use Rattle.std.specs.Prelude.{nat_le}
 use Rattle.std.proofs.lemmas.Bool.{leb-false}
+use Rattle.write_back.specs.Pieces.{Sent, rest_of}
 use Rattle.write_back.specs.declared.state.State.TheVariants.{Waiting}
 use Rattle.write_back.specs.declared.state.Ready.TheVariants.{Unsent}
-use Rattle.write_back.specs.Pieces.{Sent, rest_of}
 use Rattle.write_back.specs.Places.{cell_cut}
 use Rattle.write_back.proofs.Adding.{cells-added, cells-cut}
 use Rattle.core_session.proofs.pending.Newest.{of-cells, OfNewest}

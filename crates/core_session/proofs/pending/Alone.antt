@@ -1,12 +1,12 @@
 -- A file that a last close left alone isn't guarded: no slot holds it before the next record comes.
 use Rattle.core_session.proofs.Prelude.{◌≡◌, ◌≤◌, ◌<◌, ◌+◌, ◌⊎◌, inl, inr, ℕ, false, List, [], ◌∷◌, ◌++◌, length, Some, None, refl, sym, ap, subst, ◌∙◌, arith, append_assoc, cases_lt, Mode, Opened, Answer, Entry, Began, Answered, Delivered, Op, At, Modes, AnsweredBefore, Ended, UnderWay, LeftAlone, InSlot, IsOf, Terms, At-grow, At-last, At-one, length_last, CloseFile, Closing, Removal, Mounted, machine_of, Busy, Setup, View, Reaches, GoesWith, always-later, IsHeld, held-grow, Kind, plainly, kind_of, IsClose, IsGuarded, slot, past, removal_in, IsPast}
+use Rattle.world_model.specs.Operations.{NoneCame}
+use Rattle.core_facts.proofs.Slots.{opening, closing}
 use Rattle.std.specs.FinMap as finite
 use Rattle.world_model.specs.declared.op.Op.TheVariants as ops
-use Rattle.world_model.specs.Operations.{NoneCame}
 use Rattle.file_ops.specs.declared.close_file.Closing.TheVariants as closings
 use Rattle.op_machines.specs.declared.file_machine.FileMachine.TheVariants as files
 use Rattle.op_machines.specs.declared.machine.Machine.TheVariants as machines
-use Rattle.core_facts.proofs.Slots.{opening, closing}
 use Rattle.core_session.proofs.calls.TableHeld.{AllNoted, table-held}
 use Rattle.core_session.proofs.drops.Drops.{LaneTold, closer-kind}
 use Rattle.core_session.proofs.drops.Dropping.{past-file}

@@ -1,11 +1,11 @@
 -- What an operation may give to a place of a file, as it begins, or as a put's opening ends.
 use Rattle.core_session.proofs.Prelude.{◌≡◌, ◌<◌, ◌≤◌, ◌^◌, ◌+◌, ◌-◌, ℕ, List, [], ◌∷◌, ◌++◌, length, true, false, Option, Some, None, option_map, Ok, replicate, refl, sym, subst, ◌∙◌, append_assoc, arith, slice_index, le-leb, lt-ltb, slice_get-get_or, slice_get_within, Mode, Opened, covers, low-of, high-of, Entry, Began, Delivered, Op, At, Modes, InSlot, IsOf, slot_of, Terms, Origin, UnderWay, WritesByte, At-one, At-grow, At-below, At-last, Mounted, machine_of, Fits, Setup, IsIdle, View, Reaches, GoesWith, may, held-begins, always-later, Given, is-given, IsHeld, held-grow, KnowsRoot, LeadsTo}
+use Rattle.claims.specs.Touched.{Covers}
 use Rattle.std.specs.FinMap as finite
 use Rattle.std.proofs.lemmas.List.{length-replicate, get_or-replicate}
 use Rattle.nfs_types.specs.declared.mode.Mode.TheVariants as modes
 use Rattle.world_model.specs.declared.op.Op.TheVariants as ops
 use Rattle.claims.specs.Rights.{can_write}
-use Rattle.claims.specs.Touched.{Covers}
 use Rattle.claims.specs.Touched as touched
 use Rattle.file_ops.specs.Opens.{in_mode, of_open}
 use Rattle.core_session.proofs.drops.OneFile.{slot-file}

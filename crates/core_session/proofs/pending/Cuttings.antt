@@ -1,10 +1,10 @@
 -- A truncate that goes well cuts what is pending of its file: each step of its machine, and of its lane.
 use Rattle.core_session.proofs.Prelude.{if◌then◌else◌, ◌≡◌, ◌≤◌, inl, inr, ℕ, Bool, true, false, List, Some, Result, Ok, Err, slice_get, refl, sym, ap, subst, ◌∙◌, Wcc, Answer, Fault, Value, Reply, Op, Pending, HasNoPiece, Next, Repeat, Shelf, Turn, TruncateFile, Truncating, is_quiet, joined, FileMachine, Machine, Starts, Resumes, Takes, State, Busy, Over, IsRefused, Leads, View, turn_at, unmade_turn, at-set}
+use Rattle.file_ops.specs.Quiet.{are_none}
 use Rattle.world_model.specs.declared.answer.Answer.TheVariants as answers
 use Rattle.world_model.specs.declared.op.Op.TheVariants as ops
 use Rattle.client_shelf.specs.declared.next.Next.TheVariants as nexts
 use Rattle.file_ops.specs.declared.truncate_file.Truncating.TheVariants as truncating
-use Rattle.file_ops.specs.Quiet.{are_none}
 use Rattle.file_ops.specs.TruncateFile as truncates
 use Rattle.op_machines.specs.declared.file_machine.FileMachine.TheVariants as files
 use Rattle.op_machines.specs.declared.machine.Machine.TheVariants as machines

@@ -1,11 +1,11 @@
 -- Where a close is refused and no slot holds its file any more, nothing of it is pending: the steps of its machine.
 use Rattle.core_session.proofs.Prelude.{◌≡◌, ◌&&◌, inl, inr, ℕ, Bool, true, false, not, List, [], Option, Some, None, Result, Err, slice_get, refl, sym, ap, subst, ◌∙◌, Opens, IsOpen, Answer, Fault, Call, Reply, last_end, Pending, of_file, HasNoPiece, nothing, Next, Shelf, Turn, goes_again, is_first, CloseFile, Closing, Removal, Saving, TellsOpen, GivesUpBy, closed_answer, remove_busy, refusal_of, remove_of, is_quiet, file_at, joined, by-step, Machine, Starts, Resumes, Takes, State, Busy, Over, Leads, IsRefused, View, turn_at, unmade_turn, at-set, file_in}
+use Rattle.file_ops.specs.Closings.{GivesIf, GivesUp}
+use Rattle.file_ops.specs.Quiet.{are_none}
 use Rattle.world_model.specs.declared.answer.Answer.TheVariants as answers
 use Rattle.client_shelf.specs.declared.next.Next.TheVariants as nexts
 use Rattle.file_ops.specs.declared.close_file.Closing.TheVariants as closing
-use Rattle.file_ops.specs.Closings.{GivesIf, GivesUp}
 use Rattle.file_ops.specs.Closes as closes
-use Rattle.file_ops.specs.Quiet.{are_none}
 use Rattle.file_ops.specs.Saves as saves
 use Rattle.op_machines.specs.declared.file_machine.FileMachine.TheVariants as files
 use Rattle.op_machines.specs.declared.machine.Machine.TheVariants as machines

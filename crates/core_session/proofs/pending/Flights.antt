@@ -1,14 +1,14 @@
 -- What a WRITE carries may have been pending since the operation began that asks for it: as it was made, or as it was made first.
 use Rattle.core_session.proofs.Prelude.{◌≡◌, ◌≢◌, ◌≤◌, ◌<◌, ◌+◌, ◌-◌, ◌⊎◌, inl, inr, ℕ, zero, suc, Bool, true, false, nat_eq, List, [], ◌∷◌, ◌++◌, length, Option, Some, None, option_map, slice_get, refl, sym, ap, subst, ◌∙◌, arith, if◌then◌else◌, slice_index, cases_lt, eqb-true, eqb-false, Waiting, next_xid, made_call, waiting_at, without, waits_early, at_made, others_made, others_taken, gone, is_in_flight, of_file, Flown, flown_in, fly_at, piece_under, rest_at, Cell, cell_at, covers, IsOver, IsSound, covered, flown-some, fly-under, some-of, flown-from, Answer, Value, Entry, Began, Answered, Delivered, Call, Op, proc_of, AnsweredBefore, UnderWay, LeftAlone, PutRefused, Terms, RefusedWrite, length_last, said_of, Next, Shelf, Mounted, Machine, machine_of, Purpose, Busy, Setup, IsFresh, IsIdle, numbers_of, with_state, record_of, Makes, Leads, Stirs, counted, StartsLane, TakesAt, AnswersAt, View, turn_at, IsOpenLine, GoesWith, taken_one, calls-some, Known, Runs, idle-numbers, number_of, to-map, Rows, same-rows, taken-rows, SameCalls, After, waits-late, unused-next, starts-under, resumes-under, takes-under, SameUnder}
-use Rattle.write_back.specs.declared.state.State.TheVariants.{Waiting as Waits}
-use Rattle.write_back.specs.declared.state.Ready.TheVariants.{Unsent}
 use Rattle.write_back.specs.Pieces.{Sent, rest_of}
 use Rattle.write_back.proofs.Flying.{under-whole}
-use Rattle.world_model.specs.declared.answer.Answer.TheVariants as answers
 use Rattle.claims.specs.Pending.{Pending}
-use Rattle.client_shelf.specs.declared.next.Next.TheVariants as nexts
 use Rattle.core_facts.proofs.Counting.{known-some}
 use Rattle.core_answers.proofs.writes.PiecesCarried.{Flying, unmade-under}
+use Rattle.write_back.specs.declared.state.State.TheVariants.{Waiting as Waits}
+use Rattle.write_back.specs.declared.state.Ready.TheVariants.{Unsent}
+use Rattle.world_model.specs.declared.answer.Answer.TheVariants as answers
+use Rattle.client_shelf.specs.declared.next.Next.TheVariants as nexts
 use Rattle.core_session.proofs.calls.TableHeld.{AllNoted}
 use Rattle.core_session.proofs.drops.KnowingAlong.{IsPlain}
 use Rattle.core_session.proofs.drops.Laws.{DropsKnown}

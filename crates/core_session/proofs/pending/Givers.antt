@@ -1,8 +1,8 @@
 -- An operation that was answered, and wrote a byte that may still be pending, is a write or fill, but for a put that was refused.
 use Rattle.core_session.proofs.Prelude.{◌≡◌, ◌<◌, ℕ, List, subst, arith, Answer, Entry, Began, Op, At, Modes, Origin, AnsweredBefore, Ended, PutRefused, WritesByte, At-one}
+use Rattle.claims.specs.Pending.{PutSucceeded}
 use Rattle.world_model.specs.declared.answer.Answer.TheVariants as answers
 use Rattle.world_model.specs.declared.op.Op.TheVariants as ops
-use Rattle.claims.specs.Pending.{PutSucceeded}
 use Rattle.claims.specs.Touched as touched
 use Rattle.core_session.proofs.syncs.Causes.{IsWriter, OfOp}
 

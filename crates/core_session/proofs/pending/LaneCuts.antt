@@ -1,12 +1,12 @@
 -- A lane's truncate that goes well has cut what is pending of its file.
 use Rattle.core_session.proofs.Prelude.{◌≡◌, ◌≤◌, ℕ, true, List, Option, Some, None, refl, sym, ap, subst, ◌∙◌, Entry, Began, Op, IsOf, Terms, Cuts, At-one, Pending, of_file, OnFile, HasNoPiece, with_cut, LaneFile, is_first, TruncateFile, Truncating, is_quiet, Mounted, Machine, Setup, View, GoesWith, IsLive, seat_of, SitsWith, seat_with, seat-own, seat-other, same-first, IsFirst, EachSound}
+use Rattle.core_answers.proofs.writes.Turns.{TruncateTurn}
 use Rattle.world_model.specs.declared.op.Op.TheVariants as ops
 use Rattle.file_ops.specs.declared.truncate_file.Truncating.TheVariants as truncating
 use Rattle.file_ops.specs.TruncateFile as truncates
 use Rattle.op_machines.specs.declared.file_machine.FileMachine.TheVariants as files
 use Rattle.op_machines.specs.declared.machine.Machine.TheVariants as machines
 use Rattle.core_answers.proofs.writes.AllTurns.{TurnOf}
-use Rattle.core_answers.proofs.writes.Turns.{TruncateTurn}
 use Rattle.step_pending.proofs.Cutting.{cut-sound}
 use Rattle.core_session.proofs.syncs.AllJobs.{JobHas, job_save}
 use Rattle.core_session.proofs.syncs.Fates.{live-lane}

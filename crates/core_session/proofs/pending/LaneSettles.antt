@@ -1,13 +1,13 @@
 -- Where a lane's sync or close has saved its file, only later bytes are pending of it: a lane's whole step, also at a call that isn't made.
 use Rattle.core_session.proofs.Prelude.{◌≡◌, ◌≤◌, inl, inr, ℕ, false, List, [], ◌∷◌, ◌++◌, length, Option, Some, None, position, Result, Err, slice_get, refl, sym, ap, subst, ◌∙◌, arith, Waiting, waiting_at, Fault, Entry, Reply, said_of, Pending, of_file, piece_under, LaneFile, Shelf, Turn, Next, CloseFile, Saving, SyncFile, file_at, Mounted, Machine, machine_of, Resumes, Takes, Purpose, State, Busy, Over, Setup, is_busy, with_state, IsRefused, Leads, Stirs, counted, StartsLane, TakesAt, View, turn_at, unmade_turn, in_flight, Reaches, taken_one, Known, taker-is, taker-one, at-set, at-push, unused-next, EachSound, IsAwaited}
+use Rattle.write_back.specs.Pieces.{Sent}
+use Rattle.core_facts.specs.InFlight.{of_saving}
 use Rattle.std.specs.Prelude.{IsSome}
 use Rattle.world_model.specs.declared.answer.Answer.TheVariants as answers
-use Rattle.write_back.specs.Pieces.{Sent}
 use Rattle.client_shelf.specs.declared.next.Next.TheVariants as nexts
 use Rattle.file_ops.specs.Saves as saves
 use Rattle.op_machines.specs.declared.file_machine.FileMachine.TheVariants as files
 use Rattle.op_machines.specs.declared.machine.Machine.TheVariants as machines
-use Rattle.core_facts.specs.InFlight.{of_saving}
 use Rattle.core_session.proofs.saves.Taking.{sent-piece}
 use Rattle.core_session.proofs.saves.WholeSteps.{Wholly}
 use Rattle.core_session.proofs.drops.LaneIs.{state-is}

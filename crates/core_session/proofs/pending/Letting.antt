@@ -1,8 +1,8 @@
 -- Where a step of a lane lets go a guarded number, nothing older than it is pending any more: a close saved it, or was refused with no slot left, and dropped all.
 use Rattle.core_session.proofs.Prelude.{◌≡◌, ◌≢◌, ◌≤◌, ◌⊎◌, inl, inr, ℕ, Bool, true, false, nat_eq, List, [], ◌∷◌, ◌++◌, length, Some, None, position, slice_get, refl, sym, ap, subst, ◌∙◌, arith, eqb-true, eqb-false, Waiting, waiting_at, IsOpen, Answer, Fault, Value, Entry, Began, Delivered, Op, Modes, said_of, Pending, of_file, HasNoPiece, FilePending, last_end, LaneFile, left, is_first, CloseFile, Closing, Removal, Saving, file_at, joined, Mounted, Machine, machine_of, Lane, Purpose, State, Busy, Over, Setup, is_busy, IsIdle, numbers_of, counted, Stirs, TakesAt, StartsLane, with_state, View, turn_at, AreApart, Reaches, taken_one, seat_close, Known, lanes-under-way, idle-numbers, number_of, at-set, at-push, to-map, Sits, seat_with, seat-own, seat-other, look-at, seat_state, seat_in, first-left, first-added, same-first, IsGuarded, save_in, removal_in, file_in, EachSound, IsUnderWay}
+use Rattle.write_back.specs.Pieces.{Sent}
 use Rattle.world_model.specs.declared.answer.Answer.TheVariants as answers
 use Rattle.world_model.specs.declared.op.Op.TheVariants as ops
-use Rattle.write_back.specs.Pieces.{Sent}
 use Rattle.file_ops.specs.declared.close_file.Closing.TheVariants as closings
 use Rattle.file_ops.specs.Saves as saves
 use Rattle.op_machines.specs.declared.file_machine.FileMachine.TheVariants as files

@@ -1,6 +1,7 @@
 -- A WRITE carries what is newest at its places as it is made; or it is one that was put off, and carries the same again.
 use Rattle.core_session.proofs.Prelude.{◌≡◌, ◌≢◌, ◌⊎◌, inl, inr, ℕ, Bool, true, false, List, [], ◌∷◌, ◌++◌, length, Option, Some, None, Result, Ok, Err, refl, sym, ap, subst, ◌∙◌, Verdict, AllStable, SendAgain, verdict_of, Verf, Fault, Reply, lost, chosen, piece_of, with_sent, Pending, of_file, OnFile, with_xid, FilePending, piece_under, rest_at, PutsInFlight, Segments, covers, same-or, Next, Repeat, Shelf, Turn, goes_again, Closing, Putting, Sending, Committing, Resending, CommittingAgain, Saving, Syncing, Writing, commit_told, IsUnused, FileMachine, Machine, Opener, file_of, Starts, Resumes, Takes, After, CarriesReply}
 use Rattle.write_back.specs.Pieces.{Sent}
+use Rattle.core_answers.proofs.writes.Backs.{Carries, SyncSaves, CloseSaves, WriteSaves, PutSaves, FileSaves}
 use Rattle.client_shelf.specs.declared.next.Next.TheVariants as nexts
 use Rattle.file_ops.specs.declared.close_file.Closing.TheVariants as closing
 use Rattle.file_ops.specs.declared.put_file.Putting.TheVariants as putting
@@ -13,7 +14,6 @@ use Rattle.file_ops.proofs.Landed.{lands-out}
 use Rattle.op_machines.specs.declared.file_machine.FileMachine.TheVariants as files
 use Rattle.op_machines.specs.declared.machine.Machine.TheVariants as machines
 use Rattle.core_answers.proofs.writes.AllBacks.{PathSaves, Saves, all-starts, all-resumes, all-takes}
-use Rattle.core_answers.proofs.writes.Backs.{Carries, SyncSaves, CloseSaves, WriteSaves, PutSaves, FileSaves}
 use Rattle.core_answers.proofs.writes.Mapped.{any-asks, any-brings, any-starts}
 use Rattle.core_answers.proofs.writes.OwnPieces.{same-free, on-free, out-free}
 use Rattle.core_answers.proofs.writes.Under.{under-last, under-renamed, same-under, bytes-under, gives-under}

@@ -1,10 +1,10 @@
 -- At any moment of a history the newest byte that is pending at a place may be so by `Pending` of claims.
 use Rattle.core_session.proofs.Prelude.{◌≡◌, ◌≤◌, ◌<◌, ℕ, List, ◌++◌, length, Some, refl, sym, subst, arith, Answer, Entry, Began, Answered, Op, At, AnsweredBefore, Ended, LeftAlone, PutRefused, Terms, RefusedWrite, Truncated, Wrote, At-grow, At-back, At-one, of_file, Cell, cell_at, Mounted, Setup, View}
+use Rattle.claims.specs.Pending.{Pending, PutSucceeded}
+use Rattle.claims.specs.Touched.{MadeStable}
 use Rattle.world_model.specs.declared.answer.Answer.TheVariants as answers
 use Rattle.world_model.specs.declared.op.Op.TheVariants as ops
-use Rattle.claims.specs.Pending.{Pending, PutSucceeded}
 use Rattle.claims.specs.Slots.{PutsTo}
-use Rattle.claims.specs.Touched.{MadeStable}
 use Rattle.claims.specs.Touched as touched
 use Rattle.core_session.proofs.syncs.Aparts.{apart-done}
 use Rattle.core_session.proofs.syncs.Causes.{IsWriter, IsPut, OfOp}

@@ -2,13 +2,13 @@
 use Rattle.core_session.proofs.Prelude.{◌≡◌, ◌≢◌, ◌≤◌, ◌<◌, ◌+◌, ◌-◌, ◌&&◌, ◌||◌, ◌⊎◌, inl, inr, ℕ, Bool, true, false, List, [], ◌∷◌, ◌++◌, length, take, drop, Option, Some, None, refl, sym, ap, subst, ◌∙◌, arith, nat_lt, slice_index, if◌then◌else◌, ltb-true, Verf, Change, is_in_flight, Segments, Cell, covers, cell_at, EachSound, with_sent, Pending, of_file, OnFile, with_bytes, landed, landed_part, at_xid, with_cut, FilePending, piece_under, covered, low-of, high-of, same-or}
 use Rattle.std.proofs.Common.{length-take, length-drop}
 use Rattle.std.specs.Prelude.{nat_le}
+use Rattle.write_back.specs.Segments.{Segment, AreApart, cell_in, end_of, head_of, tail_of, written, before, after, split_if, split_flying, cut_from}
+use Rattle.write_back.specs.Landing.{changed_part, at_piece}
+use Rattle.write_back.specs.Pieces.{Sent, end_of_sent}
 use Rattle.std.proofs.lemmas.List.{get_or-take, get_or-drop}
 use Rattle.write_back.specs.declared.change.Change.TheVariants as by_change
 use Rattle.write_back.specs.declared.state.State.{State}
-use Rattle.write_back.specs.Segments.{Segment, AreApart, cell_in, end_of, head_of, tail_of, written, before, after, split_if, split_flying, cut_from}
 use Rattle.write_back.specs.Changes.{fate, left_of, fate_between, changed, all_changed}
-use Rattle.write_back.specs.Landing.{changed_part, at_piece}
-use Rattle.write_back.specs.Pieces.{Sent, end_of_sent}
 use Rattle.write_back.proofs.Cells.{later-none}
 
 some-cell : (a b : Cell) → Some a ≡ Some b → a ≡ b

@@ -1,5 +1,7 @@
 -- Where a sync or a close has saved its file, only later bytes are pending of it: each step of their machines.
 use Rattle.core_session.proofs.Prelude.{◌≡◌, ◌≤◌, ◌⊎◌, inl, inr, ℕ, Bool, true, false, List, Option, Some, None, Result, Ok, Err, refl, sym, ap, subst, Fault, Call, Reply, last_end, Pending, of_file, HasNoPiece, Next, Repeat, Shelf, Turn, goes_again, is_first, CloseFile, Closing, Removal, Saving, SyncFile, Syncing, GivesUpBy, closed_answer, remove_busy, file_at, joined, by-step, ends_as, FileMachine, Machine, Starts, Resumes, Takes, State, Busy, Over, EndsSo, takes-not, Free, EachSound, IsClearUpTo, IsUnderWay, IsAwaited}
+use Rattle.core_answers.proofs.paths.Endings.{goes-not}
+use Rattle.step_saves.specs.Saves.{IsSaved, Leaves}
 use Rattle.world_model.specs.declared.answer.Answer.TheVariants as answers
 use Rattle.client_shelf.specs.declared.next.Next.TheVariants as nexts
 use Rattle.file_ops.specs.declared.close_file.Closing.TheVariants as closing
@@ -9,8 +11,6 @@ use Rattle.file_ops.specs.Saves as saves
 use Rattle.file_ops.specs.Syncs as syncs
 use Rattle.op_machines.specs.declared.file_machine.FileMachine.TheVariants as files
 use Rattle.op_machines.specs.declared.machine.Machine.TheVariants as machines
-use Rattle.core_answers.proofs.paths.Endings.{goes-not}
-use Rattle.step_saves.specs.Saves.{IsSaved, Leaves}
 use Rattle.step_saves.proofs.Taking.{takes-leaves, takes-sound}
 use Rattle.core_session.proofs.syncs.AllJobs.{job_save}
 use Rattle.core_session.proofs.syncs.Jobs.{file_save}

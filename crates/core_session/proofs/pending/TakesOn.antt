@@ -1,9 +1,9 @@
 -- A lane takes what came of its call: what stands of the newest bytes goes on standing.
 use Rattle.core_session.proofs.Prelude.{◌≡◌, ◌≢◌, ◌≤◌, ◌<◌, ◌⊎◌, inl, inr, ℕ, false, List, [], ◌∷◌, ◌++◌, length, Option, Some, None, position, slice_get, refl, sym, ap, subst, ◌∙◌, append_assoc, arith, xid_at, Waiting, waiting_at, Answer, Value, Entry, Began, Answered, Delivered, Op, At, IsBusy, Ended, UnderWay, Terms, Cuts, At-one, At-grow, At-back, At-cases, At-last, At-below, length_last, said_of, same-or, Saving, Mounted, Machine, machine_of, Purpose, State, Busy, Over, Setup, is_busy, numbers_of, TakesAt, with_state, View, turn_at, unmade_turn, KnowsRoot, Reaches, HearsRecord, GoesWith, AreApart, taken_one, begins-unbegun, Known, taker-is, reached-kept, Runs, quiet-facts, lanes-under-way, number_of, at-set, to-map, Placed, Turned, PutsNamed}
+use Rattle.core_answers.proofs.writes.AllTurns.{keeps-turned}
 use Rattle.world_model.specs.declared.answer.Answer.TheVariants as answers
 use Rattle.world_model.specs.declared.op.Op.TheVariants as ops
 use Rattle.core_session.proofs.saves.WholeSteps.{Wholly}
-use Rattle.core_answers.proofs.writes.AllTurns.{keeps-turned}
 use Rattle.core_session.proofs.syncs.AllJobs.{JobOpens, job_save}
 use Rattle.core_session.proofs.syncs.Causes.{IsWriter, IsPut, OfOp}
 use Rattle.core_session.proofs.syncs.Fates.{job_kind, take-kind}

@@ -1,5 +1,6 @@
 -- Each newest byte that is pending was given by an operation since whose answer none that went well covered or settled it.
 use Rattle.core_session.proofs.Prelude.{◌≡◌, ◌≤◌, ◌<◌, ℕ, false, List, [], ◌∷◌, ◌++◌, length, Option, Some, None, position, append_assoc, append-nil, slice_get, refl, sym, ap, subst, ◌∙◌, Waiting, waiting_at, Answer, Fault, Value, Entry, Began, Answered, Delivered, Op, AnsweredBefore, Terms, RefusedWrite, At-one, said_of, of_file, Cell, byte_of, cell_at, newest_at, Mounted, machine_of, Purpose, Setup, is_busy, IsIdle, StartsLane, TakesAt, Stirs, AnswersAt, counted, View, KnowsRoot, Reaches, GoesWith, begins-unbegun, taken_one, Known, reached-all, lanes-under-way, keeps-placed, stirs-stay, starts-stay, steps-stay, Stays, PutsNamed, PutRefused, LeftAlone, Shelf, Lane, Busy, IsFresh, Kind, BeginsAs}
+use Rattle.claims.specs.Pending.{Pending}
 use Rattle.world_model.specs.declared.answer.Answer.TheVariants as answers
 use Rattle.world_model.specs.declared.op.Op.TheVariants as ops
 use Rattle.claims.specs.Touched as touched
@@ -9,7 +10,6 @@ use Rattle.core_session.proofs.syncs.Turning.{IsFixed, under-was, under-answers-
 use Rattle.core_session.proofs.syncs.WatchingAlong.{KeepsWatching, reached-watching}
 use Rattle.core_session.specs.pending.Held.{IsUnsettled, PendingUnsettled, PendingHeldBack}
 use Rattle.core_session.proofs.pending.Entries.{answers-phase, same-phase, fresh-phase}
-use Rattle.claims.specs.Pending.{Pending}
 use Rattle.op_machines.specs.declared.file_machine.FileMachine.TheVariants as files
 use Rattle.op_machines.specs.declared.machine.Machine.TheVariants as machines
 use Rattle.core_session.proofs.drops.Along.{GuardsKnown, guards-steps}

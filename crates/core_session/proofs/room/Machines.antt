@@ -1,5 +1,8 @@
 -- The same of any operation, as it begins, as it goes on, and as it takes what came of its call.
 use Rattle.core_session.proofs.Prelude.{◌≡◌, ◌≤◌, ◌<◌, ◌+◌, ◌-◌, ◌⊎◌, inl, inr, ℕ, Bool, true, false, List, [], ◌∷◌, length, replicate, Option, Some, None, Result, Ok, Err, refl, sym, ap, subst, ◌∙◌, arith, Mode, Wcc, Fault, Reply, Op, Pending, all_pending, Next, Shelf, Turn, CloseFile, SyncFile, TruncateFile, WriteFile, WalkNext, walk_of, walk-takes-kept, Mounted, FileMachine, Machine, NameMachine, Opener, PathMachine, machine_of, front_of, last_of, file_of, slot_taken, begun_at, Starts, Resumes, Takes, name-goes-kept, name-takes-kept}
+use Rattle.name_ops.proofs.Keeps.{IsKept}
+use Rattle.op_machines.specs.Begun.{open_of, put_of, path_of, write_of}
+use Rattle.op_machines.specs.Openers.{placed}
 use Rattle.world_model.specs.declared.answer.Answer.TheVariants as answers
 use Rattle.world_model.specs.declared.op.Op.TheVariants as ops
 use Rattle.client_shelf.specs.declared.next.Next.TheVariants as nexts
@@ -13,13 +16,10 @@ use Rattle.file_ops.specs.TruncateFile as truncates
 use Rattle.file_ops.specs.WriteFile as writes
 use Rattle.name_ops.specs.declared.walk.WalkNext.TheVariants as walks
 use Rattle.name_ops.specs.Walking as walking
-use Rattle.name_ops.proofs.Keeps.{IsKept}
 use Rattle.op_machines.specs.declared.file_machine.FileMachine.TheVariants as files
 use Rattle.op_machines.specs.declared.machine.Machine.TheVariants as machines
 use Rattle.op_machines.specs.declared.opener.Opener.TheVariants as openers
-use Rattle.op_machines.specs.Begun.{open_of, put_of, path_of, write_of}
 use Rattle.op_machines.specs.FileSteps as steps
-use Rattle.op_machines.specs.Openers.{placed}
 use Rattle.op_machines.specs.PathSteps as paths
 use Rattle.core_session.proofs.room.Stages.{Stage, neither, storing, putting, is_room, file_stage, before_stage, path_stage, stage_of, Outcome, outcome, Verdict, rests, ends, same-verdict, worked-verdict}
 use Rattle.core_session.proofs.room.Steps.{write-resumed, write-took, write-started, put-resumed, put-took}

@@ -1,17 +1,17 @@
 -- What a record that is heard shows of a byte that was written.
 use Rattle.core_session.proofs.Prelude.{◌≡◌, ◌<◌, ◌≤◌, ◌+◌, ℕ, List, [], ◌∷◌, ◌++◌, length, false, Some, Ok, sym, subst, ◌∙◌, arith, Verf, Wcc, xid_at, Waiting, waiting_at, Entry, Began, Sent, Delivered, Call, Reply, Op, At, Asked, HasXid, SpellsCall, SpellsReply, commit_call, Asked-grow, At-back, said_of, Says, Mounted, machine_of, Purpose, Setup, View, Reaches, HearsRecord, IsOfOperation, Tried, unsent, begins-unbegun, was-sent, says-of, reached-owned, reached-rows, IsNfs, one-call, write_of, WroteByte, MadeStable}
-use Rattle.nfs_file_calls.specs.declared.owned.FileKept.TheVariants as kept
-use Rattle.nfs_file_calls.specs.declared.call.FileCall.TheVariants as files
-use Rattle.world_model.specs.declared.message.Call.TheVariants as calls
-use Rattle.world_model.specs.declared.message.Reply.TheVariants as replies
 use Rattle.world_model.specs.Heard.{Heard}
 use Rattle.call_replies.specs.Says.{IsCallOf}
 use Rattle.core_facts.specs.Tries.{IsKnown, runs, ended}
 use Rattle.core_facts.proofs.Hearing.{heard-of}
 use Rattle.core_answers.specs.writes.Carried.{IsCarried}
+use Rattle.core_session.specs.saves.Evidence.{WroteUnder, at_once, by_commit}
+use Rattle.nfs_file_calls.specs.declared.owned.FileKept.TheVariants as kept
+use Rattle.nfs_file_calls.specs.declared.call.FileCall.TheVariants as files
+use Rattle.world_model.specs.declared.message.Call.TheVariants as calls
+use Rattle.world_model.specs.declared.message.Reply.TheVariants as replies
 use Rattle.core_answers.proofs.writes.PiecesCarried.{pieces-carried}
 use Rattle.step_saves.specs.Accounts.{Reaches as ReachesByte}
-use Rattle.core_session.specs.saves.Evidence.{WroteUnder, at_once, by_commit}
 
 some-waiting : (a b : Waiting Purpose) → Some a ≡ Some b → a ≡ b
 some-waiting a b e = cc

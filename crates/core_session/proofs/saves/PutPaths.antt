@@ -1,9 +1,10 @@
 -- What each step of a put makes of its bytes, its path among it, where nothing else is pending.
 use Rattle.core_session.proofs.Prelude.{◌≡◌, ◌≤◌, ◌^◌, ◌+◌, ◌-◌, ℕ, Bool, true, false, List, [], length, Result, Ok, Err, refl, sym, ap, subst, ◌∙◌, arith, slice_index, Fault, Reply, Next, Shelf, Turn, Pending, of_file, IsFree, FilePending, covers, OpeningNext, PutFile, Putting, Saving, WalkNext, walk-takes-kept, Machine, Opener, PathMachine, file_of, slot_taken, begun_at, Starts, Resumes, Takes}
 use Rattle.std.specs.Prelude.{Contains}
+use Rattle.write_back.specs.Files.{numbers_of, IsNewest, IsNothing}
+use Rattle.op_machines.specs.Openers.{opening_in, placed}
 use Rattle.world_model.specs.declared.answer.Answer.TheVariants as answers
 use Rattle.client_shelf.specs.declared.next.Next.TheVariants as nexts
-use Rattle.write_back.specs.Files.{numbers_of, IsNewest, IsNothing}
 use Rattle.file_ops.specs.declared.opening.OpeningNext.TheVariants as openings
 use Rattle.file_ops.specs.declared.put_file.Putting.TheVariants as putting
 use Rattle.file_ops.specs.PutFile as puts
@@ -13,7 +14,6 @@ use Rattle.name_ops.specs.Walking as walking
 use Rattle.op_machines.specs.declared.machine.Machine.TheVariants as machines
 use Rattle.op_machines.specs.declared.opener.Opener.TheVariants as openers
 use Rattle.op_machines.specs.FileSteps as steps
-use Rattle.op_machines.specs.Openers.{opening_in, placed}
 use Rattle.op_machines.specs.PathSteps as paths
 use Rattle.core_facts.proofs.Expecting.{some-put, no-open}
 use Rattle.step_saves.specs.PutBytes.{PutAt, PutLeaves}

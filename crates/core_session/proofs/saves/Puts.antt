@@ -1,13 +1,13 @@
 -- Along a history in which a put is the only operation: each of its bytes is accounted for until its answer.
 use Rattle.core_session.proofs.Prelude.{◌≡◌, ◌⊎◌, inl, inr, ◌≤◌, ◌^◌, ◌+◌, ◌-◌, ℕ, zero, suc, List, [], ◌∷◌, ◌++◌, length, Bool, true, false, nat_eq, Option, Some, None, Err, slice_get, slice_set, refl, sym, ap, subst, ◌∙◌, arith, slice_index, eqb-true, Waiting, next_xid, waiting_at, made_call, others_made, Fault, Entry, Sent, Call, At, HasXid, proc_of, length_last, Next, Turn, Pending, of_file, IsFree, piece_under, Putting, Saving, Machine, Opener, file_of, Lane, Purpose, State, Busy, Over, Setup, record_of, IsRefused, Leads, View, turn_at, unmade_turn, flies_if, flies_put, flies_of, flies_path, flies_file, Rows, IsAwaited, MadeStable, AllMadeStable}
 use Rattle.std.specs.Prelude.{IsSome}
+use Rattle.core_session.specs.saves.Evidence.{IsHeldBy}
 use Rattle.world_model.specs.declared.answer.Answer.TheVariants as answers
 use Rattle.client_shelf.specs.declared.next.Next.TheVariants as nexts
 use Rattle.write_back.specs.Pieces.{Sent as Piece}
 use Rattle.file_ops.specs.declared.put_file.Putting.TheVariants as putting
 use Rattle.file_ops.specs.Saves as saves
 use Rattle.step_saves.proofs.PutSteps.{SaveKnown}
-use Rattle.core_session.specs.saves.Evidence.{IsHeldBy}
 use Rattle.core_session.proofs.saves.Evidenced.{stable-grow}
 use Rattle.core_session.proofs.saves.PutPaths.{PutRuns, PutGoes, put-more, runs-takes}
 use Rattle.core_session.proofs.saves.Told.{held-grow, held-calls}

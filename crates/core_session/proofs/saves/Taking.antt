@@ -1,5 +1,6 @@
 -- What the operation of a call knows of it, as a record that answers it is heard.
 use Rattle.core_session.proofs.Prelude.{◌≡◌, ◌≤◌, ◌^◌, ◌+◌, ◌-◌, ℕ, List, [], ◌∷◌, ◌++◌, length, Bool, true, false, Some, Ok, option_map, slice_get, refl, sym, ap, subst, ◌∙◌, arith, slice_index, Verf, Wcc, xid_at, Waiting, waiting_at, Entry, Began, Delivered, Call, Op, At, SpellsCall, commit_call, length_last, said_of, Next, Shelf, Turn, Putting, Saving, Mounted, Machine, machine_of, Purpose, Busy, Setup, View, Reaches, HearsRecord, begins-unbegun, ExpectLaws, flies_of, TaleLaws, Did, reached-good, one-call, written_file, write_of, CallFits, fits-laws, MadeStable}
+use Rattle.core_answers.specs.writes.Carried.{IsCarried}
 use Rattle.nfs_file_calls.specs.declared.owned.FileKept.TheVariants as kept
 use Rattle.world_model.specs.declared.message.Reply.TheVariants as replies
 use Rattle.client_shelf.specs.declared.next.Next.TheVariants as nexts
@@ -9,7 +10,6 @@ use Rattle.file_ops.specs.WriteFile as writes
 use Rattle.op_machines.specs.declared.machine.Machine.TheVariants as machines
 use Rattle.core_facts.proofs.Expecting.{Expects, expects-starts, expects-resumes, expects-takes, arrived-expects}
 use Rattle.core_facts.proofs.Putting.{PutExpects}
-use Rattle.core_answers.specs.writes.Carried.{IsCarried}
 use Rattle.core_answers.proofs.writes.CommitsAlone.{tales, nfs-write}
 use Rattle.core_answers.proofs.writes.PiecesCarried.{pieces-carried}
 use Rattle.step_saves.specs.Accounts.{ByWrite, ByCommit}

@@ -1,10 +1,10 @@
 -- What is known of a byte of a put as a record is heard, and from then on.
 use Rattle.core_session.proofs.Prelude.{◌≡◌, ◌⊎◌, inl, inr, ◌≤◌, ◌+◌, ℕ, List, [], ◌∷◌, ◌++◌, length, false, Some, None, refl, sym, ap, subst, ◌∙◌, arith, xid_at, Waiting, waiting_at, Entry, Began, Sent, Delivered, Op, At, Call, HasXid, SpellsCall, SpellsCallBy, commit_call, At-grow, At-cases, length_last, said_of, of_file, piece_under, Mounted, machine_of, Purpose, Setup, View, Reaches, HearsRecord, IsUnsent, reached-rows, one-call, IsWaiting, WroteByte, MadeStable}
-use Rattle.write_back.specs.Pieces.{Sent as Piece}
 use Rattle.core_answers.specs.writes.Alone.{IsQuiet}
+use Rattle.core_session.specs.saves.Evidence.{at_once, IsHeldBy}
+use Rattle.write_back.specs.Pieces.{Sent as Piece}
 use Rattle.core_answers.proofs.writes.CommitsAlone.{commits-alone}
 use Rattle.step_saves.specs.Accounts.{ByWrite, ByCommit}
-use Rattle.core_session.specs.saves.Evidence.{at_once, IsHeldBy}
 use Rattle.core_session.proofs.saves.Evidenced.{wrote-byte, committed-after, under-grow}
 
 -- ---- from one entry to the next, and as calls are made

@@ -2,8 +2,8 @@
 use Rattle.core_session.proofs.Prelude.{◌≡◌, ◌<◌, ◌≤◌, ◌+◌, ◌-◌, ◌&&◌, ℕ, Bool, true, false, nat_le, List, length, Some, refl, sym, ap, ◌∙◌, arith, ltb-true, slice_get-get_or, Verf, Entry, WroteAt, Evidence, WroteByte, MadeStable}
 use Rattle.std.proofs.Common.{nat_lt}
 use Rattle.std.proofs.lemmas.Bool.{leb-true}
-use Rattle.claims.specs.Settled as stably
 use Rattle.core_session.specs.saves.Evidence.{at_once, by_commit}
+use Rattle.claims.specs.Settled as stably
 
 both-left : (a b : Bool) → (a && b) ≡ true → a ≡ true
 both-left true b e = refl

@@ -2,12 +2,12 @@
 use Rattle.core_session.proofs.Prelude.{◌≡◌, ◌<◌, ◌+◌, ◌-◌, ◌&&◌, ◌⊎◌, inl, inr, ℕ, Bool, true, false, nat_le, List, [], ◌∷◌, ◌++◌, length, Option, Some, None, refl, sym, ap, subst, ◌∙◌, arith, append_assoc, le-leb, lt-ltb, slice_get_within, Waiting, next_xid, waiting_at, at_sent, Entry, Began, Answered, Dialed, Sent, Executed, Foreign, Flushed, Reboot, Delivered, Failed, Clock, Op, NoneBegan, At, SpellsCall, Modes, IsOf, Terms, At-grow, At-below, At-back, At-cases, one_file_call, of_file, Flown, fly_in, flown_in, covers, IsSound, fly-some, fly-under, Mounted, machine_of, Purpose, Setup, SendsIf, View, StepsTo, Reaches, begins, goes, loses, IsMade, SentNow, sent_now, always-later, Rows, reached-rows, IsHeld, held-grow, written_file, IsInFlight, write_of, writes-whole}
 use Rattle.std.proofs.Common.{nat_lt, slice_index}
 use Rattle.std.proofs.lemmas.Option.{get_or_from_slice_get}
+use Rattle.write_back.specs.Pieces.{part_at}
 use Rattle.nfs_file_calls.specs.declared.call.FileCall.TheVariants as files
 use Rattle.world_model.specs.declared.message.Call.TheVariants as calls
 use Rattle.world_model.specs.declared.op.Op.TheVariants as ops
 use Rattle.claims.specs.Touched.{Covers}
 use Rattle.write_back.specs.declared.sent.Part.{Part}
-use Rattle.write_back.specs.Pieces.{part_at}
 use Rattle.write_back.specs.Pieces.{Sent as Piece}
 use Rattle.core_session.proofs.order.Basis.{reached-basis}
 use Rattle.core_answers.specs.writes.Written.{IsAtFile, IsWritten}

@@ -1,16 +1,16 @@
 -- Bytes that are saved stay: by the law of stable bytes, since what else is sent of their place is spared or answered.
 use Rattle.core_session.proofs.Prelude.{◌≡◌, ◌≢◌, ◌<◌, ◌≤◌, ◌⊎◌, inl, inr, ◌+◌, ℕ, suc, List, length, Option, Some, refl, subst, ◌∙◌, arith, slice_get_within, SetAttr, Time, DirCall, FileCall, Entry, Began, Call, NoneBegan, At, History, Lawful, SpellsCall, Modes, Once, AnsweredBefore, Terms, Wrote, write, fill, Cuts, FirstSent, At-one, NoForeign, info_call, one_file_call, one-call, Mounted, machine_of, Setup, View, GoesWith, reached-rows, OnlySetsUp, IsSaved}
+use Rattle.claims.specs.Touched.{put, cut}
+use Rattle.law_stable.specs.OwnCalls.{Alters, writes, sizes, HeardBefore, OwnCalls}
+use Rattle.core_session.specs.settled.Settling.{IsSetUpCall, mounts, informs, IsSetUpRecord, SavedStay}
 use Rattle.nfs_dir_calls.specs.declared.call.DirCall.TheVariants as dirs
 use Rattle.nfs_dir_calls.specs.declared.create.Making.TheVariants as makings
 use Rattle.nfs_file_calls.specs.declared.call.FileCall.TheVariants as files
 use Rattle.world_model.specs.declared.message.Call.TheVariants as calls
 use Rattle.world_model.specs.declared.op.Op.TheVariants as ops
 use Rattle.claims.specs.Settled.{HoldsStable, written_at}
-use Rattle.claims.specs.Touched.{put, cut}
-use Rattle.law_stable.specs.OwnCalls.{Alters, writes, sizes, HeardBefore, OwnCalls}
 use Rattle.law_stable.proofs.Deciding.{stable_decided}
 use Rattle.law_stable.proofs.Stays.{evidence_stable, untouched_unforeign}
-use Rattle.core_session.specs.settled.Settling.{IsSetUpCall, mounts, informs, IsSetUpRecord, SavedStay}
 use Rattle.core_session.specs.order.Altering as order
 use Rattle.core_session.specs.order.Sizes.{IsTruncate}
 use Rattle.core_session.proofs.order.Earliers.{earlier-heard}

@@ -1,9 +1,9 @@
 -- Where a last close gave up what was pending of a file, a byte that is settled later was settled before, or was touched.
 use Rattle.core_session.proofs.Prelude.{◌≡◌, ◌<◌, ◌≤◌, ℕ, zero, suc, List, length, refl, sym, subst, arith, Answer, Entry, Began, Answered, Op, At, History, Modes, Origin, Ended, SettledBy, MadeFirm, at_once, by_commit, Wrote, write, fill, Touched, At-one, IsSaved}
-use Rattle.world_model.specs.declared.op.Op.TheVariants as ops
 use Rattle.claims.specs.Settled.{later, itself}
 use Rattle.claims.specs.Touched.{put, StableSince, IsAnsweredPut, given_up}
 use Rattle.core_session.specs.settled.Settling.{AreSaved}
+use Rattle.world_model.specs.declared.op.Op.TheVariants as ops
 
 -- ---- by a later place
 

@@ -1,12 +1,12 @@
 -- To which file the path of a put by itself leads: the one that its WRITEs are of.
 use Rattle.core_session.proofs.Prelude.{◌≡◌, ◌<◌, ◌≤◌, ◌⊎◌, inl, inr, ℕ, List, sym, subst, ◌∙◌, arith, Entry, Began, Sent, Call, Op, Answer, Asks, Acts, NoneBegan, At, SpellsCall, Origin, Ended, Terms, WritesByte, Rooted-wide, Asked-wide, At-one, At-below, one_file_call, Mounted, machine_of, IsNamed, Setup, View, KnowsRoot, Reaches}
+use Rattle.claims.specs.Asks.{Stabilizes}
+use Rattle.world_model.specs.Operations.{EndsAt, answered, unanswered}
 use Rattle.nfs_file_calls.specs.declared.call.FileCall.TheVariants as files
 use Rattle.world_model.specs.declared.message.Call.TheVariants as calls
 use Rattle.world_model.specs.declared.op.Op.TheVariants as ops
-use Rattle.claims.specs.Asks.{Stabilizes}
 use Rattle.claims.specs.Asks as asks
 use Rattle.world_model.specs.Leads.{Leads, root, step}
-use Rattle.world_model.specs.Operations.{EndsAt, answered, unanswered}
 use Rattle.claims.specs.Touched as touching
 use Rattle.core_answers.specs.asks.PutCalls.{IsMadeAlone}
 use Rattle.core_answers.proofs.asks.PutAsks.{lone-puts-ask}

@@ -2,14 +2,14 @@
 use Rattle.core_session.proofs.Prelude.{◌≡◌, ◌<◌, ◌≤◌, ◌+◌, ◌-◌, ◌&&◌, ℕ, suc, Bool, true, false, nat_le, List, length, Some, slice_get, refl, sym, ap, ◌∙◌, arith, le-leb, lt-ltb, slice_get_within, Entry, Began, Sent, At, SpellsCall, Modes, At-one, covers, History, Origin, Terms, Wrote, write, fill, GivesUp, Touched, Mounted, Setup, View, KnowsRoot, GoesWith, TouchedUntil, MadeAndKept, WritesCarry, PutsNamed, IsSaved}
 use Rattle.std.proofs.Common.{nat_lt, slice_index}
 use Rattle.std.proofs.lemmas.Option.{get_or_from_slice_get}
+use Rattle.claims.specs.Touched.{put, Left}
+use Rattle.core_session.specs.syncs.Until.{cut}
+use Rattle.core_session.specs.settled.Settling.{AreSaved, SettledStay}
 use Rattle.nfs_file_calls.specs.declared.call.FileCall.TheVariants as files
 use Rattle.world_model.specs.declared.message.Call.TheVariants as calls
 use Rattle.world_model.specs.declared.op.Op.TheVariants as ops
-use Rattle.claims.specs.Touched.{put, Left}
 use Rattle.claims.specs.Touched as touched
-use Rattle.core_session.specs.syncs.Until.{cut}
 use Rattle.core_session.specs.syncs.Until as until
-use Rattle.core_session.specs.settled.Settling.{AreSaved, SettledStay}
 use Rattle.core_session.specs.settled.Synced.{SyncedStay}
 use Rattle.core_session.proofs.settled.Converted.{to-evidence}
 use Rattle.core_session.proofs.settled.Joined.{BeganOther, saved-stays, saved-stay}

@@ -1,9 +1,9 @@
 -- Each byte that a read shows is current.
 use Rattle.core_session.proofs.Prelude.{◌≡◌, ◌<◌, ◌≤◌, ◌+◌, ◌⊎◌, inl, inr, ℕ, true, List, ◌++◌, length, length-append, Some, slice_get, sym, ap, subst, ◌∙◌, append_assoc, arith, slice_get_within, of_file, newest_at, Entry, Fresh, History, Lawful, HeldSize, PendingWithin, ReadsBytes, IsOf, Terms, Numbered, Mounted, machine_of, Setup, View, KnowsRoot, GoesWith, always-later, reached-rows, IsEnd, KeepsBriefly, PutsNamed}
-use Rattle.world_model.specs.declared.op.Op.TheVariants as ops
-use Rattle.claims.specs.Pending.{Pending}
 use Rattle.claims.specs.ReadTrue.{HeldByte, IsCurrent, own, held, hole, Since}
 use Rattle.claims.specs.Slots.{Opens}
+use Rattle.world_model.specs.declared.op.Op.TheVariants as ops
+use Rattle.claims.specs.Pending.{Pending}
 use Rattle.core_session.proofs.current.ReadsRecent.{opens-front, found-held, end-held, file-of}
 use Rattle.core_session.proofs.current.ReadsTaken.{of-grows}
 use Rattle.core_session.proofs.pending.Standing.{Stands}

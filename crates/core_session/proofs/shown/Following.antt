@@ -3,14 +3,14 @@
 use Rattle.core_session.proofs.Prelude.{◌≡◌, ◌≢◌, ◌<◌, ◌≤◌, ◌+◌, ◌-◌, ◌⊎◌, inl, inr, ℕ, zero, suc, List, [], ◌∷◌, ◌++◌, length, take, map, Bool, true, false, nat_eq, Option, Some, None, option_map, MatchOption, position, slice_get, slice_set, Ok, Err, refl, sym, ap, subst, ◌∙◌, append_assoc, append-nil, arith, eqb-true, eqb-false, eq-eqb, cases_lt, xid_at, Waiting, failed_after, next_xid, made_call, waiting_at, without, at_made, others_made, others_taken, gone, before_sent, before_failed, Refused, Answer, Entry, Began, Answered, Dialed, Sent, Executed, Foreign, Flushed, Reboot, Delivered, Failed, Clock, Call, Reply, Op, At, IsBusy, IsLost, Ended, UnderWay, SpellsCall, SpellsCallBy, HasXid, proc_of, FirstSent-grow, At-grow, At-below, At-back, At-last, At-one, At-cases, length_last, said_of, Says, Next, Send, Wait, Done, Shelf, machine_of, Mounted, Machine, Lane, Purpose, State, Busy, Over, Setup, IsFresh, is_busy, lost_lane, IsOther, numbers_of, with_state, record_of, Makes, IsRefused, Leads, Stirs, Moves, moves_none, moves_more, counted, BeginsIf, TakesAt, View, turn_at, unmade_turn, in_flight, Counts, calls_for, StepsTo, HearsRecord, Reaches, begins, goes, loses, last_reading, NoneBusy, IsMade, Tried, unsent, IsOutstanding, counts-calls, begins-unbegun, Heard, dropped, replied, sent_now, FailedNow, goes_on, gives_up, failed_now, answered_now, taken_one, IsKnown, calls-some, known-only, stirs-count, starts-count, hears-count, reached-count, none-busy, was-sent, says-of, reached-kept, reached-since, LanesKnown, quiet-facts, lanes-stay, lanes-begin, lanes-under-way, reached-lanes, idle-numbers, number_of, at-set, at-push, at-position, get-push, get-remove, skip, in-map, to-map, comes-to-rest, none-moves, own-none, Rows, rows-stay, same-rows, rows-grow, silent-grow, taken-quiet, not-sent, taken-rows, made-known, made-asked, reached-rows, AskedOf, ThenOf, stirs-stay, starts-stay, steps-stay, HadShown, Passes, IsSentAs}
 use Rattle.std.proofs.Common.{max}
 use Rattle.rpc_retry.specs.Held.{Held}
-use Rattle.rpc_retry.specs.Records.{WaitedAs}
-use Rattle.world_model.specs.declared.answer.Fault.TheVariants as faults
-use Rattle.world_model.specs.Heard.{Heard as IsHeard}
 use Rattle.call_replies.specs.Says.{SpellsOne}
 use Rattle.core_facts.specs.Counted.{where_}
 use Rattle.core_facts.specs.Tries.{runs, ended}
 use Rattle.core_facts.proofs.Cases.{heard}
 use Rattle.core_facts.proofs.Counting.{calls-without, known-none, one_for, none-idle}
+use Rattle.rpc_retry.specs.Records.{WaitedAs}
+use Rattle.world_model.specs.declared.answer.Fault.TheVariants as faults
+use Rattle.world_model.specs.Heard.{Heard as IsHeard}
 use Rattle.core_facts.proofs.Flown.{Flown, keeps-flown}
 use Rattle.core_facts.proofs.Keeping.{Known as Viewed}
 use Rattle.core_facts.proofs.Losing.{reached-shown, lost-grow}

@@ -1,12 +1,12 @@
 -- What is pending in a view through which the core passed during a read may be pending at that moment, by the whole history: the read's own slot is open, so no
 -- last close left its file alone.
 use Rattle.core_session.proofs.Prelude.{◌≡◌, ◌≢◌, ◌≤◌, ◌<◌, ◌⊎◌, inl, inr, ℕ, List, ◌++◌, length, Option, Some, None, slice_get, refl, sym, ap, subst, ◌∙◌, arith, cases_lt, Answer, Fault, Value, Entry, Began, Answered, Delivered, Op, At, AnsweredBefore, Ended, PutRefused, LeftAlone, ReadsBytes, Terms, RefusedWrite, Truncated, Wrote, At-grow, At-back, At-one, of_file, Cell, byte_of, cell_at, newest_at, Mounted, Machine, machine_of, Busy, Over, Setup, View, KnowsRoot, GoesWith, set-other, PutsNamed}
+use Rattle.claims.specs.Pending.{PutSucceeded, Pending}
+use Rattle.claims.specs.Touched.{MadeStable}
 use Rattle.world_model.specs.declared.answer.Answer.TheVariants as answers
 use Rattle.world_model.specs.declared.answer.Value.TheVariants as values
 use Rattle.world_model.specs.declared.op.Op.TheVariants as ops
-use Rattle.claims.specs.Pending.{PutSucceeded, Pending}
 use Rattle.claims.specs.Slots.{PutsTo}
-use Rattle.claims.specs.Touched.{MadeStable}
 use Rattle.claims.specs.Touched as touched
 use Rattle.core_session.proofs.drops.LaneIs.{state-is, busy-over}
 use Rattle.core_session.proofs.drops.OneFile.{one-by-one}

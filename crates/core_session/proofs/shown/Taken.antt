@@ -1,5 +1,9 @@
 -- What a read answers, along a history, as `proofs.current.ReadsTaken`; with how the session went on from the views in which its own bytes were pending.
 use Rattle.core_session.proofs.Prelude.{◌≡◌, ◌≤◌, ◌+◌, ◌-◌, ◌⊎◌, inl, inr, ℕ, Bool, true, false, List, [], ◌∷◌, ◌++◌, length, Option, Some, None, Result, Ok, Err, refl, sym, ap, subst, ◌∙◌, append_assoc, arith, Attr, stamp_of, of_object, IsAnswered, LastAtMost, Mode, Opened, Stamp, Pages, known_of, Pending, EachSound, Fault, Entry, Began, Call, Reply, Op, Modes, Ended, IsOf, Terms, At-grow, At-below, Next, Shelf, Turn, ReadFile, Repeat, Phase, Reading, place_after, nothing_of, opened_pages, machine_of, Mounted, FileMachine, Machine, Starts, Resumes, Takes, State, Busy, Over, Setup, View, GoesWith, may, Held, Given, is-given, held-begins, always-later, IsHeld, held-grow, ThenOf, answered-last, RecentThen, IsFound, in_page, in_reply, IsEnd, by_known, by_page, by_reply, IsAged, IsSeen, SeenFrom, shown, WasRegular, ReadOn, IsOn, ReadAwaits, Both, both-asks, Good, quiet-good, page-grows, from-start}
+use Rattle.file_ops.specs.Base.{Bytes}
+use Rattle.core_answers.proofs.pages.PageCalls.{PageAwaits, PartAwaits}
+use Rattle.core_answers.proofs.pages.PageLaws.{told-good-laws}
+use Rattle.core_answers.proofs.pages.PagesShown.{GoodShelf, good-grows, takes-good, none-good}
 use Rattle.std.specs.FinMap as finite
 use Rattle.world_model.specs.declared.message.Call.TheVariants as calls
 use Rattle.nfs_file_calls.specs.declared.call.FileCall.TheVariants as file_calls
@@ -12,7 +16,6 @@ use Rattle.world_model.specs.declared.message.Reply.TheVariants as replies
 use Rattle.world_model.specs.declared.op.Op.TheVariants as ops
 use Rattle.client_shelf.specs.declared.next.Next.TheVariants as nexts
 use Rattle.file_ops.specs.declared.reading.Phase.TheVariants as phases
-use Rattle.file_ops.specs.Base.{Bytes}
 use Rattle.file_ops.specs.ReadFile as reads
 use Rattle.file_ops.specs.Reading as reading
 use Rattle.op_machines.specs.declared.file_machine.FileMachine.TheVariants as files
@@ -31,9 +34,6 @@ use Rattle.core_session.proofs.current.Moments.{IsMoment, SinceIn, newly-opened,
 use Rattle.core_answers.proofs.bonds.MachineCalls.{Asks}
 use Rattle.core_answers.proofs.pages.FilePages.{pages-opened, noted-pages}
 use Rattle.core_answers.proofs.pages.MachinePages.{pages-starts, pages-resumes}
-use Rattle.core_answers.proofs.pages.PageCalls.{PageAwaits, PartAwaits}
-use Rattle.core_answers.proofs.pages.PageLaws.{told-good-laws}
-use Rattle.core_answers.proofs.pages.PagesShown.{GoodShelf, good-grows, takes-good, none-good}
 use Rattle.core_session.proofs.shown.Story.{AlignedIn, EndsSo, GoodFor, HadBack, ReadAt, Answered, from-settled, takes-read, framed-begins, begins-reach}
 
 -- ---- one entry more

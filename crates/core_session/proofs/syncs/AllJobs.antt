@@ -1,13 +1,13 @@
 -- The same of any operation, also of one on names or on its way to a directory.
 use Rattle.core_session.proofs.Prelude.{◌≡◌, ◌-◌, ℕ, Bool, true, false, Option, Some, None, List, Result, refl, sym, ap, subst, ◌∙◌, Fault, Reply, Pending, Opens, LaneFile, Shelf, Turn, Next, Saving, WalkNext, walk-takes-kept, name-goes-kept, name-takes-kept, Machine, Opener, PathMachine, file_of, slot_taken, begun_at, Starts, Resumes, Takes}
+use Rattle.name_ops.proofs.Keeps.{IsKept}
+use Rattle.op_machines.specs.Openers.{placed}
 use Rattle.world_model.specs.declared.answer.Answer.TheVariants as answers
 use Rattle.client_shelf.specs.declared.next.Next.TheVariants as nexts
 use Rattle.name_ops.specs.declared.walk.WalkNext.TheVariants as walks
 use Rattle.name_ops.specs.Walking as walking
-use Rattle.name_ops.proofs.Keeps.{IsKept}
 use Rattle.op_machines.specs.declared.machine.Machine.TheVariants as machines
 use Rattle.op_machines.specs.declared.opener.Opener.TheVariants as openers
-use Rattle.op_machines.specs.Openers.{placed}
 use Rattle.op_machines.specs.PathSteps as paths
 use Rattle.core_facts.proofs.NameRests as rests
 use Rattle.core_session.proofs.syncs.Jobs.{Fact, At, at-as, Job, ended, JobLaws, JobReplies, FileHas, FileGood, FileBad, FileFin, FileBegins, FileEnters, WriteKnown, FileOpens, file_lane, file_save, file-starts, file-resumes, file-takes}

@@ -1,13 +1,13 @@
 -- Each step of a lane, in the view: where an operation begins, goes on, or takes what came of a call.
 use Rattle.core_session.proofs.Prelude.{◌≡◌, ◌≤◌, ◌+◌, ◌-◌, ◌⊎◌, inl, inr, ℕ, Bool, true, false, nat_eq, List, [], ◌∷◌, ◌++◌, length, Option, Some, None, option_map, position, Result, refl, sym, ap, subst, ◌∙◌, arith, Waiting, next_xid, waiting_at, Fault, Entry, Call, Reply, Op, said_of, Pending, LaneFile, Turn, Next, Saving, IsUnused, Mounted, Machine, machine_of, Purpose, Busy, Setup, is_busy, IsIdle, with_state, Stirs, counted, StartsLane, TakesAt, View, turn_at, in_flight, Counts, AreApart, counts-calls, begins-unbegun, seat_of, IsLive, IsFreshFor, Reaches, taken_one, flies_of, eqb-true, eqb-false, Known, taker-is, taker-one, lanes-under-way, at-set, at-push, look-idle, SitsWith, seat_with, seat-own, seat-other, same-sits, joins, Placed, seat_state, seat_in, set-other, unused-next, waits-late, starts-under, resumes-under, takes-under, Shelf}
+use Rattle.core_facts.proofs.AllSeats.{OfMachine, begins-fresh}
+use Rattle.core_facts.proofs.Orders.{leaves}
+use Rattle.core_facts.proofs.Placing.{LaneLive}
 use Rattle.world_model.specs.declared.answer.Answer.TheVariants as answers
 use Rattle.client_shelf.specs.declared.next.Next.TheVariants as nexts
 use Rattle.op_machines.specs.declared.file_machine.FileMachine.TheVariants as files
 use Rattle.op_machines.specs.declared.machine.Machine.TheVariants as machines
-use Rattle.core_facts.proofs.AllSeats.{OfMachine, begins-fresh}
 use Rattle.core_facts.proofs.AllSeats as seats
-use Rattle.core_facts.proofs.Orders.{leaves}
-use Rattle.core_facts.proofs.Placing.{LaneLive}
 use Rattle.core_answers.proofs.writes.AllFits as fitting
 use Rattle.core_session.proofs.saves.WholeSteps.{IsSent, Wholly, starts-has, resumes-has, takes-has}
 use Rattle.core_session.proofs.saves.Taking.{sent-piece}

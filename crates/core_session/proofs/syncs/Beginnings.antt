@@ -1,12 +1,12 @@
 -- As an operation begins, what it may do to a byte of a file is known of it.
 use Rattle.core_session.proofs.Prelude.{◌≡◌, ◌<◌, ◌≤◌, ◌^◌, ◌+◌, ◌-◌, ℕ, List, [], ◌∷◌, ◌++◌, length, Bool, true, false, Option, Some, None, option_map, Ok, slice_get, replicate, refl, sym, ap, subst, ◌∙◌, append_assoc, arith, nat_lt, slice_index, if◌then◌else◌, le-leb, lt-ltb, ltb-false, slice_get-get_or, slice_get_within, Mode, Opened, covers, low-of, high-of, Entry, Began, Op, At, Modes, InSlot, IsOf, slot_of, Terms, WritesByte, Cuts, At-one, At-grow, At-below, At-last, Mounted, file_at, machine_of, Fits, Setup, IsIdle, View, Reaches, GoesWith, may, held-begins, always-later, Given, is-given, IsHeld, held-grow, byte_from, byte_by}
+use Rattle.std.proofs.lemmas.Option.{get_or_from_slice_get}
+use Rattle.claims.specs.Touched.{Covers}
 use Rattle.std.specs.FinMap as finite
 use Rattle.std.proofs.lemmas.List.{length-replicate}
-use Rattle.std.proofs.lemmas.Option.{get_or_from_slice_get}
 use Rattle.nfs_types.specs.declared.mode.Mode.TheVariants as modes
 use Rattle.world_model.specs.declared.op.Op.TheVariants as ops
 use Rattle.claims.specs.Rights.{can_write}
-use Rattle.claims.specs.Touched.{Covers}
 use Rattle.claims.specs.Touched as touched
 use Rattle.file_ops.specs.Opens.{in_mode, of_open}
 use Rattle.core_session.proofs.drops.OneFile.{slot-file}

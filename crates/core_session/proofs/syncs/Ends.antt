@@ -1,11 +1,11 @@
 -- What the invariant of a settled byte says as the history ends; and what it is said of.
 use Rattle.core_session.proofs.Prelude.{◌≡◌, ◌<◌, ◌≤◌, ◌-◌, ◌⊎◌, inl, inr, ℕ, zero, suc, Bool, List, [], ◌++◌, length, replicate, Some, None, slice_get, refl, sym, ap, subst, ◌∙◌, arith, append-nil, if◌then◌else◌, le-ltb, Answer, Fault, Value, Entry, Began, Answered, Op, At, Ended, AnsweredBefore, Terms, RefusedWrite, Wrote, At-one, At-back, At-below, At-grow, Mounted, Setup, View, byte_from, byte_by, WritesCarry, MadeAndKept, TouchedUntil, GoesWith}
+use Rattle.claims.specs.Touched.{Covers, MadeStable}
+use Rattle.core_session.specs.syncs.Until.{written, given_up}
 use Rattle.world_model.specs.declared.answer.Answer.TheVariants as answers
 use Rattle.world_model.specs.declared.op.Op.TheVariants as ops
 use Rattle.claims.specs.Slots.{PutsTo}
-use Rattle.claims.specs.Touched.{Covers, MadeStable}
 use Rattle.claims.specs.Touched as touched_by
-use Rattle.core_session.specs.syncs.Until.{written, given_up}
 use Rattle.core_session.proofs.syncs.Fate.{Fate, later, busy, refused, well}
 use Rattle.core_session.proofs.syncs.Looks.{Touching, plain, wrote, left_, owed, was_left, doomed, aside}
 use Rattle.core_session.proofs.syncs.Lefts.{over}

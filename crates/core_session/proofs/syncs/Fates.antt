@@ -1,5 +1,8 @@
 -- What is said of an operation's save, its bytes and its file: under less, taken apart, and by the kind of the operation.
 use Rattle.core_session.proofs.Prelude.{◌-◌, ◌≡◌, ◌≤◌, ◌<◌, ◌⊎◌, arith, inl, inr, ℕ, Bool, true, false, List, Option, Some, None, Result, refl, sym, ap, subst, ◌∙◌, Fault, Reply, Pending, LaneFile, Shelf, Turn, Next, Closing, Opening, PutFile, Putting, Saving, Syncing, Truncating, Writing, FileMachine, Machine, Opener, PathMachine, file_of, slot_taken, begun_at, WalkNext, Starts, Resumes, Takes, of_writing, of_syncing, of_closing, of_putting, in_flight, seat_of, IsLive, IsFreshFor, seat_close, seat_put, flies_if, flies_save, flies_write, flies_sync, flies_close, flies_put, flies_file, flies_path, flies_of}
+use Rattle.op_machines.specs.Openers.{placed}
+use Rattle.core_facts.proofs.AllSeats.{path_seat, OpenerFresh, OnPath}
+use Rattle.core_facts.proofs.FileSeats.{FileLive, FileFresh, seat_write, seat_sync, seat_file}
 use Rattle.file_ops.specs.declared.close_file.Closing.TheVariants as closing
 use Rattle.file_ops.specs.declared.put_file.Putting.TheVariants as putting
 use Rattle.file_ops.specs.declared.sync_file.Syncing.TheVariants as syncing
@@ -10,15 +13,12 @@ use Rattle.file_ops.specs.WriteFile as writes
 use Rattle.op_machines.specs.declared.file_machine.FileMachine.TheVariants as files
 use Rattle.op_machines.specs.declared.machine.Machine.TheVariants as machines
 use Rattle.op_machines.specs.declared.opener.Opener.TheVariants as openers
-use Rattle.op_machines.specs.Openers.{placed}
 use Rattle.op_machines.specs.PathSteps as paths
 use Rattle.name_ops.specs.declared.walk.WalkNext.TheVariants as walks
 use Rattle.name_ops.specs.Walking as walking
 use Rattle.op_machines.specs.FileSteps as steps
 use Rattle.core_facts.specs.InFlight.{of_saving, of_file as calls_of}
 use Rattle.core_facts.proofs.AllCounts.{of_path, path-file}
-use Rattle.core_facts.proofs.AllSeats.{path_seat, OpenerFresh, OnPath}
-use Rattle.core_facts.proofs.FileSeats.{FileLive, FileFresh, seat_write, seat_sync, seat_file}
 use Rattle.core_answers.proofs.writes.AllFits.{commits_path, commits_of}
 use Rattle.core_answers.proofs.writes.CallFits.{commits_if, commits_save, commits_write, commits_sync, commits_close, commits_put, commits_file}
 use Rattle.core_session.proofs.syncs.Jobs.{Job, RoomHas, SyncHas, CloseHas, TruncateHas, PutHas, FileHas, FileGood, FileBad, file_lane, file_save, writing_save, syncing_save, closing_save, putting_save}

@@ -1,5 +1,6 @@
 -- What a step of a lane makes of what guards a byte: it is guarded still, or a close saved it, or one gave it up.
 use Rattle.core_session.proofs.Prelude.{◌≡◌, ◌≢◌, ◌≤◌, ◌⊎◌, inl, inr, ℕ, Bool, true, false, nat_eq, List, length, Option, Some, None, slice_get, refl, sym, ap, ◌∙◌, option_map, Result, Err, eqb-true, eqb-false, IsOpen, Fault, Value, Entry, Modes, file_at, CloseFile, Closing, Removal, Saving, Machine, Lane, State, Busy, Over, Stirs, TakesAt, StartsLane, View, turn_at, AreApart, Turned, IsPast, IsOwed, IsGuarded, slot, past, IsClose, save_in, removal_in, file_in, IsSaving, LetsGo, seat_close, Opened, Reply, Next, Send, Wait, Done, Shelf, Turn, Resumes, Takes, Starts, at-set, at-push, IsPlain}
+use Rattle.core_facts.proofs.OpenSlots.{plain-starts, plain-resumes, plain-takes}
 use Rattle.world_model.specs.declared.answer.Answer.TheVariants as answers
 use Rattle.file_ops.specs.declared.close_file.Closing.TheVariants as closings
 use Rattle.op_machines.specs.declared.file_machine.FileMachine.TheVariants as files
@@ -16,7 +17,6 @@ use Rattle.core_session.proofs.syncs.AllJobs.{job_save}
 use Rattle.core_session.proofs.syncs.Jobs.{closing_save}
 use Rattle.core_session.proofs.syncs.Pasts.{IsAhead}
 use Rattle.std.specs.FinMap as finite
-use Rattle.core_facts.proofs.OpenSlots.{plain-starts, plain-resumes, plain-takes}
 use Rattle.core_session.proofs.drops.DropLaws.{given-step}
 use Rattle.core_session.proofs.drops.Leading.{Leading, settles, unmade, stirs-led, takes-led, starts-led}
 use Rattle.core_session.proofs.drops.Shown.{was-close, now-over}

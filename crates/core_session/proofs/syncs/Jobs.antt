@@ -1,5 +1,6 @@
 -- What each step of an operation on a file makes of its save and of what is pending, with the number of the last write and the order of the files.
 use Rattle.core_session.proofs.Prelude.{◌≡◌, ◌&&◌, ◌||◌, ◌+◌, ℕ, zero, suc, Bool, true, false, not, List, [], ◌∷◌, position, remove, Option, Some, None, Result, Ok, Err, refl, sym, ap, subst, ◌∙◌, inl, inr, list_any, option_map_or, Wcc, Fault, Call, Reply, last_end, nothing, with_cut, Pending, of_file, OnFile, with_bytes, Opens, IsOpen, LaneFile, Repeat, Shelf, Turn, goes_again, fails_busy, added, left, is_first, is_lane, is_other, Next, CloseFile, Closing, Removal, Opening, OpeningNext, PutFile, Putting, Saving, SyncFile, Syncing, TruncateFile, Truncating, WriteFile, Writing, is_full, GivesUpBy, closed_answer, remove_of, remove_busy, TellsOpen, file_to_write, is_quiet, file_at, joined, by-step, ends_as, FileMachine, EndsSo}
+use Rattle.file_ops.specs.Closings.{GivesIf}
 use Rattle.world_model.specs.declared.answer.Answer.TheVariants as answers
 use Rattle.world_model.specs.declared.answer.Value.TheVariants.{Nothing}
 use Rattle.client_shelf.specs.declared.next.Next.TheVariants as nexts
@@ -9,7 +10,6 @@ use Rattle.file_ops.specs.declared.put_file.Putting.TheVariants as putting
 use Rattle.file_ops.specs.declared.sync_file.Syncing.TheVariants as syncing
 use Rattle.file_ops.specs.declared.truncate_file.Truncating.TheVariants as truncating
 use Rattle.file_ops.specs.declared.write_file.Writing.TheVariants as writing
-use Rattle.file_ops.specs.Closings.{GivesIf}
 use Rattle.file_ops.specs.OpenFile as opens
 use Rattle.file_ops.specs.Opening as opening
 use Rattle.file_ops.specs.Closes as closes

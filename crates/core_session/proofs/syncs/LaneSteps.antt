@@ -1,12 +1,12 @@
 -- What a lane's whole step leads to: its machine's step, and the one at a call that isn't made.
 use Rattle.core_session.proofs.Prelude.{◌≡◌, ◌≢◌, ◌≤◌, inl, inr, ℕ, Bool, true, false, nat_eq, List, Option, Some, None, option_map, Err, slice_get, refl, sym, ap, subst, ◌∙◌, arith, eqb-true, eqb-false, Waiting, next_xid, waiting_at, Fault, Entry, Call, Pending, IsFree, Turn, Next, Saving, IsUnused, FileMachine, Machine, Opener, file_of, Takes, Lane, Purpose, State, Busy, Over, Setup, Leads, View, turn_at, unmade_turn, in_flight, AreApart, seat_of, IsLive, flies_of, purpose_at, at-set, look-at, Sits, SitsWith, seat_with, seat-own, seat-other, same-sits, seat_state, seat_in, Rows, set-other, After, Free, waits-late, SameUnder, Shelf}
+use Rattle.core_facts.proofs.Flights.{Flies}
 use Rattle.world_model.specs.declared.answer.Answer.TheVariants as answers
 use Rattle.world_model.specs.declared.answer.Value.TheVariants.{Nothing}
 use Rattle.client_shelf.specs.declared.next.Next.TheVariants as nexts
 use Rattle.op_machines.specs.declared.file_machine.FileMachine.TheVariants as files
 use Rattle.op_machines.specs.declared.opener.Opener.TheVariants as openers
 use Rattle.op_machines.specs.declared.machine.Machine.TheVariants as machines
-use Rattle.core_facts.proofs.Flights.{Flies}
 use Rattle.core_facts.proofs.Flown.{Flown, sender, look_at}
 use Rattle.core_answers.proofs.writes.AllFits as fitting
 use Rattle.core_session.proofs.saves.WholeSteps.{IsSent, Has}

@@ -1,5 +1,6 @@
 -- What a refused close gave up: its answer is owed, or the history shows that the last close left the file.
 use Rattle.core_session.proofs.Prelude.{◌≡◌, ◌⊎◌, inl, inr, ℕ, List, [], ◌∷◌, ◌++◌, length, false, Option, Some, None, option_map, slice_get, refl, sym, ap, subst, ◌∙◌, Opened, IsOpen, Opens, Fault, Entry, Began, Op, At, IsOf, InSlot, Terms, At-grow, At-one, Next, Shelf, file_at, joined, Mounted, Machine, machine_of, Starts, Lane, State, Busy, Over, Setup, IsIdle, counted, StartsLane, View, turn_at, AreApart, Reaches, GoesWith, always-later, at-push, Kind, plainly, kind_of, BeginsAs, Turned, IsFirst, IsOwed, CloseFile, Saving, IsPlain, save_in}
+use Rattle.core_facts.proofs.Slots.{opening, closing}
 use Rattle.std.specs.FinMap as finite
 use Rattle.world_model.specs.declared.answer.Answer.TheVariants as answers
 use Rattle.world_model.specs.declared.answer.Fault.TheVariants as faults
@@ -8,7 +9,6 @@ use Rattle.client_shelf.specs.declared.next.Next.TheVariants as nexts
 use Rattle.file_ops.specs.Closes as closes
 use Rattle.op_machines.specs.declared.file_machine.FileMachine.TheVariants as files
 use Rattle.op_machines.specs.declared.machine.Machine.TheVariants as machines
-use Rattle.core_facts.proofs.Slots.{opening, closing}
 use Rattle.core_session.specs.drops.Told as told_of
 use Rattle.core_session.proofs.drops.Drops.{LaneTold, OwnLed, closer, other, HadFile, HadNone, closer-kind}
 use Rattle.core_session.proofs.drops.DropLaws.{given-step}

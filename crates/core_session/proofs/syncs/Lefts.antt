@@ -1,8 +1,9 @@
 -- What a refused close gave up: it is owed, or the history shows it, through each step and entry.
 use Rattle.core_session.proofs.Prelude.{◌≡◌, ◌≤◌, ◌<◌, ◌⊎◌, inl, inr, ℕ, suc, List, [], ◌∷◌, ◌++◌, length, Some, slice_get, refl, sym, ap, subst, ◌∙◌, arith, append-nil, append_assoc, cases_lt, IsOpen, Entry, Began, Answered, Op, At, Modes, AnsweredBefore, UnderWay, IsOf, Terms, GivesUp, itself, beside, RefusedWrite, At-grow, At-one, length_last, file_at, CloseFile, Closing, Mounted, Machine, machine_of, Busy, Setup, View, GoesWith, MayHear, kind_of, ended-grow, IsOwed, IsDropped, IsPast, WasLeft, TouchedUntil}
+use Rattle.claims.specs.Touched.{Left}
+use Rattle.core_session.specs.syncs.Until.{written}
 use Rattle.world_model.specs.declared.answer.Answer.TheVariants as answers
 use Rattle.world_model.specs.declared.op.Op.TheVariants as ops
-use Rattle.claims.specs.Touched.{Left}
 use Rattle.claims.specs.Touched as touched_by
 use Rattle.file_ops.specs.declared.close_file.Closing.TheVariants as closings
 use Rattle.op_machines.specs.declared.file_machine.FileMachine.TheVariants as files
@@ -14,7 +15,6 @@ use Rattle.core_session.proofs.drops.Growing.{slot-back, of-grow, none-came-grow
 use Rattle.core_session.proofs.drops.Laws.{DropsKnown}
 use Rattle.core_session.proofs.drops.OneFile.{one-by-one}
 use Rattle.core_session.proofs.drops.SlotKinds.{KindTold, ClosesSlot}
-use Rattle.core_session.specs.syncs.Until.{written}
 use Rattle.core_session.proofs.syncs.Aparts.{it_settled, it_came, it_left}
 use Rattle.core_session.proofs.syncs.Causes.{Comes, IsWriter, IsSaver, IsPut, OfOp, put-no-saver, writer-no-saver}
 use Rattle.core_session.proofs.syncs.Causes as causes

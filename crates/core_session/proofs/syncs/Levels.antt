@@ -1,22 +1,22 @@
 -- Of one file: while the save of one operation is under way, no other of it has begun; so what is known of a save as such holds beside other operations.
 use Rattle.core_session.proofs.Prelude.{◌≡◌, ◌≢◌, ◌≤◌, ◌+◌, ◌-◌, ◌⊎◌, inl, inr, ℕ, Bool, true, false, List, [], ◌∷◌, length, Option, Some, None, Result, refl, sym, ap, subst, ◌∙◌, arith, slice_get, position, Fault, Reply, Segments, Cell, last_end, covers, cell_at, FilePending, Flown, nothing, rest_at, fly_at, fly_in, flown_in, piece_under, with_cut, Pending, of_file, OnFile, HasNoPiece, IsSound, IsOver, covered, flown-some, same-or, LaneFile, Repeat, Turn, added, left, is_first, is_lane, Next, Sending, Committing, Resending, CommittingAgain, Saving, is_quiet, SitsWith, seat_with, seat-own, seat-other, joins, Sits, first-left, first-added, same-first, Free, After, EachSound, some-of, IsClearUpTo, IsUnderWay, IsAwaited, option_map_or, eqb-true, slice_get-get_or}
 use Rattle.std.proofs.Common.{option_and_then, get_or}
-use Rattle.std.specs.Prelude.{IsSome, nat_le, ◌&&◌}
 use Rattle.write_back.specs.Pieces.{Sent, rest_of}
-use Rattle.write_back.specs.Places.{cell_cut}
 use Rattle.write_back.specs.Sound.{AreSent}
-use Rattle.write_back.proofs.Adding.{cuts-so}
 use Rattle.client_shelf.specs.LaneFiles.{leads}
+use Rattle.core_facts.proofs.Orders.{leaves}
+use Rattle.step_saves.specs.Saves.{AreAgain, PhaseHas, PhaseCounts, Leaves, GoesOn}
+use Rattle.std.specs.Prelude.{IsSome, nat_le, ◌&&◌}
+use Rattle.write_back.specs.Places.{cell_cut}
+use Rattle.write_back.proofs.Adding.{cuts-so}
 use Rattle.client_shelf.specs.declared.next.Next.TheVariants as nexts
 use Rattle.world_model.specs.declared.answer.Answer.TheVariants as answers
 use Rattle.file_ops.specs.declared.saving.Phase.{Phase}
 use Rattle.file_ops.specs.Saves as saves
 use Rattle.file_ops.specs.Syncs as syncs
 use Rattle.core_facts.specs.InFlight.{of_saving}
-use Rattle.core_facts.proofs.Orders.{leaves}
 use Rattle.core_facts.proofs.SaveCommits.{goes-steps, takes-steps}
 use Rattle.core_session.proofs.saves.WholeSteps.{SendsIt, Has, carries-has, replies-has}
-use Rattle.step_saves.specs.Saves.{AreAgain, PhaseHas, PhaseCounts, Leaves, GoesOn}
 use Rattle.step_saves.proofs.Going.{begins, goes-leaves}
 use Rattle.step_saves.proofs.Staying.{others-on}
 use Rattle.step_saves.proofs.Taking.{takes-leaves}

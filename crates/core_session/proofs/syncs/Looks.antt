@@ -1,8 +1,8 @@
 -- What the state shows to which a step of an operation led: the byte is known as before, or the operation touched it.
 use Rattle.core_session.proofs.Prelude.{◌≡◌, ◌≢◌, ◌≤◌, ◌<◌, ◌⊎◌, inl, inr, ℕ, Bool, true, false, nat_eq, List, length, Option, refl, sym, subst, ◌∙◌, arith, eqb-true, eqb-false, Answer, Fault, Value, Entry, Began, Op, At, Modes, Origin, AnsweredBefore, IsOf, WritesByte, Cuts, RefusedWrite, GivesUp, At-one, Pending, of_file, LaneFile, Mounted, machine_of, State, Busy, Over, View, IsDropped, TouchedUntil, Machine}
+use Rattle.claims.specs.Touched.{Left}
 use Rattle.world_model.specs.declared.answer.Answer.TheVariants as answers
 use Rattle.world_model.specs.declared.op.Op.TheVariants as ops
-use Rattle.claims.specs.Touched.{Left}
 use Rattle.claims.specs.Touched as touched
 use Rattle.core_session.specs.syncs.Until as touching
 use Rattle.core_session.proofs.syncs.Causes.{IsWriter, IsSaver, OfOp, Comes, by_write, by_put, Saving_, IsPut}

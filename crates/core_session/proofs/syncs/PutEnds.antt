@@ -1,12 +1,12 @@
 -- The last record that came names the file of the save that waited for it.
 use Rattle.core_session.proofs.Prelude.{◌≡◌, ◌<◌, ◌≤◌, ℕ, List, [], ◌∷◌, ◌++◌, length, false, Some, None, inl, inr, Bool, true, slice_get, refl, sym, subst, ◌∙◌, arith, xid_at, Waiting, waiting_at, Entry, Sent, Delivered, Call, At, HasXid, SpellsCall, LastReply, NamesFile, FirstSent-grow, At-one, At-last, At-below, length_last, Putting, Saving, Writing, Mounted, FileMachine, Machine, PathMachine, machine_of, file_of, Purpose, Busy, Setup, View, HearsRecord, Reaches, IsOutstanding, Tried, unsent, begins-unbegun, one-xid, always-later, was-sent, reached-rows, reached-good, PathNames, Names, Expects, expects-laws, StateNames, FileNames, Saves, NoCall, NoShelf, NoStory, no-laws, IsNfs, one-call}
+use Rattle.claims.specs.Slots.{writes, commits}
+use Rattle.core_facts.specs.Tries.{runs, ended}
 use Rattle.nfs_file_calls.specs.declared.call.FileCall.TheVariants as file_calls
 use Rattle.world_model.specs.declared.message.Call.TheVariants as calls
-use Rattle.claims.specs.Slots.{writes, commits}
 use Rattle.file_ops.specs.declared.put_file.Putting.TheVariants as putting
 use Rattle.op_machines.specs.declared.file_machine.FileMachine.TheVariants as files
 use Rattle.op_machines.specs.declared.machine.Machine.TheVariants as machines
-use Rattle.core_facts.specs.Tries.{runs, ended}
 use Rattle.core_facts.proofs.LastReplies.{last-grow}
 use Rattle.core_session.proofs.syncs.PutGoes.{put_own, file_own, path_own, own_save}
 

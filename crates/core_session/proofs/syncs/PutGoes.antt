@@ -1,5 +1,8 @@
 -- A put ends well only by the reply to a call of its own save.
 use Rattle.core_session.proofs.Prelude.{◌≡◌, ◌-◌, ℕ, Bool, true, false, List, length, Option, Some, None, Result, Ok, Err, slice_get, refl, sym, ap, subst, ◌∙◌, ◌≤◌, arith, if◌then◌else◌, Answer, Fault, Value, Call, Reply, is_first, LaneFile, Pending, Next, Shelf, Turn, OpeningNext, PutFile, Putting, Saving, joined, closed_answer, refusal_of, by-step, WalkNext, FileMachine, Machine, Opener, PathMachine, file_of, slot_taken, begun_at, Starts, Resumes, Takes, Lane, State, Busy, Over, IsRefused, Stirs, StartsLane, TakesAt, View, turn_at, at-set, at-push, EndsSo, takes-not}
+use Rattle.op_machines.specs.Openers.{placed}
+use Rattle.core_facts.proofs.SaveCommits.{WellDone}
+use Rattle.core_answers.proofs.paths.Endings.{ends-map, ends-any, goes-not}
 use Rattle.world_model.specs.declared.answer.Answer.TheVariants as answers
 use Rattle.client_shelf.specs.declared.next.Next.TheVariants as nexts
 use Rattle.file_ops.specs.declared.opening.OpeningNext.TheVariants as openings
@@ -15,13 +18,10 @@ use Rattle.op_machines.specs.declared.file_machine.FileMachine.TheVariants as fi
 use Rattle.op_machines.specs.declared.machine.Machine.TheVariants as machines
 use Rattle.op_machines.specs.declared.opener.Opener.TheVariants as openers
 use Rattle.op_machines.specs.FileSteps as steps
-use Rattle.op_machines.specs.Openers.{placed}
 use Rattle.op_machines.specs.PathSteps as paths
 use Rattle.core_session.proofs.drops.LaneIs.{state-is, answer-is, busy-over}
 use Rattle.core_session.proofs.drops.SaveFiles.{IsSave, goes-save, takes-save}
 use Rattle.core_session.proofs.drops.Leading.{Settles, Leading, settles, unmade, stirs-led, takes-led, starts-led}
-use Rattle.core_facts.proofs.SaveCommits.{WellDone}
-use Rattle.core_answers.proofs.paths.Endings.{ends-map, ends-any, goes-not}
 use Rattle.core_session.proofs.syncs.AllJobs.{PathHas, JobHas}
 use Rattle.core_session.proofs.syncs.Jobs.{Fact, Job, PutHas, FileHas}
 use Rattle.core_session.proofs.syncs.Fates.{file_kind, job_kind, start-kind, resume-kind, take-kind}

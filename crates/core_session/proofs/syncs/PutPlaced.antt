@@ -1,10 +1,10 @@
 -- Along a history each put that is at its file is there among those to which lanes put: so another put of the file isn't alone.
 use Rattle.core_session.proofs.Prelude.{◌≡◌, ◌≢◌, ◌≤◌, ◌-◌, inl, inr, ℕ, zero, suc, List, [], ◌∷◌, ◌++◌, length, remove, Bool, true, false, not, nat_eq, ◌&&◌, ◌||◌, Option, Some, None, position, slice_get, slice_set, Err, refl, sym, ap, subst, ◌∙◌, option_map, list_any, eqb-true, eqb-false, Waiting, waiting_at, Answer, Entry, Began, Call, Op, said_of, is_other, LaneFile, Next, Send, Wait, Done, Shelf, Mounted, Machine, machine_of, Lane, Purpose, State, Busy, Over, Setup, is_busy, IsIdle, with_state, IsRefused, Leads, Stirs, counted, StartsLane, TakesAt, AnswersAt, View, turn_at, unmade_turn, in_flight, AreApart, IsLive, taken_one, Known, taker-one, lanes-stay, lanes-begin, lanes-under-way, at-set, at-push, look-idle, look-at, Sits, same-sits, seat_with, seat-own, seat-other, SitsWith, joins, Placed, Putting, Saving, file_of, FileMachine, Opener}
-use Rattle.std.specs.Cmp.Lexicographic.{pointwise, bytes_decides}
 use Rattle.std.proofs.lemmas.Bool.{ne_eqb}
 use Rattle.core_facts.proofs.AllSeats.{begins-fresh, OfMachine, all-starts, all-resumes, all-takes}
 use Rattle.core_facts.proofs.Looks.{look_in, look-set, look-push, look-remove}
 use Rattle.core_facts.proofs.Orders.{none-sits, leaves}
+use Rattle.std.specs.Cmp.Lexicographic.{pointwise, bytes_decides}
 use Rattle.file_ops.specs.declared.put_file.Putting.TheVariants as putting
 use Rattle.op_machines.specs.declared.file_machine.FileMachine.TheVariants as files
 use Rattle.op_machines.specs.declared.machine.Machine.TheVariants as machines

@@ -1,5 +1,7 @@
 -- A put is at its file among those to which lanes put, from its opening to its end; no step of another operation changes that.
 use Rattle.core_session.proofs.Prelude.{◌≡◌, ◌-◌, inl, inr, ℕ, List, Bool, true, false, Option, Some, None, Result, Ok, Err, refl, sym, ap, subst, ◌∙◌, if◌then◌else◌, Fault, Reply, last_end, of_file, goes_again, added, left, is_first, LaneFile, Next, Shelf, Turn, Closing, CloseFile, OpeningNext, PutFile, Putting, Saving, SyncFile, Syncing, TruncateFile, Truncating, WriteFile, Writing, is_full, refusal_of, remove_busy, file_to_write, file_at, joined, by-step, ends_as, WalkNext, FileMachine, Machine, Opener, PathMachine, file_of, slot_taken, begun_at, Starts, Resumes, Takes, IsLive, IsFreshFor}
+use Rattle.op_machines.specs.Openers.{placed}
+use Rattle.core_facts.proofs.AllSeats.{OnPath, OpenerFresh, PathFresh}
 use Rattle.world_model.specs.declared.answer.Answer.TheVariants as answers
 use Rattle.client_shelf.specs.declared.next.Next.TheVariants as nexts
 use Rattle.file_ops.specs.declared.close_file.Closing.TheVariants as closing
@@ -22,11 +24,9 @@ use Rattle.op_machines.specs.declared.file_machine.FileMachine.TheVariants as fi
 use Rattle.op_machines.specs.declared.machine.Machine.TheVariants as machines
 use Rattle.op_machines.specs.declared.opener.Opener.TheVariants as openers
 use Rattle.op_machines.specs.FileSteps as steps
-use Rattle.op_machines.specs.Openers.{placed}
 use Rattle.op_machines.specs.PathSteps as paths
 use Rattle.core_facts.proofs.SaveCommits.{goes-steps}
 use Rattle.core_session.proofs.drops.SaveFiles.{takes-save}
-use Rattle.core_facts.proofs.AllSeats.{OnPath, OpenerFresh, PathFresh}
 use Rattle.core_facts.proofs.FileSeats.{FileLive}
 use Rattle.core_session.proofs.syncs.NamePuts as names
 

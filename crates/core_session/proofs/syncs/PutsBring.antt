@@ -1,7 +1,11 @@
 -- Which bytes a put brings in, and that its path leads to their file as they come in.
 use Rattle.core_session.proofs.Prelude.{◌≡◌, ℕ, Bool, true, false, List, [], ◌∷◌, ◌++◌, length, Some, None, slice_get, Result, inl, inr, refl, sym, ap, subst, ◌∙◌, arith, cases_lt, xid_at, Waiting, waiting_at, Fault, Entry, Began, Answered, Delivered, Reply, Op, At, Modes, Origin, AnsweredBefore, UnderWay, WritesByte, At-one, At-last, At-grow, length_last, said_of, Next, Shelf, Turn, PutFile, Putting, Writing, Opens, Mounted, FileMachine, Machine, Opener, PathMachine, IsNamed, machine_of, file_of, Takes, Purpose, State, Busy, Over, Setup, View, KnowsRoot, HearsRecord, Reaches, begins-unbegun, LeadsTo, Did, TaleLaws, reached-good, Expects, expects-laws, NoCall, NoShelf, AreApart, seat_of, seat_put, reached-kept, lanes-under-way, reached-lanes, look-at, Placed, seat_state, seat_in, keeps-placed, is_first}
-use Rattle.world_model.specs.declared.op.Op.TheVariants as ops
 use Rattle.claims.specs.Touched.{Covers}
+use Rattle.core_answers.proofs.asks.Sendings.{under-until}
+use Rattle.core_facts.proofs.AllSeats.{path_seat}
+use Rattle.core_facts.proofs.FileSeats.{seat_file}
+use Rattle.core_facts.proofs.Placing.{LaneLive}
+use Rattle.world_model.specs.declared.op.Op.TheVariants as ops
 use Rattle.client_shelf.specs.declared.next.Next.TheVariants as nexts
 use Rattle.file_ops.specs.declared.put_file.Putting.TheVariants as putting
 use Rattle.file_ops.specs.PutFile as puts
@@ -11,7 +15,6 @@ use Rattle.op_machines.specs.declared.machine.Machine.TheVariants as machines
 use Rattle.op_machines.specs.declared.opener.Opener.TheVariants as openers
 use Rattle.op_machines.specs.FileSteps as steps
 use Rattle.op_machines.specs.PathSteps as paths
-use Rattle.core_answers.proofs.asks.Sendings.{under-until}
 use Rattle.core_answers.proofs.writes.AllBacks.{PathBrings, Brings, StartsWith}
 use Rattle.core_answers.proofs.writes.Backs.{PutIs, FileBrings}
 use Rattle.core_answers.proofs.writes.Brings.{starts-brings, resumes-brings, takes-brings}
@@ -22,9 +25,6 @@ use Rattle.core_session.proofs.syncs.AllJobs.{PathOpens, JobOpens, job_lane}
 use Rattle.core_session.proofs.syncs.Fates.{file_kind, job_kind, live-lane, start-kind, resume-kind, take-kind}
 use Rattle.core_session.proofs.syncs.Jobs.{PutOpens, FileOpens, file_lane}
 use Rattle.core_session.proofs.syncs.Levels.{not-seated}
-use Rattle.core_facts.proofs.AllSeats.{path_seat}
-use Rattle.core_facts.proofs.FileSeats.{seat_file}
-use Rattle.core_facts.proofs.Placing.{LaneLive}
 
 -- ---- the bytes of an operation
 

@@ -1,13 +1,13 @@
 -- What each change of what is pending of its file keeps that a save makes, each step of the save keeps.
 use Rattle.core_session.proofs.Prelude.{◌≡◌, ◌≢◌, ◌∙◌, ◌||◌, ◌==◌, inl, inr, ℕ, Bool, true, false, List, [], ◌∷◌, length, Option, Some, None, Result, Ok, Err, refl, sym, subst, nat_lt, Verdict, AllStable, SendAgain, decided, verdict_of, Verf, Wcc, Fault, Reply, Change, lost, chosen, Pending, of_file, OnFile, landed, landed_part, at_xid, with_xid, Segments, AllUpTo, Repeat, Turn, goes_again, Sending, Committing, Resending, CommittingAgain, Saving, write_told, commit_told}
-use Rattle.nfs_file_calls.specs.declared.owned.FileKept.TheVariants as kept_replies
-use Rattle.world_model.specs.declared.message.Reply.TheVariants as replies
-use Rattle.world_model.specs.declared.answer.Fault.TheVariants as faults
-use Rattle.write_back.specs.declared.change.Change.TheVariants as by_change
 use Rattle.write_back.specs.Files.{PutsPiece}
 use Rattle.write_back.specs.Landing.{acked_by}
 use Rattle.write_back.specs.Segments.{Segment}
 use Rattle.write_back.specs.Numbers.{SegmentsUpTo}
+use Rattle.nfs_file_calls.specs.declared.owned.FileKept.TheVariants as kept_replies
+use Rattle.world_model.specs.declared.message.Reply.TheVariants as replies
+use Rattle.world_model.specs.declared.answer.Fault.TheVariants as faults
+use Rattle.write_back.specs.declared.change.Change.TheVariants as by_change
 use Rattle.write_back.proofs.Numbers.{upto-sent, upto-chosen, upto-ended, upto-acked, upto-renumbered}
 use Rattle.commit_verf.proofs.Numbers.{upto-decided}
 use Rattle.file_ops.specs.declared.saving.Phase.{Phase}

@@ -1,9 +1,14 @@
 -- What a record that is heard shows of a byte that came with a write's number, from its first flight on.
 use Rattle.core_session.proofs.Prelude.{◌≡◌, inl, inr, ◌≤◌, ◌<◌, ◌+◌, ℕ, List, [], ◌∷◌, ◌++◌, length, Bool, true, false, Some, None, Ok, slice_get, refl, sym, ap, subst, ◌∙◌, arith, Verf, Wcc, xid_at, Waiting, next_xid, waiting_at, Entry, Sent, Delivered, Call, Reply, Op, At, Asked, HasXid, SpellsCall, SpellsCallBy, SpellsReply, commit_call, length_last, said_of, Says, Next, Shelf, Closing, Putting, Saving, Syncing, Writing, Mounted, FileMachine, Machine, PathMachine, machine_of, file_of, of_file, Flown, fly_at, piece_under, fly-under, EachSound, flown-from, Purpose, Busy, Setup, View, Reaches, HearsRecord, IsOfOperation, Tried, unsent, begins-unbegun, flies_of, was-sent, says-of, reached-owned, reached-rows, TaleLaws, Did, reached-good, PathNames, Names, Expects, expects-laws, SyncNames, CloseNames, WriteNames, StateNames, FileNames, Saves, IsNfs, one-call, IsWaiting, write_of, WroteByte, MadeStable}
-use Rattle.nfs_file_calls.specs.declared.owned.FileKept.TheVariants as kept
-use Rattle.world_model.specs.declared.message.Reply.TheVariants as replies
 use Rattle.world_model.specs.Heard.{Heard}
 use Rattle.call_replies.specs.Says.{IsCallOf}
+use Rattle.core_facts.specs.Tries.{runs, ended}
+use Rattle.core_facts.proofs.Hearing.{heard-of}
+use Rattle.core_answers.specs.writes.Alone.{IsQuiet}
+use Rattle.core_answers.specs.writes.Carried.{IsCarried}
+use Rattle.core_session.specs.saves.Evidence.{at_once, by_commit, IsHeldBy}
+use Rattle.nfs_file_calls.specs.declared.owned.FileKept.TheVariants as kept
+use Rattle.world_model.specs.declared.message.Reply.TheVariants as replies
 use Rattle.client_shelf.specs.declared.next.Next.TheVariants as nexts
 use Rattle.file_ops.specs.declared.close_file.Closing.TheVariants as closing
 use Rattle.file_ops.specs.declared.put_file.Putting.TheVariants as putting
@@ -15,15 +20,10 @@ use Rattle.op_machines.specs.declared.machine.Machine.TheVariants as machines
 use Rattle.write_back.specs.Pieces.{Sent as Piece}
 use Rattle.write_back.proofs.Taking.{under-own}
 use Rattle.step_saves.specs.Accounts.{Reaches as ReachesByte}
-use Rattle.core_facts.specs.Tries.{runs, ended}
-use Rattle.core_facts.proofs.Hearing.{heard-of}
-use Rattle.core_answers.specs.writes.Alone.{IsQuiet}
-use Rattle.core_answers.specs.writes.Carried.{IsCarried}
 use Rattle.core_answers.proofs.writes.AllFits.{commits_path, commits_of}
 use Rattle.core_answers.proofs.writes.CallFits.{commits_if, commits_save, commits_write, commits_sync, commits_close, commits_put, commits_file}
 use Rattle.core_answers.proofs.writes.CommitsAlone.{commits-alone}
 use Rattle.core_answers.proofs.writes.PiecesCarried.{pieces-carried}
-use Rattle.core_session.specs.saves.Evidence.{at_once, by_commit, IsHeldBy}
 use Rattle.core_session.proofs.saves.Taking.{sent-is, its-piece, sent-piece}
 use Rattle.core_session.proofs.saves.WholeSteps.{SendsIt, Wholly}
 use Rattle.core_session.proofs.syncs.StageSteps.{ByWrite, ByCommit}

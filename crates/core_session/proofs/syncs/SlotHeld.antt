@@ -1,11 +1,11 @@
 -- While an operation on a slot is under way which neither opens nor closes it, the table of opens has the file that the history says.
 use Rattle.core_session.proofs.Prelude.{◌≡◌, ◌<◌, ◌≤◌, ◌+◌, ◌⊎◌, inl, inr, ℕ, Bool, true, false, nat_eq, List, [], ◌∷◌, ◌++◌, length, Option, Some, None, option_map, slice_get, refl, sym, ap, subst, ◌∙◌, arith, append-nil, append_assoc, eqb-true, eqb-false, cases_lt, Opened, Opens, Answer, Entry, Began, Answered, Op, At, Modes, Ended, AnsweredBefore, UnderWay, IsOf, InSlot, slot_of, Terms, At-grow, At-last, At-one, At-back, length_last, file_at, Mounted, machine_of, State, Busy, Setup, IsIdle, View, Reaches, GoesWith, Known, Runs, number_of, to-map, IsHeld, Agrees, Kind, plainly, kind_of, SlotsAgree, reached-slots}
+use Rattle.core_facts.proofs.SlotGrowth.{held-back, IsShown}
+use Rattle.core_facts.proofs.Slots.{closing}
 use Rattle.std.specs.FinMap as finite
 use Rattle.world_model.specs.declared.op.Op.TheVariants as ops
 use Rattle.op_machines.specs.declared.file_machine.FileMachine.TheVariants as files
 use Rattle.op_machines.specs.declared.machine.Machine.TheVariants as machines
-use Rattle.core_facts.proofs.SlotGrowth.{held-back, IsShown}
-use Rattle.core_facts.proofs.Slots.{closing}
 use Rattle.core_session.proofs.drops.Drops.{LaneTold}
 use Rattle.core_session.proofs.drops.Guards.{CloserStep, OtherStep}
 use Rattle.core_session.proofs.drops.GuardLaws.{StepOf}

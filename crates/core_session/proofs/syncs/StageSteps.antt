@@ -1,5 +1,10 @@
 -- What a step of a save makes of one byte that an operation added.
 use Rattle.core_session.proofs.Prelude.{◌≡◌, ◌<◌, ◌≤◌, ◌+◌, ◌-◌, ℕ, zero, suc, Bool, true, false, List, [], ◌∷◌, length, Option, Some, None, Result, Ok, Err, inl, inr, ◌⊎◌, refl, sym, ap, subst, ◌∙◌, arith, nat_lt, slice_index, lt-ltb, Verf, Wcc, Fault, Memory, Reply, Repeat, Turn, goes_again, is_in_flight, Change, lost, Segments, covers, chosen, piece_of, with_sent, Pending, of_file, with_bytes, OnFile, at_xid, landed, landed_part, with_cut, with_xid, FilePending, Flown, nothing, fly_at, piece_under, PutsInFlight, fly-under, Verdict, AllStable, SendAgain, decided, verdict_of, Sending, Committing, Resending, CommittingAgain, Saving, commit_told, EachSound, flown-from, IsClearUpTo}
+use Rattle.write_back.specs.Changes.{fate}
+use Rattle.write_back.specs.Landing.{acked_by, at_piece}
+use Rattle.write_back.specs.Pieces.{Sent}
+use Rattle.write_back.specs.Places.{Lands}
+use Rattle.write_back.proofs.Xids.{renumbers-so}
 use Rattle.nfs_file_calls.specs.declared.owned.FileKept.TheVariants as kept
 use Rattle.world_model.specs.declared.message.Reply.TheVariants as replies
 use Rattle.write_back.specs.declared.state.State.{State}
@@ -8,16 +13,11 @@ use Rattle.write_back.specs.declared.state.Ready.TheVariants.{Refused}
 use Rattle.write_back.specs.declared.change.Change.TheVariants as by_change
 use Rattle.write_back.specs.declared.change.Change.TheVariants.{Settle, MarkAgain}
 use Rattle.write_back.specs.Effects.{IsAnswer}
-use Rattle.write_back.specs.Changes.{fate}
-use Rattle.write_back.specs.Landing.{acked_by, at_piece}
-use Rattle.write_back.specs.Pieces.{Sent}
-use Rattle.write_back.specs.Places.{Lands}
 use Rattle.write_back.proofs.Adding.{cuts-so}
 use Rattle.write_back.proofs.Landings.{answer-acked, answer-return, lands-one, lands-part}
 use Rattle.write_back.proofs.Sending.{next-is, puts-sent}
 use Rattle.write_back.proofs.SendsOn.{puts-with}
 use Rattle.write_back.proofs.Taking.{under-own}
-use Rattle.write_back.proofs.Xids.{renumbers-so}
 use Rattle.file_ops.specs.declared.saving.Phase.{Phase}
 use Rattle.file_ops.specs.Saves as saves
 use Rattle.step_pending.proofs.Leading.{if-true}

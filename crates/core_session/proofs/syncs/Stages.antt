@@ -1,17 +1,17 @@
 -- What each change of what is pending makes of one byte that an operation added: from its first flight on nothing else flies at its place, or rests there.
 use Rattle.core_session.proofs.Prelude.{inl, inr, ◌⊎◌, ◌≡◌, ◌<◌, ◌≤◌, ◌+◌, ◌-◌, ◌&&◌, ℕ, Bool, true, false, List, length, Some, None, refl, sym, ap, subst, ◌∙◌, arith, nat_lt, slice_index, if◌then◌else◌, ltb-true, Verf, Change, FilePending, Flown, nothing, rest_at, fly_at, flown_in, PutsInFlight, Cell, covers, flown-some, low-of, some-of, flown-from, IsClearUpTo}
 use Rattle.std.specs.Prelude.{nat_le, nat_eq}
+use Rattle.std.proofs.lemmas.Bool.{leb-true, and_parts}
+use Rattle.write_back.specs.Pieces.{Sent}
+use Rattle.write_back.specs.Places.{PutsBytes, Lands, Cuts, newer_or, cell_landed, cell_cut}
 use Rattle.std.specs.Cmp.Lexicographic.{same_text}
 use Rattle.std.specs.Option.{option_map}
-use Rattle.std.proofs.lemmas.Bool.{leb-true, and_parts}
 use Rattle.write_back.specs.declared.state.State.{State}
 use Rattle.write_back.specs.declared.state.State.TheVariants.{Waiting, Acked}
 use Rattle.write_back.specs.declared.state.Ready.{Ready}
 use Rattle.write_back.specs.declared.state.Ready.TheVariants.{Unsent, Again, Refused}
 use Rattle.write_back.specs.declared.change.Change.TheVariants as by_change
 use Rattle.write_back.specs.States.{same_verf}
-use Rattle.write_back.specs.Pieces.{Sent}
-use Rattle.write_back.specs.Places.{PutsBytes, Lands, Cuts, newer_or, cell_landed, cell_cut}
 use Rattle.write_back.specs.Sound.{IsWhole}
 use Rattle.write_back.specs.Waits.{flown_as_of}
 use Rattle.commit_verf.specs.Decisions.{cell_decided, cell_with}

@@ -1,12 +1,12 @@
 -- A byte that a write, fill or put wrote, and a later sync, close or put settled, or the put itself, was made stable, unless this client touched it.
 use Rattle.core_session.proofs.Prelude.{false, Some, position, ◌≡◌, ◌≤◌, ◌<◌, inl, inr, ℕ, suc, List, [], ◌∷◌, ◌++◌, length, append_assoc, append-nil, refl, sym, subst, ◌∙◌, arith, cases_lt, Entry, Delivered, Terms, length_last, Mounted, machine_of, xid_at, Waiting, waiting_at, said_of, Purpose, Setup, is_busy, Reaches, HearsRecord, Known, TakesAt, View, GoesWith, begins-unbegun, taken_one, keeps-placed, stirs-stay, steps-stay, Stays, KnowsRoot, TouchedUntil, SettledBy, Wrote, MadeAndKept, PutsNamed}
+use Rattle.claims.specs.Settled.{later, itself}
+use Rattle.core_session.specs.syncs.Synced.{SyncedBytes}
 use Rattle.core_session.proofs.saves.WholeSteps.{keeps-wholly}
 use Rattle.core_session.proofs.drops.Along.{guards-steps}
 use Rattle.core_session.proofs.drops.GuardLaws.{stirs-step, takes-step}
 use Rattle.core_session.proofs.syncs.SlotHeld.{holds-step}
 use Rattle.core_session.proofs.syncs.Turning.{under-was}
-use Rattle.claims.specs.Settled.{later, itself}
-use Rattle.core_session.specs.syncs.Synced.{SyncedBytes}
 use Rattle.core_session.proofs.syncs.Ends.{case-of, case-self, finish, ends}
 use Rattle.core_session.proofs.syncs.Entries_.{stands-answers, stands-same, stands-fresh}
 use Rattle.core_session.proofs.syncs.Looks.{Touching}

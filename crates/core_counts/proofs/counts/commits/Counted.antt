@@ -1,11 +1,11 @@
 -- The COMMITs of a file, along a history in which puts find room.
 use Rattle.core_counts.proofs.Prelude.{◌≡◌, ◌≢◌, ◌⊎◌, inl, inr, ◌+◌, ◌*◌, ◌++◌, ℕ, Bool, true, false, List, [], ◌∷◌, length, All, Result, refl, sym, ap, subst, ◌∙◌, arith, All-weaker, All-nil, All-head, FileCall, same-or, Placed, AreDifferent, HasBegan, count_of, most_pending, IsCommitOf, commit, StableOf, WriterAt, Few, RepliedAt, info_call, Terms, most_tries, Entry, Began, Call, Reply, Fault, Op, Next, Repeat, Turn, Mounted, Machine, machine_of, Setup, View, Notes, IsNfs, GoesFrom}
+use Rattle.claims.specs.Asks.{Asks, Acts, Stabilizes, NeedsRoom, TakesRoom}
+use Rattle.claims.specs.CallCounts.{FewCommits}
 use Rattle.std.specs.Prelude.{sum_by}
 use Rattle.std.proofs.lemmas.List.Sums.{sum_by-cons}
 use Rattle.nfs_file_calls.specs.declared.call.FileCall.TheVariants as files
-use Rattle.claims.specs.Asks.{Asks, Acts, Stabilizes, NeedsRoom, TakesRoom}
 use Rattle.claims.specs.Asks as asks
-use Rattle.claims.specs.CallCounts.{FewCommits}
 use Rattle.world_model.specs.declared.message.Call.TheVariants as calls
 use Rattle.core_counts.proofs.counts.commits.WithRoom.{HasRoom, FewCommitsWithRoom}
 use Rattle.core_counts.proofs.counts.commits.Laws.{MachineLeft, IsSaver, sync, close, put, machine-starts, machine-resumes, machine-takes}

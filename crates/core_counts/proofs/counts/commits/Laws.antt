@@ -1,5 +1,7 @@
 -- The laws of a count of COMMITs, of a session in which puts find room for their bytes.
 use Rattle.core_counts.proofs.Prelude.{◌≡◌, ◌≤◌, ◌-◌, ℕ, Bool, true, false, List, Option, Some, None, Result, Ok, Err, refl, sym, ap, subst, ◌∙◌, arith, if◌then◌else◌, Fault, Call, Reply, Op, Next, Repeat, Shelf, Turn, file_at, Closing, PutFile, Putting, Syncing, look_again, found_by, Walk, WalkNext, Mounted, machine_of, put_of, front_of, last_of, file_of, begun_at, Starts, Resumes, Takes, FileMachine, Machine, Opener, PathMachine, of_name, of_walk, in_flight, Going}
+use Rattle.op_machines.specs.Openers.{placed}
+use Rattle.core_facts.specs.InFlight.{of_file, path_by}
 use Rattle.world_model.specs.declared.op.Op.TheVariants as ops
 use Rattle.client_shelf.specs.Repeats.{answered}
 use Rattle.client_shelf.specs.declared.next.Next.TheVariants as nexts
@@ -10,12 +12,10 @@ use Rattle.name_ops.specs.Walking as walking
 use Rattle.name_ops.specs.declared.walk.WalkNext.TheVariants as walks
 use Rattle.op_machines.specs.FileSteps as steps
 use Rattle.name_ops.specs.Pairs.{walk_of}
-use Rattle.op_machines.specs.Openers.{placed}
 use Rattle.op_machines.specs.PathSteps as paths
 use Rattle.op_machines.specs.declared.file_machine.FileMachine.TheVariants as files
 use Rattle.op_machines.specs.declared.machine.Machine.TheVariants as machines
 use Rattle.op_machines.specs.declared.opener.Opener.TheVariants as openers
-use Rattle.core_facts.specs.InFlight.{of_file, path_by}
 use Rattle.core_answers.proofs.writes.Plain.{IsOther, PlainAsks}
 use Rattle.core_session.proofs.delays.Rests.{resumes-same}
 use Rattle.core_counts.proofs.counts.commits.Machines.{Step, Taken, repeats, goes, done-step, wait-step, plain-step, SyncLeft, CloseLeft, CloseWaits, sync-starts, sync-resumes, sync-takes, close-starts, close-resumes, close-takes}

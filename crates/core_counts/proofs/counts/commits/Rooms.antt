@@ -1,5 +1,7 @@
 -- In a session whose writes, fills and puts together have no more bytes than it holds back, each put finds room for its bytes.
 use Rattle.core_counts.proofs.Prelude.{◌≡◌, ◌<◌, ◌≤◌, inl, inr, ◌+◌, ◌++◌, ℕ, Bool, true, false, List, [], ◌∷◌, length, append_assoc, Result, refl, sym, ap, subst, ◌∙◌, arith, ltb-true, Pending, all_pending, Placed, AreDifferent, HasBegan, IsWriter, count_of, most_pending, WriterAt, Fault, Entry, Began, Reply, Op, At, At-grow, Shelf, is_full, PutFile, Putting, Text, Mounted, FileMachine, Machine, PathMachine, file_of, Setup, Entered, Room, reached-room, stage_of, counts-cons, each-map, all-each, different-apart}
+use Rattle.core_session.proofs.room.Entered.{IsPut}
+use Rattle.core_session.proofs.room.Rooms.{Stands}
 use Rattle.write_back.specs.Sound as backs
 use Rattle.claims.specs.Asks as asks
 use Rattle.world_model.specs.declared.op.Op.TheVariants as ops
@@ -8,8 +10,6 @@ use Rattle.file_ops.specs.declared.put_file.Putting.TheVariants as putting
 use Rattle.file_ops.specs.declared.write_file.Text.TheVariants as texts
 use Rattle.op_machines.specs.declared.file_machine.FileMachine.TheVariants as files
 use Rattle.op_machines.specs.declared.machine.Machine.TheVariants as machines
-use Rattle.core_session.proofs.room.Entered.{IsPut}
-use Rattle.core_session.proofs.room.Rooms.{Stands}
 use Rattle.core_session.proofs.room.Stages.{putting as putting_stage, file_stage, path_stage}
 use Rattle.core_counts.proofs.counts.commits.WithRoom.{HasRoom}
 use Rattle.core_counts.proofs.counts.commits.Laws.{MachineRoom, PathRoom, FileRoom}

@@ -1,9 +1,9 @@
 -- A save asks for two COMMITs at most: after what was pending was sent, and after what the first one showed to be lost.
 use Rattle.core_counts.proofs.Prelude.{◌≡◌, ◌≤◌, inl, inr, ◌+◌, ◌==◌, ◌&&◌, ℕ, Bool, true, false, List, [], ◌∷◌, Option, Some, None, Result, Ok, Err, refl, sym, ap, subst, ◌∙◌, arith, nat_lt, Verf, Verdict, AllStable, SendAgain, verdict_of, lost, chosen, piece_of, Pending, of_file, Segments, IsCommitOf, commit, Fault, Memory, Answer, Call, Reply, goes_again, ended, repeated, Next, Repeat, Turn, commit_told, Sending, Committing, Resending, CommittingAgain, Saving}
+use Rattle.client_shelf.specs.Repeats.{answered}
 use Rattle.write_back.specs.Pieces.{Sent}
 use Rattle.world_model.specs.declared.answer.Answer.TheVariants as answers
 use Rattle.world_model.specs.declared.answer.Value.TheVariants as values
-use Rattle.client_shelf.specs.Repeats.{answered}
 use Rattle.client_shelf.specs.declared.next.Next.TheVariants as nexts
 use Rattle.file_ops.specs.Saves as saves
 use Rattle.file_ops.specs.Syncs as syncs

@@ -1,13 +1,13 @@
 -- What holds of a history and the core's view that goes with it, if each step of a lane and each entry keep it, as `core_session.proofs.syncs.WatchingAlong`; but
 -- what a record that is sent keeps is said where it is sent, by whoever goes along the history.
 use Rattle.core_counts.proofs.Prelude.{◌≡◌, inl, inr, ℕ, List, [], ◌∷◌, ◌++◌, Bool, true, false, Option, Some, None, MatchOption, position, refl, sym, ap, subst, ◌∙◌, xid_at, Waiting, failed_after, waiting_at, next_xid, Answer, Entry, Began, Answered, Dialed, Sent, Executed, Foreign, Flushed, Reboot, Delivered, Failed, Clock, Op, said_of, Shelf, Machine, Fits, Purpose, State, Setup, IsFresh, is_busy, IsIdle, numbers_of, Stirs, moves_none, moves_more, counted, StartsLane, BeginsIf, TakesAt, AnswersAt, View, MaySetUp, IsSetUp, StepsTo, HearsRecord, Reaches, goes, last_reading, dropped, replied, FailedNow, goes_on, gives_up, failed_now, answered_now, taken_one, none-busy, Known, purpose_at, reached-all, LanesKnown, quiet-facts, lanes-stay, lanes-begin, lanes-under-way, Rows, rows-stay, same-rows, rows-grow, silent-grow, taken-quiet, not-sent, taken-rows, SameCalls, stirs-stay, starts-stay, steps-stay}
-use Rattle.rpc_retry.proofs.Records.{before_failed}
 use Rattle.client_core.specs.Steps.{Moves}
-use Rattle.core_facts.specs.InFlight.{IsUnbegun}
 use Rattle.core_facts.specs.Reaches.{IsOpenLine}
 use Rattle.core_facts.proofs.Cases.{Heard, heard}
 use Rattle.core_facts.proofs.Counting.{stirs-count, starts-count, hears-count}
 use Rattle.core_answers.proofs.writes.Along.{failed-purposes}
+use Rattle.rpc_retry.proofs.Records.{before_failed}
+use Rattle.core_facts.specs.InFlight.{IsUnbegun}
 
 -- no operation begins or is answered, and nothing is sent
 pub record IsPlain (e : Entry) : Type 0 where

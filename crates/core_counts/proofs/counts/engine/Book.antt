@@ -1,8 +1,8 @@
 -- Along a history each call that is made has its row, and each operation makes no more first calls that are counted than its account has room for.
 use Rattle.core_counts.proofs.Prelude.{◌≡◌, ◌≢◌, ◌<◌, ◌≤◌, ◌+◌, ◌⊎◌, inl, inr, ℕ, List, [], ◌∷◌, ◌++◌, length, Bool, true, false, nat_eq, Option, Some, slice_get, slice_set, refl, sym, ap, subst, ◌∙◌, arith, eqb-true, eqb-false, Waiting, next_xid, made_call, waiting_at, waits_early, at_made, others_made, Entry, Began, Sent, Call, Op, NoneBegan, At, HasXid, SpellsCall, proc_of, UnderWay, At-one, Next, Send, Repeat, Mounted, Machine, machine_of, Lane, Purpose, State, Busy, Setup, record_of, Makes, View, turn_at, in_flight, IsMade, begins-unbegun, Runs, Rows, made-known, made-asked, AskedOf, Going, set-other, at-set, one-call, nfs-of, Outgoing, Calls, count, IsWaiting, Each}
 use Rattle.core_facts.proofs.Stories.{some-call}
-use Rattle.core_session.proofs.calls.TableHeld.{AllNoted}
 use Rattle.core_session.proofs.delays.Tables.{AreApart, each-map}
+use Rattle.core_session.proofs.calls.TableHeld.{AllNoted}
 use Rattle.core_session.proofs.room.Onward.{Onward}
 use Rattle.core_session.proofs.syncs.Fate.{one-under}
 use Rattle.core_counts.proofs.counts.engine.Ledger.{Row, In, Room, HasRoot, room-push, room-other, room-wide}

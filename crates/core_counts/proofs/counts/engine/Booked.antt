@@ -1,14 +1,14 @@
 -- The book at the end of a session, or before it was lost: no record was sent after that.
 use Rattle.core_counts.proofs.Prelude.{◌≡◌, ◌<◌, inl, inr, ℕ, List, [], ◌∷◌, ◌++◌, length, Bool, true, false, Some, None, refl, sym, ap, subst, ◌∙◌, arith, append_assoc, append-nil, Waiting, next_xid, waiting_at, at_sent, waits_early, before_sent, Entry, Began, Answered, Sent, Delivered, Call, Op, At, HasXid, SpellsCall, head_of, At-below, At-cases, Mounted, Machine, machine_of, Purpose, Busy, Setup, IsFresh, SendsIf, View, in_flight, Notes, IsSetUp, StepsTo, Reaches, IsMade, begins-unbegun, SentNow, sent_now, heard-lost, Known, purpose_at, reached-all, lanes-under-way, notes-reach, sent-purposes, Outgoing, IsWaiting, Each}
-use Rattle.rpc_message.proofs.CallLaws.{call_xid}
 use Rattle.rpc_retry.proofs.Records.{waits_late}
 use Rattle.client_core.specs.Steps.{SendsBy}
-use Rattle.core_facts.specs.Counted.{calls_for, IsOfOperation}
 use Rattle.core_facts.specs.Notes.{notes_fresh, notes_step, notes_lost, NoneReady, ComesAfter}
 use Rattle.core_facts.proofs.Counting.{calls-some, known-only}
+use Rattle.core_session.proofs.delays.Tables.{AreApart}
+use Rattle.rpc_message.proofs.CallLaws.{call_xid}
+use Rattle.core_facts.specs.Counted.{calls_for, IsOfOperation}
 use Rattle.core_facts.proofs.Owning.{reached-owned}
 use Rattle.core_answers.proofs.asks.Limits.{reached-limit}
-use Rattle.core_session.proofs.delays.Tables.{AreApart}
 use Rattle.core_session.proofs.room.Onward.{Onward, stays, steps, drops}
 use Rattle.core_counts.proofs.counts.engine.Laws.{SeenLaws}
 use Rattle.core_counts.proofs.counts.engine.Ledger.{Row}

@@ -1,14 +1,14 @@
 -- The book is kept where an operation takes what came of its call.
 use Rattle.core_counts.proofs.Prelude.{◌≡◌, ◌≢◌, ◌<◌, ◌≤◌, ◌+◌, ◌-◌, ◌&&◌, inl, inr, ℕ, List, [], ◌∷◌, ◌++◌, length, Bool, true, false, nat_eq, Some, None, option_map, position, Result, refl, sym, ap, subst, ◌∙◌, arith, eqb-true, eqb-false, ltb-true, xid_at, Waiting, next_xid, waiting_at, without, waits_early, others_taken, gone, Fault, Entry, Began, Sent, Delivered, Call, Reply, Op, At, IsBusy, UnderWay, FirstSent-grow, At-grow, At-below, At-back, At-last, length_last, said_of, Says, Next, Send, Repeat, goes_again, ended, repeated, Mounted, Machine, machine_of, Purpose, Busy, Setup, is_busy, numbers_of, with_state, TakesAt, View, turn_at, in_flight, Counts, HearsRecord, Reaches, IsMade, IsOutstanding, Tried, counts-calls, begins-unbegun, taken_one, was-sent, says-of, Known, Runs, LanesKnown, number_of, lanes-under-way, lanes-stay, quiet-facts, at-position, at-set, to-map, Rows, same-rows, rows-grow, taken-quiet, not-sent, taken-rows, Going, reached-good, NoCall, NoShelf, NoStory, no-laws, one-call, machine-fits, nfs-of, Calls, calls-laws, count, ended-is, IsWaiting, Each, Calm, took-any}
+use Rattle.core_facts.proofs.Tales.{IsExpected}
+use Rattle.core_session.proofs.delays.Delays.{Off, off-own, off-given, off-evident}
 use Rattle.client_shelf.specs.Repeats.{times_of, answered as answered_table}
 use Rattle.core_facts.specs.Counted.{calls_for}
 use Rattle.core_facts.specs.Tries.{unsent, runs, ended as tries_ended}
 use Rattle.core_facts.proofs.Counting.{calls-some, known-only}
 use Rattle.core_facts.proofs.Owning.{reached-since}
-use Rattle.core_facts.proofs.Tales.{IsExpected}
 use Rattle.core_answers.proofs.answers.PieceSteps.{IsPiece}
 use Rattle.core_answers.proofs.answers.Writing.{written-reached}
-use Rattle.core_session.proofs.delays.Delays.{Off, off-own, off-given, off-evident}
 use Rattle.core_session.proofs.delays.Tables.{left as left_of, times-is, AreApart, IsFree, each-map, each-free, free-of, left-apart, left-free, left-each, push-apart, push-each, free-count, left-count, push-count, pushed-count}
 use Rattle.core_session.proofs.delays.Took.{Took as TookTable}
 use Rattle.core_session.proofs.room.Entered.{under-early}

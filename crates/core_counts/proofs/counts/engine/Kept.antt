@@ -1,9 +1,9 @@
 -- The book is kept along a history.
 use Rattle.core_counts.proofs.Prelude.{◌≡◌, ◌≢◌, ◌<◌, ◌≤◌, ◌⊎◌, inl, inr, ℕ, List, [], ◌∷◌, ◌++◌, length, Option, Some, None, option_map, slice_get, refl, sym, ap, subst, ◌∙◌, arith, append_assoc, Waiting, next_xid, waiting_at, waits_early, Answer, Entry, Began, Answered, Sent, Delivered, Call, Op, NoneBegan, At, IsBusy, HasXid, SpellsCallBy, UnderWay, At-grow, At-below, At-back, At-cases, Next, Send, Wait, Done, Repeat, Shelf, Mounted, Machine, machine_of, Lane, Purpose, Busy, Setup, IsIdle, with_state, Stirs, counted, StartsLane, AnswersAt, View, turn_at, in_flight, Counts, counts-calls, begins-unbegun, Known, purpose_at, Runs, LanesKnown, number_of, lanes-under-way, lanes-stay, lanes-begin, at-set, at-push, get-push, get-remove, skip, to-map, Rows, same-rows, silent-grow, under-back, SameCalls, calls-laws, count, IsWaiting, Each}
 use Rattle.std.proofs.Common.{remove}
+use Rattle.core_session.proofs.delays.Tables.{AreApart, IsFree, each-map, free-of, free-count}
 use Rattle.core_facts.proofs.Counting.{none-idle}
 use Rattle.core_session.proofs.delays.Rests.{starts-same, resumes-same}
-use Rattle.core_session.proofs.delays.Tables.{AreApart, IsFree, each-map, free-of, free-count}
 use Rattle.core_session.proofs.room.Entered.{under-early}
 use Rattle.core_counts.proofs.counts.engine.Laws.{SeenLaws}
 use Rattle.core_counts.proofs.counts.engine.Ledger.{Row}

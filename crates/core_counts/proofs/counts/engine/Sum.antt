@@ -2,15 +2,15 @@
 -- each counts as often as a call may be made.
 use Rattle.core_counts.proofs.Prelude.{◌≡◌, ◌≢◌, ◌<◌, ◌≤◌, ◌+◌, ◌*◌, ◌⊎◌, inl, inr, ℕ, zero, suc, nat_eq, List, [], ◌∷◌, ◌++◌, length, Bool, true, false, All, Option, Some, None, slice_get, refl, sym, ap, subst, ◌∙◌, arith, append_assoc, length-append, eqb-true, eqb-false, cases_lt, xid_at, Entry, Began, Answered, Dialed, Sent, Executed, Foreign, Flushed, Reboot, Delivered, Failed, Clock, Call, Op, Placed, AreDifferent, HasBegan, Carries, Few, RepliedAt, NoneBegan, IsCaused, IsCause, mounts, informs, asked, At, FirstSent, HasXid, SpellsCall, mount_call, info_call, AnsweredBefore, EndsAt, UnderWay, Terms, most_tries, FirstSent-grow, At-grow, At-back, At-below, At-one, Mounted, Machine, IsAsked, machine_of, Setup, View, Notes, begins-unbegun, Expects, expects-laws, IsNfs, one-call, IsSession, GoesFrom, all-asked, Outgoing, session}
 use Rattle.std.proofs.Common.{fold, sum_by}
-use Rattle.std.proofs.lemmas.List.Kept.{AllPairs-cons}
 use Rattle.claims.specs.Asks.{Asks}
-use Rattle.claims.specs.CallCounts.{Different as DifferentNumbers}
 use Rattle.world_model.specs.Waiting.{Answers}
 use Rattle.world_model.specs.Operations.{answered, unanswered}
 use Rattle.world_model.proofs.Growth.{Answers-grow}
 use Rattle.core_session.proofs.asked.Whole.{out-asked}
-use Rattle.core_session.proofs.calls.Causes.{Now, Spelt}
 use Rattle.core_session.proofs.calls.Outgoing.{sent-nfs}
+use Rattle.std.proofs.lemmas.List.Kept.{AllPairs-cons}
+use Rattle.claims.specs.CallCounts.{Different as DifferentNumbers}
+use Rattle.core_session.proofs.calls.Causes.{Now, Spelt}
 use Rattle.core_session.proofs.order.PutWrites.{ends-at}
 use Rattle.core_counts.proofs.counts.engine.Laws.{CountLaws, SeenLaws, seen-laws}
 use Rattle.core_counts.proofs.counts.engine.Lists.{Each, each-map, each-join, each-all, all-each, Elsewhere, Apart, all-apart, apart-all, apart-join, with_key, others, with-each, others-each, split-length, Different, with-different, others-different}

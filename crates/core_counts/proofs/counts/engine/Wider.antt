@@ -1,5 +1,7 @@
 -- What an operation asks for before one place of a history, it asks for before each later place.
 use Rattle.core_counts.proofs.Prelude.{◌≤◌, ℕ, List, Some, arith, All-weaker, Entry, Call, Op, Verf, Reply, list_call, Terms, Rooted-wide}
+use Rattle.world_model.specs.Chains.{Chain, start, next, page_reply}
+use Rattle.world_model.proofs.Growth.{Asked-wide}
 use Rattle.nfs_dir_calls.specs.declared.call.DirCall.TheVariants as dirs
 use Rattle.nfs_dir_calls.specs.declared.keeping.DirKept.TheVariants as found
 use Rattle.world_model.specs.declared.message.Call.TheVariants as calls
@@ -7,13 +9,11 @@ use Rattle.world_model.specs.declared.message.Reply.TheVariants as replies
 use Rattle.claims.specs.Asks as a
 use Rattle.nfs_dir_calls.specs.declared.plus_page.PlusRow.{PlusRow}
 use Rattle.world_model.specs.Heard.{Asked}
-use Rattle.world_model.specs.Chains.{Chain, start, next, page_reply}
 use Rattle.claims.specs.Hidden.{HiddenAt}
 use Rattle.world_model.specs.Leads.{Leads, root, step}
 use Rattle.world_model.specs.Mounts.{Origin}
 use Rattle.claims.specs.Paths.{PlaceOf}
 use Rattle.claims.specs.ReadTrue.{Within}
-use Rattle.world_model.proofs.Growth.{Asked-wide}
 
 pub leads-wide : (origin : Origin) (h : List Entry) (n more : ℕ) → n ≤ more → (path : List (List ℕ)) (object : List ℕ) → Leads origin h n path object → Leads origin h more path object
 leads-wide origin h n more wide _ _ (root path object is r) = root path object is (Rooted-wide origin h n more object wide r)

@@ -1,15 +1,15 @@
 -- What the steps of a close cost: the REMOVE of a last close. Its save's WRITEs and COMMITs don't count.
 use Rattle.core_counts.proofs.Prelude.{◌≡◌, ◌≤◌, ◌+◌, inl, inr, ℕ, Bool, true, false, List, Option, Some, None, Result, refl, ap, ◌∙◌, arith, of_file, last_end, Fault, Call, Reply, Next, Repeat, Shelf, Turn, goes_again, repeats_after, is_first, CloseFile, Closing, Removal, Saving, refusal_of, remove_busy, file_at, joined, by-step, Saves}
+use Rattle.file_ops.specs.Closings.{remove_of, closed_answer}
+use Rattle.core_answers.proofs.asks.SavedCalls.{SavesOn, goes-on, takes-on}
 use Rattle.client_shelf.specs.declared.next.Next.TheVariants as nexts
 use Rattle.file_ops.specs.declared.close_file.Closing.TheVariants as closing
 use Rattle.file_ops.specs.Closes as closes
-use Rattle.file_ops.specs.Closings.{remove_of, closed_answer}
 use Rattle.file_ops.specs.Saves as saves
 use Rattle.file_ops.specs.Syncs as syncs
 use Rattle.world_model.specs.declared.answer.Answer.TheVariants as answers
 use Rattle.world_model.specs.declared.answer.Fault.TheVariants as faults
 use Rattle.core_facts.specs.InFlight.{of_closing}
-use Rattle.core_answers.proofs.asks.SavedCalls.{SavesOn, goes-on, takes-on}
 use Rattle.core_counts.proofs.counts.equal.Costs.{Costs, costs-as, TakesCosts, repeats_it, goes_on, own-takes}
 use Rattle.core_counts.proofs.counts.equal.Tables.{Tabled}
 use Rattle.core_counts.proofs.counts.listed.Laws.{table-again}

@@ -1,12 +1,12 @@
 -- Equal calls, of all plain ones: for each operation that asks for them, 3 and one for each name of its paths.
 use Rattle.core_counts.proofs.Prelude.{Contains, ◌≡◌, ◌≤◌, inl, inr, ◌&&◌, ℕ, nat_eq, true, List, [], ◌∷◌, length, All, None, refl, sym, ap, subst, ◌∙◌, arith, eqb-true, All-weaker, Mode, Entry, Call, Op, Carries, RepliedAt, list_call, info_call, Terms, look_up, Mounted, IsAsked, machine_of, Setup, View, Notes, Saves, IsNfs, GoesFrom, all-asked}
+use Rattle.claims.specs.CallCounts.{FewEqual, Asking}
 use Rattle.nfs_types.specs.declared.mode.Mode.TheVariants as modes
 use Rattle.nfs_dir_calls.specs.declared.call.DirCall.TheVariants as dirs
 use Rattle.nfs_file_calls.specs.declared.call.FileCall.TheVariants as files
 use Rattle.world_model.specs.declared.message.Call.TheVariants as calls
 use Rattle.world_model.specs.declared.op.Op.TheVariants as ops
 use Rattle.claims.specs.Asks as a
-use Rattle.claims.specs.CallCounts.{FewEqual, Asking}
 use Rattle.world_model.specs.Commits.{commit_call}
 use Rattle.claims.specs.Paths.{paths_of}
 use Rattle.name_ops.specs.ListDir as listing

@@ -1,8 +1,10 @@
 -- What the steps of opens and puts cost, with the walk to their directory: LOOKUP, CREATE, LOOKUP and GETATTR once each.
 use Rattle.core_counts.proofs.Prelude.{◌≡◌, ◌≤◌, ◌+◌, ◌||◌, ◌&&◌, ◌==◌, inl, inr, not, ℕ, Bool, true, false, List, Option, Some, None, Result, Ok, Err, refl, sym, ap, subst, ◌∙◌, arith, if◌then◌else◌, Attrs, Attr, Mode, Stamp, Opens, stamp_of, Pages, known_of, Answer, Fault, Call, Reply, Next, Shelf, Turn, Led, Opening, OpeningNext, OpeningStep, Putting, got_by, FileMachine, Opener, file_of}
-use Rattle.std.specs.FinMap as finite
 use Rattle.attr_cache.specs.Attrs.{looked}
 use Rattle.nfs_types.specs.Stamps.{same_stamp}
+use Rattle.file_ops.specs.Told.{found_by, made_by}
+use Rattle.op_machines.specs.Openers.{placed}
+use Rattle.std.specs.FinMap as finite
 use Rattle.world_model.specs.declared.answer.Fault.TheVariants as faults
 use Rattle.client_shelf.specs.declared.next.Next.TheVariants as nexts
 use Rattle.file_ops.specs.declared.open_file.OpenFile.{OpenFile}
@@ -12,11 +14,9 @@ use Rattle.file_ops.specs.declared.opening.OpeningStep.TheVariants as steps
 use Rattle.file_ops.specs.declared.put_file.Putting.TheVariants as putting
 use Rattle.file_ops.specs.OpenFile as opens
 use Rattle.file_ops.specs.Opening as opening
-use Rattle.file_ops.specs.Told.{found_by, made_by}
 use Rattle.op_machines.specs.declared.file_machine.FileMachine.TheVariants as files
 use Rattle.op_machines.specs.declared.opener.Opener.TheVariants as openers
 use Rattle.op_machines.specs.FileSteps as stepping
-use Rattle.op_machines.specs.Openers.{placed}
 use Rattle.core_facts.specs.InFlight.{one_if, of_file}
 use Rattle.core_answers.proofs.asks.FilesAwaited.{FileNames}
 use Rattle.core_counts.proofs.counts.equal.Costs.{Costs, costs-as, TakesCosts, own-takes}

@@ -1,5 +1,13 @@
 -- No operation asks for equal calls more often than three times and once for each name of its paths.
 use Rattle.core_counts.proofs.Prelude.{◌≡◌, ◌≤◌, ◌+◌, ◌-◌, ℕ, zero, suc, Bool, true, false, List, [], ◌∷◌, ◌++◌, length, take, Option, Some, None, Result, Ok, Err, refl, sym, ap, subst, ◌∙◌, arith, if◌then◌else◌, Fault, Entry, Began, Call, Reply, Op, Next, Repeat, Shelf, Turn, fails_busy, goes_again, repeats_after, CloseFile, ReadFile, Truncating, joined, Link, ListDir, Pair, Deed, Look, Seek, Move, Remove, RemoveFile, Rename, Stat, SymLink, Visit, access_call, deed_call, TakesLink, look_up, found_by, moved_told, text_call, TakesText, TakesRename, sym_link_call, TakesSymLink, Mounted, Machine, Opener, PathMachine, slot_taken, machine_of, front_of, last_of, put_of, Starts, Resumes, Takes, Busy, Setup, of_walk, visit_by, in_flight, Counts, counts-calls, AskedOf, Expects, expects-laws, Saves}
+use Rattle.name_ops.specs.Access.{access_attr, access_told}
+use Rattle.name_ops.specs.DirChange.{deed_told}
+use Rattle.name_ops.specs.Link.{link_call, linked_told}
+use Rattle.name_ops.specs.ReadLink.{text_attr}
+use Rattle.name_ops.specs.Rename.{rename_call, renamed_next}
+use Rattle.name_ops.specs.SymLink.{sym_linked_told}
+use Rattle.op_machines.specs.Begun.{open_of, path_of}
+use Rattle.core_facts.specs.InFlight.{pair_by, of_truncating}
 use Rattle.std.specs.FinMap as finite
 use Rattle.nfs_file_calls.specs.declared.call.FileCall.TheVariants as of_files
 use Rattle.world_model.specs.declared.message.Call.TheVariants as calls
@@ -14,22 +22,14 @@ use Rattle.name_ops.specs.declared.access.Access.{Access}
 use Rattle.name_ops.specs.declared.dir_change.DirChange.{DirChange}
 use Rattle.name_ops.specs.declared.dir_change.DirDeed.TheVariants as deeds
 use Rattle.name_ops.specs.declared.read_link.ReadLink.{ReadLink}
-use Rattle.name_ops.specs.Access.{access_attr, access_told}
 use Rattle.name_ops.specs.Changing as changing
-use Rattle.name_ops.specs.DirChange.{deed_told}
-use Rattle.name_ops.specs.Link.{link_call, linked_told}
 use Rattle.name_ops.specs.ListDir as listing
 use Rattle.name_ops.specs.Pairs as pairs
-use Rattle.name_ops.specs.ReadLink.{text_attr}
-use Rattle.name_ops.specs.Rename.{rename_call, renamed_next}
 use Rattle.name_ops.specs.Stat as stats
-use Rattle.name_ops.specs.SymLink.{sym_linked_told}
 use Rattle.name_ops.specs.Visiting as visiting
 use Rattle.op_machines.specs.declared.file_machine.FileMachine.TheVariants as files
 use Rattle.op_machines.specs.declared.machine.Machine.TheVariants as machines
 use Rattle.op_machines.specs.declared.name_machine.NameMachine.TheVariants as names
-use Rattle.op_machines.specs.Begun.{open_of, path_of}
-use Rattle.core_facts.specs.InFlight.{pair_by, of_truncating}
 use Rattle.core_counts.proofs.counts.engine.Laws.{Spends, Took, Seen, came_now, never_made, SeenLaws}
 use Rattle.core_counts.proofs.counts.equal.Closes.{close_left, close-starts, close-resumes, close-takes}
 use Rattle.core_counts.proofs.counts.equal.Paths.{path_left, sends-path, path-starts, path-resumes, path-takes}

@@ -1,5 +1,7 @@
 -- What the steps of each operation on names cost: LOOKUPs of the names that are left, and its own call.
 use Rattle.core_counts.proofs.Prelude.{◌≡◌, ◌≤◌, ◌+◌, ◌⊎◌, inl, inr, ℕ, Bool, true, false, List, Option, Some, None, Result, refl, sym, ap, subst, ◌∙◌, arith, if◌then◌else◌, Attr, Fault, Value, Call, Reply, Next, Shelf, Turn, fails_busy, goes_again, ended, repeated, Stat, Visit, WalkNext, TakesShow, of_walk, visit_by}
+use Rattle.name_ops.specs.Showing.{show_next, shown_answer, Shows}
+use Rattle.core_facts.specs.InFlight.{own_or}
 use Rattle.attr_cache.specs.Attrs as attrs
 use Rattle.client_shelf.specs.declared.next.Next.TheVariants as nexts
 use Rattle.name_ops.specs.declared.told.Told.{Told}
@@ -7,12 +9,10 @@ use Rattle.name_ops.specs.declared.visit.VisitNext.{VisitNext}
 use Rattle.name_ops.specs.declared.visit.VisitNext.TheVariants as visits
 use Rattle.name_ops.specs.declared.walk.WalkNext.TheVariants as walks
 use Rattle.name_ops.specs.Changing as changing
-use Rattle.name_ops.specs.Showing.{show_next, shown_answer, Shows}
 use Rattle.name_ops.specs.Stat as stats
 use Rattle.name_ops.specs.SymLink.{CopiesBy, ChangesByCopy, lacking}
 use Rattle.name_ops.specs.Visiting as visiting
 use Rattle.name_ops.specs.Walking as walking
-use Rattle.core_facts.specs.InFlight.{own_or}
 use Rattle.core_counts.proofs.counts.equal.Costs.{Costs, costs-as, TakesCosts, repeats_it, goes_on, own-takes, names_left, WalkCosts, go-costs, WalkTakes, walk_again, walk_on, walk-takes}
 
 module _ (P : Call → Type 0) where

@@ -1,12 +1,13 @@
 -- What the steps of operations with two walks cost, of listings, and of removals.
 use Rattle.core_counts.proofs.Prelude.{◌≡◌, ◌≤◌, ◌+◌, ◌||◌, inl, inr, ℕ, Bool, true, false, List, ◌++◌, Result, Ok, Err, refl, sym, ap, subst, ◌∙◌, arith, if◌then◌else◌, Fault, Call, Reply, Next, Repeat, Shelf, Turn, fails_busy, goes_again, repeats_after, ended, repeated, ListDir, Pair, PairNext, Visit, WalkNext, of_walk, visit_by}
+use Rattle.client_shelf.specs.Busy.{is_busy}
+use Rattle.core_facts.specs.InFlight.{pair_by}
 use Rattle.dir_list.specs.declared.progress.Step.{Step}
 use Rattle.dir_list.specs.declared.progress.Step.TheVariants.{More, End}
 use Rattle.dir_list.specs.declared.progress.ListFault.{ListFault}
 use Rattle.dir_list.specs.Listings.{counted, page_step}
 use Rattle.world_model.specs.declared.answer.Answer.TheVariants as answers
 use Rattle.client_shelf.specs.declared.next.Next.TheVariants as nexts
-use Rattle.client_shelf.specs.Busy.{is_busy}
 use Rattle.name_ops.specs.declared.pair.PairNext.TheVariants as pairing
 use Rattle.name_ops.specs.declared.visit.VisitNext.TheVariants as visits
 use Rattle.name_ops.specs.declared.walk.WalkNext.TheVariants as walks
@@ -14,7 +15,6 @@ use Rattle.name_ops.specs.ListDir as listing
 use Rattle.name_ops.specs.Pairs as pairs
 use Rattle.name_ops.specs.Visiting as visiting
 use Rattle.name_ops.specs.Walking as walking
-use Rattle.core_facts.specs.InFlight.{pair_by}
 use Rattle.core_counts.proofs.counts.equal.Costs.{Costs, costs-as, TakesCosts, repeats_it, goes_on, own-takes, names_left, WalkCosts, go-costs, WalkTakes, walk_again, walk_on, walk-takes}
 
 module _ (P : Call → Type 0) where

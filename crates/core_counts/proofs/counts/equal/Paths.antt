@@ -1,5 +1,8 @@
 -- What the steps of opens and puts cost on the way to their directory: LOOKUPs of the names that are left, and then those of the opening.
 use Rattle.core_counts.proofs.Prelude.{◌≡◌, ◌≤◌, ◌+◌, ◌-◌, ℕ, Bool, true, false, List, Result, refl, sym, ap, subst, ◌∙◌, arith, Fault, Call, Reply, Next, Shelf, Turn, WalkNext, FileMachine, Opener, PathMachine, file_of, begun_at, of_walk, Counts, AskedOf, Expects, Saves}
+use Rattle.op_machines.specs.Openers.{placed}
+use Rattle.core_facts.specs.InFlight.{of_file, path_by}
+use Rattle.core_answers.proofs.asks.CallsAwaited.{PathNames}
 use Rattle.world_model.specs.declared.answer.Answer.TheVariants as answers
 use Rattle.world_model.specs.declared.answer.Fault.TheVariants as faults
 use Rattle.client_shelf.specs.declared.next.Next.TheVariants as nexts
@@ -11,10 +14,7 @@ use Rattle.op_machines.specs.declared.file_machine.FileMachine.TheVariants as fi
 use Rattle.op_machines.specs.declared.machine.Machine.TheVariants as machines
 use Rattle.op_machines.specs.declared.opener.Opener.TheVariants as openers
 use Rattle.op_machines.specs.FileSteps as stepping
-use Rattle.op_machines.specs.Openers.{placed}
 use Rattle.op_machines.specs.PathSteps as paths
-use Rattle.core_facts.specs.InFlight.{of_file, path_by}
-use Rattle.core_answers.proofs.asks.CallsAwaited.{PathNames}
 use Rattle.core_counts.proofs.counts.equal.Costs.{Costs, costs-as, costs-more, TakesCosts, repeats_it, goes_on, names_left, WalkCosts, go-costs as walk-costs, WalkTakes, walk_again, walk_on, walk-takes}
 use Rattle.core_counts.proofs.counts.equal.Files.{SendsOf, opening_left, file_left, placed-left, go-costs, open-takes}
 use Rattle.core_counts.proofs.counts.equal.Puts.{put-resumes, put-takes}

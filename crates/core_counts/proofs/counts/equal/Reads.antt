@@ -3,6 +3,11 @@
 use Rattle.core_counts.proofs.Prelude.{◌≡◌, ◌≤◌, ◌<◌, ◌+◌, ◌-◌, ◌/◌, ◌%◌, ◌==◌, ◌&&◌, ◌||◌, not, ℕ, zero, suc, Bool, true, false, List, [], ◌∷◌, length, take, Option, Some, None, Result, Ok, Err, inl, inr, refl, sym, ap, subst, ◌∙◌, arith, if◌then◌else◌, nat_lt, length-take, Attr, Mode, FileKept, Opened, Pages, known_of, after_page, Pending, Fault, Call, Reply, Next, Repeat, Turn, fails_busy, goes_again, repeats_after, Found, ReadFile, Bytes, place_after, with_more, next_page, Phase, Reading, part, refusal, said_to, said_by, breaks_rule, got_by, PhaseAt, ReadAt}
 use Rattle.std.specs.Prelude.{nat_eq}
 use Rattle.std.proofs.lemmas.List.{length-append}
+use Rattle.client_shelf.specs.Busy.{is_busy}
+use Rattle.file_ops.specs.Base.{nothing_of, is_whole}
+use Rattle.file_ops.specs.Gather.{Gathered, gathered, taken, then_taken, is_past, found_of, base_with}
+use Rattle.file_ops.specs.ReadReply.{Said, says_busy}
+use Rattle.core_answers.proofs.asks.ReadSteps.{settled-at, gone-at, takes-at}
 use Rattle.nfs_types.specs.declared.mode.Mode.TheVariants as modes
 use Rattle.nfs_file_calls.specs.declared.call.FileCall.TheVariants as of_files
 use Rattle.nfs_file_calls.specs.declared.owned.FileKept.TheVariants as kept
@@ -12,16 +17,11 @@ use Rattle.world_model.specs.declared.answer.Fault.TheVariants as faults
 use Rattle.world_model.specs.declared.message.Call.TheVariants as calls
 use Rattle.world_model.specs.declared.message.Reply.TheVariants as replies
 use Rattle.client_shelf.specs.declared.next.Next.TheVariants as nexts
-use Rattle.client_shelf.specs.Busy.{is_busy}
 use Rattle.file_ops.specs.declared.gather.Found.TheVariants as found
-use Rattle.file_ops.specs.Base.{nothing_of, is_whole}
-use Rattle.file_ops.specs.Gather.{Gathered, gathered, taken, then_taken, is_past, found_of, base_with}
 use Rattle.file_ops.specs.declared.reading.Phase.TheVariants as phases
 use Rattle.file_ops.specs.ReadFile as reads
 use Rattle.file_ops.specs.Reading as reading
-use Rattle.file_ops.specs.ReadReply.{Said, says_busy}
 use Rattle.core_answers.proofs.asks.ReadRanges.{begun-in}
-use Rattle.core_answers.proofs.asks.ReadSteps.{settled-at, gone-at, takes-at}
 use Rattle.core_counts.proofs.counts.equal.Costs.{Costs, costs-as, costs-more, TakesCosts, repeats_it, goes_on, due, own-takes}
 use Rattle.core_counts.proofs.counts.equal.Tables.{Tabled}
 

@@ -1,5 +1,6 @@
 -- What the steps of a remove cost. The hidden names that it looks for have rising numbers.
 use Rattle.core_counts.proofs.Prelude.{◌≡◌, ◌<◌, ◌≤◌, ◌+◌, inl, inr, ℕ, Bool, true, false, List, Option, Some, None, Result, Ok, Err, refl, sym, ap, subst, ◌∙◌, arith, Answer, Fault, Call, Reply, Next, Repeat, Shelf, Turn, fails_busy, ended, repeated, Deed, Look, Seek, Move, Remove, RemoveFile, WalkNext, look_up, found_by, look_again, moved_told, of_walk}
+use Rattle.core_facts.specs.InFlight.{one_if, removal_by}
 use Rattle.silly_rename.specs.Plans.{plan_of}
 use Rattle.world_model.specs.declared.answer.Answer.TheVariants as answers
 use Rattle.client_shelf.specs.declared.next.Next.TheVariants as nexts
@@ -7,7 +8,6 @@ use Rattle.name_ops.specs.declared.walk.WalkNext.TheVariants as walks
 use Rattle.name_ops.specs.Changing as changing
 use Rattle.name_ops.specs.RemoveFile as removals
 use Rattle.name_ops.specs.Walking as walking
-use Rattle.core_facts.specs.InFlight.{one_if, removal_by}
 use Rattle.core_counts.proofs.counts.equal.Costs.{Costs, costs-as, TakesCosts, repeats_it, goes_on, due, names_left, WalkCosts, go-costs, WalkTakes, walk_again, walk_on, walk-takes}
 use Rattle.core_counts.proofs.counts.equal.Names.{changed-takes}
 use Rattle.core_counts.proofs.counts.listed.Laws.{table-again}

@@ -1,5 +1,7 @@
 -- No record of a session carries a plain call that no operation asks for.
 use Rattle.core_counts.proofs.Prelude.{◌≡◌, ◌≤◌, ℕ, true, List, [], ◌∷◌, length, All, Result, Ok, Err, refl, sym, ap, subst, ◌∙◌, arith, All-nil, All-head, Verf, Entry, Call, Op, Carries, IsCaused, IsCause, mounts, informs, asked, list_call, SpellsCall, head_of, proc_of, mount_call, info_call, Terms, IsNfs, one-call}
+use Rattle.claims.specs.CallCounts.{Asking, FewEqual, IsPlain}
+use Rattle.claims.specs.CallsAsked.{CallsAsked}
 use Rattle.rpc_message.specs.declared.call.CallFault.{CallFault}
 use Rattle.rpc_message.specs.declared.call.CallHead.{CallHead}
 use Rattle.rpc_message.proofs.CallLaws.{call_again}
@@ -8,8 +10,6 @@ use Rattle.mount_calls.specs.declared.call.MountCall.TheVariants as mounts_of
 use Rattle.nfs_file_calls.specs.declared.call.FileCall.TheVariants as files
 use Rattle.world_model.specs.declared.message.Call.TheVariants as calls
 use Rattle.claims.specs.Asks as a
-use Rattle.claims.specs.CallCounts.{Asking, FewEqual, IsPlain}
-use Rattle.claims.specs.CallsAsked.{CallsAsked}
 use Rattle.core_counts.proofs.counts.equal.Deeds.{Deed, call_of, like, like-self, no-way, access_of, cut_of, text_of, dir_of, sym_of, gone_of, unlink_of, name_of, link_of, loose_of, new_of, look_of, attr_of, read_of}
 
 -- ---- one head

@@ -2,11 +2,11 @@
 use Rattle.core_counts.proofs.Prelude.{◌≡◌, ◌+◌, not, ℕ, zero, suc, nat_eq, Bool, true, false, List, [], ◌∷◌, ◌++◌, length, Contains, Some, None, slice_get, refl, sym, ap, subst, ◌∙◌, arith, if◌then◌else◌, eq-eqb, All-weaker, Entry, Began, Answered, Dialed, Sent, Executed, Foreign, Flushed, Reboot, Delivered, Failed, Clock, Call, Op, Carries, At, info_call, Terms, Mounted, IsAsked, machine_of, Setup, View, Notes, IsNfs, GoesFrom}
 use Rattle.std.proofs.Common.{fold}
 use Rattle.std.proofs.lemmas.List.Elements.{Contains-append_left, Contains-append_right}
+use Rattle.claims.specs.CallCounts.{FewHidden, RemovesAt, LooksForHidden, MetHidden, IsInScript}
 use Rattle.nfs_dir_calls.specs.declared.call.DirCall.TheVariants as dirs
 use Rattle.world_model.specs.declared.message.Call.TheVariants as calls
 use Rattle.world_model.specs.declared.op.Op.TheVariants as ops
 use Rattle.claims.specs.Asks as a
-use Rattle.claims.specs.CallCounts.{FewHidden, RemovesAt, LooksForHidden, MetHidden, IsInScript}
 use Rattle.world_model.specs.Follows.{Follows, begun}
 use Rattle.claims.specs.Paths.{paths_of}
 use Rattle.core_counts.specs.counts.Hidden.{FewHiddenMade}

@@ -1,5 +1,6 @@
 -- A remove asks for one LOOKUP of a hidden name, and for one more after each that was found.
 use Rattle.core_counts.proofs.Prelude.{◌≡◌, ◌≤◌, ◌+◌, ◌-◌, ◌⊎◌, inl, inr, ℕ, zero, suc, Bool, true, false, List, [], ◌∷◌, ◌++◌, length, take, Contains, Option, Some, None, Result, Ok, Err, refl, sym, ap, subst, ◌∙◌, arith, if◌then◌else◌, DirKept, Answer, Fault, Entry, Began, Call, Reply, Op, Says, Next, Repeat, Shelf, Turn, fails_busy, goes_again, repeats_after, ended, repeated, Deed, Look, Seek, Move, Remove, RemoveFile, Walk, WalkNext, look_up, found_by, look_again, moved_told, Mounted, Machine, machine_of, front_of, last_of, Starts, Resumes, Takes, of_name, of_walk, in_flight}
+use Rattle.core_facts.specs.InFlight.{one_if, removal_by}
 use Rattle.silly_rename.specs.Plans.{plan_of}
 use Rattle.nfs_dir_calls.specs.declared.keeping.DirKept.TheVariants as kept
 use Rattle.world_model.specs.declared.answer.Answer.TheVariants as answers
@@ -15,7 +16,6 @@ use Rattle.name_ops.specs.RemoveFile as removals
 use Rattle.name_ops.specs.Walking as walking
 use Rattle.op_machines.specs.declared.machine.Machine.TheVariants as machines
 use Rattle.op_machines.specs.declared.name_machine.NameMachine.TheVariants as names
-use Rattle.core_facts.specs.InFlight.{one_if, removal_by}
 use Rattle.core_facts.proofs.NamesAwaited.{RemoveAwaits}
 use Rattle.core_answers.proofs.asks.HiddenNames.{silly-hidden}
 use Rattle.core_counts.proofs.counts.engine.Laws.{Came, told, unmade, Spends, nothing, one, Took, again, on, CountLaws}

@@ -1,6 +1,9 @@
 -- A listing asks for its first page from cookie 0, and for each next one after the page before it came.
 use Rattle.core_counts.proofs.Prelude.{◌≡◌, ◌≤◌, ◌+◌, inl, inr, ℕ, zero, suc, nat_eq, Bool, true, false, List, [], ◌∷◌, ◌++◌, length, Option, Some, None, Result, Ok, Err, refl, sym, ap, subst, ◌∙◌, arith, if◌then◌else◌, Attr, Verf, DirKept, Fault, Entry, Began, Call, Reply, Op, list_call, SpellsReply, Says, Next, Repeat, Shelf, Turn, fails_busy, goes_again, repeats_after, ended, ListDir, Visit, Walk, WalkNext, look_up, found_by, look_again, Mounted, Machine, machine_of, Starts, Resumes, Takes, of_name, of_walk, visit_by, in_flight}
 use Rattle.std.proofs.Common.{nat_lt}
+use Rattle.world_model.specs.Chains.{page_reply, LastCookie}
+use Rattle.client_shelf.specs.Busy.{is_busy}
+use Rattle.client_shelf.specs.Repeats.{answered}
 use Rattle.nfs_dir_calls.specs.declared.keeping.DirKept.TheVariants as kept
 use Rattle.nfs_dir_calls.specs.declared.plus_page.PlusRow.{PlusRow}
 use Rattle.dir_list.specs.declared.progress.ListFault.{ListFault}
@@ -12,10 +15,7 @@ use Rattle.world_model.specs.declared.answer.Answer.TheVariants as answers
 use Rattle.world_model.specs.declared.message.Reply.TheVariants as replies
 use Rattle.world_model.specs.declared.op.Op.TheVariants as ops
 use Rattle.claims.specs.CallCounts.{IsPageBefore}
-use Rattle.world_model.specs.Chains.{page_reply, LastCookie}
 use Rattle.client_shelf.specs.declared.next.Next.TheVariants as nexts
-use Rattle.client_shelf.specs.Busy.{is_busy}
-use Rattle.client_shelf.specs.Repeats.{answered}
 use Rattle.name_ops.specs.declared.visit.VisitNext.TheVariants as visits
 use Rattle.name_ops.specs.declared.walk.WalkNext.TheVariants as walks
 use Rattle.name_ops.specs.ListDir as listing

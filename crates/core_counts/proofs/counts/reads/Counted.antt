@@ -1,8 +1,8 @@
 -- The READs of a file, along a history.
 use Rattle.core_counts.proofs.Prelude.{◌≡◌, ◌≢◌, ◌⊎◌, inl, inr, ℕ, Bool, true, false, List, length, refl, sym, ap, subst, arith, All-weaker, FileCall, same-or, Entry, Call, IsReadOf, Rooted, info_call, Terms, Mounted, machine_of, Setup, View, Notes, IsNfs, GoesFrom}
+use Rattle.claims.specs.CallCounts.{read, IsShortRead, FewReads, ReadsOf}
 use Rattle.nfs_file_calls.specs.declared.call.FileCall.TheVariants as files
 use Rattle.world_model.specs.declared.message.Call.TheVariants as calls
-use Rattle.claims.specs.CallCounts.{read, IsShortRead, FewReads, ReadsOf}
 use Rattle.world_model.specs.ReadSize.{ReadSized}
 use Rattle.world_model.proofs.Growth.{Rooted-grow}
 use Rattle.core_session.proofs.calls.Causes.{sized-grow}

@@ -1,11 +1,12 @@
 -- A read asks for as many READs as the pages that meet its range take, and for one more after each short reply.
 use Rattle.core_counts.proofs.Prelude.{◌≡◌, ◌≢◌, ◌<◌, ◌≤◌, ◌⊎◌, inl, inr, ◌+◌, ◌-◌, ◌*◌, ℕ, Bool, true, false, List, [], ◌∷◌, ◌++◌, length, Option, Some, None, Result, Ok, Err, refl, sym, ap, subst, ◌∙◌, arith, Attr, Mode, Opened, same-or, IsReadOf, Answer, Fault, Entry, Began, Call, Reply, Op, Says, ended, Next, Repeat, Shelf, Turn, ReadFile, Phase, Reading, place_after, Mounted, Machine, machine_of, Starts, Resumes, Takes, of_phase, of_reading, in_flight, Going, PhaseNames, ReadNames, PhaseAt, ReadAt, Calls}
 use Rattle.std.proofs.Common.{if◌then◌else◌}
+use Rattle.claims.specs.CallCounts.{IsShortRead}
+use Rattle.file_ops.specs.Base.{nothing_of}
 use Rattle.std.specs.FinMap as finite
 use Rattle.nfs_types.specs.declared.mode.Mode.TheVariants as modes
 use Rattle.nfs_file_calls.specs.declared.call.FileCall.TheVariants as calls_of
 use Rattle.nfs_file_calls.specs.declared.owned.FileKept.TheVariants as kept
-use Rattle.claims.specs.CallCounts.{IsShortRead}
 use Rattle.claims.specs.Pages.{pages_met, reads_a_page}
 use Rattle.world_model.specs.declared.answer.Answer.TheVariants as answers
 use Rattle.world_model.specs.declared.answer.Fault.TheVariants as faults
@@ -14,7 +15,6 @@ use Rattle.world_model.specs.declared.message.Reply.TheVariants as replies
 use Rattle.world_model.specs.declared.op.Op.TheVariants as ops
 use Rattle.client_shelf.specs.declared.next.Next.TheVariants as nexts
 use Rattle.file_ops.specs.declared.reading.Phase.TheVariants as phases
-use Rattle.file_ops.specs.Base.{nothing_of}
 use Rattle.file_ops.specs.ReadFile as reads
 use Rattle.file_ops.specs.Reading as reading
 use Rattle.op_machines.specs.declared.file_machine.FileMachine.TheVariants as files

@@ -1,12 +1,12 @@
 -- A reply to FSINFO is no longer than a record may be.
 use Rattle.core_counts.proofs.Prelude.{◌≡◌, ◌≤◌, ◌+◌, ℕ, List, length, Bool, true, false, Option, Some, None, refl, ap, arith, Attr, Time, Accepted}
+use Rattle.rpc_message.specs.Reply.{SpellsReply}
 use Rattle.std.proofs.lemmas.List.{length-append}
 use Rattle.xdr_codec.specs.Spelling.{u32_bytes, u64_bytes, flag_bytes}
 use Rattle.xdr_codec.specs.Spells.{SpellsU32, SpellsU64, SpellsFlag, SpellsPadded, SpellsOpaque, SpellsOpt, ◌⨾◌}
 use Rattle.nfs_types.specs.Spells.{SpellsTime, SpellsAttr, SpellsOptAttr}
 use Rattle.nfs_file_calls.specs.FileSystem.{FsInfoDone, SpellsFsInfoDone}
 use Rattle.rpc_message.specs.Auth.{SpellsAuth}
-use Rattle.rpc_message.specs.Reply.{SpellsReply}
 
 -- bytes of this spelling are no more than so many
 abbrev Most : (List ℕ → Type 0) → ℕ → Type 0

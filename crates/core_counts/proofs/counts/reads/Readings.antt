@@ -2,20 +2,20 @@
 use Rattle.core_counts.proofs.Prelude.{◌≡◌, ◌<◌, ◌≤◌, ◌⊎◌, inl, inr, ◌+◌, ◌-◌, ◌*◌, ◌/◌, ◌%◌, ◌==◌, ◌&&◌, ◌||◌, not, ℕ, zero, suc, Bool, true, false, List, length, take, Option, Some, None, refl, sym, ap, subst, ◌∙◌, arith, if◌then◌else◌, nat_lt, cases_lt, eqb-true, length-take, start_of, Pages, known_of, after_page, Pending, IsReadOf, Call, Next, Found, Phase, Reading, Bytes, place_after, with_more, next_page, PhaseAt, ReadAt}
 use Rattle.std.proofs.Common.{is_some}
 use Rattle.std.specs.Prelude.{nat_le}
-use Rattle.std.specs.Int.{div_ceil}
 use Rattle.std.proofs.lemmas.List.{length-append}
-use Rattle.page_cache.specs.Pages.{page_of as page_in}
 use Rattle.claims.specs.CallCounts.{read}
+use Rattle.file_ops.specs.Base.{pages_size, is_whole}
+use Rattle.file_ops.specs.Gather.{Gathered, Planned, is_past, found_of, base_with, taken, then_taken, gathered, stopped, planned, most_asked, next_plan, next_count}
+use Rattle.core_answers.proofs.asks.ReadSteps.{GoAt}
+use Rattle.std.specs.Int.{div_ceil}
+use Rattle.page_cache.specs.Pages.{page_of as page_in}
 use Rattle.claims.specs.Pages.{page_of, page_from, pages_met}
 use Rattle.world_model.specs.declared.op.Op.TheVariants as ops
 use Rattle.client_shelf.specs.declared.next.Next.TheVariants as nexts
 use Rattle.file_ops.specs.declared.gather.Found.TheVariants as found
 use Rattle.file_ops.specs.declared.reading.Phase.TheVariants as phases
-use Rattle.file_ops.specs.Base.{pages_size, is_whole}
-use Rattle.file_ops.specs.Gather.{Gathered, Planned, is_past, found_of, base_with, taken, then_taken, gathered, stopped, planned, most_asked, next_plan, next_count}
 use Rattle.file_ops.specs.Reading as reading
 use Rattle.core_answers.proofs.asks.ReadRanges.{InRange, count-some}
-use Rattle.core_answers.proofs.asks.ReadSteps.{GoAt}
 use Rattle.core_counts.proofs.counts.reads.Needs.{needs, needs-mono, needs-page, needs-full}
 
 -- how many bytes of its pages a read hasn't got

@@ -1,14 +1,14 @@
 -- A history tells one root and one READ size.
 use Rattle.core_counts.proofs.Prelude.{◌≡◌, ◌<◌, ◌≤◌, ◌⊎◌, inl, inr, ℕ, List, Option, Some, None, Result, Ok, Err, refl, sym, ap, subst, ◌∙◌, arith, cases_lt, Attr, Time, Accepted, At, Heard, SpellsReply, Rooted, mount_call, info_call, Terms, Fault, Entry, Delivered, Call, Reply, At-one}
+use Rattle.rpc_message.specs.Reply.{RpcReply, SpellsRefusal, refusal_number}
+use Rattle.world_model.specs.Heard.{Asked, Refused, Refuses, status_of}
+use Rattle.world_model.specs.Mounts.{Origin, Mounting, Given, lesser_size}
 use Rattle.nfs_file_calls.specs.declared.owned.FileKept.TheVariants as kept
 use Rattle.mount_calls.specs.declared.reply.MountReply.TheVariants as mounted
 use Rattle.rpc_message.specs.declared.reply.ReplyFault.{ReplyFault}
 use Rattle.rpc_message.specs.declared.reply.ReplyFault.TheVariants.{NotReply}
-use Rattle.rpc_message.specs.Reply.{RpcReply, SpellsRefusal, refusal_number}
 use Rattle.rpc_message.proofs.ReplyLaws.{reply_again}
 use Rattle.claims.specs.CallsAsked.{AreSetUp, mount, inform}
-use Rattle.world_model.specs.Heard.{Asked, Refused, Refuses, status_of}
-use Rattle.world_model.specs.Mounts.{Origin, Mounting, Given, lesser_size}
 use Rattle.world_model.specs.ReadSize.{ReadSized, told, untold, whole_pages}
 use Rattle.world_model.specs.Rules.{Breaks, IsNotReply, not_a_reply, unspelled, wrong_committed, wrong_count, too_long}
 use Rattle.world_model.specs.Waiting.{Answers}

@@ -1,5 +1,10 @@
 -- What a step of a read leaves of the READs that it may still ask for: its first one, one without a reply, and one with what came of its call.
 use Rattle.core_counts.proofs.Prelude.{◌≡◌, ◌<◌, ◌≤◌, ◌⊎◌, inl, inr, ◌+◌, ◌*◌, ◌%◌, ◌==◌, ◌||◌, not, ℕ, Bool, true, false, List, length, Option, Some, None, Result, Ok, Err, refl, sym, ap, subst, ◌∙◌, arith, if◌then◌else◌, nat_lt, cases_lt, Attr, FileKept, Pages, Pending, Answer, Fault, Call, Reply, goes_again, fails_busy, repeats_after, ended, repeated, Next, Repeat, Turn, Phase, Reading, Bytes, place_after, with_more, part, refusal, said_to, said_by, breaks_rule, got_by, PhaseAt, ReadAt}
+use Rattle.client_shelf.specs.Busy.{is_busy}
+use Rattle.client_shelf.specs.Repeats.{answered}
+use Rattle.file_ops.specs.Base.{nothing_of}
+use Rattle.file_ops.specs.ReadReply.{Said, says_busy}
+use Rattle.core_answers.proofs.asks.ReadSteps.{settled-at, gone-at}
 use Rattle.nfs_file_calls.specs.declared.owned.FileKept.TheVariants as kept
 use Rattle.xdr_codec.specs.declared.blob.Memory as memory
 use Rattle.claims.specs.Pages.{pages_met, reads_a_page}
@@ -7,15 +12,10 @@ use Rattle.world_model.specs.declared.answer.Answer.TheVariants as answers
 use Rattle.world_model.specs.declared.answer.Fault.TheVariants as faults
 use Rattle.world_model.specs.declared.message.Reply.TheVariants as replies
 use Rattle.world_model.specs.declared.op.Op.TheVariants as ops
-use Rattle.client_shelf.specs.Busy.{is_busy}
-use Rattle.client_shelf.specs.Repeats.{answered}
 use Rattle.client_shelf.specs.declared.next.Next.TheVariants as nexts
 use Rattle.file_ops.specs.declared.reading.Phase.TheVariants as phases
-use Rattle.file_ops.specs.Base.{nothing_of}
 use Rattle.file_ops.specs.Reading as reading
-use Rattle.file_ops.specs.ReadReply.{Said, says_busy}
 use Rattle.core_answers.proofs.asks.ReadRanges.{more-in, more-left}
-use Rattle.core_answers.proofs.asks.ReadSteps.{settled-at, gone-at}
 use Rattle.core_counts.proofs.counts.reads.Needs.{needs, needs-all}
 use Rattle.core_counts.proofs.counts.reads.Readings.{rest, more, level, Stops, Spent, IsShort, settles, goes-spent, added-level, pages-are}
 

@@ -1,11 +1,11 @@
 -- A history tells one WRITE size, and that of a session is the one that its set-up found.
 use Rattle.core_counts.proofs.Prelude.{◌≡◌, ℕ, List, length, Option, sym, ap, subst, refl, ◌∙◌, Attr, Time, Rooted, info_call, Terms, Entry, Mounted, Setup, View, GoesFrom}
+use Rattle.world_model.specs.Mounts.{Sized, told, untold, lesser_size}
+use Rattle.core_session.specs.calls.Whole.{CallsAskedBut}
 use Rattle.nfs_file_calls.specs.declared.owned.FileKept.TheVariants as kept
 use Rattle.claims.specs.CallsAsked.{inform}
-use Rattle.world_model.specs.Mounts.{Sized, told, untold, lesser_size}
 use Rattle.world_model.specs.declared.message.Reply.TheVariants as replies
 use Rattle.world_model.proofs.Growth.{Rooted-grow, Sized-grow}
-use Rattle.core_session.specs.calls.Whole.{CallsAskedBut}
 use Rattle.core_counts.proofs.counts.reads.Sizes.{same-asked, told-untold, one-root}
 
 write-max : (a b : Option Attr) (m n p q t u v w aa bb cc_ dd ee ff gg hh : ℕ) (d e : Time) (x y : ℕ)

@@ -2,21 +2,21 @@
 -- own save of each operation is good for.
 use Rattle.core_counts.proofs.Prelude.{◌≡◌, ◌≢◌, ◌≤◌, ◌⊎◌, inl, inr, ◌+◌, ◌-◌, ◌^◌, ℕ, false, List, [], ◌∷◌, ◌++◌, length, append_assoc, Option, Some, position, slice_get, Result, refl, sym, ap, subst, ◌∙◌, arith, cases_lt, xid_at, Waiting, waiting_at, Fault, Entry, Began, Answered, Delivered, Reply, Op, IsWriter, StableOf, At, Rooted, AnsweredBefore, EndsAt, UnderWay, IsOf, Terms, Rooted-wide, At-last, At-one, length_last, said_of, chosen, Pending, of_file, OnFile, with_cut, FilePending, nothing, same-or, LaneFile, Shelf, Turn, Saving, Mounted, Machine, machine_of, Fits, Purpose, State, Busy, Over, Setup, is_busy, IsIdle, StartsLane, Stirs, TakesAt, counted, View, turn_at, KnowsRoot, Reaches, HearsRecord, GoesWith, taken_one, Known, taker-is, LaneLive, AreAsked, IsEmpty, Wholly, JobBegins, JobOpens, Common, Story, job_kind, Job, Content, ContentReplies, Owner, Tale, Owned, bases, ButFor}
 use Rattle.std.proofs.Common.{replicate}
-use Rattle.world_model.specs.declared.op.Op.TheVariants as ops
 use Rattle.claims.specs.Asks.{Stabilizes}
+use Rattle.core_facts.proofs.Placing.{Placed}
+use Rattle.core_session.proofs.asked.Empty.{takes-empty}
+use Rattle.core_session.proofs.syncs.Contents.{Anything, common, common-replies, common-adds, common-cuts, common-gives}
+use Rattle.core_session.proofs.syncs.Passing.{job-in, Shown}
+use Rattle.world_model.specs.declared.op.Op.TheVariants as ops
 use Rattle.claims.specs.Asks as asks
 use Rattle.world_model.specs.Leads.{Leads}
 use Rattle.file_ops.specs.Saves as saves
 use Rattle.core_facts.proofs.Leading.{LeadsTo}
-use Rattle.core_facts.proofs.Placing.{Placed}
 use Rattle.core_answers.proofs.asks.WalkAsks.{leads-on}
-use Rattle.core_session.proofs.asked.Empty.{takes-empty}
 use Rattle.core_session.proofs.order.PutWrites.{ends-at}
 use Rattle.core_session.proofs.pending.Begins.{begins-of}
 use Rattle.core_session.proofs.pending.Moments.{ended-in}
-use Rattle.core_session.proofs.syncs.Contents.{Anything, common, common-replies, common-adds, common-cuts, common-gives}
 use Rattle.core_session.proofs.syncs.Nexts.{at-on, common-from, tale-map}
-use Rattle.core_session.proofs.syncs.Passing.{job-in, Shown}
 use Rattle.core_session.proofs.syncs.Plans.{Plan, Came_, stirs-came, takes-came, starts-came}
 use Rattle.core_session.proofs.syncs.PutAdding.{began-fits}
 use Rattle.core_session.proofs.syncs.PutsBring.{PutGiven, puts-bring}

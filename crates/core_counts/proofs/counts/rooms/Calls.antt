@@ -1,12 +1,12 @@
 -- The COMMITs of a file that a session has made, by their xids, and how often those that wait may still be made again.
 use Rattle.core_counts.proofs.Prelude.{◌≡◌, ◌≢◌, ◌<◌, ◌≤◌, ◌+◌, ◌-◌, ◌*◌, ◌⊎◌, inl, inr, ℕ, nat_eq, Bool, true, false, List, [], ◌∷◌, ◌++◌, length, Option, Some, None, Result, Err, refl, sym, ap, subst, ◌∙◌, arith, eqb-true, Waiting, Held, next_xid, made_call, waiting_at, at_made, others_made, Fault, Call, Reply, IsCommitOf, SpellsCall, proc_of, ended, Next, Send, Repeat, Shelf, Turn, Machine, Takes, Purpose, Setup, record_of, Makes, View, turn_at, in_flight, Rows, made-known, made-asked, AskedOf, one-call, machine-fits, Calls, count, ended-is, Calm, took-any}
-use Rattle.world_model.specs.declared.answer.Fault.TheVariants as faults
-use Rattle.claims.specs.Terms.{jukebox}
 use Rattle.client_shelf.specs.Repeats.{answered, times_of}
 use Rattle.client_core.specs.Steps.{IsUnmade}
+use Rattle.core_session.proofs.delays.Tables.{left-count, push-count}
+use Rattle.world_model.specs.declared.answer.Fault.TheVariants as faults
+use Rattle.claims.specs.Terms.{jukebox}
 use Rattle.core_answers.proofs.answers.SaveFaults.{CallFaults}
 use Rattle.core_answers.proofs.refusals.Replied.{Given}
-use Rattle.core_session.proofs.delays.Tables.{left-count, push-count}
 use Rattle.core_session.proofs.delays.Took.{Took as TookTable}
 use Rattle.core_counts.proofs.counts.commits.Counted.{is-nfs}
 use Rattle.core_counts.proofs.counts.engine.Steps.{err-ok}

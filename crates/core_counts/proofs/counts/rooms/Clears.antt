@@ -1,17 +1,17 @@
 -- A save that ends well leaves nothing of its file pending, unless bytes came in since it began.
 use Rattle.core_counts.proofs.Prelude.{◌≡◌, ◌≤◌, ◌<◌, ◌⊎◌, inl, inr, ℕ, true, false, List, [], ◌∷◌, length, Option, Some, None, position, Ok, refl, sym, ap, subst, ◌∙◌, arith, cases_lt, Waiting, waiting_at, Entry, said_of, Pending, of_file, HasNoPiece, FilePending, nothing, piece_under, Segments, Cell, cell_at, cell_in, covers, LaneFile, Turn, ends_as, Saving, Mounted, machine_of, Purpose, Setup, is_busy, TakesAt, View, turn_at, in_flight, Reaches, taken_one, Known, taker-is, taker-one, unused-next, IsEmpty, sent-piece, Wholly, job_save, Common, save-is, Owner, SaveSo, EachSound, IsAwaited, IsUnderWay}
-use Rattle.std.specs.Prelude.{IsSome}
-use Rattle.write_back.specs.Numbers.{AllUpTo, SegmentsUpTo}
 use Rattle.write_back.specs.Pieces.{Sent}
 use Rattle.write_back.specs.Segments.{AreApart}
+use Rattle.core_facts.specs.InFlight.{of_saving}
+use Rattle.core_session.proofs.syncs.Levels.{queued, elsewhere, under}
+use Rattle.step_saves.specs.Saves.{IsClearUpTo, IsSaved}
+use Rattle.std.specs.Prelude.{IsSome}
+use Rattle.write_back.specs.Numbers.{AllUpTo, SegmentsUpTo}
 use Rattle.write_back.proofs.ByPlace.{covered}
 use Rattle.file_ops.specs.Saves as saves
-use Rattle.core_facts.specs.InFlight.{of_saving}
 use Rattle.core_session.proofs.pending.Above.{clear-above}
 use Rattle.core_session.proofs.pending.Newest.{cell-of}
-use Rattle.core_session.proofs.syncs.Levels.{queued, elsewhere, under}
 use Rattle.core_session.proofs.syncs.SaveMoves.{takes-upto}
-use Rattle.step_saves.specs.Saves.{IsClearUpTo, IsSaved}
 use Rattle.step_saves.proofs.Taking.{takes-leaves, takes-sound}
 use Rattle.core_counts.proofs.counts.rooms.Writes.{EndsAbove}
 

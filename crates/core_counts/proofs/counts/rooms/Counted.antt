@@ -1,8 +1,8 @@
 -- The COMMITs of a file in a whole session: 2 for each sync, close and put of it, and 32 for each write, fill and put where writes may have waited for room.
 use Rattle.core_counts.proofs.Prelude.{◌≡◌, ◌≢◌, ◌<◌, ◌≤◌, ◌+◌, ◌*◌, inl, inr, ℕ, suc, List, [], ◌∷◌, ◌++◌, length, refl, sym, subst, ◌∙◌, arith, length-append, cases_lt, Placed, AreDifferent, count_of, most_pending, IsCommitOf, Carries, Few, StableOf, WriterAt, IsCaused, IsCause, NoneBegan, mounts, informs, asked, At, SpellsCall, mount_call, Terms, most_tries, Entry, Began, Sent, Call, At-back, At-below, At-grow, Mounted, machine_of, Setup, View, Notes, one-call, IsSession, GoesFrom, all-asked, session, different-apart}
+use Rattle.claims.specs.CallCounts.{FewCommits}
 use Rattle.std.specs.Prelude.{sum_by}
 use Rattle.std.proofs.lemmas.List.Sums.{sum_by-cons}
-use Rattle.claims.specs.CallCounts.{FewCommits}
 use Rattle.core_session.proofs.room.Writers as writers
 use Rattle.core_counts.specs.counts.Commits.{FewCommitsMade}
 use Rattle.core_counts.proofs.counts.commits.WithRoom.{HasRoom}

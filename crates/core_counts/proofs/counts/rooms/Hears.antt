@@ -1,15 +1,15 @@
 -- An operation hears of its call: what the session may still make of the COMMITs of the file after it. A COMMIT that was put off is made again of what was held for it.
 use Rattle.core_counts.proofs.Prelude.{◌≡◌, ◌≢◌, ◌<◌, ◌≤◌, ◌+◌, ◌-◌, ◌&&◌, ℕ, nat_eq, Bool, true, false, List, [], ◌∷◌, ◌++◌, length, Option, Some, None, option_map, position, Result, refl, sym, ap, subst, ◌∙◌, arith, eqb-true, eqb-false, ltb-true, xid_at, Waiting, next_xid, waiting_at, without, waits_early, others_taken, gone, Fault, Entry, Sent, Delivered, Call, Reply, Op, IsCommitOf, IsBusy, UnderWay, Terms, length_last, said_of, Says, Send, Repeat, goes_again, ended, Mounted, machine_of, Purpose, Busy, Setup, is_busy, numbers_of, with_state, TakesAt, View, turn_at, in_flight, Counts, KnowsRoot, HearsRecord, Reaches, GoesWith, counts-calls, begins-unbegun, taken_one, says-of, Known, Runs, LanesKnown, number_of, lanes-under-way, quiet-facts, at-position, at-set, to-map, LaneLive, keeps-placed, Rows, same-rows, rows-grow, taken-quiet, not-sent, taken-rows, reached-good, steps-stay, NoCall, NoShelf, NoStory, no-laws, one-call, machine-fits, nfs-of, Asks, AreAsked, Calls, calls-laws, count, ended-is, IsWaiting, Calm, took-any, keeps-wholly, job_save, story-turns, take-kind, bases, Turns}
-use Rattle.client_shelf.specs.Repeats.{times_of, answered as answered_table}
 use Rattle.core_facts.proofs.Tales.{IsExpected}
-use Rattle.core_answers.proofs.answers.PieceSteps.{IsPiece}
-use Rattle.core_answers.proofs.answers.Writing.{written-reached}
 use Rattle.core_answers.proofs.writes.AllFits.{all-takes}
 use Rattle.core_session.proofs.delays.Delays.{Off, off-own, off-given, off-evident, Delayed, reached-delayed}
-use Rattle.core_session.proofs.delays.Tables.{left as left_of, times-is, IsFree, free-of, left-free, pushed-count}
-use Rattle.core_session.proofs.delays.Took.{Took as TookTable}
 use Rattle.core_session.proofs.syncs.Seen.{Sees, sees}
 use Rattle.core_session.proofs.syncs.Turning.{turns-take, under-was}
+use Rattle.client_shelf.specs.Repeats.{times_of, answered as answered_table}
+use Rattle.core_answers.proofs.answers.PieceSteps.{IsPiece}
+use Rattle.core_answers.proofs.answers.Writing.{written-reached}
+use Rattle.core_session.proofs.delays.Tables.{left as left_of, times-is, IsFree, free-of, left-free, pushed-count}
+use Rattle.core_session.proofs.delays.Took.{Took as TookTable}
 use Rattle.core_counts.proofs.counts.commits.Counted.{test, test-sound, test-complete}
 use Rattle.core_counts.proofs.counts.engine.Steps.{few-times}
 use Rattle.core_counts.proofs.counts.rooms.Base.{Base, Told, Stepped, takes-stepped}

@@ -1,8 +1,8 @@
 -- The step of a lane leads to the call that it asks for, to a refusal, or to its answer: what the session may still make of the COMMITs of the file after it.
 use Rattle.core_counts.proofs.Prelude.{◌≡◌, ◌<◌, ◌≤◌, ◌+◌, ◌-◌, ◌*◌, ◌⊎◌, inl, inr, ℕ, Bool, true, false, List, length, Some, Err, slice_get, refl, sym, ap, subst, ◌∙◌, arith, Pending, Waiting, next_xid, waiting_at, waits_early, Answer, Entry, Sent, Call, Op, IsWriter, Placed, IsCommitOf, StableOf, NoneBegan, At, HasXid, Terms, Next, Send, Wait, Done, Repeat, Shelf, Mounted, Machine, Lane, Purpose, State, Busy, Over, Setup, with_state, IsRefused, Makes, Refuses, Leads, View, turn_at, unmade_turn, in_flight, KnowsRoot, GoesWith, Runs, at-set, Rows, AskedOf, Going, Asks, AreAsked, Calls, count, state-is, job_kind, told, Turns}
+use Rattle.core_answers.proofs.writes.AllFits.{all-takes}
 use Rattle.world_model.specs.declared.op.Op.TheVariants as ops
 use Rattle.client_shelf.specs.Repeats.{answered}
-use Rattle.core_answers.proofs.writes.AllFits.{all-takes}
 use Rattle.core_counts.proofs.counts.commits.Counted.{test, test-sound, test-complete}
 use Rattle.core_counts.proofs.counts.rooms.Base.{IsKeeper, Stepped, tale}
 use Rattle.core_counts.proofs.counts.rooms.Calls as calls

@@ -1,7 +1,7 @@
 -- Sums over the lanes, over calls that may be made again, and over the writes that began.
 use Rattle.core_counts.proofs.Prelude.{◌≡◌, ◌≢◌, ◌<◌, ◌≤◌, ◌+◌, ◌-◌, ◌⊎◌, inl, inr, ℕ, zero, suc, nat_eq, Bool, true, false, List, [], ◌∷◌, ◌++◌, length, Option, Some, None, refl, sym, ap, subst, ◌∙◌, arith, length-append, if◌then◌else◌, eqb-true, eqb-false, Waiting, waiting_at, Entry, Began, Op, IsWriter, Placed, At, Repeat, Purpose, count}
-use Rattle.world_model.specs.declared.op.Op.TheVariants as ops
 use Rattle.claims.specs.Asks.{write, fill, put}
+use Rattle.world_model.specs.declared.op.Op.TheVariants as ops
 use Rattle.core_counts.proofs.counts.engine.Lists.{Each, each-map, each-both, each-join, Apart, Different}
 
 -- ---- lanes

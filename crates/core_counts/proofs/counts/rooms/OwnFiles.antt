@@ -1,15 +1,15 @@
 -- An operation whose own save waits for a COMMIT of a file: what is told of that save.
 use Rattle.core_counts.proofs.Prelude.{◌≡◌, ℕ, Bool, true, false, List, Some, None, Pending, LaneFile, Closing, PutFile, Putting, Saving, Syncing, file_of, FileMachine, Machine, Opener, commits_of, JobHas, Job}
+use Rattle.core_answers.proofs.writes.AllFits.{commits_path}
+use Rattle.core_session.proofs.syncs.AllJobs.{PathHas}
+use Rattle.core_session.proofs.syncs.Jobs.{FileHas, SyncHas, CloseHas, PutHas}
 use Rattle.file_ops.specs.Saves as saves
 use Rattle.file_ops.specs.declared.close_file.Closing.TheVariants as closing
 use Rattle.file_ops.specs.declared.put_file.Putting.TheVariants as putting
 use Rattle.file_ops.specs.declared.sync_file.Syncing.TheVariants as syncing
 use Rattle.op_machines.specs.declared.file_machine.FileMachine.TheVariants as files
 use Rattle.op_machines.specs.declared.machine.Machine.TheVariants as machines
-use Rattle.core_answers.proofs.writes.AllFits.{commits_path}
 use Rattle.core_answers.proofs.writes.CallFits.{commits_if, commits_save, commits_sync, commits_close, commits_put, commits_file}
-use Rattle.core_session.proofs.syncs.AllJobs.{PathHas}
-use Rattle.core_session.proofs.syncs.Jobs.{FileHas, SyncHas, CloseHas, PutHas}
 use Rattle.core_counts.proofs.counts.rooms.Roles.{put_role, file_role, path_role, role_of, OwnLeft}
 
 none-is : {X : Type 0} → (f : List ℕ) → None ≡ Some f → X

@@ -1,5 +1,6 @@
 -- The steps of a save of an operation's own file, a sync's, a close's or a put's: it asks for two COMMITs at most. And how each operation begins.
 use Rattle.core_counts.proofs.Prelude.{◌≡◌, ◌≤◌, inl, ◌-◌, ℕ, Bool, true, false, List, Some, None, Result, refl, sym, ap, subst, ◌∙◌, arith, Pending, IsCommitOf, commit, Fault, Call, Reply, Op, ended, is_first, Next, Repeat, Shelf, Turn, file_at, Closing, PutFile, Putting, Saving, Syncing, by-step, machine_of, put_of, front_of, last_of, file_of, begun_at, Starts, Resumes, Takes, Mounted, FileMachine, Machine, Opener, PathMachine, in_flight, Going, commits_of, Asks, job_kind, take-kind}
+use Rattle.core_session.proofs.syncs.Fates.{start-kind, resume-kind}
 use Rattle.world_model.specs.declared.op.Op.TheVariants as ops
 use Rattle.client_shelf.specs.declared.next.Next.TheVariants as nexts
 use Rattle.file_ops.specs.PutFile as puts
@@ -14,7 +15,6 @@ use Rattle.op_machines.specs.declared.file_machine.FileMachine.TheVariants as fi
 use Rattle.op_machines.specs.declared.machine.Machine.TheVariants as machines
 use Rattle.op_machines.specs.declared.opener.Opener.TheVariants as openers
 use Rattle.core_answers.specs.writes.Alone.{committed_file}
-use Rattle.core_session.proofs.syncs.Fates.{start-kind, resume-kind}
 use Rattle.core_counts.proofs.counts.commits.Laws.{MachineLeft, machine-resumes, machine-takes}
 use Rattle.core_counts.proofs.counts.commits.Machines.{Step, Taken, repeats, goes, SyncLeft, CloseLeft, sync-starts, close-starts}
 use Rattle.core_counts.proofs.counts.commits.Saves.{Took, again, on, takes-took}

@@ -1,5 +1,6 @@
 -- What a step of an operation leaves it of the COMMITs of a file, by what it was about.
 use Rattle.core_counts.proofs.Prelude.{◌≡◌, ◌≤◌, ◌⊎◌, inl, inr, ◌+◌, ℕ, Bool, true, false, List, Some, None, Result, Err, refl, sym, ap, subst, ◌∙◌, arith, Pending, Placed, IsWriter, IsCommitOf, Fault, Call, Reply, Op, Next, Repeat, Shelf, Turn, Closing, Putting, Saving, Syncing, Writing, machine_of, file_of, Starts, Resumes, Takes, Mounted, Machine, Opener, in_flight, Going, commits_of, Asks, Elsewhere, job_save, job_kind}
+use Rattle.core_answers.proofs.writes.AllFits.{commits_path}
 use Rattle.claims.specs.Asks as asks
 use Rattle.world_model.specs.declared.op.Op.TheVariants as ops
 use Rattle.client_shelf.specs.declared.next.Next.TheVariants as nexts
@@ -13,7 +14,6 @@ use Rattle.op_machines.specs.declared.file_machine.FileMachine.TheVariants as fi
 use Rattle.op_machines.specs.declared.machine.Machine.TheVariants as machines
 use Rattle.op_machines.specs.declared.opener.Opener.TheVariants as openers
 use Rattle.core_answers.proofs.paths.Endings.{takes-not}
-use Rattle.core_answers.proofs.writes.AllFits.{commits_path}
 use Rattle.core_answers.proofs.writes.CallFits.{commits_put, commits_write}
 use Rattle.core_counts.proofs.counts.commits.Saves.{left_to, left_in}
 use Rattle.core_counts.proofs.counts.rooms.Owns.{asks-commits, all-owns, all-own-takes, Begun, all-begun}

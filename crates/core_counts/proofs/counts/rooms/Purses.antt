@@ -1,8 +1,8 @@
 -- What a session may still make of the COMMITs of a file, over all its lanes: it never makes more than the syncs, closes and puts of the file and the writes, fills
 -- and puts that began allow.
 use Rattle.core_counts.proofs.Prelude.{◌≡◌, ◌≢◌, ◌<◌, ◌≤◌, ◌+◌, ◌*◌, ◌⊎◌, inl, inr, ℕ, List, ◌∷◌, length, refl, sym, subst, ◌∙◌, arith, Pending, Entry, Began, Sent, Op, IsWriter, Placed, StableOf, NoneBegan, At, HasXid, UnderWay, Terms, At-one, Writing, Machine, State, Busy, View, Runs, IsEmpty, each-map, Elsewhere, Story, story-turns, Turns}
-use Rattle.file_ops.specs.declared.write_file.Writing.TheVariants as writing
 use Rattle.core_session.proofs.room.Writers.{Each, Apart}
+use Rattle.file_ops.specs.declared.write_file.Writing.TheVariants as writing
 use Rattle.core_counts.proofs.counts.rooms.Base.{Effect}
 use Rattle.core_counts.proofs.counts.rooms.Calls.{Such, Waiting_, Ends, pots}
 use Rattle.core_counts.proofs.counts.rooms.Numbers.{total, sets, sets-here, sets-other, sixteen-sets, sixteen-more, In, many}

@@ -1,6 +1,7 @@
 -- What each step of any operation makes of the COMMITs of a file that it may still ask for: one that writes and whose bytes aren't pending yet, and the save of its own
 -- file of a sync, a close or a put.
 use Rattle.core_counts.proofs.Prelude.{◌≡◌, ◌≤◌, inl, inr, ◌+◌, ℕ, Bool, true, false, List, [], Result, Ok, Err, refl, sym, ap, subst, ◌∙◌, arith, Pending, IsCommitOf, Answer, Fault, Call, Reply, is_first, Next, Repeat, Shelf, Turn, joined, Closing, OpeningNext, PutFile, Putting, Saving, Syncing, Writing, by-step, WalkNext, file_of, Resumes, Takes, FileMachine, Machine, Opener, PathMachine, Going}
+use Rattle.op_machines.specs.Openers.{placed}
 use Rattle.client_shelf.specs.declared.next.Next.TheVariants as nexts
 use Rattle.file_ops.specs.PutFile as puts
 use Rattle.file_ops.specs.Saves as saves
@@ -15,7 +16,6 @@ use Rattle.name_ops.specs.Walking as walking
 use Rattle.name_ops.specs.declared.walk.WalkNext.TheVariants as walks
 use Rattle.name_ops.proofs.Keeps.{walk-takes-kept}
 use Rattle.op_machines.specs.FileSteps as steps
-use Rattle.op_machines.specs.Openers.{placed}
 use Rattle.op_machines.specs.PathSteps as paths
 use Rattle.op_machines.specs.declared.file_machine.FileMachine.TheVariants as files
 use Rattle.op_machines.specs.declared.machine.Machine.TheVariants as machines

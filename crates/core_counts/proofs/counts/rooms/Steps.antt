@@ -1,12 +1,12 @@
 -- A lane goes on, or its operation begins: what the session may still make of the COMMITs of the file after it.
 use Rattle.core_counts.proofs.Prelude.{◌≡◌, ◌<◌, ◌≤◌, ◌*◌, inl, inr, ℕ, false, List, [], ◌∷◌, ◌++◌, length, refl, sym, subst, ◌∙◌, arith, Entry, Began, Sent, Call, Op, Placed, IsBusy, Terms, length_last, Next, Send, Wait, Done, Repeat, Mounted, Machine, machine_of, Fits, Busy, Setup, IsIdle, with_state, Stirs, counted, StartsLane, View, turn_at, in_flight, Counts, KnowsRoot, Reaches, GoesWith, counts-calls, begins-unbegun, Known, Runs, LanesKnown, number_of, lanes-under-way, lanes-begin, at-set, at-push, to-map, LaneLive, keeps-placed, Rows, same-rows, silent-grow, stirs-stay, starts-stay, Asks, AreAsked, calls-laws, Elsewhere, keeps-wholly, starts-wholly, story-turns, Turns}
-use Rattle.world_model.specs.declared.op.Op.TheVariants as ops
 use Rattle.core_facts.proofs.Walks.{Stays}
 use Rattle.core_answers.proofs.writes.AllFits.{all-resumes, all-starts}
-use Rattle.core_session.proofs.delays.Rests.{starts-same, resumes-same}
 use Rattle.core_session.proofs.room.Writers.{elsewhere-by}
-use Rattle.core_session.proofs.syncs.Fates.{resume-kind, start-kind}
 use Rattle.core_session.proofs.syncs.Turning.{turns-stir, turns-starts}
+use Rattle.world_model.specs.declared.op.Op.TheVariants as ops
+use Rattle.core_session.proofs.delays.Rests.{starts-same, resumes-same}
+use Rattle.core_session.proofs.syncs.Fates.{resume-kind, start-kind}
 use Rattle.core_counts.proofs.counts.rooms.Base.{Base, Told, Stepped, stirs-stepped, starts-stepped}
 use Rattle.core_counts.proofs.counts.rooms.Calls.{Waiting_, pots, fresh}
 use Rattle.core_counts.proofs.counts.rooms.Leads.{lead}

@@ -1,14 +1,14 @@
 -- What a session may still make of the COMMITs of a file, along the whole session.
 use Rattle.core_counts.proofs.Prelude.{◌≡◌, ◌≢◌, ◌≤◌, inl, ℕ, nat_eq, List, [], ◌∷◌, ◌++◌, Bool, true, false, Some, None, slice_get, refl, sym, ap, subst, ◌∙◌, arith, append_assoc, eqb-true, eqb-false, Held, next_xid, waiting_at, at_sent, before_sent, Pending, Answer, Entry, Began, Answered, Sent, Delivered, Op, HasXid, head_of, Terms, LaneFile, Shelf, Mounted, Machine, machine_of, Lane, Purpose, Busy, Over, Setup, IsFresh, AnswersAt, View, AreApart, KnowsRoot, Notes, IsSetUp, MaySetUp, StepsTo, Reaches, GoesWith, IsMade, begins-unbegun, SentNow, sent_now, heard-lost, Known, purpose_at, reached-all, lanes-under-way, get-remove, skip, notes-reach, keeps-placed, SameCalls, sent-purposes, AreAsked, IsPlain, state-is, keeps-wholly, Common, Owned}
 use Rattle.std.proofs.Common.{remove}
-use Rattle.rpc_message.proofs.CallLaws.{call_xid}
 use Rattle.client_core.specs.Steps.{SendsBy}
 use Rattle.core_facts.specs.Notes.{notes_fresh, notes_step, notes_lost}
 use Rattle.core_facts.proofs.Lists.{still-there}
 use Rattle.core_session.proofs.drops.LaneIs.{busy-over}
+use Rattle.core_session.proofs.syncs.Seen.{StateRested, free, taken}
+use Rattle.rpc_message.proofs.CallLaws.{call_xid}
 use Rattle.core_session.proofs.pending.Entries.{fresh-phase}
 use Rattle.core_session.proofs.syncs.Fate.{story-answers, story-same}
-use Rattle.core_session.proofs.syncs.Seen.{StateRested, free, taken}
 use Rattle.core_counts.proofs.counts.engine.Along.{KeepsSteps, kept-step}
 use Rattle.core_counts.proofs.counts.rooms.Base.{Base, Told}
 use Rattle.core_counts.proofs.counts.rooms.Calls.{Such}

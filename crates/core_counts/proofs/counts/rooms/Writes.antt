@@ -1,5 +1,7 @@
 -- What each step of a write makes of the COMMITs of a file that it may still ask for: those of the save by which it makes room now, and two for each further save.
 use Rattle.core_counts.proofs.Prelude.{◌≡◌, ◌≢◌, ◌≤◌, ◌<◌, ◌⊎◌, inl, inr, ◌+◌, ◌*◌, ◌-◌, ℕ, Bool, true, false, List, Result, Ok, Err, refl, sym, ap, subst, ◌∙◌, arith, Pending, of_file, same-or, IsCommitOf, commit, Fault, Call, Reply, ended, is_first, Next, Repeat, Shelf, Turn, is_full, file_to_write, joined, Saving, WriteFile, Writing, by-step, ends_as, Saves, IsEmpty}
+use Rattle.core_answers.proofs.asks.SavedCalls.{goes-on, takes-on}
+use Rattle.core_session.proofs.asked.Empty.{oldest-some}
 use Rattle.world_model.specs.declared.answer.Answer.TheVariants as answers
 use Rattle.world_model.specs.declared.answer.Value.TheVariants as values
 use Rattle.client_shelf.specs.LaneFiles.{left as left_order}
@@ -10,9 +12,7 @@ use Rattle.file_ops.specs.WriteFile as writes
 use Rattle.file_ops.specs.declared.write_file.Writing.TheVariants as writing
 use Rattle.core_facts.proofs.NamesAwaited.{Sends}
 use Rattle.core_facts.proofs.SaveCommits.{EndsSo}
-use Rattle.core_answers.proofs.asks.SavedCalls.{goes-on, takes-on}
 use Rattle.core_answers.proofs.paths.Endings.{goes-not}
-use Rattle.core_session.proofs.asked.Empty.{oldest-some}
 use Rattle.core_session.proofs.drops.SaveFiles.{IsSave, goes-save, takes-save}
 use Rattle.core_session.proofs.room.Stages.{IsGoing}
 use Rattle.core_session.proofs.syncs.SaveMoves.{goes-frame, takes-frame}

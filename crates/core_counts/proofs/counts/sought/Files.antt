@@ -1,7 +1,7 @@
 -- What a step of a write, a sync, a truncate or a put leaves of the number of the next hidden name: it stays.
 use Rattle.core_counts.proofs.Prelude.{◌≡◌, ℕ, Bool, true, false, List, Option, Some, None, Result, Ok, Err, inl, inr, refl, ap, ◌∙◌, Fault, Reply, Pending, is_first, Next, Shelf, Turn, OpeningNext, Saving, SyncFile, Syncing, Truncating, WriteFile, Writing, joined, by-step, ends_as, PutFile, Putting}
-use Rattle.world_model.specs.declared.answer.Answer.TheVariants as answers
 use Rattle.client_shelf.specs.LaneFiles.{left}
+use Rattle.world_model.specs.declared.answer.Answer.TheVariants as answers
 use Rattle.client_shelf.specs.declared.next.Next.TheVariants as nexts
 use Rattle.file_ops.specs.declared.opening.OpeningNext.TheVariants as openings
 use Rattle.file_ops.specs.declared.sync_file.Syncing.TheVariants as syncing

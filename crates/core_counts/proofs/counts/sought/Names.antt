@@ -1,16 +1,16 @@
 -- What a step of an operation on names leaves of the number of the next hidden name: it stays, but where a remove looks for such a name.
 use Rattle.core_counts.proofs.Prelude.{◌≡◌, ℕ, Bool, true, false, List, Option, Some, None, Result, Ok, Err, inl, inr, refl, sym, ap, subst, ◌∙◌, ◌<◌, ◌+◌, arith, if◌then◌else◌, Attr, Fault, Value, Call, Reply, Next, Shelf, Turn, ListDir, Stat, SymLink, Visit, Walk, WalkNext, found_by, look_again, text_call, TakesText, TakesShow, sym_link_call, TakesSymLink, Link, Pair, PairNext, Deed, Look, Seek, Move, Remove, RemoveFile, Rename, access_call, deed_call, TakesLink, TakesRename, NameMachine}
+use Rattle.name_ops.specs.SymLink.{sym_linked_told, ChangesByCopy}
+use Rattle.name_ops.specs.Access.{access_attr, access_told}
+use Rattle.name_ops.specs.DirChange.{deed_told}
 use Rattle.silly_rename.specs.Plans.{silly_name}
 use Rattle.name_ops.specs.declared.told.Told.{Told}
 use Rattle.name_ops.specs.declared.walk.WalkNext.TheVariants as walks
 use Rattle.name_ops.specs.Changing as changing
 use Rattle.name_ops.specs.ListDir as listing
 use Rattle.name_ops.specs.Stat as stats
-use Rattle.name_ops.specs.SymLink.{sym_linked_told, ChangesByCopy}
 use Rattle.name_ops.specs.Visiting as visiting
 use Rattle.name_ops.specs.Walking as walking
-use Rattle.name_ops.specs.Access.{access_attr, access_told}
-use Rattle.name_ops.specs.DirChange.{deed_told}
 use Rattle.name_ops.specs.Pairs as pairs
 use Rattle.name_ops.specs.RemoveFile as removals
 use Rattle.op_machines.specs.declared.name_machine.NameMachine.TheVariants as machines

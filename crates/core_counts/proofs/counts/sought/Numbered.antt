@@ -2,15 +2,15 @@
 use Rattle.core_counts.proofs.Prelude.{◌≡◌, ◌<◌, ◌≤◌, ◌+◌, ◌-◌, ◌^◌, ◌⊎◌, ◌==◌, inl, inr, ℕ, zero, suc, nat_eq, cond, List, [], ◌∷◌, ◌++◌, length, map, Bool, true, false, Option, Some, None, MatchOption, position, slice_get, slice_set, Result, Ok, Err, refl, sym, ap, subst, ◌∙◌, length-append, arith, if◌then◌else◌, eqb-true, Waiting, failed_after, waiting_at, without, Fault, Entry, Began, Answered, Dialed, Sent, Executed, Foreign, Flushed, Reboot, Delivered, Failed, Clock, Reply, Op, said_of, Next, Send, Wait, Done, Shelf, Turn, Deed, Look, Seek, Move, Remove, Mounted, Machine, NameMachine, machine_of, Lane, Purpose, State, Busy, Over, Setup, IsFresh, is_busy, with_state, IsRefused, Leads, Stirs, moves_none, moves_more, counted, StartsLane, BeginsIf, TakesAt, View, turn_at, StepsTo, Reaches, begins, goes, loses, last_reading, dropped, replied, sent_now, FailedNow, goes_on, gives_up, failed_now, answered_now, taken_one, get-push, get-remove, skip}
 use Rattle.std.proofs.Common.{remove}
 use Rattle.rpc_retry.specs.Waiting.{sent, first_given_up}
+use Rattle.client_core.specs.Lanes.{lost_lane, lost_state}
+use Rattle.client_core.specs.Steps.{Moves, failed_view, lost}
+use Rattle.core_facts.proofs.Cases.{Heard, heard}
+use Rattle.core_facts.proofs.Lists.{in-map}
 use Rattle.rpc_retry.proofs.Dues.{length-sent}
 use Rattle.rpc_retry.proofs.Failing.{length-failed}
 use Rattle.name_ops.specs.RemoveFile.{next_number}
 use Rattle.op_machines.specs.declared.machine.Machine.TheVariants as machines
 use Rattle.op_machines.specs.declared.name_machine.NameMachine.TheVariants as names
-use Rattle.client_core.specs.Lanes.{lost_lane, lost_state}
-use Rattle.client_core.specs.Steps.{Moves, failed_view, lost}
-use Rattle.core_facts.proofs.Cases.{Heard, heard}
-use Rattle.core_facts.proofs.Lists.{in-map}
 use Rattle.core_facts.proofs.Sound.{Sound, reached-sound}
 use Rattle.core_counts.proofs.counts.sought.Names.{DeedBelow, NameBelow, stays, looks}
 use Rattle.core_counts.proofs.counts.sought.Steps.{SeeksBelow, starts-on, resumes-on, TookOn, takes-on, begins-below}

@@ -1,5 +1,6 @@
 -- What a step of any operation leaves of the number of the next hidden name, and that the names that removes look for have lower numbers.
 use Rattle.core_counts.proofs.Prelude.{◌≡◌, ◌-◌, ℕ, Bool, true, false, List, Result, Ok, Err, refl, sym, ap, subst, ◌∙◌, Fault, Reply, Op, Next, Shelf, Turn, file_to_write, file_at, WalkNext, Mounted, FileMachine, Machine, NameMachine, PathMachine, machine_of, file_of, begun_at, slot_taken, Starts, Resumes, Takes}
+use Rattle.op_machines.specs.Openers.{placed}
 use Rattle.world_model.specs.declared.op.Op.TheVariants as ops
 use Rattle.file_ops.specs.TruncateFile as truncates
 use Rattle.name_ops.specs.declared.walk.WalkNext.TheVariants as walks
@@ -7,7 +8,6 @@ use Rattle.name_ops.specs.Walking as walking
 use Rattle.op_machines.specs.declared.file_machine.FileMachine.TheVariants as files
 use Rattle.op_machines.specs.declared.machine.Machine.TheVariants as machines
 use Rattle.op_machines.specs.FileSteps as steps
-use Rattle.op_machines.specs.Openers.{placed}
 use Rattle.op_machines.specs.PathSteps as paths
 use Rattle.core_counts.proofs.counts.sought.Closes as on_closes
 use Rattle.core_counts.proofs.counts.sought.Files as on_files

@@ -1,9 +1,9 @@
 -- Before a step: what is due, and who wrote.
 use Rattle.core_counts.proofs.Prelude.{◌≡◌, ◌<◌, ◌+◌, ◌-◌, inl, inr, ℕ, true, List, [], ◌∷◌, length, Some, refl, sym, subst, arith, slice_index, Entry, Began, Call, Op, CoversPlace, At, Modes, UnderWay, At-below, At-one, Pending, of_file, IsNewest, rest_at, covers, Next, Opens, IsUnused, Mounted, Machine, Setup, View, IsNfs, StartsHas, EachSound}
+use Rattle.core_session.proofs.order.Adds.{EndsWell}
 use Rattle.op_machines.specs.declared.file_machine.FileMachine.TheVariants as file_machines
 use Rattle.op_machines.specs.declared.machine.Machine.TheVariants as machines
 use Rattle.core_session.proofs.calls.GivenBytes.{Gives}
-use Rattle.core_session.proofs.order.Adds.{EndsWell}
 use Rattle.core_counts.proofs.counts.engine.Lists.{Each}
 use Rattle.core_counts.proofs.counts.writes.Landing.{unflown}
 use Rattle.core_counts.proofs.counts.writes.Stepped.{Held}

@@ -1,7 +1,7 @@
 -- The tally is kept where an operation begins.
 use Rattle.core_counts.proofs.Prelude.{◌≡◌, ◌≢◌, ◌<◌, ◌+◌, ◌⊎◌, inl, inr, ℕ, false, List, [], ◌∷◌, ◌++◌, length, Some, slice_get, refl, sym, ap, subst, ◌∙◌, arith, next_xid, Entry, Began, Sent, Op, Modes, UnderWay, At-last, At-one, of_file, rest_at, Turn, IsUnused, Mounted, machine_of, Fits, Lane, Busy, Setup, IsIdle, numbers_of, counted, StartsLane, View, turn_at, Reaches, last_reading, Given, is-given, Known, lanes-under-way, idle-numbers, number_of, at-push, get-push, to-map, same-rows, unused-next, keeps-bytes, StartsHas, basis-ready, starts-basis, NearAs, stage_of, starts-has, starts-wholly, EachSound}
-use Rattle.op_machines.proofs.AllLaws as laws
 use Rattle.core_session.proofs.calls.GivenBytes.{Gives, begun-has}
+use Rattle.op_machines.proofs.AllLaws as laws
 use Rattle.core_session.proofs.room.Entered.{under-early}
 use Rattle.core_counts.proofs.coarse.Near.{near-starts}
 use Rattle.core_counts.proofs.counts.engine.Lists.{each-map, Elsewhere}

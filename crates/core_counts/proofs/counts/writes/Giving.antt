@@ -2,12 +2,12 @@
 use Rattle.core_counts.proofs.Prelude.{◌≡◌, ◌<◌, ◌≤◌, ◌-◌, ◌⊎◌, inl, inr, ℕ, zero, suc, List, [], length, Bool, Some, None, slice_get, refl, sym, ap, subst, ◌∙◌, arith, append-nil, if◌then◌else◌, cases_lt, lt-ltb, Entry, Began, Op, At, Rooted, AnsweredBefore, EndsAt, IsOf, Terms, WritesByte, Rooted-wide, At-below, Mounted, IsAsked, Setup, View, IsSession}
 use Rattle.std.proofs.Common.{replicate}
 use Rattle.std.proofs.lemmas.Bool.{le-ltb}
-use Rattle.world_model.specs.declared.op.Op.TheVariants as ops
-use Rattle.world_model.specs.Leads.{Leads}
 use Rattle.world_model.specs.Operations.{answered, unanswered}
 use Rattle.claims.specs.Touched.{Covers}
-use Rattle.claims.specs.Touched as touched
 use Rattle.op_machines.specs.Begun.{IsNamed}
+use Rattle.world_model.specs.declared.op.Op.TheVariants as ops
+use Rattle.world_model.specs.Leads.{Leads}
+use Rattle.claims.specs.Touched as touched
 use Rattle.core_facts.proofs.Leading.{leads-from}
 use Rattle.core_answers.specs.writes.Written.{byte_from, byte_by}
 use Rattle.core_session.proofs.calls.GivenBytes.{IsGiven, LeadsInTime}

@@ -1,8 +1,8 @@
 -- The tally is kept where an operation goes on.
 use Rattle.core_counts.proofs.Prelude.{◌≡◌, ◌≢◌, ◌+◌, ◌⊎◌, ℕ, List, length, Some, slice_get, slice_set, refl, sym, subst, ◌∙◌, next_xid, Entry, IsBusy, Modes, of_file, all_pending, rest_at, IsUnused, Mounted, Lane, Busy, Setup, with_state, Stirs, View, turn_at, Known, lanes-under-way, at-set, same-rows, set-other, unused-next, keeps-bytes, basis-ready, stirs-basis, Stage, stage_of, resumes-has, stirs-wholly, EachSound}
+use Rattle.core_session.proofs.room.Stages.{Verdict, outcome}
 use Rattle.op_machines.proofs.AllLaws as laws
 use Rattle.core_session.proofs.room.Machines as verdicts
-use Rattle.core_session.proofs.room.Stages.{Verdict, outcome}
 use Rattle.core_counts.proofs.counts.engine.Lists.{Elsewhere}
 use Rattle.core_counts.proofs.counts.writes.Once.{Gone}
 use Rattle.core_counts.proofs.counts.writes.Stepped.{Held, never-adds, resumes-held}

@@ -1,22 +1,22 @@
 -- The tally is kept where an operation takes what came of its call.
 use Rattle.core_counts.proofs.Prelude.{◌≡◌, ◌≢◌, ◌≤◌, ◌<◌, ◌+◌, ◌-◌, ◌⊎◌, inl, inr, ℕ, nat_eq, Bool, true, false, List, [], ◌∷◌, ◌++◌, length, Option, Some, None, position, slice_get, slice_set, Result, refl, sym, ap, subst, ◌∙◌, arith, eqb-true, xid_at, Waiting, next_xid, waiting_at, without, others_taken, gone, Answer, Fault, Entry, Began, Sent, Delivered, Call, Reply, Op, CoversPlace, IsCommitOf, commit, RepliedAt, At, Heard, IsBusy, HasXid, Modes, AnsweredBefore, UnderWay, FirstSent-grow, At-grow, At-below, At-back, At-last, At-cases, length_last, said_of, Says, Pending, of_file, all_pending, rest_at, piece_under, covers, low-of, high-of, same-or, Repeat, Turn, Saving, write_told, IsUnused, Mounted, machine_of, Lane, Purpose, Busy, Setup, is_busy, with_state, TakesAt, View, turn_at, in_flight, HearsRecord, Reaches, IsMade, IsOutstanding, Tried, begins-unbegun, taken_one, flies_of, was-sent, says-of, Known, taker-one, lanes-under-way, at-set, at-position, same-rows, taken-rows, set-other, under-back, reached-good, written_file, Expects, expects-laws, NoCall, NoShelf, NoStory, no-laws, one-call, nfs-of, CallFits, commits_of, fits-laws, tales, unused-next, keeps-bytes, TakesHas, basis-ready, takes-basis, NearAs, Stage, stage_of, sent-piece, takes-has, takes-wholly, EachSound}
+use Rattle.claims.specs.CallCounts.{IsPoor, LeavesUnwritten}
+use Rattle.core_answers.proofs.asks.CallsAwaited.{Names}
+use Rattle.core_session.proofs.calls.GivenBytes.{Gives, brings-later, has-all}
+use Rattle.core_session.proofs.room.Stages.{Verdict, outcome}
+use Rattle.core_session.proofs.saves.Taking.{sent-is}
 use Rattle.std.specs.Prelude.{unwrap_or}
 use Rattle.nfs_file_calls.specs.declared.call.FileCall.TheVariants as files
 use Rattle.world_model.specs.declared.entry.Entry.TheVariants.{Answered as Noted}
 use Rattle.world_model.specs.declared.message.Call.TheVariants as calls
-use Rattle.claims.specs.CallCounts.{IsPoor, LeavesUnwritten}
 use Rattle.write_back.specs.Pieces.{Sent as Piece}
 use Rattle.file_ops.specs.Saves as saves
 use Rattle.op_machines.proofs.AllLaws as laws
 use Rattle.core_facts.specs.Tries.{unsent, runs, ended as tries_ended}
 use Rattle.core_facts.proofs.SlotGrowth.{ended-back}
-use Rattle.core_answers.proofs.asks.CallsAwaited.{Names}
 use Rattle.core_answers.proofs.asks.SavedCalls.{Saves as SavesCall}
 use Rattle.core_session.proofs.calls.Brought.{has-both}
-use Rattle.core_session.proofs.calls.GivenBytes.{Gives, brings-later, has-all}
 use Rattle.core_session.proofs.room.Machines as verdicts
-use Rattle.core_session.proofs.room.Stages.{Verdict, outcome}
-use Rattle.core_session.proofs.saves.Taking.{sent-is}
 use Rattle.core_session.proofs.syncs.Showings as showings
 use Rattle.core_counts.proofs.coarse.Near.{near-has}
 use Rattle.core_counts.proofs.coarse.OfSaves.{IsOfSave, never-both, of-machine}

@@ -2,20 +2,20 @@
 use Rattle.core_counts.proofs.Prelude.{◌≡◌, ◌≢◌, ◌≤◌, ◌+◌, ◌-◌, ◌&&◌, ◌⊎◌, inl, inr, ℕ, Bool, true, false, List, ◌∷◌, length, Option, Some, None, refl, sym, ap, subst, ◌∙◌, arith, if◌then◌else◌, nat_lt, eqb-true, lt-ltb, decided, Verf, Change, InFlight, Acked, fate, piece_of, IsAnswer, Pending, of_file, OnFile, acked_by, at_piece, at_xid, landed, landed_part, with_xid, Flown, FilePending, flown_in, rest_at, fly_at, piece_under, PutsInFlight, Lands, cell_landed, newer_or, Segment, Segments, covers, Cell, IsSound, is_in_flight, flown_as_of, low-of, high-of, answer-return, answer-acked, lands-one-at, under-own, same-or, renumbers-so, EachSound, if-true}
 use Rattle.std.proofs.Common.{IfSome}
 use Rattle.std.specs.Prelude.{nat_eq}
-use Rattle.std.specs.Option.{option_map}
 use Rattle.std.proofs.lemmas.Bool.{ne_eqb}
-use Rattle.write_back.specs.declared.change.Change.TheVariants as by_change
-use Rattle.write_back.specs.declared.state.State.{State}
 use Rattle.write_back.specs.declared.state.State.TheVariants.{Waiting}
-use Rattle.write_back.specs.declared.state.Ready.TheVariants.{Refused as was_refused}
 use Rattle.write_back.specs.Changes.{cell_changed}
 use Rattle.write_back.specs.Files.{IsFree, PutsPiece}
 use Rattle.write_back.specs.Landing.{with_change}
 use Rattle.write_back.specs.Pieces.{Sent}
 use Rattle.write_back.specs.Waits.{Renumbers}
-use Rattle.write_back.proofs.Marking.{held-settle, held-mark, changes-held, sound-held}
 use Rattle.write_back.proofs.Replying.{lands-part-at}
 use Rattle.write_back.proofs.Xids.{fly-under}
+use Rattle.std.specs.Option.{option_map}
+use Rattle.write_back.specs.declared.change.Change.TheVariants as by_change
+use Rattle.write_back.specs.declared.state.State.{State}
+use Rattle.write_back.specs.declared.state.Ready.TheVariants.{Refused as was_refused}
+use Rattle.write_back.proofs.Marking.{held-settle, held-mark, changes-held, sound-held}
 use Rattle.step_pending.proofs.Shown.{flown-from, has-piece, not-under}
 use Rattle.core_counts.proofs.counts.writes.Weights.{Class, one_if, due_of, flown_of, weight, low, high, due-most, flown-most, Below, due-low, flown-low, below-high, puts-weight, lands-out as elsewhere, lands-in, left-number, landed-number, newer-number, back-weight, acked-weight}
 

@@ -1,7 +1,8 @@
 -- Each operation adds its bytes once at most: where a step adds them, the operation is over then, or is a put whose bytes are pending, which never adds any.
 use Rattle.core_counts.proofs.Prelude.{◌≡◌, ◌≢◌, ◌⊎◌, inl, inr, ℕ, Bool, true, false, List, length, Result, Ok, Err, refl, sym, ap, subst, ◌∙◌, Answer, Fault, Reply, is_first, Next, Shelf, Turn, OpeningNext, PutFile, Putting, Saving, WriteFile, Writing, is_full, joined, by-step, ends_as, FileMachine, Machine, PathMachine, file_of, Takes, PutHas, FileHas, PathHas, TakesHas, Stage, stage_of}
-use Rattle.world_model.specs.declared.answer.Answer.TheVariants as answers
 use Rattle.client_shelf.specs.LaneFiles.{left}
+use Rattle.core_session.proofs.order.Adds.{RoomHas, EndsWell}
+use Rattle.world_model.specs.declared.answer.Answer.TheVariants as answers
 use Rattle.client_shelf.specs.declared.next.Next.TheVariants as nexts
 use Rattle.file_ops.specs.declared.opening.OpeningNext.TheVariants as openings
 use Rattle.file_ops.specs.declared.put_file.Putting.TheVariants as putting
@@ -13,7 +14,6 @@ use Rattle.op_machines.specs.declared.file_machine.FileMachine.TheVariants as fi
 use Rattle.op_machines.specs.declared.machine.Machine.TheVariants as machines
 use Rattle.op_machines.specs.FileSteps as steps
 use Rattle.op_machines.specs.PathSteps as paths
-use Rattle.core_session.proofs.order.Adds.{RoomHas, EndsWell}
 use Rattle.core_session.proofs.room.Stages.{storing, putting as puts_still, settling, put_stage, file_stage, path_stage}
 
 -- the number of the last write is the same

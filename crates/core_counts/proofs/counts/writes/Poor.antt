@@ -1,5 +1,7 @@
 -- A reply to a WRITE says that the server has all of its bytes, or leaves them unwritten.
 use Rattle.core_counts.proofs.Prelude.{◌≡◌, ◌≢◌, ◌<◌, ◌||◌, ◌==◌, ◌⊎◌, inl, inr, ℕ, Bool, true, false, List, length, Result, Ok, Err, refl, arith, nat_lt, eqb-true, ltb-true, ltb-false, Verf, Wcc, FileKept, Fault, Call, Reply, Says, write_told}
+use Rattle.call_replies.specs.Says.{SpellsOne}
+use Rattle.file_ops.specs.Judging.{written_by}
 use Rattle.nfs_file_calls.specs.declared.call.FileCall.TheVariants as files
 use Rattle.nfs_file_calls.specs.declared.owned.FileKept.TheVariants as kept
 use Rattle.world_model.specs.declared.answer.Fault.TheVariants as faults
@@ -8,8 +10,6 @@ use Rattle.world_model.specs.declared.message.Reply.TheVariants as replies
 use Rattle.claims.specs.CallCounts.{LeavesUnwritten, refused, short}
 use Rattle.claims.specs.PageRules.{refuses}
 use Rattle.world_model.specs.Rules.{wrong_committed, wrong_count}
-use Rattle.call_replies.specs.Says.{SpellsOne}
-use Rattle.file_ops.specs.Judging.{written_by}
 use Rattle.file_ops.specs.Saves as saves
 
 or-either : (a b : Bool) → (a || b) ≡ true → (a ≡ true) ⊎ (b ≡ true)

@@ -2,11 +2,11 @@
 -- a COMMIT, by one.
 use Rattle.core_counts.proofs.Prelude.{◌≡◌, ◌≤◌, ◌&&◌, ◌||◌, ◌==◌, ◌⊎◌, inl, inr, ℕ, Bool, true, false, List, [], ◌∷◌, length, Option, Some, None, Result, Ok, Err, refl, sym, ap, subst, nat_lt, Verdict, AllStable, SendAgain, verdict_of, Verf, Wcc, Fault, Memory, Reply, lost, chosen, Pending, of_file, OnFile, acked_by, at_xid, landed, landed_part, with_xid, piece_under, Segments, Repeat, Turn, goes_again, Sending, Committing, Resending, CommittingAgain, Saving, write_told, commit_told, IsUnused, EachSound}
 use Rattle.std.proofs.Common.{IfSome}
-use Rattle.nfs_file_calls.specs.declared.owned.FileKept.TheVariants as kept
 use Rattle.world_model.specs.declared.answer.Fault.TheVariants.{Bad}
+use Rattle.write_back.specs.Pieces.{Sent}
+use Rattle.nfs_file_calls.specs.declared.owned.FileKept.TheVariants as kept
 use Rattle.world_model.specs.declared.message.Reply.TheVariants as replies
 use Rattle.write_back.specs.declared.change.Change.TheVariants as by_change
-use Rattle.write_back.specs.Pieces.{Sent}
 use Rattle.file_ops.specs.declared.saving.Phase.{Phase}
 use Rattle.file_ops.specs.Saves as saves
 use Rattle.core_counts.proofs.counts.writes.Landing.{the-piece, W, Fewer, same-fewer, fewer-then, puts-fewer, returned-fewer, Gain, Covered, FineBack, fine-then, fine-same, returns-fine, refuses-fine, acks-fine, renews-fine, decides-fine}

@@ -1,16 +1,16 @@
 -- What a step of any operation makes of how often a place may still be sent.
 use Rattle.core_counts.proofs.Prelude.{◌≡◌, ◌≢◌, ◌≤◌, ◌<◌, ◌+◌, ◌⊎◌, inl, inr, ℕ, Bool, true, false, List, length, Result, Err, refl, sym, ap, subst, ◌∙◌, arith, leb-true, Fault, Call, Reply, Pending, of_file, with_bytes, IsNewest, OnFile, with_cut, FilePending, nothing, rest_at, fly_at, PutsBytes, covers, puts-with, same-or, Next, Repeat, Shelf, Turn, Saving, IsUnused, Machine, Starts, Resumes, Takes, After, TakesHas, StartsHas, NearAs, unmade-has, EachSound}
 use Rattle.std.proofs.lemmas.Bool.{false_from_ne_true}
+use Rattle.core_answers.proofs.writes.Backs.{CarriesReply}
+use Rattle.core_session.proofs.order.Adds.{Bears, all-starts, all-resumes, all-takes}
+use Rattle.core_session.proofs.order.Sounds.{Sounds, SoundsFirst, SoundCall, bears-sounds, replies-sounds}
 use Rattle.std.specs.Prelude.{nat_le}
 use Rattle.write_back.proofs.Adding.{cuts-so}
 use Rattle.client_shelf.specs.declared.next.Next.TheVariants as nexts
 use Rattle.file_ops.specs.Saves as saves
 use Rattle.file_ops.specs.Syncs as syncs
 use Rattle.core_answers.proofs.writes.AllBacks.{Saves}
-use Rattle.core_answers.proofs.writes.Backs.{CarriesReply}
 use Rattle.core_answers.proofs.writes.Mapped.{any-saves}
-use Rattle.core_session.proofs.order.Adds.{Bears, all-starts, all-resumes, all-takes}
-use Rattle.core_session.proofs.order.Sounds.{Sounds, SoundsFirst, SoundCall, bears-sounds, replies-sounds}
 use Rattle.core_counts.proofs.counts.writes.Landing.{W, Fewer, on-fewer}
 use Rattle.core_counts.proofs.counts.writes.Saved.{goes-fewer, takes-err}
 use Rattle.core_counts.proofs.counts.writes.Weights.{one_if, one-most, due_of, weight, low, high, Below, flown-low, below-high, newest-below, cut-due, laid-out, laid-in}

@@ -3,20 +3,20 @@
 use Rattle.core_counts.proofs.Prelude.{◌≡◌, ◌≢◌, ◌≤◌, ◌<◌, ◌+◌, ◌⊎◌, inl, inr, ℕ, zero, suc, nat_eq, Bool, true, false, List, [], ◌∷◌, ◌++◌, length, Some, slice_get, slice_set, Err, refl, sym, ap, subst, ◌∙◌, arith, nat_lt, eqb-true, eqb-false, eq-eqb, leb-true, ltb-true, Waiting, next_xid, made_call, waiting_at, waits_early, at_made, others_made, Entry, Began, Sent, Call, Op, CoversPlace, IsCommitOf, RepliedAt, NoneBegan, At, Heard, HasXid, SpellsCall, SpellsCallBy, proc_of, Modes, UnderWay, At-below, At-cases, length_last, Pending, of_file, all_pending, flown_in, rest_at, fly_at, covers, under-own, same-or, Next, IsReady, Mounted, Machine, Lane, Purpose, State, Busy, Over, Setup, record_of, Makes, IsRefused, Leads, View, turn_at, unmade_turn, at-set, Rows, made-known, made-asked, set-other, under-back, written_file, one-call, nfs-of, After, Free, Basis, Stage, stage_of, Has, Wholly, EachSound}
 use Rattle.std.specs.Prelude.{◌&&◌, nat_le}
 use Rattle.std.proofs.lemmas.Bool.{and_parts}
+use Rattle.claims.specs.CallCounts.{IsPoor}
+use Rattle.client_core.specs.Steps.{put_view}
+use Rattle.core_facts.proofs.Stories.{by-place}
+use Rattle.core_session.proofs.room.Stages.{settling, going, over, outcome, Verdict, rests, ends, stores, puts, puts_over, crowds_store, crowds_put}
+use Rattle.core_session.proofs.saves.WholeSteps.{HasPiece}
 use Rattle.nfs_file_calls.specs.declared.call.FileCall.TheVariants as files
 use Rattle.world_model.specs.declared.message.Call.TheVariants as calls
-use Rattle.claims.specs.CallCounts.{IsPoor}
 use Rattle.write_back.proofs.ByPlace.{covered}
 use Rattle.write_back.proofs.Flying.{flown-some, under-whole}
 use Rattle.write_back.proofs.Xids.{fly-under}
 use Rattle.client_shelf.specs.declared.next.Next.TheVariants as nexts
-use Rattle.client_core.specs.Steps.{put_view}
-use Rattle.core_facts.proofs.Stories.{by-place}
 use Rattle.core_session.proofs.calls.GivenBytes.{IsGiven, Bytes, given-later}
 use Rattle.core_session.proofs.delays.Puts.{heard-later}
 use Rattle.core_session.proofs.room.Machines as verdicts
-use Rattle.core_session.proofs.room.Stages.{settling, going, over, outcome, Verdict, rests, ends, stores, puts, puts_over, crowds_store, crowds_put}
-use Rattle.core_session.proofs.saves.WholeSteps.{HasPiece}
 use Rattle.step_pending.proofs.Shown.{some-of, flown-from}
 use Rattle.core_counts.proofs.counts.engine.Lists.{Each, each-map, Elsewhere, Apart}
 use Rattle.core_counts.proofs.counts.writes.Landing.{W}

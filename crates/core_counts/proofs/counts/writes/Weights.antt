@@ -2,15 +2,15 @@
 -- under an xid; of the writes whose numbers are of a class.
 use Rattle.core_counts.proofs.Prelude.{◌≡◌, ◌≤◌, ◌<◌, ◌+◌, ◌-◌, ◌&&◌, ℕ, zero, suc, Bool, true, false, List, [], ◌∷◌, length, map, Option, Some, None, refl, sym, ap, subst, ◌∙◌, arith, if◌then◌else◌, nat_lt, slice_index, eq-eqb, ltb-true, ltb-false, leb-true, Verf, Change, InFlight, Unsent, fate, Pending, of_file, IsNewest, acked_by, Flown, FilePending, flown_in, rest_of, rest_at, fly_at, PutsBytes, PutsInFlight, Lands, cell_landed, newer_or, Cell, Segments, cell_at, cell_in, covers, is_ready, is_in_flight, if-true, if-false}
 use Rattle.std.specs.Prelude.{nat_eq, nat_le, Contains}
-use Rattle.std.specs.List.{concat}
 use Rattle.std.proofs.lemmas.Bool.{leb-false}
-use Rattle.std.proofs.lemmas.List.Elements.{Contains-append_left, Contains-append_right, Contains-push}
-use Rattle.write_back.specs.declared.change.Change.TheVariants as by_change
-use Rattle.write_back.specs.declared.state.State.{State}
 use Rattle.write_back.specs.declared.state.State.TheVariants.{Waiting}
 use Rattle.write_back.specs.Changes.{cell_left}
 use Rattle.write_back.specs.Pieces.{Sent}
 use Rattle.write_back.specs.Places.{cell_flown, cell_cut}
+use Rattle.std.specs.List.{concat}
+use Rattle.std.proofs.lemmas.List.Elements.{Contains-append_left, Contains-append_right, Contains-push}
+use Rattle.write_back.specs.declared.change.Change.TheVariants as by_change
+use Rattle.write_back.specs.declared.state.State.{State}
 use Rattle.write_back.proofs.Newest.{newest-above}
 
 -- ---- of one place

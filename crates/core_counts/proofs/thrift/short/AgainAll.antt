@@ -1,8 +1,17 @@
 -- Along a history: of each file, what is to be sent again has older numbers than what was never sent.
 use Rattle.core_counts.proofs.Prelude.{◌≡◌, ◌≤◌, ◌<◌, inl, inr, ◌+◌, ◌-◌, ◌^◌, ◌++◌, ℕ, nat_eq, Bool, true, false, List, [], ◌∷◌, length, Option, Some, None, position, slice_get, Result, Ok, Err, refl, sym, ap, subst, ◌∙◌, arith, eqb-true, eqb-false, Waiting, waiting_at, Answer, Fault, Entry, Began, Answered, Delivered, Reply, Op, said_of, InFlight, Acked, is_in_flight, how_of, ready_of, if-true, if-false, Ready, Unsent, Pending, of_file, HasNoPiece, OnFile, Flown, nothing, rest_of, rest_at, fly_at, Cell, cell_at, Opens, Next, Shelf, Turn, is_first, PutFile, Putting, Saving, Text, Mounted, FileMachine, Machine, PathMachine, machine_of, Fits, file_of, Takes, Lane, Purpose, State, Busy, Over, Setup, is_busy, IsIdle, Leads, Stirs, counted, StartsLane, TakesAt, AnswersAt, View, turn_at, AreApart, IsFresh, in_flight, MaySetUp, IsSetUp, Reaches, begins-unbegun, taken_one, Known, taker-one, reached-all, lanes-under-way, get-remove, skip, look-at, LaneLive, keeps-placed, Basis, stirs-basis, starts-basis, takes-basis, keeps-basis, Wholly, keeps-wholly, stirs-wholly, starts-wholly, takes-wholly, JobBegins, JobOpens, job_save, Common, job_kind, save-is, Job, Content, ContentReplies, SaveSo, Tale, Owned, bases, ButFor, EachSound, IsUnderWay}
+use Rattle.write_back.specs.declared.state.Ready.TheVariants.{Again, Refused}
+use Rattle.core_facts.specs.InFlight.{of_saving}
+use Rattle.core_facts.proofs.Placing.{Placed, seat_state, seat_in}
+use Rattle.core_session.proofs.syncs.AllJobs.{PathOpens, job_lane}
+use Rattle.core_session.proofs.syncs.Contents.{common, common-replies, common-adds, common-cuts, common-gives}
+use Rattle.core_session.proofs.syncs.Fates.{live-lane}
+use Rattle.core_session.proofs.syncs.Jobs.{PutOpens, FileOpens, file_lane}
+use Rattle.core_session.proofs.syncs.Levels.{queued, elsewhere, under, not-seated}
+use Rattle.core_session.proofs.syncs.Passing.{job-in, Shown}
+use Rattle.core_session.proofs.syncs.Seen.{free, sees}
 use Rattle.write_back.specs.declared.state.State.{State as Kept}
 use Rattle.write_back.specs.declared.state.State.TheVariants.{Waiting as Waits}
-use Rattle.write_back.specs.declared.state.Ready.TheVariants.{Again, Refused}
 use Rattle.client_shelf.specs.declared.next.Next.TheVariants as nexts
 use Rattle.file_ops.specs.declared.put_file.Putting.TheVariants as putting
 use Rattle.file_ops.specs.declared.write_file.Text.TheVariants as texts
@@ -14,20 +23,11 @@ use Rattle.op_machines.specs.declared.machine.Machine.TheVariants as machines
 use Rattle.op_machines.specs.FileFits.{FileFits}
 use Rattle.op_machines.specs.FileSteps as steps
 use Rattle.op_machines.specs.PathSteps as paths
-use Rattle.core_facts.specs.InFlight.{of_saving}
 use Rattle.core_facts.proofs.AllSeats.{seat_of, path_seat}
 use Rattle.core_facts.proofs.FileSeats.{seat_file, seat_put}
-use Rattle.core_facts.proofs.Placing.{Placed, seat_state, seat_in}
 use Rattle.core_session.proofs.drops.KnowingAlong.{StepsKnowing, reached-knowing}
-use Rattle.core_session.proofs.syncs.AllJobs.{PathOpens, job_lane}
-use Rattle.core_session.proofs.syncs.Contents.{common, common-replies, common-adds, common-cuts, common-gives}
-use Rattle.core_session.proofs.syncs.Fates.{live-lane}
-use Rattle.core_session.proofs.syncs.Jobs.{PutOpens, FileOpens, file_lane}
-use Rattle.core_session.proofs.syncs.Levels.{queued, elsewhere, under, not-seated}
 use Rattle.core_session.proofs.syncs.Nexts.{common-from, tale-map}
-use Rattle.core_session.proofs.syncs.Passing.{job-in, Shown}
 use Rattle.core_session.proofs.syncs.Plans.{Plan, Came_, stirs-came, takes-came, starts-came}
-use Rattle.core_session.proofs.syncs.Seen.{free, sees}
 use Rattle.core_session.proofs.syncs.Stands.{Has}
 use Rattle.step_pending.proofs.Cutting.{nothing-sound}
 use Rattle.write_back.specs.Numbers.{AllUpTo}

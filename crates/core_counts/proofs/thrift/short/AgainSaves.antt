@@ -1,25 +1,25 @@
 -- Of one file: what is to be sent again has older numbers than what was never sent. What a step of a save makes of that.
 use Rattle.core_counts.proofs.Prelude.{◌≡◌, ◌≢◌, ◌≤◌, ◌<◌, ◌+◌, ◌&&◌, ◌||◌, ◌==◌, ◌-◌, ◌⊎◌, inl, inr, ℕ, Bool, true, false, List, [], ◌∷◌, length, Option, Some, None, Result, Ok, Err, refl, sym, ap, subst, ◌∙◌, arith, if◌then◌else◌, nat_lt, slice_index, Verdict, AllStable, SendAgain, decided, verdict_of, Verf, Fault, Memory, Reply, Wcc, Change, InFlight, Acked, Ready, Unsent, IsAnswer, is_in_flight, fate, lost, chosen, piece_of, Pending, of_file, with_bytes, OnFile, acked_by, at_piece, at_xid, landed, landed_part, with_cut, with_xid, Flown, FilePending, nothing, flown_in, fly_in, rest_at, fly_at, piece_under, PutsInFlight, PutsBytes, Lands, cell_landed, newer_or, Segments, covers, Cell, IsSound, flown_as_of, answer-return, answer-acked, lands-one-at, puts-with, same-or, renumbers-so, Repeat, Turn, goes_again, Sending, Committing, Resending, CommittingAgain, Saving, write_told, commit_told, cases_lt, leb-true, EachSound, IsUnderWay, if-true, if-false}
 use Rattle.std.specs.Prelude.{nat_le, nat_eq}
-use Rattle.std.specs.Option.{option_map}
 use Rattle.world_model.specs.declared.answer.Fault.TheVariants.{Bad}
-use Rattle.world_model.specs.declared.message.Reply.TheVariants as replies
-use Rattle.nfs_file_calls.specs.declared.owned.FileKept.TheVariants as kept
-use Rattle.write_back.specs.declared.change.Change.TheVariants as by_change
-use Rattle.write_back.specs.declared.state.State.{State}
 use Rattle.write_back.specs.declared.state.State.TheVariants.{Waiting}
-use Rattle.write_back.specs.declared.state.Ready.TheVariants.{Again, Refused as was_refused}
 use Rattle.write_back.specs.States.{same_verf}
 use Rattle.write_back.specs.Changes.{cell_left, cell_changed}
 use Rattle.write_back.specs.Landing.{with_change}
 use Rattle.write_back.specs.Pieces.{Sent}
 use Rattle.write_back.specs.Places.{cell_cut}
+use Rattle.write_back.proofs.Replying.{lands-part-at}
+use Rattle.step_saves.specs.Saves.{EachUpTo, IsHeld, PhaseHas, PhaseCounts}
+use Rattle.std.specs.Option.{option_map}
+use Rattle.world_model.specs.declared.message.Reply.TheVariants as replies
+use Rattle.nfs_file_calls.specs.declared.owned.FileKept.TheVariants as kept
+use Rattle.write_back.specs.declared.change.Change.TheVariants as by_change
+use Rattle.write_back.specs.declared.state.State.{State}
+use Rattle.write_back.specs.declared.state.Ready.TheVariants.{Again, Refused as was_refused}
 use Rattle.write_back.proofs.Adding.{cuts-so}
 use Rattle.write_back.proofs.Marking.{held-settle, held-mark, changes-held, sound-held}
-use Rattle.write_back.proofs.Replying.{lands-part-at}
 use Rattle.file_ops.specs.declared.saving.Phase.{Phase}
 use Rattle.file_ops.specs.Saves as saves
-use Rattle.step_saves.specs.Saves.{EachUpTo, IsHeld, PhaseHas, PhaseCounts}
 use Rattle.core_counts.proofs.counts.writes.Landing.{the-piece}
 
 some-cell : (a b : Cell) → Some a ≡ Some b → a ≡ b

@@ -1,15 +1,15 @@
 -- Two places next to each other, of which the second was never sent as long as it waits: a piece that ends between them is as long as a WRITE may be.
 use Rattle.core_counts.proofs.Prelude.{◌≡◌, ◌<◌, ◌≤◌, ◌⊎◌, inl, inr, ◌+◌, ◌-◌, ℕ, Bool, true, false, List, [], ◌∷◌, ◌++◌, length, Option, Some, None, refl, sym, ap, subst, ◌∙◌, arith, nat_lt, if◌then◌else◌, le-leb, lt-ltb, eq-eqb, Change, Ready, InFlight, fate, chosen, piece_of, FilePending, Flown, flown_in, fly_in, rest_of, rest_at, fly_at, piece_under, PutsInFlight, Lands, cell_landed, newer_or, Segment, Segments, Cell, covers, cell_in, cell_at, IsSound, is_ready, is_in_flight, how_of, ready_of, flown_as_of, high-of, if-true, if-false}
 use Rattle.std.specs.Prelude.{nat_eq}
-use Rattle.std.specs.Option.{option_map}
-use Rattle.write_back.specs.declared.change.Change.TheVariants as by_change
-use Rattle.write_back.specs.declared.state.State.{State}
 use Rattle.write_back.specs.declared.state.State.TheVariants.{Waiting}
 use Rattle.write_back.specs.Choice.{how_of_segment, bytes_in, with_sent}
 use Rattle.write_back.specs.Pieces.{Sent, without, renumbered, overlaps}
 use Rattle.write_back.specs.Segments.{end_of}
 use Rattle.write_back.specs.Sound.{IsWhole}
 use Rattle.write_back.specs.Waits.{Renumbers}
+use Rattle.std.specs.Option.{option_map}
+use Rattle.write_back.specs.declared.change.Change.TheVariants as by_change
+use Rattle.write_back.specs.declared.state.State.{State}
 use Rattle.write_back.proofs.Flying.{overlaps-free, flown-some}
 use Rattle.write_back.proofs.NextPiece.{fits-call}
 use Rattle.write_back.proofs.Sending.{next-is, puts-sent}

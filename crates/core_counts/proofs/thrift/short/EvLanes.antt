@@ -1,21 +1,21 @@
 -- What a lane's whole step leads to: its machine's step, and the one at a call that isn't made.
 use Rattle.core_counts.proofs.Prelude.{◌≡◌, ◌≢◌, ◌≤◌, inl, inr, ℕ, Bool, true, false, nat_eq, List, Option, Some, None, option_map, Err, slice_get, refl, sym, ap, subst, ◌∙◌, arith, eqb-true, eqb-false, Waiting, next_xid, waiting_at, Fault, Entry, Call, Pending, Turn, Next, Saving, IsUnused, FileMachine, Machine, Opener, file_of, Takes, Lane, Purpose, State, Busy, Over, Setup, Leads, View, turn_at, unmade_turn, in_flight, AreApart, flies_of, Flies, sender, look_at, purpose_at, at-set, look-at, SitsWith, Rows, set-other, After, Free, waits-late, SameUnder, IsSent, Has, save-is, job_kind, take-kind, Owner, ContentReplies, Tale, Shelf}
+use Rattle.write_back.specs.Files.{IsFree}
+use Rattle.core_facts.proofs.Flown.{Flown}
+use Rattle.core_facts.proofs.Orders.{Sits, seat_with, seat-own, seat-other, same-sits}
+use Rattle.core_session.proofs.syncs.Fates.{file_kind, live-lane}
+use Rattle.core_session.proofs.syncs.Levels.{SaveNow}
 use Rattle.world_model.specs.declared.answer.Answer.TheVariants as answers
 use Rattle.world_model.specs.declared.answer.Value.TheVariants.{Nothing}
-use Rattle.write_back.specs.Files.{IsFree}
 use Rattle.client_shelf.specs.declared.next.Next.TheVariants as nexts
 use Rattle.op_machines.specs.declared.file_machine.FileMachine.TheVariants as files
 use Rattle.op_machines.specs.declared.opener.Opener.TheVariants as openers
 use Rattle.op_machines.specs.declared.machine.Machine.TheVariants as machines
 use Rattle.core_facts.proofs.AllSeats.{seat_of, IsLive}
-use Rattle.core_facts.proofs.Flown.{Flown}
-use Rattle.core_facts.proofs.Orders.{Sits, seat_with, seat-own, seat-other, same-sits}
 use Rattle.core_facts.proofs.Placing.{seat_state, seat_in}
 use Rattle.core_answers.proofs.writes.AllFits as fitting
 use Rattle.core_session.proofs.syncs.AllJobs.{JobFin, JobKnown, all-takes}
-use Rattle.core_session.proofs.syncs.Fates.{file_kind, live-lane}
 use Rattle.core_session.proofs.syncs.Jobs.{WriteKnown, JobLaws}
-use Rattle.core_session.proofs.syncs.Levels.{SaveNow}
 use Rattle.core_counts.proofs.thrift.short.EvPassing.{Ways, Shown, job-in, shown, goes-on, again}
 use Rattle.core_session.proofs.syncs.UnmadeOpens.{unmade-opens}
 use Rattle.core_counts.proofs.thrift.short.EvWorking.{Moves, GivesPut, Alone, job-laws, job-replies}

@@ -1,5 +1,10 @@
 -- A lane's whole step: its machine's, and that at a call which can't be made.
 use Rattle.core_counts.proofs.Prelude.{Bool, true, false, arith, ◌≡◌, ◌≢◌, ◌≤◌, ◌⊎◌, inl, inr, ℕ, List, Option, Some, None, refl, sym, subst, Answer, Fault, Value, Pending, of_file, LaneFile, Turn, Next, Saving, PutFile, Putting, Writing, FileMachine, Machine, Opener, file_of, State, Busy, Over, IsRefused, SitsWith, Free, JobHas, job_save, job_kind, Job, Owner, Content, SaveSo, own_save, Tale, told}
+use Rattle.core_session.proofs.syncs.AllJobs.{PathHas, JobGood, JobBad, JobFin}
+use Rattle.core_session.proofs.syncs.Fates.{file_kind, job-says, Part, none, room, own, job-part, good-write, good-save, good-path, good-any, bad-write, bad-any, WritePart, before, in_room, write-part}
+use Rattle.core_session.proofs.syncs.Jobs.{ended, RoomHas, PutHas, FileHas}
+use Rattle.core_session.proofs.syncs.Levels.{Before, BesideSo}
+use Rattle.core_session.proofs.syncs.PutGoes.{put_own, file_own, path_own, own-has}
 use Rattle.world_model.specs.declared.answer.Answer.TheVariants as answers
 use Rattle.client_shelf.specs.declared.next.Next.TheVariants as nexts
 use Rattle.file_ops.specs.declared.put_file.Putting.TheVariants as putting
@@ -8,11 +13,6 @@ use Rattle.file_ops.specs.WriteFile as writes
 use Rattle.op_machines.specs.declared.file_machine.FileMachine.TheVariants as files
 use Rattle.op_machines.specs.declared.machine.Machine.TheVariants as machines
 use Rattle.step_saves.specs.Saves.{IsClearUpTo}
-use Rattle.core_session.proofs.syncs.AllJobs.{PathHas, JobGood, JobBad, JobFin}
-use Rattle.core_session.proofs.syncs.Fates.{file_kind, job-says, Part, none, room, own, job-part, good-write, good-save, good-path, good-any, bad-write, bad-any, WritePart, before, in_room, write-part}
-use Rattle.core_session.proofs.syncs.Jobs.{ended, RoomHas, PutHas, FileHas}
-use Rattle.core_session.proofs.syncs.Levels.{Before, BesideSo}
-use Rattle.core_session.proofs.syncs.PutGoes.{put_own, file_own, path_own, own-has}
 use Rattle.core_session.proofs.syncs.Seen.{Came, bare, saving}
 use Rattle.core_counts.proofs.thrift.short.EvWorking.{job}
 

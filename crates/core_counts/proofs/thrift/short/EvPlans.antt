@@ -2,11 +2,11 @@
 use Rattle.core_counts.proofs.Prelude.{false, zero, suc, ◌≡◌, ◌≢◌, ◌≤◌, ◌⊎◌, inl, inr, ℕ, List, [], ◌∷◌, ◌++◌, length, Option, Some, None, position, Result, Err, slice_get, refl, sym, ap, subst, ◌∙◌, arith, Waiting, next_xid, waiting_at, Fault, Entry, Reply, Op, said_of, Pending, LaneFile, Turn, Next, Saving, Mounted, machine_of, Lane, Purpose, State, Busy, Over, Setup, is_busy, IsIdle, numbers_of, with_state, Stirs, counted, StartsLane, TakesAt, View, turn_at, unmade_turn, Reaches, taken_one, Known, idle-numbers, number_of, get-push, to-map, LaneLive, Wholly, JobHas, JobBegins, JobOpens, job_save, AreApart, job_kind, Owner, ContentReplies, Tale, told, ButFor, Owned, bases, Shelf}
 use Rattle.core_facts.proofs.Lists.{before-push}
 use Rattle.core_facts.proofs.Placing.{Placed}
+use Rattle.core_session.proofs.syncs.Seen.{Sees, sees, sees-new, OthersSo, Came, bare, owned}
 use Rattle.core_counts.proofs.thrift.short.EvSteps as all
 use Rattle.core_counts.proofs.thrift.short.EvSteps.{stirs-landed, takes-landed, starts-landed}
 use Rattle.core_counts.proofs.thrift.short.EvLanes.{EndKnown, GivesBy, Landed, Unmade}
 use Rattle.core_counts.proofs.thrift.short.EvPassing.{Ways, Shown, job-in}
-use Rattle.core_session.proofs.syncs.Seen.{Sees, sees, sees-new, OthersSo, Came, bare, owned}
 use Rattle.core_counts.proofs.thrift.short.EvWorking.{GivesPut, Moves}
 use Rattle.client_shelf.specs.LaneFiles.{is_other}
 use Rattle.std.specs.List.{list_any}

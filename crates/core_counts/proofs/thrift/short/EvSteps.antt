@@ -1,5 +1,12 @@
 -- Each step of a lane, in the view: where an operation begins, goes on, or takes what came of a call.
 use Rattle.core_counts.proofs.Prelude.{◌≡◌, ◌≤◌, ◌+◌, ◌-◌, ◌⊎◌, inl, inr, ℕ, Bool, true, false, nat_eq, List, [], ◌∷◌, ◌++◌, length, Option, Some, None, option_map, position, Result, refl, sym, ap, subst, ◌∙◌, arith, Waiting, next_xid, waiting_at, Fault, Entry, Call, Reply, Op, said_of, Pending, LaneFile, Turn, Next, Saving, IsUnused, Mounted, Machine, machine_of, Purpose, Busy, Setup, is_busy, IsIdle, with_state, Stirs, counted, StartsLane, TakesAt, View, turn_at, in_flight, Counts, AreApart, counts-calls, begins-unbegun, Reaches, taken_one, flies_of, eqb-true, eqb-false, Known, taker-is, taker-one, lanes-under-way, at-set, at-push, SitsWith, LaneLive, set-other, unused-next, waits-late, IsSent, Wholly, starts-has, resumes-has, takes-has, sent-piece, JobHas, JobBegins, JobOpens, job_save, save-is, job_kind, take-kind, Job, Owner, Content, SaveSo, ContentReplies, Tale, told, bases, Shelf}
+use Rattle.core_facts.proofs.Orders.{seat_with, seat-own, seat-other, same-sits, leaves, joins}
+use Rattle.core_facts.proofs.Placing.{Placed, seat_state, seat_in}
+use Rattle.core_answers.proofs.writes.PiecesCarried.{starts-under, resumes-under, takes-under}
+use Rattle.core_session.proofs.syncs.AllJobs.{BeginsFirst, JobFin, JobEnters, all-starts, all-resumes, all-takes}
+use Rattle.core_session.proofs.syncs.Fates.{start-kind, resume-kind, live-lane, fresh-lane}
+use Rattle.core_session.proofs.syncs.Jobs.{JobLaws}
+use Rattle.core_session.proofs.syncs.Levels.{Before, BesideSo, SaveNow}
 use Rattle.world_model.specs.declared.answer.Answer.TheVariants as answers
 use Rattle.client_shelf.specs.declared.next.Next.TheVariants as nexts
 use Rattle.op_machines.specs.declared.file_machine.FileMachine.TheVariants as files
@@ -7,15 +14,8 @@ use Rattle.op_machines.specs.declared.machine.Machine.TheVariants as machines
 use Rattle.core_facts.proofs.AllSeats.{seat_of, IsLive, IsFreshFor, OfMachine, begins-fresh}
 use Rattle.core_facts.proofs.AllSeats as seats
 use Rattle.core_facts.proofs.Looks.{look-idle}
-use Rattle.core_facts.proofs.Orders.{seat_with, seat-own, seat-other, same-sits, leaves, joins}
-use Rattle.core_facts.proofs.Placing.{Placed, seat_state, seat_in}
 use Rattle.core_answers.proofs.writes.AllFits as fitting
-use Rattle.core_answers.proofs.writes.PiecesCarried.{starts-under, resumes-under, takes-under}
-use Rattle.core_session.proofs.syncs.AllJobs.{BeginsFirst, JobFin, JobEnters, all-starts, all-resumes, all-takes}
-use Rattle.core_session.proofs.syncs.Fates.{start-kind, resume-kind, live-lane, fresh-lane}
-use Rattle.core_session.proofs.syncs.Jobs.{JobLaws}
 use Rattle.core_counts.proofs.thrift.short.EvLanes.{EndKnown, GivesBy, end-known, leads-opens, unused-zero, free-after, asked-piece, own-seat, Landed, IsAsked, Unmade, leads}
-use Rattle.core_session.proofs.syncs.Levels.{Before, BesideSo, SaveNow}
 use Rattle.core_counts.proofs.thrift.short.EvPassing.{Ways, Shown, job-in, enters}
 use Rattle.core_counts.proofs.thrift.short.EvWorking.{Moves, job-laws, job-replies}
 

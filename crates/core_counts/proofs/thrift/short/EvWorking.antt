@@ -1,18 +1,18 @@
 -- What each step of an operation keeps, beside the other operations of one file, of what is known of all that is pending.
 use Rattle.core_counts.proofs.Prelude.{◌≡◌, ◌≢◌, ◌≤◌, ◌+◌, ◌⊎◌, inl, inr, ℕ, Bool, true, false, List, Option, Some, None, Result, refl, sym, subst, arith, Fault, Reply, Pending, of_file, with_bytes, OnFile, with_cut, nothing, same-or, LaneFile, Turn, Next, Saving, is_full, SitsWith, IsUnderWay, Job, Owner, Content, ContentReplies, Shelf}
+use Rattle.core_facts.proofs.Orders.{joins}
+use Rattle.step_saves.specs.Saves.{IsClearUpTo}
+use Rattle.core_session.proofs.syncs.Jobs.{Fact, NoFile, JobLaws, JobReplies}
+use Rattle.core_session.proofs.syncs.Levels.{SaveNow, Before, Ends, Holds, BesideSo, level, level-replies, stands-it, out-it, alone-first, way-given, way-cut}
 use Rattle.open_files.specs.Slots.{IsOpen}
 use Rattle.world_model.specs.declared.answer.Answer.TheVariants as answers
 use Rattle.client_shelf.specs.LaneFiles.{added, left, is_other}
 use Rattle.client_shelf.specs.declared.next.Next.TheVariants as nexts
 use Rattle.file_ops.specs.Quiet.{is_quiet}
 use Rattle.file_ops.proofs.Walks.{SamePieces, added-pieces, cut-pieces, given-pieces}
-use Rattle.core_facts.proofs.Orders.{joins}
 use Rattle.core_answers.proofs.writes.Firsts.{first-left, first-added}
-use Rattle.step_saves.specs.Saves.{IsClearUpTo}
 use Rattle.step_saves.proofs.Staying.{later-on, others-on}
 use Rattle.core_session.proofs.syncs.Contents.{same-free, same-quiet}
-use Rattle.core_session.proofs.syncs.Jobs.{Fact, NoFile, JobLaws, JobReplies}
-use Rattle.core_session.proofs.syncs.Levels.{SaveNow, Before, Ends, Holds, BesideSo, level, level-replies, stands-it, out-it, alone-first, way-given, way-cut}
 use Rattle.std.specs.List.{list_any}
 
 -- What else a step makes of what is known: C before bytes come in, D afterwards, and E at a refusal, or where the file was cut.

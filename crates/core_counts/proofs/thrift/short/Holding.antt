@@ -1,17 +1,17 @@
 -- A save under way, before whose next byte no shorter piece ends: so through each of its steps.
 use Rattle.core_counts.proofs.Prelude.{◌≡◌, ◌<◌, ◌≤◌, ◌⊎◌, inl, inr, ◌+◌, ℕ, Bool, true, false, List, [], ◌∷◌, length, Option, Some, None, Result, Err, refl, sym, ap, subst, ◌∙◌, arith, nat_lt, Verf, Fault, Memory, Reply, Next, Repeat, Turn, goes_again, Change, InFlight, Acked, fate, chosen, IsAnswer, Pending, of_file, OnFile, acked_by, at_piece, at_xid, landed, landed_part, with_xid, FilePending, Flown, rest_at, fly_at, fly_in, flown_in, piece_under, Cell, Segments, covers, is_ready, is_in_flight, how_of, ready_of, answer-acked, answer-return, under-own, renumbers-so, Sending, Committing, Resending, CommittingAgain, Saving, EachSound, IsUnderWay, IsAwaited}
-use Rattle.client_shelf.specs.declared.next.Next.TheVariants as nexts
-use Rattle.write_back.specs.declared.change.Change.TheVariants as by_change
-use Rattle.write_back.specs.declared.state.Ready.TheVariants.{Refused}
-use Rattle.write_back.specs.declared.state.State.{State}
 use Rattle.write_back.specs.declared.state.State.TheVariants.{Waiting}
 use Rattle.write_back.specs.Pieces.{Sent}
 use Rattle.write_back.proofs.Landings.{lands-one, lands-part}
 use Rattle.write_back.proofs.Xids.{fly-under}
+use Rattle.step_saves.specs.Saves.{IsHeld, PhaseHas, PhaseCounts, Leaves}
+use Rattle.client_shelf.specs.declared.next.Next.TheVariants as nexts
+use Rattle.write_back.specs.declared.change.Change.TheVariants as by_change
+use Rattle.write_back.specs.declared.state.Ready.TheVariants.{Refused}
+use Rattle.write_back.specs.declared.state.State.{State}
 use Rattle.file_ops.specs.declared.saving.Phase.{Phase}
 use Rattle.file_ops.specs.Saves as saves
 use Rattle.file_ops.specs.Syncs.{sync_next}
-use Rattle.step_saves.specs.Saves.{IsHeld, PhaseHas, PhaseCounts, Leaves}
 use Rattle.step_saves.proofs.Going.{goes-leaves}
 use Rattle.step_saves.proofs.Taking.{Outcome, did, fails, refuses, came-outcome, lands-sound, takes-leaves, refused-file}
 use Rattle.core_counts.proofs.thrift.short.Ends.{Each, each-without, Mild, mild-return, mild-store, Open, Second, waits, flies, EndsLong, open-sent, open-landed, open-returned, open-renamed}

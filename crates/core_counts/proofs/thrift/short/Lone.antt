@@ -1,10 +1,10 @@
 -- Where all operations are of one lane: what its machine has in flight.
 use Rattle.core_counts.proofs.Prelude.{◌≡◌, ◌<◌, ◌≤◌, ◌⊎◌, inl, inr, ◌+◌, ◌++◌, nat_eq, ℕ, Bool, true, false, List, [], ◌∷◌, length, get_or, Option, Some, None, option_map, position, slice_get, refl, sym, ap, subst, ◌∙◌, arith, if◌then◌else◌, eq-eqb, cases_lt, position-Some, slice_get-get_or, Waiting, waiting_at, Entry, Began, Sent, Call, Placed, WriterAt, CoversPlace, SpellsCall, OneLane, CoveredEarlier, NeverFull, At-grow, At-below, of_file, HasNoPiece, fly_at, fly_in, piece_under, low-of, high-of, Saving, IsUnused, Mounted, Machine, machine_of, Lane, Purpose, Busy, Setup, is_busy, View, Reaches, IsOutstanding, Tried, begins-unbegun, none-busy, Flies, flies_of, flies_if, sender, look_at, Known, taker-is, lanes-under-way, look-at, reached-rows, reached-good, written_file, one-call, CallFits, fits-laws, tales, Basis, Wholly}
-use Rattle.write_back.specs.Pieces.{Sent as Piece, Flown as InAir}
-use Rattle.file_ops.specs.Saves as saves
 use Rattle.core_facts.specs.Tries.{unsent, runs, ended}
 use Rattle.core_facts.proofs.Flown.{flies_state}
 use Rattle.core_answers.proofs.writes.CommitsAlone.{nfs-write}
+use Rattle.write_back.specs.Pieces.{Sent as Piece, Flown as InAir}
+use Rattle.file_ops.specs.Saves as saves
 use Rattle.step_pending.proofs.Shown.{HasPiece, has-piece}
 use Rattle.core_counts.proofs.thrift.short.Ends.{Each}
 

@@ -1,23 +1,23 @@
 -- One place of a file along a history: from a moment at which a byte is known there, it stays pending under its number or is covered by a WRITE, or a later operation took it away.
 use Rattle.core_counts.proofs.Prelude.{◌≡◌, ◌≤◌, ◌<◌, ◌⊎◌, inl, inr, ℕ, false, List, [], ◌∷◌, ◌++◌, length, Some, None, position, slice_get, refl, sym, ap, subst, ◌∙◌, arith, xid_at, Waiting, waiting_at, Answer, Fault, Value, Entry, Began, Answered, Delivered, Op, At, IsBusy, EndsAt, UnderWay, IsOf, Terms, CoveredEarlier, At-grow, length_last, said_of, Shelf, Mounted, Machine, machine_of, Fits, Lane, Purpose, State, Busy, Over, Setup, IsFresh, is_busy, IsIdle, numbers_of, AnswersAt, StartsLane, Stirs, TakesAt, counted, View, AreApart, KnowsRoot, MaySetUp, Reaches, HearsRecord, GoesWith, taken_one, Known, taker-is, Runs, LanesKnown, number_of, lanes-under-way, lanes-begin, quiet-facts, at-push, to-map, keeps-placed, stirs-stay, starts-stay, steps-stay, SameCalls, AreAsked, IsPlain, keeps-wholly, starts-wholly, Common, own_save, state-is, Saving, Story, story-turns, job_kind, Owned, Turns, Pending, of_file}
+use Rattle.core_facts.specs.Reaches.{IsOpenLine}
+use Rattle.core_session.proofs.drops.KnowingAlong.{NotedBefore}
+use Rattle.core_session.proofs.syncs.PutGoes.{OwnAt, stirs-not, starts-not, stirs-at-save, takes-at-save, takes-still}
+use Rattle.core_session.proofs.drops.LaneIs.{number-is}
+use Rattle.core_session.proofs.syncs.Fate.{story-answers, story-same}
+use Rattle.core_session.proofs.syncs.Turning.{under-plain, IsFixed, ready, fixed-turns, fixed-answers, fixed-same, turns-stir, turns-starts, turns-take, under-was}
 use Rattle.world_model.specs.declared.answer.Answer.TheVariants as answers
 use Rattle.world_model.specs.declared.op.Op.TheVariants as ops
 use Rattle.world_model.specs.Leads.{Leads}
 use Rattle.claims.specs.Touched.{Cuts}
-use Rattle.core_facts.specs.Reaches.{IsOpenLine}
-use Rattle.core_session.proofs.drops.KnowingAlong.{NotedBefore}
 use Rattle.core_session.proofs.pending.Entries.{fresh-phase}
 use Rattle.core_session.proofs.syncs.Causes.{IsWriter as IsWrite}
 use Rattle.core_session.proofs.syncs.Aparts.{names-next}
 use Rattle.core_session.proofs.syncs.Looks.{OpView, view-of, writes, syncs, closes, puts, others}
 use Rattle.core_session.proofs.syncs.PutEnds.{LastNames, last-names-later, own-last}
-use Rattle.core_session.proofs.syncs.PutGoes.{OwnAt, stirs-not, starts-not, stirs-at-save, takes-at-save, takes-still}
-use Rattle.core_session.proofs.drops.LaneIs.{number-is}
 use Rattle.core_counts.proofs.thrift.short.PutsOwn.{OfFile, Follows, file-keeps, saves, went_well, was_refused, follows-turns, follows-same, follows-answers, save-kind}
-use Rattle.core_session.proofs.syncs.Fate.{story-answers, story-same}
 use Rattle.core_session.proofs.syncs.Phases.{KnownBy}
 use Rattle.core_session.proofs.syncs.Stages.{known-more}
-use Rattle.core_session.proofs.syncs.Turning.{under-plain, IsFixed, ready, fixed-turns, fixed-answers, fixed-same, turns-stir, turns-starts, turns-take, under-was}
 use Rattle.core_counts.proofs.counts.rooms.Steps.{has-some, some-stays}
 use Rattle.core_counts.proofs.counts.rooms.Whole.{owned-removed}
 use Rattle.core_counts.proofs.thrift.short.PendsSteps.{busy-same, none-past, settled, Comes, Base, Told, Stepped, Loss, lost_came, lost_cut, lost_closed, lost_dropped, stirs-stepped, takes-stepped, starts-stepped}

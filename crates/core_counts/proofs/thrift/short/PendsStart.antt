@@ -1,11 +1,11 @@
 -- The write or fill that was the last to write two places next to each other; and what waits there as it was answered, in the only lane.
 use Rattle.core_counts.proofs.Prelude.{◌≡◌, ◌<◌, ◌+◌, ◌++◌, ℕ, false, List, length, refl, sym, ap, subst, arith, inl, inr, ◌⊎◌, Value, Entry, Began, Op, IsOf, PutsTo, Terms, OneLane, NeverFull, Wrote, At-one, Mounted, machine_of, Setup, View, Reaches, GoesWith}
+use Rattle.claims.specs.Thrifty.{WritesAt, earlier, itself}
+use Rattle.claims.specs.Touched.{Covers}
 use Rattle.std.proofs.lemmas.Option.{slice_get_within}
 use Rattle.world_model.specs.declared.answer.Answer.TheVariants as answers
 use Rattle.world_model.specs.declared.op.Op.TheVariants as ops
 use Rattle.world_model.specs.Operations.{Ended}
-use Rattle.claims.specs.Thrifty.{WritesAt, earlier, itself}
-use Rattle.claims.specs.Touched.{Covers}
 use Rattle.claims.specs.Touched as touched_by
 use Rattle.core_session.proofs.syncs.Ends.{ended-back}
 use Rattle.core_counts.specs.thrift.Writes.{WritesBoth, write, fill}

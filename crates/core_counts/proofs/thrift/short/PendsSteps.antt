@@ -1,15 +1,18 @@
 -- One place of a file through the steps of operations: what was pending there under a number goes on, or was covered by a WRITE, or the operation took it away.
 use Rattle.core_counts.proofs.Prelude.{Err, ◌≡◌, ◌≤◌, ◌⊎◌, inl, inr, ◌+◌, ◌-◌, ◌^◌, ℕ, false, List, [], ◌∷◌, ◌++◌, length, append_assoc, Option, Some, position, slice_get, Result, refl, sym, ap, subst, ◌∙◌, arith, None, cases_lt, eqb-true, eqb-false, xid_at, Waiting, waiting_at, Fault, Entry, Began, Answered, Delivered, Reply, Op, At, Rooted, AnsweredBefore, EndsAt, UnderWay, IsOf, Terms, Rooted-wide, At-last, At-one, length_last, said_of, Pending, of_file, LaneFile, Shelf, Turn, Saving, Mounted, Machine, machine_of, Fits, Purpose, State, Busy, Over, Setup, is_busy, IsIdle, StartsLane, Stirs, TakesAt, counted, View, turn_at, KnowsRoot, Reaches, HearsRecord, GoesWith, taken_one, Known, taker-is, LaneLive, AreAsked, Wholly, JobBegins, JobOpens, job_save, Story, job_kind, Job, Content, ContentReplies, Owner, state-is, own_save, Tale, told, Lane, Answer, Owned, bases, ButFor, slice_index, Value, WritesByte, covers, Common, CoveredEarlier, low-of, high-of}
+use Rattle.core_facts.proofs.Placing.{Placed}
+use Rattle.core_session.proofs.drops.LaneIs.{busy-over}
+use Rattle.core_session.proofs.syncs.PutGoes.{OwnAt, own-has}
+use Rattle.std.specs.Prelude.{nat_eq, Bool, true}
+use Rattle.claims.specs.Touched.{Cuts}
+use Rattle.core_session.proofs.syncs.Contents.{Shows, common, common-replies, common-adds, common-cuts, common-gives, known, known-replies, known-adds, known-cuts, known-gives}
 use Rattle.world_model.specs.declared.op.Op.TheVariants as ops
 use Rattle.world_model.specs.Leads.{Leads}
 use Rattle.core_facts.proofs.Leading.{LeadsTo}
-use Rattle.core_facts.proofs.Placing.{Placed}
 use Rattle.core_answers.proofs.asks.WalkAsks.{leads-on}
 use Rattle.core_session.proofs.pending.Moments.{ended-in}
 use Rattle.core_session.proofs.syncs.Nexts.{at-on, common-from, tale-map}
-use Rattle.core_session.proofs.drops.LaneIs.{busy-over}
 use Rattle.core_session.proofs.syncs.Aims.{JobAims, aimed, some-aim, takes-aim, aimed-has, aims-own}
-use Rattle.core_session.proofs.syncs.PutGoes.{OwnAt, own-has}
 use Rattle.core_counts.proofs.thrift.short.EvPassing.{job-in, Shown}
 use Rattle.core_counts.proofs.thrift.short.EvPlans.{Plan, Came_, stirs-came, takes-came, starts-came}
 use Rattle.core_session.proofs.syncs.PutAdding.{began-fits}
@@ -17,12 +20,9 @@ use Rattle.core_session.proofs.syncs.PutsBring.{PutGiven, puts-bring}
 use Rattle.core_session.proofs.syncs.Stands.{Has}
 use Rattle.core_counts.proofs.counts.engine.Sum.{ends-late}
 use Rattle.core_counts.proofs.counts.engine.Wider.{leads-wide}
-use Rattle.std.specs.Prelude.{nat_eq, Bool, true}
 use Rattle.world_model.specs.declared.answer.Answer.TheVariants as answers
-use Rattle.claims.specs.Touched.{Cuts}
 use Rattle.claims.specs.Touched as touched
 use Rattle.core_session.proofs.syncs.Causes.{IsWriter as IsWrite, IsSaver}
-use Rattle.core_session.proofs.syncs.Contents.{Shows, common, common-replies, common-adds, common-cuts, common-gives, known, known-replies, known-adds, known-cuts, known-gives}
 use Rattle.core_session.proofs.syncs.Looks.{OpView, view-of, writes, syncs, closes, puts, others}
 use Rattle.core_session.proofs.syncs.Phases.{Family, KnownBy, StageBy, over-more, split}
 use Rattle.nfs_file_calls.specs.declared.call.FileCall.TheVariants as files

@@ -1,11 +1,11 @@
 -- Two places of a file as an operation begins, of which what was written there last is pending or was made stable; or an operation took it away that the words
 -- of the model exclude.
 use Rattle.core_counts.proofs.Prelude.{◌≡◌, ◌<◌, ◌≤◌, ◌⊎◌, inl, inr, ◌+◌, ◌++◌, ℕ, false, List, [], length, Some, None, sym, ap, ◌∙◌, arith, Answer, Fault, Entry, Began, Op, At, IsOf, Terms, OneLane, NeverFull, CoveredEarlier, Wrote, of_file, HasNoPiece, FilePending, Flown, rest_at, fly_at, fly_in, Cell, Mounted, machine_of, Setup, View, Notes, Reaches, GoesFrom}
+use Rattle.claims.specs.Thrifty.{Uncut, IsLatest, earlier}
 use Rattle.world_model.specs.declared.answer.Answer.TheVariants.{Refused}
 use Rattle.world_model.specs.declared.op.Op.TheVariants as ops
 use Rattle.world_model.specs.Leads.{Leads}
 use Rattle.world_model.specs.Operations.{Ended}
-use Rattle.claims.specs.Thrifty.{Uncut, IsLatest, earlier}
 use Rattle.write_back.specs.Pieces.{Sent as Piece}
 use Rattle.core_session.proofs.syncs.Phases.{Family, StageBy}
 use Rattle.core_session.proofs.syncs.Stages.{unsent, flies, again, held, stable, over}

@@ -1,19 +1,19 @@
 -- Along a history: as long as no WRITE that covers a place of a file was sent, what is pending there was never sent, but that it may be on its way for the first time.
 use Rattle.core_counts.proofs.Prelude.{◌≡◌, ◌≤◌, ◌⊎◌, inl, inr, ◌+◌, ◌++◌, ℕ, Bool, true, false, List, [], ◌∷◌, length, Option, Some, None, option_map, position, Result, Err, refl, sym, ap, subst, ◌∙◌, arith, xid_at, Waiting, next_xid, waiting_at, Fault, Entry, Began, Answered, Sent, Delivered, Call, Reply, Op, CoversPlace, SpellsCall, CoveredEarlier, At-grow, At-below, length_last, said_of, Unsent, Pending, of_file, IsNewest, rest_at, piece_under, Cell, covers, low-of, high-of, same-or, Next, Shelf, Turn, Saving, IsReady, IsUnused, Mounted, Machine, machine_of, Fits, Starts, Resumes, Takes, Purpose, Busy, Setup, is_busy, with_state, Leads, Stirs, counted, StartsLane, TakesAt, View, turn_at, unmade_turn, HearsRecord, Reaches, IsOutstanding, Tried, begins-unbegun, taken_one, Flies, flies_of, sender, look_at, was-sent, Known, taker-is, lanes-under-way, look-at, reached-rows, reached-good, written_file, one-call, CallFits, fits-laws, After, tales, unused-next, TakesHas, Basis, basis-ready, stirs-basis, starts-basis, takes-basis, keeps-basis, NearAs, unmade-has, KeepsHearing, reached-hearing, Wholly, keeps-wholly, stirs-wholly, starts-wholly, takes-wholly, EachSound}
+use Rattle.core_facts.specs.Tries.{unsent, runs, ended}
+use Rattle.core_facts.proofs.Flown.{flies_state}
+use Rattle.core_answers.proofs.writes.Backs.{CarriesReply}
+use Rattle.core_answers.proofs.writes.CommitsAlone.{nfs-write}
+use Rattle.core_session.proofs.order.Adds.{Bears, all-starts, all-resumes, all-takes}
+use Rattle.core_session.proofs.order.Sounds.{Sounds, SoundsFirst, SoundCall, bears-sounds, replies-sounds}
 use Rattle.write_back.specs.declared.state.State.TheVariants.{Waiting as Rests}
 use Rattle.write_back.specs.Pieces.{Sent as Piece}
 use Rattle.client_shelf.specs.declared.next.Next.TheVariants as nexts
 use Rattle.file_ops.specs.Saves as saves
 use Rattle.file_ops.specs.Syncs as syncs
 use Rattle.op_machines.proofs.AllLaws as laws
-use Rattle.core_facts.specs.Tries.{unsent, runs, ended}
-use Rattle.core_facts.proofs.Flown.{flies_state}
 use Rattle.core_answers.proofs.writes.AllBacks.{Saves}
-use Rattle.core_answers.proofs.writes.Backs.{CarriesReply}
-use Rattle.core_answers.proofs.writes.CommitsAlone.{nfs-write}
 use Rattle.core_answers.proofs.writes.Mapped.{any-saves}
-use Rattle.core_session.proofs.order.Adds.{Bears, all-starts, all-resumes, all-takes}
-use Rattle.core_session.proofs.order.Sounds.{Sounds, SoundsFirst, SoundCall, bears-sounds, replies-sounds}
 use Rattle.core_session.proofs.saves.Taking.{sent-is}
 use Rattle.core_counts.proofs.coarse.Near.{near-has, near-starts}
 use Rattle.core_counts.proofs.coarse.OfSaves.{of-machine}

@@ -1,10 +1,10 @@
 -- A put that was the last to write a place, as it was answered: a WRITE that covers the place was sent.
 use Rattle.core_counts.proofs.Prelude.{◌≡◌, ◌<◌, ◌≤◌, inl, inr, ◌+◌, ◌++◌, ℕ, false, List, [], ◌∷◌, length, refl, sym, ap, subst, ◌∙◌, arith, cases_lt, Entry, Began, Sent, Delivered, Op, At, Rooted, PutsTo, Terms, OneLane, CoveredEarlier, Rooted-wide, At-grow, At-back, Mounted, machine_of, Setup, View, KnowsRoot, Reaches, GoesFrom}
+use Rattle.world_model.proofs.Growth.{Rooted-grow}
 use Rattle.world_model.specs.declared.answer.Answer.TheVariants as answers
 use Rattle.world_model.specs.declared.op.Op.TheVariants as ops
 use Rattle.claims.specs.Touched.{Covers}
 use Rattle.claims.specs.Touched as touched_by
-use Rattle.world_model.proofs.Growth.{Rooted-grow}
 use Rattle.core_session.specs.syncs.Synced.{PutsNamed}
 use Rattle.core_session.proofs.syncs.Ends.{ended-back}
 use Rattle.core_counts.proofs.thrift.short.PutMade.{put-covered}

@@ -1,7 +1,9 @@
 -- In one lane each WRITE of a put is long, or ends where an earlier WRITE went on.
 use Rattle.core_counts.proofs.Prelude.{◌≡◌, ◌<◌, ◌≤◌, ◌⊎◌, inl, inr, ◌+◌, ◌++◌, nat_eq, ℕ, Bool, true, false, List, [], ◌∷◌, length, get_or, Option, Some, None, position, slice_get, cond, refl, sym, ap, subst, ◌∙◌, arith, append_assoc, eqb-true, cases_lt, le-leb, lt-ltb, position-Some, slice_get-get_or, Waiting, next_xid, AreSound, waiting_at, at_sent, Answer, Entry, Began, Answered, Sent, Op, Placed, WriterAt, NoneBegan, At, SpellsCall, AnsweredBefore, UnderWay, OneLane, NeverFull, CoveredEarlier, FirstSent, At-grow, At-back, of_file, Flown, fly_at, piece_under, covers, under-own, same-or, PutFile, Putting, Saving, IsUnused, Mounted, Machine, Opener, machine_of, file_of, Lane, Purpose, State, Busy, Over, Setup, is_busy, SendsIf, View, Notes, Reaches, begins-unbegun, SentNow, sent_now, none-busy, Flies, flies_of, flies_path, flies_file, flies_put, flies_if, Known, reached-all, Runs, number_of, to-map, notes-reach, written_file, one-call, waits-late}
-use Rattle.rpc_message.specs.declared.cred.Cred.{Cred}
 use Rattle.rpc_retry.specs.Waiting.{first_due}
+use Rattle.core_facts.specs.Notes.{IsAfterAnswers}
+use Rattle.core_facts.proofs.Noting.{answers-first}
+use Rattle.rpc_message.specs.declared.cred.Cred.{Cred}
 use Rattle.world_model.specs.declared.answer.Answer.TheVariants as answers
 use Rattle.world_model.specs.declared.answer.Fault.TheVariants as faults
 use Rattle.world_model.specs.declared.op.Op.TheVariants as ops
@@ -9,8 +11,6 @@ use Rattle.file_ops.specs.declared.put_file.Putting.TheVariants as putting
 use Rattle.file_ops.specs.Saves as saves
 use Rattle.op_machines.specs.declared.machine.Machine.TheVariants as machines
 use Rattle.op_machines.specs.declared.opener.Opener.TheVariants as openers
-use Rattle.core_facts.specs.Notes.{IsAfterAnswers}
-use Rattle.core_facts.proofs.Noting.{answers-first}
 use Rattle.core_answers.specs.writes.Flights.{IsInFlight}
 use Rattle.core_session.proofs.saves.WholeSteps.{Whole}
 use Rattle.core_counts.specs.coarse.WereLong.{write_call}

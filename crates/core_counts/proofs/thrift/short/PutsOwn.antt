@@ -1,24 +1,24 @@
 -- A put from the moment at which it is at its own save of a file: it ends refused, or well, and the last record before its answer names that file.
 use Rattle.core_counts.proofs.Prelude.{◌≡◌, ◌≤◌, ◌<◌, ℕ, Bool, true, false, nat_eq, List, [], ◌∷◌, ◌++◌, length, Option, Some, None, slice_get, refl, sym, ap, subst, ◌∙◌, arith, eqb-true, eqb-false, Answer, Fault, Value, Entry, Answered, Op, UnderWay, PutsTo, At-below, Lane, State, Busy, Over, Setup, AnswersAt, View, Saving, FileMachine, Machine, Opener, file_of, AreApart, Known, Runs, lanes-under-way, number_of, to-map, IsPlain, state-is, own_save, job_kind, Turns}
+use Rattle.world_model.specs.Operations.{Ended}
+use Rattle.core_facts.proofs.Lists.{still-there}
+use Rattle.core_session.proofs.drops.KnowingAlong.{NotedBefore}
+use Rattle.core_session.proofs.drops.LaneIs.{number-is, busy-over}
+use Rattle.core_session.proofs.syncs.PutGoes.{names-keep, AtSave, OwnAt, file_own, path_own}
+use Rattle.core_session.proofs.syncs.Fates.{file_kind}
+use Rattle.core_session.proofs.syncs.Turning.{IsFixed, fixed-turns, fixed-answers, fixed-same, fixed-once, under-answers, under-plain}
 use Rattle.world_model.specs.declared.answer.Answer.TheVariants as answers
 use Rattle.world_model.specs.declared.op.Op.TheVariants as ops
-use Rattle.world_model.specs.Operations.{Ended}
 use Rattle.world_model.specs.Waiting.{IsDelivered}
 use Rattle.op_machines.specs.declared.file_machine.FileMachine.TheVariants as files
 use Rattle.op_machines.specs.declared.machine.Machine.TheVariants as machines
 use Rattle.core_facts.specs.Reaches.{IsOpenLine}
-use Rattle.core_facts.proofs.Lists.{still-there}
 use Rattle.core_facts.proofs.Stories.{ended-grow}
-use Rattle.core_session.proofs.drops.KnowingAlong.{NotedBefore}
-use Rattle.core_session.proofs.drops.LaneIs.{number-is, busy-over}
 use Rattle.core_session.proofs.drops.Noting.{ended-at}
 use Rattle.core_session.proofs.drops.SaveFiles.{IsSave}
 use Rattle.core_session.proofs.pending.Moments.{ended-in}
 use Rattle.core_session.proofs.syncs.Aparts.{names-next, once}
 use Rattle.core_session.proofs.syncs.PutEnds.{LastNames, last-names-later}
-use Rattle.core_session.proofs.syncs.PutGoes.{names-keep, AtSave, OwnAt, file_own, path_own}
-use Rattle.core_session.proofs.syncs.Fates.{file_kind}
-use Rattle.core_session.proofs.syncs.Turning.{IsFixed, fixed-turns, fixed-answers, fixed-same, fixed-once, under-answers, under-plain}
 
 answered-other : (lane line : ℕ) (answer : Answer) → IsDelivered (Answered lane line answer) → ⊥
 answered-other lane line answer d = let e = d.1 in absurd cc

@@ -1,13 +1,14 @@
 -- A put whose bytes have both places, or neither: so through each of its steps, its path among them.
 use Rattle.core_counts.proofs.Prelude.{◌≡◌, ◌<◌, ◌≤◌, ◌^◌, ◌⊎◌, inl, inr, ◌+◌, ◌-◌, ℕ, Bool, true, false, List, [], ◌∷◌, length, Some, None, Result, Ok, Err, refl, sym, ap, subst, ◌∙◌, arith, slice_index, ltb-false, Fault, Reply, Next, Shelf, Turn, is_first, Unsent, Pending, of_file, all_pending, with_bytes, OnFile, HasNoPiece, IsNewest, FilePending, Flown, rest_at, fly_at, fly_in, PutsBytes, Cell, covers, how_of, ready_of, puts-with, OpeningNext, PutFile, Putting, Saving, Writing, is_full, refusal_of, joined, by-step, ends_as, WalkNext, Machine, Opener, PathMachine, file_of, slot_taken, begun_at, Starts, Resumes, Takes, EachSound, if-true, if-false, IsAwaited, TakesHas, PathHas, FileHas, PutHas, WaitsPlain, NotAsStable}
+use Rattle.write_back.specs.Pieces.{Sent}
+use Rattle.file_ops.specs.Closings.{closed_answer}
+use Rattle.op_machines.specs.Openers.{placed}
 use Rattle.world_model.specs.declared.answer.Answer.TheVariants as answers
 use Rattle.client_shelf.specs.declared.next.Next.TheVariants as nexts
 use Rattle.write_back.specs.declared.state.State.TheVariants.{Waiting}
-use Rattle.write_back.specs.Pieces.{Sent}
 use Rattle.write_back.specs.Sound.{most_pending}
 use Rattle.file_ops.specs.declared.opening.OpeningNext.TheVariants as openings
 use Rattle.file_ops.specs.declared.put_file.Putting.TheVariants as putting
-use Rattle.file_ops.specs.Closings.{closed_answer}
 use Rattle.file_ops.specs.PutFile as puts
 use Rattle.file_ops.specs.Saves as saves
 use Rattle.file_ops.specs.Syncs.{sync_next}
@@ -18,7 +19,6 @@ use Rattle.name_ops.proofs.Keeps.{walk-takes-kept}
 use Rattle.op_machines.specs.declared.machine.Machine.TheVariants as machines
 use Rattle.op_machines.specs.declared.opener.Opener.TheVariants as openers
 use Rattle.op_machines.specs.FileSteps as steps
-use Rattle.op_machines.specs.Openers.{placed}
 use Rattle.op_machines.specs.PathSteps as paths
 use Rattle.step_pending.proofs.ComingIn.{sound-in}
 use Rattle.step_saves.proofs.Going.{begins}

@@ -1,17 +1,17 @@
 -- In one lane each WRITE of a sync or close is long, or ends where an earlier WRITE went on, where bytes of both places waited as it began.
 use Rattle.core_counts.proofs.Prelude.{append_assoc, ◌≡◌, ◌<◌, ◌≤◌, ◌⊎◌, inl, inr, ◌+◌, ◌++◌, ℕ, Bool, true, false, List, ◌∷◌, length, get_or, Option, Some, None, position, slice_get, refl, sym, ap, subst, ◌∙◌, arith, position-Some, slice_get-get_or, next_xid, AreSound, waiting_at, at_sent, Entry, Began, Sent, NoneBegan, At, SpellsCall, AnsweredBefore, UnderWay, OneLane, CoveredEarlier, At-grow, At-back, of_file, Flown, fly_at, piece_under, under-own, same-or, Saving, IsUnused, Mounted, Machine, machine_of, Lane, State, Busy, Over, Setup, is_busy, SendsIf, Reaches, begins-unbegun, SentNow, sent_now, none-busy, Flies, flies_of, flies_if, Known, reached-all, Runs, number_of, to-map, notes-reach, written_file, one-call, BeganOtherwise}
+use Rattle.core_facts.proofs.Noting.{answers-first}
+use Rattle.core_counts.specs.thrift.Writes.{ShortSavedWrite, SavedWritesLong}
 use Rattle.world_model.specs.declared.answer.Answer.TheVariants as answers
 use Rattle.world_model.specs.declared.answer.Fault.TheVariants as faults
 use Rattle.file_ops.specs.Saves as saves
 use Rattle.core_facts.specs.Notes.{IsAfterAnswers}
-use Rattle.core_facts.proofs.Noting.{answers-first}
 use Rattle.core_answers.specs.writes.Flights.{IsInFlight}
 use Rattle.core_session.proofs.saves.WholeSteps.{Whole}
 use Rattle.core_counts.specs.coarse.WereLong.{write_call}
 use Rattle.core_counts.proofs.thrift.short.Ends.{each-under, EndsAfter, EndsLong, Second, waits, flies}
 use Rattle.core_counts.proofs.thrift.short.Holding.{Hold}
 use Rattle.core_counts.proofs.thrift.short.Lone.{covered-now, its-flight}
-use Rattle.core_counts.specs.thrift.Writes.{ShortSavedWrite, SavedWritesLong}
 use Rattle.core_counts.proofs.thrift.short.PutsLong.{early-tried, one-before, answered-on}
 use Rattle.core_counts.proofs.thrift.short.Syncing.{SaveIs, flies-save}
 use Rattle.core_counts.proofs.thrift.short.SyncTracks.{Cov, Running, Tracked, reached-tracked}

@@ -2,6 +2,11 @@
 use Rattle.core_counts.proofs.Prelude.{◌≡◌, ◌≢◌, ◌<◌, ◌≤◌, ◌⊎◌, inl, inr, ◌+◌, ◌-◌, ◌++◌, nat_eq, ℕ, Bool, true, false, List, [], ◌∷◌, length, Option, Some, None, Result, Ok, Err, slice_get, slice_set, refl, sym, ap, subst, ◌∙◌, arith, append_assoc, slice_index, eqb-true, eqb-false, le-leb, lt-ltb, Mode, Answer, Fault, Value, Entry, Began, Answered, Delivered, Op, Placed, count_of, most_pending, WriterAt, At, AnsweredBefore, UnderWay, OneLane, NeverFull, At-grow, At-back, At-below, At-cases, At-last, At-one, length_last, Unsent, of_file, all_pending, rest_at, PutsBytes, Cell, covers, puts-with, Opened, Next, Shelf, Turn, WriteFile, is_full, file_to_write, Mounted, Machine, machine_of, Starts, Lane, Busy, Over, Setup, numbers_of, IsIdle, with_state, Leads, counted, StartsLane, AnswersAt, View, turn_at, Reaches, begins-unbegun, Known, lanes-under-way, idle-numbers, number_of, at-set, at-push, get-push, get-remove, skip, to-map, answered-grow, set-other, under-back, EachSound, if-true, Basis, stirs-basis, starts-basis, takes-basis, keeps-basis, Entered, Room, reached-room, Elsewhere, counts-cons, each-map, all-each, different-apart, KeepsHearing, reached-hearing, IsOf, Given, is-given, Terms, GoesWith}
 use Rattle.std.proofs.Common.{remove}
 use Rattle.std.specs.Prelude.{replicate}
+use Rattle.world_model.specs.Operations.{Ended}
+use Rattle.file_ops.specs.Opens.{in_mode, of_open}
+use Rattle.core_session.proofs.room.Writers.{Each}
+use Rattle.claims.specs.Slots.{slot_of}
+use Rattle.core_facts.proofs.HeldSlots.{may, held-begins, always-later}
 use Rattle.std.proofs.lemmas.List.{length-replicate}
 use Rattle.nfs_types.specs.declared.mode.Mode.TheVariants as modes
 use Rattle.world_model.specs.declared.answer.Answer.TheVariants as answers
@@ -9,21 +14,16 @@ use Rattle.world_model.specs.declared.answer.Fault.TheVariants as faults
 use Rattle.world_model.specs.declared.answer.Value.TheVariants.{Nothing}
 use Rattle.world_model.specs.declared.op.Op.TheVariants as ops
 use Rattle.claims.specs.Asks as asks
-use Rattle.world_model.specs.Operations.{Ended}
 use Rattle.write_back.specs.declared.state.State.TheVariants.{Waiting as Waits}
 use Rattle.client_shelf.specs.declared.next.Next.TheVariants as nexts
 use Rattle.file_ops.specs.declared.write_file.Writing.TheVariants as writing
 use Rattle.file_ops.specs.declared.write_file.Text.TheVariants as texts
-use Rattle.file_ops.specs.Opens.{in_mode, of_open}
 use Rattle.file_ops.specs.WriteFile as writes
 use Rattle.std.specs.FinMap as finite
-use Rattle.core_session.proofs.room.Writers.{Each}
 use Rattle.core_counts.specs.thrift.Writes.{WritesBoth, write, fill}
 use Rattle.core_counts.proofs.thrift.short.Lone.{one-before, room-before}
 use Rattle.core_counts.proofs.thrift.short.Tracking.{not-full}
-use Rattle.claims.specs.Slots.{slot_of}
 use Rattle.claims.specs.Rights.{can_write}
-use Rattle.core_facts.proofs.HeldSlots.{may, held-begins, always-later}
 use Rattle.core_session.proofs.pending.Begins.{one-file, of-step}
 use Rattle.core_session.proofs.syncs.Stages.{cell_of}
 

@@ -1,5 +1,6 @@
 -- A sync or close of a file with two places next to each other: so through each of its steps.
 use Rattle.core_counts.proofs.Prelude.{◌≡◌, ◌≤◌, ◌⊎◌, inl, inr, ◌+◌, ℕ, Bool, true, false, List, Option, Some, None, Result, Ok, Err, refl, sym, ap, subst, ◌∙◌, Fault, Reply, LaneFile, Next, Repeat, Shelf, Turn, is_first, goes_again, Pending, of_file, Flown, fly_at, last_end, CloseFile, Closing, Removal, Saving, SyncFile, Syncing, remove_busy, file_at, joined, by-step, ends_as, FileMachine, Machine, Starts, Resumes, Takes, EachSound, IsAwaited, flies_of, flies_if}
+use Rattle.core_facts.proofs.Flights.{flies_sync, flies_close}
 use Rattle.client_shelf.specs.declared.next.Next.TheVariants as nexts
 use Rattle.file_ops.specs.declared.close_file.Closing.TheVariants as closing
 use Rattle.file_ops.specs.declared.sync_file.Syncing.TheVariants as syncing
@@ -9,7 +10,6 @@ use Rattle.file_ops.specs.Syncs.{sync_next}
 use Rattle.file_ops.specs.Syncs as syncs
 use Rattle.op_machines.specs.declared.file_machine.FileMachine.TheVariants as files
 use Rattle.op_machines.specs.declared.machine.Machine.TheVariants as machines
-use Rattle.core_facts.proofs.Flights.{flies_sync, flies_close}
 use Rattle.core_session.proofs.drops.SaveFiles.{goes-save, takes-save}
 use Rattle.core_counts.proofs.thrift.short.Ends.{Each, waits, flies}
 use Rattle.core_counts.proofs.thrift.short.Holding.{Hold, Early, HoldsOn, hold-goes, hold-takes, hold-unmade}

@@ -1,10 +1,10 @@
 -- In one lane WRITEs of a sync or close that follows writes and fills are long.
 use Rattle.core_counts.proofs.Prelude.{◌≡◌, ◌<◌, ◌⊎◌, inl, inr, ◌+◌, ℕ, List, length, Some, sym, ap, subst, ◌∙◌, arith, Entry, Began, Op, At, OneLane, NeverFull, CoveredEarlier, At-grow, At-back, At-below, At-one, file_at, of_file, Cell, how_of, ready_of, Mounted, Setup, WaitsPlain, NotAsStable, BeganOtherwise}
+use Rattle.core_counts.specs.thrift.Writes.{OfSlot, ShortWrittenWrite, WrittenWritesLong}
 use Rattle.world_model.specs.declared.answer.Answer.TheVariants as answers
 use Rattle.world_model.specs.declared.op.Op.TheVariants as ops
 use Rattle.world_model.specs.Operations.{Ended}
 use Rattle.core_session.proofs.syncs.Ends.{ended-back}
-use Rattle.core_counts.specs.thrift.Writes.{OfSlot, ShortWrittenWrite, WrittenWritesLong}
 use Rattle.core_counts.proofs.thrift.short.PutsLong.{one-before, room-before}
 use Rattle.core_counts.proofs.thrift.short.SavedLong.{saved-long}
 use Rattle.core_counts.proofs.thrift.short.Written.{Good, reached-tracked}
