@@ -178,6 +178,7 @@ module _ (mt : Mounted) (terms : Terms) (setup : Setup) (H : List Entry) (V : Vi
     -- an open whose answer is ready
     opened-soon : (lane its x : ℕ) (op : Op) (value : Value) (mode : Mode) → UnderWay h lane x (length h) op → IsOpen op its mode → Finds terms.modes h (length h) f
         → NotedSoon H (length h) x (answers.Done value) → Here lane its
+    unfolding last-later
     opened-soon lane its x op value mode u o finds n = record {
       n = suc n.z;
       open_at = x;
