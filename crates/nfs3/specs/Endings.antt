@@ -1,5 +1,7 @@
 -- How the program ends.
 use Rattle.std.specs.Prelude.{ℕ, List, codes, ◌==◌, if◌then◌else◌, Option, Some, None}
+use Rattle.export_session.specs.declared.next.End.{End}
+use Rattle.export_session.specs.declared.next.End.TheVariants as ends
 use Rattle.world_link.specs.declared.schedule.ScheduleFault.{ScheduleFault}
 use Rattle.world_link.specs.declared.schedule.ScheduleFault.TheVariants as schedules
 use Rattle.net_edge.specs.declared.stand_ins.StandardStream.{StandardStream}
@@ -28,6 +30,12 @@ abbrev pub closed_as : StandardStream → Ending
 closed_as streams.Input = endings.ReadFault
 closed_as streams.Output = endings.WriteFault
 closed_as streams.Error = endings.WriteFault
+
+-- the end of serving
+abbrev pub ended_as : End → Ending
+ended_as ends.Served = endings.Served
+ended_as ends.Lost = endings.Lost
+ended_as ends.Memory = endings.Memory
 
 -- what standard error says of a session that ended with the status
 abbrev pub message_of : ℕ → Option (List ℕ)

@@ -2,8 +2,9 @@
 
 ghost use Rattle.std.specs.Prelude.{◌≡◌, Option};
 ghost use Rattle.std.specs.Option.{option_map};
-ghost use Rattle.nfs3.specs.Endings.{status_of, message_of, closed_as};
+ghost use Rattle.nfs3.specs.Endings.{status_of, message_of, closed_as, ended_as};
 
+use export_session::End;
 use net_edge::StandardStream;
 
 /// How the program ends.
@@ -52,6 +53,17 @@ pub fn closed(stream: StandardStream) -> Ending
     match stream {
         StandardStream::Input => Ending::ReadFault,
         StandardStream::Output | StandardStream::Error => Ending::WriteFault,
+    }
+}
+
+/// How the program ends where serving does.
+pub fn ended(end: End) -> Ending
+    ensures { result ≡ ended_as end }
+{
+    match end {
+        End::Served => Ending::Served,
+        End::Lost => Ending::Lost,
+        End::Memory => Ending::Memory,
     }
 }
 

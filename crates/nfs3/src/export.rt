@@ -3,10 +3,11 @@
 ghost use Rattle.std.specs.Prelude.{◌≡◌};
 ghost use Rattle.script_text.specs.Numbers.{number_of};
 
-use crate::ending::Ending;
+use crate::connections::serve_connections;
+use crate::ending::{Ending, ended};
 use crate::schedule_file::{refused, schedule_text};
-use crate::serving::Serving;
 use export_fs::Export;
+use export_session::Serving;
 use net_edge::{LoopbackListener, UdpDatagrams};
 use script_text::number;
 use world_link::read_schedule;
@@ -83,7 +84,7 @@ fn listen(rt: &HostRuntime, port: u16, mut serving: Serving) -> Ending {
         return Ending::Lost;
     };
     match println!(rt; "listening {port}") {
-        Ok(()) => serving.serve_all(&mut listener),
+        Ok(()) => serve_connections(rt.alloc(), &mut serving, &mut listener),
         Err(_) => Ending::WriteFault,
     }
 }
@@ -94,7 +95,7 @@ fn listen_to_datagrams(rt: &HostRuntime, port: u16, mut serving: Serving) -> End
         return Ending::Lost;
     };
     match println!(rt; "listening {port}") {
-        Ok(()) => serving.serve_datagrams(&mut datagrams),
+        Ok(()) => ended(serving.serve_datagrams(&mut datagrams)),
         Err(_) => Ending::WriteFault,
     }
 }

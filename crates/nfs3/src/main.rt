@@ -4,14 +4,13 @@
 //! without a SCHEDULE, serves a test export, over UDP with `--udp` before the port.
 #![tactic(auto)]
 
-mod datagrams;
+mod connections;
 mod ending;
 mod export;
 mod make;
 mod replay;
 mod run;
 mod schedule_file;
-mod serving;
 
 use crate::ending::{Ending, closed, message};
 use net_edge::StandIns;

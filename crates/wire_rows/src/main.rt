@@ -4,7 +4,8 @@
 //! - `file-call`, `file-reply`, `dir-call`, `dir-reply`, `mount-call` or `mount-reply` and the number of a procedure;
 //! - `rpc-call`, `rpc-call-of-user` or `rpc-reply` and the xid;
 //! - `port-call` and the xid, `port-reply` and any number, and `port-answer` and the port that a server is on;
-//! - `dir-page` or `plus-page`, a page of a listing, and `name` or `handle`, with any number.
+//! - `dir-page` or `plus-page`, a page of a listing, and `name` or `handle`, with any number;
+//! - `opaque` and how many bytes are written as one and read back, with no bytes.
 //!
 //! After what the record holds stands `same true` where it is written again to the same bytes, and `short true` where
 //! each proper prefix of it is refused as too short. A line that begins with `#` is printed.
@@ -15,6 +16,7 @@ mod end;
 mod files;
 mod messages;
 mod mounts;
+mod opaques;
 mod pages;
 mod ports;
 
@@ -39,6 +41,7 @@ fn record(rt: &impl Print, alloc: Global, kind: &str, number: u32, bytes: &[u8])
         "port-call" => ports::call(rt, alloc, number, bytes),
         "port-reply" => ports::reply(rt, bytes),
         "port-answer" => ports::answered(rt, alloc, number, bytes),
+        "opaque" => opaques::opaque(rt, alloc, number),
         "name" => println!(rt; "{}", Name::make(bytes).is_some()),
         "handle" => println!(rt; "{}", Handle::make(bytes).is_some()),
         _ => println!(rt; "no such kind"),

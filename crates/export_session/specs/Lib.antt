@@ -1,0 +1,5 @@
+pub mod Answers
+pub mod Goes
+pub mod Talk
+pub mod Senders
+pub mod Places
