@@ -1,10 +1,10 @@
 use Rattle.lane_session.proofs.running.Session.has_room.Goals as goal
 
 pub have_room-requires-clause-before : goal.have_room-requires-clause-before
-have_room-requires-clause-before g c = rw c.count-lines.ensures c.requires.held.seated.room
+have_room-requires-clause-before c = rw c.count-lines.ensures c.requires.held.seated.room
 
 pub have_room-requires-clause-few : goal.have_room-requires-clause-few
-have_room-requires-clause-few g c = rw c.count-more.ensures c.requires.few
+have_room-requires-clause-few c = rw c.count-more.ensures c.requires.few
 
 pub returns : goal.returns
-returns g c = rw (← c.count-lines.ensures, ← c.count-more.ensures) c.have_room.ensures
+returns c = rw (← c.count-lines.ensures, ← c.count-more.ensures) c.have_room.ensures
