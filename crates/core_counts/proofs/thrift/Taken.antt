@@ -239,7 +239,7 @@ module _ (m : Mounted) (terms : Terms) (setup : Setup) (nocto : m.nocto ≡ term
         let late = young xid call waits in
         noted-held (Met m setup q) (Follows m setup q h) (λ g z j p. q.few) q.few b q.f q.s q.i call.purpose.sent.moment took.offset took.data_ took.shows took.eof old.shelf.pages state.0
         (λ index ends g. met-so m setup q h old new rec xid call k r found known fin hears named waits there t rest is within q.f took.offset took.count index took.data_ ends reply came-is other-is small g)
-        (λ g z j p same. sym p.0.1) took.same state.1 (omega (arith, low, late)) took.gives good_
+        (λ g z j p same. sym p.1) took.same state.1 (omega (arith, low, late)) took.gives good_
 
     pub held-now : HoldsPage q.f q.s q.i t.shelf.pages
     held-now =
