@@ -185,7 +185,7 @@ module _ (before next wsize : ℕ) (is_next : next ≡ before + 1) (some : 1 ≤
         let open__ : IsOpen again.upto (of_file again.file t.between) =
         subst (λ (n : ℕ). IsOpen n (of_file again.file t.between)) (sym same.1) (subst (λ (g : List ℕ). IsOpen s.upto (of_file g t.between)) (sym same.0) left.opened) in
         subst (λ (n : ℕ). IsOpen n (of_file s.file after)) same.1
-        (subst (λ (g : List ℕ). IsOpen again.upto (of_file g after)) same.0 (goes-open turn.xid turn.room true again t.between mid_sound early_ open__ nx new after t.goes))
+        (subst (λ (g : List ℕ). IsOpen again.upto (of_file g after)) same.0 (goes-open turn.xid turn.room t.counts again t.between mid_sound early_ open__ nx new after t.goes))
 
     own-told : (between : Pending) (now : Option Fault) → saves.Lands sent.xid s.file (saves.told_of sent.xid s.file b came) b between now → (how : ℕ) × Outcome sent.xid s.file how came b between now
     own-told between now l =
