@@ -94,7 +94,7 @@ commit_talk = talk 5 commit not_committed (omega arith) (omega arith) (commit_ca
 
 -- ---- the history
 
-abbrev the_op : Op
+abbrev pub the_op : Op
 the_op = ops.Write 1 0 (1 ∷ [])
 
 abbrev the_close : Op
@@ -146,7 +146,7 @@ it_stands : HoldsStable ((made empty_server closes_stable).at 30) the_file 0 1
 it_stands = record { now = 1 ∷ []; stable = 1 ∷ []; has = record { file = file steady_write; is = refl; holds = refl }; holds = refl; steady = refl }
 
 -- The reply to the WRITE, which called the byte stable, is the evidence of it.
-it_is_evident : Evidence (entries_of closes_stable) 16 29 the_file 0 1
+pub it_is_evident : Evidence (entries_of closes_stable) 16 29 the_file 0 1
 it_is_evident = record {
   middle = 29;
   firm = 2;

@@ -13,4 +13,6 @@ pub mod RepeatedCalls
 pub mod CopyAfterReply
 pub mod PutSettles
 pub mod ClosesStable
+pub mod CloseEvident
 pub mod UnsentCloses
+pub mod GivenUpBytes
