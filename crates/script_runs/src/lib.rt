@@ -9,4 +9,6 @@ mod output;
 mod status;
 mod top;
 
+pub use input::{ReadFault, read_script};
+pub use output::write_all;
 pub use top::{run, run_with};
