@@ -39,7 +39,7 @@ use Rattle.claims.specs.Thrifty.{Thrifty}
 use Rattle.claims.specs.Touched.{Wrote}
 use Rattle.claims.specs.Touched as touched
 use Rattle.core_answers.proofs.bonds.OneCall.{IsNfs, one-call}
-use Rattle.session_setup.proofs.Finishing.{heads_same}
+use Rattle.session_setup.proofs.Calls.{heads_same}
 
 -- MNT or FSINFO
 pub data IsSetUpCall (call : Call) : Type 0 where
