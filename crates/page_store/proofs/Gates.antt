@@ -12,19 +12,20 @@ open_gate = 0 ∷ 0 ∷ 0 ∷ 1 ∷ []
 abbrev pub shut_gate : List ℕ
 shut_gate = 0 ∷ 0 ∷ 0 ∷ 0 ∷ []
 
+-- the bytes of a closed gate
+pub zero-gate : (i : ℕ) → i < 4 → byte_at shut_gate i ≡ 0
+zero-gate zero low = refl
+zero-gate (suc zero) low = refl
+zero-gate (suc (suc zero)) low = refl
+zero-gate (suc (suc (suc zero))) low = refl
+zero-gate (suc (suc (suc (suc i)))) low = absurd (omega (arith, low))
+
 -- a buffer of four zeros, once it was read into, has what the image has there
 pub read-all : (image : List ℕ) (at : ℕ) (new : List ℕ) (n : ℕ) → Gives image at shut_gate new n → (i : ℕ) → i < 4 → byte_at new i ≡ byte_at image (at + i)
 read-all image at new n g i less = elim (cases_lt i n) [
   | inl low ↦ g.front i low
-  | inr high ↦ g.rest i high ∙ zeros i less ∙ sym (get_or_past image (at + i) 0 (let all = g.all in omega (arith, all, high, less)))
+  | inr high ↦ g.rest i high ∙ zero-gate i less ∙ sym (get_or_past image (at + i) 0 (let all = g.all in omega (arith, all, high, less)))
 ]
-  where
-    zeros : (i : ℕ) → i < 4 → byte_at shut_gate i ≡ 0
-    zeros zero low = refl
-    zeros (suc zero) low = refl
-    zeros (suc (suc zero)) low = refl
-    zeros (suc (suc (suc zero))) low = refl
-    zeros (suc (suc (suc (suc i)))) low = absurd (omega (arith, low))
 
 -- four bytes, one by one
 pub four : (bytes gate : List ℕ) → length bytes ≡ 4 → length gate ≡ 4 → ((i : ℕ) → i < 4 → byte_at bytes i ≡ byte_at gate i) → bytes ≡ gate
@@ -45,13 +46,13 @@ four (a ∷ b ∷ c ∷ d ∷ []) (p ∷ q ∷ r ∷ s ∷ t ∷ rest) long shor
 pub zeros-shut : (image : List ℕ) (k : ℕ) → HasGate image k shut_gate → IsOpen image k → ⊥
 zeros-shut image k gate opens = absurd (let no_way : 0 ≡ 1 = sym (gate 3 (omega arith)) ∙ opens 3 (omega arith) in cc)
 
-module _ (slot : ℕ) (low : slot < 1024) (old : List ℕ → Type 0) (s : IsSound old) where
+module _ (top slot : ℕ) (low : slot < top) (old : List ℕ → Type 0) (s : IsSound top old) where
   -- where one image is open, all have its body
   pub open-alike : (seen : List ℕ) → old seen → IsOpen seen slot → IsAlike old slot
   open-alike seen there gate c d left other = λ i within. s.same slot seen c low there gate left i within ∙ sym (s.same slot seen d low there gate other i within)
 
   -- an image that is like an old one but for the gate has what stood there, where an open image was there
-  pub but-from : (seen : List ℕ) → old seen → IsOpen seen slot → (c : List ℕ) → IsBut slot old c → IsFrom old c
+  pub but-from : (seen : List ℕ) → old seen → IsOpen seen slot → (c : List ℕ) → IsBut top slot old c → IsFrom top old c
   but-from seen there gate c but k less opens = by (but.2 k less)
     where
       by : SameBody k c but.0 × ((k ≡ slot) ⊎ (IsOpen c k → IsOpen but.0 k)) → Stood old k c
@@ -67,7 +68,7 @@ module _ (slot : ℕ) (low : slot < 1024) (old : List ℕ → Type 0) (s : IsSou
           )
 
   -- the same over a body that is whole in each image
-  pub but-or : (body : List ℕ) → HasWhole old slot body → (c : List ℕ) → IsBut slot old c → IsFromOr slot body old c
+  pub but-or : (body : List ℕ) → HasWhole old slot body → (c : List ℕ) → IsBut top slot old c → IsFromOr top slot body old c
   but-or body whole c but k less opens = by (but.2 k less)
     where
       by : SameBody k c but.0 × ((k ≡ slot) ⊎ (IsOpen c k → IsOpen but.0 k)) → Stood old k c ⊎ ((k ≡ slot) × HasBody c k body)
@@ -82,21 +83,21 @@ pub whole-alike : (slot : ℕ) (old : List ℕ → Type 0) (body : List ℕ) →
 whole-alike slot old body whole c d left other i within = whole c left i within ∙ sym (whole d other i within)
 
 -- what came from images that came from others
-pub from-from : (old mid : List ℕ → Type 0) → Every mid (IsFrom old) → (c : List ℕ) → IsFrom mid c → IsFrom old c
-from-from old mid each c from k less opens =
+pub from-from : (top : ℕ) (old mid : List ℕ → Type 0) → Every mid (IsFrom top old) → (c : List ℕ) → IsFrom top mid c → IsFrom top old c
+from-from top old mid each c from k less opens =
     let m = from k less opens in
     let o = each m.0 m.1 k less m.2 in
     (o.0, o.1, o.2, λ i within. m.3 i within ∙ o.3 i within)
 
-pub from-or : (slot : ℕ) (body : List ℕ) (old mid : List ℕ → Type 0) → Every mid (IsFrom old) → (c : List ℕ) → IsFromOr slot body mid c → IsFromOr slot body old c
-from-or slot body old mid each c from k less opens = by (from k less opens)
+pub from-or : (top slot : ℕ) (body : List ℕ) (old mid : List ℕ → Type 0) → Every mid (IsFrom top old) → (c : List ℕ) → IsFromOr top slot body mid c → IsFromOr top slot body old c
+from-or top slot body old mid each c from k less opens = by (from k less opens)
   where
     by : Stood mid k c ⊎ ((k ≡ slot) × HasBody c k body) → Stood old k c ⊎ ((k ≡ slot) × HasBody c k body)
     by (inl m) = let o = each m.0 m.1 k less m.2 in inl (o.0, o.1, o.2, λ i within. m.3 i within ∙ o.3 i within)
     by (inr this) = inr this
 
-pub or-weaker : (slot : ℕ) (body : List ℕ) (old : List ℕ → Type 0) (c : List ℕ) → IsFrom old c → IsFromOr slot body old c
-or-weaker slot body old c from k less opens = inl (from k less opens)
+pub or-weaker : (top slot : ℕ) (body : List ℕ) (old : List ℕ → Type 0) (c : List ℕ) → IsFrom top old c → IsFromOr top slot body old c
+or-weaker top slot body old c from k less opens = inl (from k less opens)
 
 -- a buffer of zeros, once it was read into, has what the image has there
 pub read-zeros : (image : List ℕ) (at n : ℕ) (new : List ℕ) (count : ℕ) → Gives image at (replicate n 0) new count → (i : ℕ) → i < n → byte_at new i ≡ byte_at image (at + i)

@@ -5,3 +5,5 @@ pub mod Bodies
 pub mod Written
 pub mod PageLemmas
 pub mod Zeros
+pub mod RoundLemmas
+pub mod InMemory

@@ -36,7 +36,7 @@ has-page image body k page opens has long is = record {
   is = ap page_of (sym (is-body image body k long (λ i low. sym (has i low)))) ∙ is;
 }
 
-same-body : (k : ℕ) (c d : List ℕ) → SameBody k c d → body_in c k ≡ body_in d k
+pub same-body : (k : ℕ) (c d : List ℕ) → SameBody k c d → body_in c k ≡ body_in d k
 same-body k c d same = is-body d (body_in c k) k (length-part 4220 (gate_at k + 4) c) (λ i low. byte-part 4220 (gate_at k + 4) c i low ∙ same i low)
 
 -- what a slot shows, by the page in its body
@@ -58,9 +58,9 @@ pub page-stays : (k : ℕ) (c d : List ℕ) (page : StoredPage) → SameSlot k c
 page-stays k c d page same has = record { opens = stays-open k c d same has.opens; is = ap page_of (same-body k c d (slot-body k c d same)) ∙ has.is }
 
 -- pages that came with their bodies
-pub keeps-only : (slot : ℕ) (body : List ℕ) (page : StoredPage) (old : List ℕ → Type 0) (c : List ℕ) → length body ≡ 4220 → page_of body ≡ Some page → IsFromOr slot body old c
-    → KeepsOnly slot page old c
-keeps-only slot body page old c long is from k other low has = elim (from k low has.opens) [
+pub keeps-only : (top slot : ℕ) (body : List ℕ) (page : StoredPage) (old : List ℕ → Type 0) (c : List ℕ) → length body ≡ 4220 → page_of body ≡ Some page → IsFromOr top slot body old c
+    → KeepsOnly top slot page old c
+keeps-only top slot body page old c long is from k other low has = elim (from k low has.opens) [
   | inl stood ↦ inl (stood.0, stood.1, record { opens = stood.2; is = ap page_of (sym (same-body k c stood.0 stood.3)) ∙ has.is })
   | inr this ↦ inr (this.0, some (sym has.is ∙ ap page_of (sym (is-body c body k long (λ i less. sym (this.1 i less)))) ∙ is))
 ]
@@ -88,19 +88,19 @@ shown-more image n pages page s one = record {
 
 -- ---- pages in memory and in every image
 
-pub stands-opened : (seen : List ℕ) (now : List ℕ → Type 0) (pages : List (Option StoredPage)) → ((c : List ℕ) → now c → c ≡ seen) → AreShown seen 1024 pages → Stands now pages
-stands-opened seen now pages only shown k page there c left = subst (λ (i : List ℕ). HasPage i k page) (sym (only c left)) (shown.each k (Some page) there)
+pub stands-opened : (top : ℕ) (seen : List ℕ) (now : List ℕ → Type 0) (pages : List (Option StoredPage)) → ((c : List ℕ) → now c → c ≡ seen) → AreShown seen top pages → Stands now pages
+stands-opened top seen now pages only shown k page there c left = subst (λ (i : List ℕ). HasPage i k page) (sym (only c left)) (shown.each k (Some page) there)
 
 -- after a slot was stored into: what stands in the others is as it was
-pub stands-stored : (slot : ℕ) (old new : List ℕ → Type 0) (pages : List (Option StoredPage)) (after : Option StoredPage) → length pages ≡ 1024 → slot < 1024
-    → Every new (IsBeside slot old) → Stands old pages → ((page : StoredPage) → after ≡ Some page → Every new (λ c. HasPage c slot page))
+pub stands-stored : (top slot : ℕ) (old new : List ℕ → Type 0) (pages : List (Option StoredPage)) (after : Option StoredPage) → length pages ≡ top → slot < top
+    → Every new (IsBeside top slot old) → Stands old pages → ((page : StoredPage) → after ≡ Some page → Every new (λ c. HasPage c slot page))
     → Stands new (set pages slot after)
-stands-stored slot old new pages after all low beside stands own k page there c left = by (which k slot)
+stands-stored top slot old new pages after all low beside stands own k page there c left = by (which k slot)
   where
     there-is : get_or (set pages slot after) k None ≡ Some page
     there-is = get_or_from_slice_get (set pages slot after) k (Some page) None there
 
-    within : k < 1024
+    within : k < top
     within = let less = slice_get_within (set pages slot after) k (Some page) there in let same = length-set pages slot after in omega (arith, less, same, all)
 
     by : (k ≡ slot) ⊎ ((k < slot) ⊎ (slot < k)) → HasPage c k page
@@ -119,24 +119,24 @@ stands-stored slot old new pages after all low beside stands own k page there c 
         apart-from (inr more) is = absurd (omega (arith, more, is))
 
 -- after a disk was opened
-pub sound-one : (seen : List ℕ) (before now : List ℕ → Type 0) → ((c : List ℕ) → now c → c ≡ seen) → ((c : List ℕ) → now c → before c) → AreLong before → IsSound now
-sound-one seen before now only fewer long = record {
+pub sound-one : (top : ℕ) (seen : List ℕ) (before now : List ℕ → Type 0) → ((c : List ℕ) → now c → c ≡ seen) → ((c : List ℕ) → now c → before c) → AreLong top before → IsSound top now
+sound-one top seen before now only fewer long = record {
   long = λ c left. long c (fewer c left);
   same = λ k d c less there opens left i within. ap (λ (image : List ℕ). byte_at image (gate_at k + 4 + i)) (only c left ∙ sym (only d there));
 }
 
-pub is-opened : (seen : List ℕ) (before now : List ℕ → Type 0) (pages : List (Option StoredPage)) → now seen → Only seen now → ((c : List ℕ) → now c → before c) → AreShown seen 1024 pages
-    → IsOpened before seen now pages
-is-opened seen before now pages there only fewer shown = record {
+pub is-opened : (top : ℕ) (seen : List ℕ) (before now : List ℕ → Type 0) (pages : List (Option StoredPage)) → now seen → Only seen now → ((c : List ℕ) → now c → before c) → AreShown seen top pages
+    → IsOpened top before seen now pages
+is-opened top seen before now pages there only fewer shown = record {
   one = fewer seen there;
   only = only;
   shown = shown;
-  sound = sound-one seen before now only fewer;
-  stands = stands-opened seen now pages only shown;
+  sound = λ m. sound-one m seen before now only fewer;
+  stands = stands-opened top seen now pages only shown;
 }
 
-pub keeps-itself : (slot : ℕ) (page : StoredPage) (old : List ℕ → Type 0) → Every old (KeepsOnly slot page old)
-keeps-itself slot page old c left k other low has = inl (c, left, has)
+pub keeps-itself : (top slot : ℕ) (page : StoredPage) (old : List ℕ → Type 0) → Every old (KeepsOnly top slot page old)
+keeps-itself top slot page old c left k other low has = inl (c, left, has)
 
 -- ---- a slot was stored into, or counts as closed
 
@@ -146,18 +146,18 @@ some-is a b e = cc
 no-page : (page : StoredPage) → None ≡ Some page → ⊥
 no-page page e = cc
 
-pub stands-closed : (slot : ℕ) (old new : List ℕ → Type 0) (pages : List (Option StoredPage)) → length pages ≡ 1024 → slot < 1024 → Every new (IsBeside slot old) → Stands old pages
+pub stands-closed : (top slot : ℕ) (old new : List ℕ → Type 0) (pages : List (Option StoredPage)) → length pages ≡ top → slot < top → Every new (IsBeside top slot old) → Stands old pages
     → Stands new (set pages slot None)
-stands-closed slot old new pages all low beside stands = stands-stored slot old new pages None all low beside stands (λ page none. absurd (no-page page none))
+stands-closed top slot old new pages all low beside stands = stands-stored top slot old new pages None all low beside stands (λ page none. absurd (no-page page none))
 
-pub stands-still : (slot : ℕ) (old : List ℕ → Type 0) (pages : List (Option StoredPage)) → length pages ≡ 1024 → slot < 1024 → Stands old pages → Stands old (set pages slot None)
-stands-still slot old pages all low stands = stands-closed slot old old pages all low (beside-itself slot old) stands
+pub stands-still : (top slot : ℕ) (old : List ℕ → Type 0) (pages : List (Option StoredPage)) → length pages ≡ top → slot < top → Stands old pages → Stands old (set pages slot None)
+stands-still top slot old pages all low stands = stands-closed top slot old old pages all low (beside-itself top slot old) stands
 
-pub stands-put : (slot : ℕ) (old new : List ℕ → Type 0) (pages : List (Option StoredPage)) (copy put : StoredPage) (seen : List ℕ) → length pages ≡ 1024 → slot < 1024
-    → Every new (IsBeside slot old) → Stands old pages → copy ≡ put → IsStored slot put seen new → Stands new (set (set pages slot None) slot (Some copy))
-stands-put slot old new pages copy put seen all low beside stands same stored =
+pub stands-put : (top slot : ℕ) (old new : List ℕ → Type 0) (pages : List (Option StoredPage)) (copy put : StoredPage) (seen : List ℕ) → length pages ≡ top → slot < top
+    → Every new (IsBeside top slot old) → Stands old pages → copy ≡ put → IsStored slot put seen new → Stands new (set (set pages slot None) slot (Some copy))
+stands-put top slot old new pages copy put seen all low beside stands same stored =
     subst (λ (ps : List (Option StoredPage)). Stands new ps) (sym (set-set pages slot None (Some copy)))
-    (stands-stored slot old new pages (Some copy) all low beside stands
+    (stands-stored top slot old new pages (Some copy) all low beside stands
     (λ page is c left. subst (λ (p : StoredPage). HasPage c slot p) (sym same ∙ some-is copy page is) (subst (λ (i : List ℕ). HasPage i slot put) (sym (stored.only c left)) stored.there)))
 
 pub pages-put : (slot : ℕ) (pages : List (Option StoredPage)) (copy put : StoredPage) → copy ≡ put → set (set pages slot None) slot (Some copy) ≡ set pages slot (Some put)

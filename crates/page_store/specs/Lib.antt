@@ -2,5 +2,6 @@ pub mod Disk
 pub mod Slots
 pub mod Pages
 pub mod Store
+pub mod Rounds
 pub mod Faults
 pub mod MemDisk

@@ -73,6 +73,6 @@ pub record HasPage (image : List ℕ) (k : ℕ) (page : StoredPage) : Type 0 whe
 abbrev pub WasKept : (List ℕ → Type 0) → ℕ → StoredPage → Type 0
 WasKept old k page = (d : List ℕ) × old d × HasPage d k page
 
--- each page of an image stood there in one of these images, or it is this one, in its slot
-abbrev pub KeepsOnly : ℕ → StoredPage → (List ℕ → Type 0) → List ℕ → Type 0
-KeepsOnly slot new old image = (k : ℕ) (page : StoredPage) → k < 1024 → HasPage image k page → WasKept old k page ⊎ ((k ≡ slot) × (page ≡ new))
+-- each page in the first n slots of an image stood there in one of these images, or it is this one, in its slot
+abbrev pub KeepsOnly : ℕ → ℕ → StoredPage → (List ℕ → Type 0) → List ℕ → Type 0
+KeepsOnly n slot new old image = (k : ℕ) (page : StoredPage) → k < n → HasPage image k page → WasKept old k page ⊎ ((k ≡ slot) × (page ≡ new))

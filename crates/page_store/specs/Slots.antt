@@ -21,30 +21,30 @@ SameSlot k a b = (i : ℕ) → i < 4224 → byte_at a (gate_at k + i) ≡ byte_a
 abbrev pub HasBody : List ℕ → ℕ → List ℕ → Type 0
 HasBody image k body = (i : ℕ) → i < 4220 → byte_at image (gate_at k + 4 + i) ≡ byte_at body i
 
--- each image has all slots
-abbrev pub AreLong : (List ℕ → Type 0) → Type 0
-AreLong may_leave = (c : List ℕ) → may_leave c → 4325376 ≤ length c
+-- each image has the first n slots
+abbrev pub AreLong : ℕ → (List ℕ → Type 0) → Type 0
+AreLong n may_leave = (c : List ℕ) → may_leave c → 4224 * n ≤ length c
 
--- Each image that a crash may leave has all slots; and where a slot is open in one of them, all have its body.
-pub record IsSound (may_leave : List ℕ → Type 0) : Type 0 where
-  pub long : AreLong may_leave
-  pub same : (k : ℕ) (d c : List ℕ) → k < 1024 → may_leave d → IsOpen d k → may_leave c → SameBody k c d
+-- Each image that a crash may leave has the first n slots; and where one of these is open in an image, all have its body.
+pub record IsSound (n : ℕ) (may_leave : List ℕ → Type 0) : Type 0 where
+  pub long : AreLong n may_leave
+  pub same : (k : ℕ) (d c : List ℕ) → k < n → may_leave d → IsOpen d k → may_leave c → SameBody k c d
 
 -- the body that an image has in a slot stood there in an open slot of one of these images
 abbrev pub Stood : (List ℕ → Type 0) → ℕ → List ℕ → Type 0
 Stood old k image = (d : List ℕ) × old d × IsOpen d k × SameBody k image d
 
--- each body of an open slot stood there
-abbrev pub IsFrom : (List ℕ → Type 0) → List ℕ → Type 0
-IsFrom old image = (k : ℕ) → k < 1024 → IsOpen image k → Stood old k image
+-- each body of an open slot, of the first n, stood there
+abbrev pub IsFrom : ℕ → (List ℕ → Type 0) → List ℕ → Type 0
+IsFrom n old image = (k : ℕ) → k < n → IsOpen image k → Stood old k image
 
 -- the same, or it is this one, in its slot
-abbrev pub IsFromOr : ℕ → List ℕ → (List ℕ → Type 0) → List ℕ → Type 0
-IsFromOr slot body old image = (k : ℕ) → k < 1024 → IsOpen image k → Stood old k image ⊎ ((k ≡ slot) × HasBody image k body)
+abbrev pub IsFromOr : ℕ → ℕ → List ℕ → (List ℕ → Type 0) → List ℕ → Type 0
+IsFromOr n slot body old image = (k : ℕ) → k < n → IsOpen image k → Stood old k image ⊎ ((k ≡ slot) × HasBody image k body)
 
--- all slots but one are those of one of these images
-abbrev pub IsBeside : ℕ → (List ℕ → Type 0) → List ℕ → Type 0
-IsBeside slot old image = (d : List ℕ) × old d × ((k : ℕ) → k < 1024 → (k ≡ slot → ⊥) → SameSlot k image d)
+-- all of the first n slots but one are those of one of these images
+abbrev pub IsBeside : ℕ → ℕ → (List ℕ → Type 0) → List ℕ → Type 0
+IsBeside n slot old image = (d : List ℕ) × old d × ((k : ℕ) → k < n → (k ≡ slot → ⊥) → SameSlot k image d)
 
 -- a slot is closed in each image
 abbrev pub IsShut : (List ℕ → Type 0) → ℕ → Type 0
@@ -58,9 +58,9 @@ HasWhole may_leave k body = (c : List ℕ) → may_leave c → HasBody c k body
 abbrev pub IsAlike : (List ℕ → Type 0) → ℕ → Type 0
 IsAlike may_leave k = (c d : List ℕ) → may_leave c → may_leave d → SameBody k c d
 
--- an image is like one of these, but for the gate of a slot
-abbrev pub IsBut : ℕ → (List ℕ → Type 0) → List ℕ → Type 0
-IsBut slot old image = (d : List ℕ) × old d × ((k : ℕ) → k < 1024 → SameBody k image d × ((k ≡ slot) ⊎ (IsOpen image k → IsOpen d k)))
+-- the first n slots of an image are like those of one of these, but for the gate of a slot
+abbrev pub IsBut : ℕ → ℕ → (List ℕ → Type 0) → List ℕ → Type 0
+IsBut n slot old image = (d : List ℕ) × old d × ((k : ℕ) → k < n → SameBody k image d × ((k ≡ slot) ⊎ (IsOpen image k → IsOpen d k)))
 
 -- the gate of a slot has these bytes
 abbrev pub HasGate : List ℕ → ℕ → List ℕ → Type 0

@@ -6,10 +6,11 @@ use Rattle.page_store.specs.Slots.{IsSound, AreLong}
 use Rattle.page_store.specs.Pages.{StoredPage, HasPage}
 use Rattle.page_store.specs.declared.fault.StoreFault.{StoreFault}
 
--- a store: its disk, and the page of each slot in memory, None where the slot counts as closed
+-- a store: its disk; the page of each slot in memory, None where the slot counts as closed; and the round that is under way
 pub record StoreView (D : Type 0) : Type 0 where
   pub disk : D
   pub pages : List (Option StoredPage)
+  pub round : List (Option (Option StoredPage))
 
 -- a slot has this page, or none
 abbrev pub IsShown : List ℕ → ℕ → Option StoredPage → Type 0
@@ -26,11 +27,11 @@ abbrev pub Stands : (List ℕ → Type 0) → List (Option StoredPage) → Type 
 Stands may_leave pages = (k : ℕ) (page : StoredPage) → slice_get pages k ≡ Some (Some page) → Every may_leave (λ c. HasPage c k page)
 
 -- After a disk was opened: the pages in memory are those of one image of before, which is the only one now.
-pub record IsOpened (before : List ℕ → Type 0) (seen : List ℕ) (now : List ℕ → Type 0) (pages : List (Option StoredPage)) : Type 0 where
+pub record IsOpened (n : ℕ) (before : List ℕ → Type 0) (seen : List ℕ) (now : List ℕ → Type 0) (pages : List (Option StoredPage)) : Type 0 where
   pub one : before seen
   pub only : Only seen now
-  pub shown : AreShown seen 1024 pages
-  pub sound : AreLong before → IsSound now
+  pub shown : AreShown seen n pages
+  pub sound : (m : ℕ) → AreLong m before → IsSound m now
   pub stands : Stands now pages
 
 -- after a page was stored whole: it stands in its slot, and a crash leaves just what a read gives

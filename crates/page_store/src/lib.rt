@@ -10,6 +10,8 @@ mod mem_disk;
 mod opening;
 mod put;
 mod record;
+mod round_pages;
+mod rounds;
 mod slots;
 mod store;
 

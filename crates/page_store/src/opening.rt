@@ -1,4 +1,4 @@
-//! Reading all slots of a disk.
+//! Reading the slots of a disk.
 
 ghost use Rattle.std.specs.Prelude.{◌≡◌, ◌<◌, ◌≤◌, ℕ, List, length, IfOk, IfErr, OnOk};
 ghost use Rattle.page_store.specs.Disk.{Only};
@@ -9,19 +9,20 @@ ghost use Rattle.page_store.specs.Store.{AreShown, IsShown, StaysAs};
 
 use crate::fault::store_fault;
 use crate::record::{Stored, read_page};
-use crate::slots::{BODY, GATE, SLOT, SLOTS, reads_open};
+use crate::slots::{BODY, GATE, SLOT, reads_open};
 use crate::{Disk, StoreFault};
 use std::alloc::Global;
 
-/// Syncs, and reads the pages of all slots.
+/// Syncs, and reads the pages of so many slots.
 pub(crate) fn sync_and_read<D: Disk>(
     alloc: Global,
     disk: &mut D,
+    count: u32,
 ) -> Result<Vec<Option<Stored>>, StoreFault>
-    ensures shown { D.tells disk.old → IfOk result (λ v. AreShown (D.seen disk.new) 1024 v.items) }
+    ensures shown { D.tells disk.old → IfOk result (λ v. AreShown (D.seen disk.new) count v.items) }
     ensures only { D.tells disk.old → OnOk result (Only (D.seen disk.new) (D.may_leave disk.new)) }
     ensures stays { D.tells disk.old → StaysAs D.seen D.may_leave D.moment D.left_since disk.old disk.new }
-    ensures length { IfOk result (λ v. length v.items ≡ 1024) }
+    ensures length { IfOk result (λ v. length v.items ≡ count) }
     ensures goes_on { D.tells disk.old → D.tells disk.new }
     ensures cause { HasStoreCause (D.faults disk.old) (D.faults disk.new) result }
 {
@@ -29,19 +30,23 @@ pub(crate) fn sync_and_read<D: Disk>(
         Ok(()) => {}
         Err(fault) => return Err(store_fault(fault)),
     }
-    read_slots(alloc, disk)
+    read_slots(alloc, disk, count)
 }
 
-/// The pages of all slots.
-fn read_slots<D: Disk>(alloc: Global, disk: &mut D) -> Result<Vec<Option<Stored>>, StoreFault>
-    ensures shown { D.tells disk.old → IfOk result (λ v. AreShown (D.seen disk.old) 1024 v.items) }
+/// The pages of so many slots.
+fn read_slots<D: Disk>(
+    alloc: Global,
+    disk: &mut D,
+    count: u32,
+) -> Result<Vec<Option<Stored>>, StoreFault>
+    ensures shown { D.tells disk.old → IfOk result (λ v. AreShown (D.seen disk.old) count v.items) }
     ensures stays { D.tells disk.old → StaysAs D.seen D.may_leave D.moment D.left_since disk.old disk.new }
-    ensures length { IfOk result (λ v. length v.items ≡ 1024) }
+    ensures length { IfOk result (λ v. length v.items ≡ count) }
     ensures goes_on { D.tells disk.old → D.tells disk.new }
     ensures cause { HasStoreCause (D.faults disk.old) (D.faults disk.new) result }
 {
     let mut slots = Vec::new(alloc);
-    for slot in 0..SLOTS {
+    for slot in 0..count {
         match read_slot(alloc, disk, slot) {
             Ok(page) => {
                 let Ok(()) = slots.push(page) else {
@@ -56,7 +61,6 @@ fn read_slots<D: Disk>(alloc: Global, disk: &mut D) -> Result<Vec<Option<Stored>
 
 /// The page of a slot, where it is open.
 fn read_slot<D: Disk>(alloc: Global, disk: &mut D, slot: u32) -> Result<Option<Stored>, StoreFault>
-    requires { slot < 1024 }
     ensures shown { D.tells disk.old → IfOk result (λ page. IsShown (D.seen disk.old) slot page) }
     ensures stays { D.tells disk.old → StaysAs D.seen D.may_leave D.moment D.left_since disk.old disk.new }
     ensures goes_on { D.tells disk.old → D.tells disk.new }

@@ -8,9 +8,6 @@ ghost use Rattle.page_store.specs.Slots.{HasBody, IsSound, IsFrom, IsFromOr, IsB
 use crate::Disk;
 use outside::{Failed, LinkFault};
 
-/// How many slots there are.
-pub(crate) const SLOTS: u32 = 1024;
-
 /// The bytes of a slot.
 pub(crate) const SLOT: u64 = 4224;
 
@@ -21,22 +18,23 @@ pub(crate) const GATE: u64 = 4;
 pub(crate) const BODY: usize = 4220;
 
 /// An open gate.
-const OPEN: [u8; 4] = [0, 0, 0, 1];
+pub(crate) const OPEN: [u8; 4] = [0, 0, 0, 1];
 
 /// A closed gate, as it is written. Any other bytes than those of an open one are a closed one.
-const CLOSED: [u8; 4] = [0, 0, 0, 0];
+pub(crate) const CLOSED: [u8; 4] = [0, 0, 0, 0];
 
 /// Puts a body into a slot. A crash at any moment leaves in each open slot a body that stood there before, or there this
 /// one. At `Ok` it stands there.
 pub(crate) fn put_body<D: Disk>(disk: &mut D, slot: u32, body: &[u8]) -> Result<(), LinkFault>
-    requires slot { slot < 1024 }
     requires body { length body.now ≡ 4220 }
-    ensures safe { D.tells disk.old → IsSound (D.may_leave disk.old) → IsSound (D.may_leave disk.new) }
-    ensures leaves { D.tells disk.old → IsSound (D.may_leave disk.old) → Every (D.may_leave disk.new) (IsFromOr slot body.now (D.may_leave disk.old)) }
-    ensures beside { D.tells disk.old → IsSound (D.may_leave disk.old) → Every (D.may_leave disk.new) (IsBeside slot (D.may_leave disk.old)) }
-    ensures any_moment { D.tells disk.old → IsSound (D.may_leave disk.old)
-        → LeavesOnly D.moment D.left_since disk.old disk.new (IsFromOr slot body.now (D.may_leave disk.old)) }
-    ensures stored { D.tells disk.old → IsSound (D.may_leave disk.old)
+    ensures safe { D.tells disk.old → (n : ℕ) → slot < n → IsSound n (D.may_leave disk.old) → IsSound n (D.may_leave disk.new) }
+    ensures leaves { D.tells disk.old → (n : ℕ) → slot < n → IsSound n (D.may_leave disk.old)
+        → Every (D.may_leave disk.new) (IsFromOr n slot body.now (D.may_leave disk.old)) }
+    ensures beside { D.tells disk.old → (n : ℕ) → slot < n → IsSound n (D.may_leave disk.old)
+        → Every (D.may_leave disk.new) (IsBeside n slot (D.may_leave disk.old)) }
+    ensures any_moment { D.tells disk.old → (n : ℕ) → slot < n → IsSound n (D.may_leave disk.old)
+        → LeavesOnly D.moment D.left_since disk.old disk.new (IsFromOr n slot body.now (D.may_leave disk.old)) }
+    ensures stored { D.tells disk.old → (n : ℕ) → slot < n → IsSound n (D.may_leave disk.old)
         → OnOk result (IsOpen (D.seen disk.new) slot × HasBody (D.seen disk.new) slot body.now × Only (D.seen disk.new) (D.may_leave disk.new)) }
     ensures goes_on { D.tells disk.old → D.tells disk.new }
     ensures cause { HasCause (D.faults disk.old) (D.faults disk.new) result }
@@ -54,13 +52,13 @@ pub(crate) fn put_body<D: Disk>(disk: &mut D, slot: u32, body: &[u8]) -> Result<
 
 /// Closes the gate of a slot. A closed one isn't written again: a crash could leave it open over an old body.
 fn close_gate<D: Disk>(disk: &mut D, slot: u32) -> Result<(), LinkFault>
-    requires slot { slot < 1024 }
-    ensures safe { D.tells disk.old → IsSound (D.may_leave disk.old) → IsSound (D.may_leave disk.new) }
-    ensures leaves { D.tells disk.old → IsSound (D.may_leave disk.old) → Every (D.may_leave disk.new) (IsFrom (D.may_leave disk.old)) }
-    ensures beside { D.tells disk.old → IsSound (D.may_leave disk.old) → Every (D.may_leave disk.new) (IsBeside slot (D.may_leave disk.old)) }
-    ensures any_moment { D.tells disk.old → IsSound (D.may_leave disk.old)
-        → LeavesOnly D.moment D.left_since disk.old disk.new (IsFrom (D.may_leave disk.old)) }
-    ensures shut { D.tells disk.old → IsSound (D.may_leave disk.old) → OnOk result (IsShut (D.may_leave disk.new) slot) }
+    ensures safe { D.tells disk.old → (n : ℕ) → slot < n → IsSound n (D.may_leave disk.old) → IsSound n (D.may_leave disk.new) }
+    ensures leaves { D.tells disk.old → (n : ℕ) → slot < n → IsSound n (D.may_leave disk.old) → Every (D.may_leave disk.new) (IsFrom n (D.may_leave disk.old)) }
+    ensures beside { D.tells disk.old → (n : ℕ) → slot < n → IsSound n (D.may_leave disk.old)
+        → Every (D.may_leave disk.new) (IsBeside n slot (D.may_leave disk.old)) }
+    ensures any_moment { D.tells disk.old → (n : ℕ) → slot < n → IsSound n (D.may_leave disk.old)
+        → LeavesOnly D.moment D.left_since disk.old disk.new (IsFrom n (D.may_leave disk.old)) }
+    ensures shut { D.tells disk.old → (n : ℕ) → slot < n → IsSound n (D.may_leave disk.old) → OnOk result (IsShut (D.may_leave disk.new) slot) }
     ensures goes_on { D.tells disk.old → D.tells disk.new }
     ensures cause { HasCause (D.faults disk.old) (D.faults disk.new) result }
 {
@@ -92,13 +90,15 @@ pub(crate) fn reads_open<D: Disk>(disk: &mut D, at: u64) -> Result<bool, Failed>
 
 /// Writes the gate of a slot.
 fn write_gate<D: Disk>(disk: &mut D, slot: u32, gate: &[u8]) -> Result<(), LinkFault>
-    requires slot { slot < 1024 }
     requires gate { length gate.now ≡ 4 }
-    ensures safe { D.tells disk.old → IsAlike (D.may_leave disk.old) slot → IsSound (D.may_leave disk.old) → IsSound (D.may_leave disk.new) }
-    ensures alike { D.tells disk.old → IsSound (D.may_leave disk.old) → Every (D.may_leave disk.new) (IsBut slot (D.may_leave disk.old)) }
-    ensures beside { D.tells disk.old → IsSound (D.may_leave disk.old) → Every (D.may_leave disk.new) (IsBeside slot (D.may_leave disk.old)) }
-    ensures any_moment { D.tells disk.old → IsSound (D.may_leave disk.old)
-        → LeavesOnly D.moment D.left_since disk.old disk.new (IsBut slot (D.may_leave disk.old)) }
+    ensures safe { D.tells disk.old → (n : ℕ) → slot < n → IsAlike (D.may_leave disk.old) slot → IsSound n (D.may_leave disk.old)
+        → IsSound n (D.may_leave disk.new) }
+    ensures alike { D.tells disk.old → (n : ℕ) → slot < n → IsSound n (D.may_leave disk.old)
+        → Every (D.may_leave disk.new) (IsBut n slot (D.may_leave disk.old)) }
+    ensures beside { D.tells disk.old → (n : ℕ) → slot < n → IsSound n (D.may_leave disk.old)
+        → Every (D.may_leave disk.new) (IsBeside n slot (D.may_leave disk.old)) }
+    ensures any_moment { D.tells disk.old → (n : ℕ) → slot < n → IsSound n (D.may_leave disk.old)
+        → LeavesOnly D.moment D.left_since disk.old disk.new (IsBut n slot (D.may_leave disk.old)) }
     ensures written { D.tells disk.old → OnOk result (HasGate (D.seen disk.new) slot gate.now × Only (D.seen disk.new) (D.may_leave disk.new)) }
     ensures goes_on { D.tells disk.old → D.tells disk.new }
     ensures cause { HasCause (D.faults disk.old) (D.faults disk.new) result }
@@ -112,14 +112,15 @@ fn write_gate<D: Disk>(disk: &mut D, slot: u32, gate: &[u8]) -> Result<(), LinkF
 
 /// Writes the body of a slot that is closed.
 fn write_body<D: Disk>(disk: &mut D, slot: u32, body: &[u8]) -> Result<(), LinkFault>
-    requires slot { slot < 1024 }
     requires body { length body.now ≡ 4220 }
-    ensures safe { D.tells disk.old → IsShut (D.may_leave disk.old) slot → IsSound (D.may_leave disk.old) → IsSound (D.may_leave disk.new) }
-    ensures leaves { D.tells disk.old → IsShut (D.may_leave disk.old) slot → IsSound (D.may_leave disk.old)
-        → Every (D.may_leave disk.new) (IsFrom (D.may_leave disk.old)) }
-    ensures beside { D.tells disk.old → IsSound (D.may_leave disk.old) → Every (D.may_leave disk.new) (IsBeside slot (D.may_leave disk.old)) }
-    ensures any_moment { D.tells disk.old → IsShut (D.may_leave disk.old) slot → IsSound (D.may_leave disk.old)
-        → LeavesOnly D.moment D.left_since disk.old disk.new (IsFrom (D.may_leave disk.old)) }
+    ensures safe { D.tells disk.old → (n : ℕ) → slot < n → IsShut (D.may_leave disk.old) slot → IsSound n (D.may_leave disk.old)
+        → IsSound n (D.may_leave disk.new) }
+    ensures leaves { D.tells disk.old → (n : ℕ) → slot < n → IsShut (D.may_leave disk.old) slot → IsSound n (D.may_leave disk.old)
+        → Every (D.may_leave disk.new) (IsFrom n (D.may_leave disk.old)) }
+    ensures beside { D.tells disk.old → (n : ℕ) → slot < n → IsSound n (D.may_leave disk.old)
+        → Every (D.may_leave disk.new) (IsBeside n slot (D.may_leave disk.old)) }
+    ensures any_moment { D.tells disk.old → (n : ℕ) → slot < n → IsShut (D.may_leave disk.old) slot → IsSound n (D.may_leave disk.old)
+        → LeavesOnly D.moment D.left_since disk.old disk.new (IsFrom n (D.may_leave disk.old)) }
     ensures body { D.tells disk.old → OnOk result (HasWhole (D.may_leave disk.new) slot body.now) }
     ensures goes_on { D.tells disk.old → D.tells disk.new }
     ensures cause { HasCause (D.faults disk.old) (D.faults disk.new) result }
@@ -133,15 +134,15 @@ fn write_body<D: Disk>(disk: &mut D, slot: u32, body: &[u8]) -> Result<(), LinkF
 
 /// Opens the gate over a body that is there.
 fn open_gate<D: Disk>(disk: &mut D, slot: u32) -> Result<(), LinkFault>
-    requires slot { slot < 1024 }
-    ensures safe { D.tells disk.old → (body : List ℕ) → HasWhole (D.may_leave disk.old) slot body → IsSound (D.may_leave disk.old)
-        → IsSound (D.may_leave disk.new) }
-    ensures leaves { D.tells disk.old → (body : List ℕ) → HasWhole (D.may_leave disk.old) slot body → IsSound (D.may_leave disk.old)
-        → Every (D.may_leave disk.new) (IsFromOr slot body (D.may_leave disk.old)) }
-    ensures beside { D.tells disk.old → IsSound (D.may_leave disk.old) → Every (D.may_leave disk.new) (IsBeside slot (D.may_leave disk.old)) }
-    ensures any_moment { D.tells disk.old → (body : List ℕ) → HasWhole (D.may_leave disk.old) slot body → IsSound (D.may_leave disk.old)
-        → LeavesOnly D.moment D.left_since disk.old disk.new (IsFromOr slot body (D.may_leave disk.old)) }
-    ensures stands { D.tells disk.old → (body : List ℕ) → HasWhole (D.may_leave disk.old) slot body → IsSound (D.may_leave disk.old)
+    ensures safe { D.tells disk.old → (n : ℕ) → slot < n → (body : List ℕ) → HasWhole (D.may_leave disk.old) slot body → IsSound n (D.may_leave disk.old)
+        → IsSound n (D.may_leave disk.new) }
+    ensures leaves { D.tells disk.old → (n : ℕ) → slot < n → (body : List ℕ) → HasWhole (D.may_leave disk.old) slot body → IsSound n (D.may_leave disk.old)
+        → Every (D.may_leave disk.new) (IsFromOr n slot body (D.may_leave disk.old)) }
+    ensures beside { D.tells disk.old → (n : ℕ) → slot < n → IsSound n (D.may_leave disk.old)
+        → Every (D.may_leave disk.new) (IsBeside n slot (D.may_leave disk.old)) }
+    ensures any_moment { D.tells disk.old → (n : ℕ) → slot < n → (body : List ℕ) → HasWhole (D.may_leave disk.old) slot body → IsSound n (D.may_leave disk.old)
+        → LeavesOnly D.moment D.left_since disk.old disk.new (IsFromOr n slot body (D.may_leave disk.old)) }
+    ensures stands { D.tells disk.old → (n : ℕ) → slot < n → (body : List ℕ) → HasWhole (D.may_leave disk.old) slot body → IsSound n (D.may_leave disk.old)
         → OnOk result (IsOpen (D.seen disk.new) slot × HasBody (D.seen disk.new) slot body × Only (D.seen disk.new) (D.may_leave disk.new)) }
     ensures goes_on { D.tells disk.old → D.tells disk.new }
     ensures cause { HasCause (D.faults disk.old) (D.faults disk.new) result }

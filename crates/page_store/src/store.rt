@@ -1,21 +1,27 @@
 //! A store of pages on a disk, which outlasts the program.
 
-ghost use Rattle.std.specs.Prelude.{◌≡◌, ◌<◌, ◌≤◌, ℕ, List, Option, Some, slice_get, length, option_map, MatchOption, IfOk, IfErr, OnOk, true, ◌↔◌};
+ghost use Rattle.std.specs.Prelude.{◌≡◌, ◌<◌, ◌≤◌, ◌+◌, ◌*◌, ◌↔◌, ℕ, List, [], Option, Some, None, true, slice_get, length, replicate, option_map};
+ghost use Rattle.std.specs.Prelude.{MatchOption, IfOk, IfErr, OnOk, OnErr};
 ghost use Rattle.page_store.specs.Disk.{Every, LeavesOnly};
 ghost use Rattle.page_store.specs.Slots.{IsSound};
 ghost use Rattle.page_store.specs.Pages.{KeepsOnly, StoredPage, page_of, shows_page, stored_page};
 ghost use Rattle.page_store.specs.Store.{IsOpened, IsStored, Stands, HasZeros, shown_at, pages_after, IsOf};
+ghost use Rattle.page_store.specs.Rounds.{IsIn, IsUnderWay, IsEnded, KeepsAll, KeepsOrFills, ArePagesAfter, cleared, taken_in, round_after};
 ghost use Rattle.page_store.specs.Faults.{HasStoreCause, IsFault};
 
 use crate::format::write_zeros;
 use crate::opening::sync_and_read;
-use crate::put::put_page;
+use crate::put::{end_round, fill_page, put_page, shut_round};
 use crate::record::{Stored, body_of};
+use crate::round_pages::{clear_slots, is_in, round_of, show_filled};
 use crate::{Disk, StoreFault};
 use nfs_types::{Handle, KeptPage, Stamp};
 use std::alloc::Global;
 use std::marker::Model;
 use xdr_codec::{Blob, Memory};
+
+/// How many slots there are where no other number is given.
+const SLOTS: u32 = 1024;
 
 /// A disk that wasn't opened, and why.
 #[derive(Drop)]
@@ -32,33 +38,62 @@ pub struct PageStore<D: Disk> {
     alloc: Global,
     disk: D,
     slots: Vec<Option<Stored>>,
+    /// None for a slot outside of the round, Some(None) for one whose gate is closed, and then its page.
+    round: Vec<Option<Option<Stored>>>,
 }
 
 impl<D: Disk> Model for PageStore<D> {
-    ghost use Rattle.std.specs.Prelude.{◌≡◌, length};
     ghost use Rattle.page_store.specs.Store.{StoreView};
+    ghost use Rattle.page_store.specs.Rounds.{AreHeld};
 
     ghost Value = { StoreView D };
 
-    ghost view = { λ s. record { disk = s.disk; pages = s.slots.items } };
+    ghost view = { λ s. record { disk = s.disk; pages = s.slots.items; round = s.round.items } };
 
-    ghost invariant = { λ s. length s.slots.items ≡ 1024 };
+    ghost invariant = { λ s. AreHeld s.slots.items s.round.items };
 }
 
 impl<D: Disk + Drop> PageStore<D> {
-    /// Writes zeros over all slots and syncs, so that each is closed. Nothing is claimed of a crash before that.
+    /// Writes zeros over 1,024 slots and syncs, so that each is closed. Nothing is claimed of a crash before that.
     pub fn format(alloc: Global, disk: &mut D) -> Result<(), StoreFault>
         ensures empty { D.tells disk.old → OnOk result (Every (D.may_leave disk.new) (HasZeros 4325376)) }
         ensures goes_on { D.tells disk.old → D.tells disk.new }
         ensures cause { HasStoreCause (D.faults disk.old) (D.faults disk.new) result }
     {
-        write_zeros(alloc, disk)
+        PageStore::format_sized(alloc, disk, SLOTS)
     }
 
-    /// Syncs, and reads all slots. An open slot that breaks a rule of its fields counts as closed. On an error the disk is
+    /// The same for so many slots, from 1,024 to 65,536.
+    pub fn format_sized(alloc: Global, disk: &mut D, slots: u32) -> Result<(), StoreFault>
+        requires least { 1024 ≤ slots }
+        requires most { slots ≤ 65536 }
+        ensures empty { D.tells disk.old → OnOk result (Every (D.may_leave disk.new) (HasZeros (4224 * slots))) }
+        ensures goes_on { D.tells disk.old → D.tells disk.new }
+        ensures cause { HasStoreCause (D.faults disk.old) (D.faults disk.new) result }
+    {
+        write_zeros(alloc, disk, slots)
+    }
+
+    /// Syncs, and reads 1,024 slots. An open slot that breaks a rule of its fields counts as closed. On an error the disk is
     /// handed back.
     pub fn open(alloc: Global, disk: D) -> Result<PageStore<D>, OpenFault<D>>
-        ensures opened { D.tells disk → IfOk result (λ s. IsOpened (D.may_leave disk) (D.seen s.disk) (D.may_leave s.disk) s.pages) }
+        ensures opened { D.tells disk → IfOk result (λ s. IsOpened 1024 (D.may_leave disk) (D.seen s.disk) (D.may_leave s.disk) s.pages) }
+        ensures count { IfOk result (λ s. length s.pages ≡ 1024) }
+        ensures any_moment { D.tells disk → IfOk result (λ s. LeavesOnly D.moment D.left_since disk s.disk (D.may_leave disk)) }
+        ensures goes_on { D.tells disk → IfOk result (λ s. D.tells s.disk) }
+        ensures handed_back { D.tells disk → IfErr result (λ e. D.tells e.disk × Every (D.may_leave e.disk) (D.may_leave disk)) }
+        ensures later { IfOk result (λ s. D.faults disk ≤ D.faults s.disk) }
+        ensures cause { IfErr result (λ e. IsFault (D.faults disk) (D.faults e.disk) e.fault) }
+    {
+        PageStore::open_sized(alloc, disk, SLOTS)
+    }
+
+    /// The same for so many slots, from 1,024 to 65,536.
+    pub fn open_sized(alloc: Global, disk: D, slots: u32) -> Result<PageStore<D>, OpenFault<D>>
+        requires least { 1024 ≤ slots }
+        requires most { slots ≤ 65536 }
+        ensures opened { D.tells disk → IfOk result (λ s. IsOpened slots (D.may_leave disk) (D.seen s.disk) (D.may_leave s.disk) s.pages) }
+        ensures count { IfOk result (λ s. length s.pages ≡ slots) }
         ensures any_moment { D.tells disk → IfOk result (λ s. LeavesOnly D.moment D.left_since disk s.disk (D.may_leave disk)) }
         ensures goes_on { D.tells disk → IfOk result (λ s. D.tells s.disk) }
         ensures handed_back { D.tells disk → IfErr result (λ e. D.tells e.disk × Every (D.may_leave e.disk) (D.may_leave disk)) }
@@ -66,8 +101,13 @@ impl<D: Disk + Drop> PageStore<D> {
         ensures cause { IfErr result (λ e. IsFault (D.faults disk) (D.faults e.disk) e.fault) }
     {
         let mut disk = disk;
-        match sync_and_read(alloc, &mut disk) {
-            Ok(slots) => Ok(PageStore { alloc, disk, slots }),
+        match sync_and_read(alloc, &mut disk, slots) {
+            Ok(slots) => Ok(PageStore {
+                alloc,
+                disk,
+                slots,
+                round: Vec::new(alloc),
+            }),
             Err(fault) => Err(OpenFault { disk, fault }),
         }
     }
@@ -79,7 +119,16 @@ impl<D: Disk + Drop> PageStore<D> {
         self.disk
     }
 
-    /// The page of a slot; None exactly where the slot counts as closed, or isn't below 1,024.
+    /// How many slots it has: from 1,024 to 65,536.
+    pub fn count(&self) -> u32
+        ensures count { result ≡ length self.now.pages }
+        ensures least { 1024 ≤ length self.now.pages }
+        ensures most { length self.now.pages ≤ 65536 }
+    {
+        self.slots.len() as u32
+    }
+
+    /// The page of a slot; None exactly where the slot counts as closed, or isn't below the number of slots.
     pub fn slot_page(&self, slot: u32) -> Option<KeptPage<'_>>
         ensures { option_map shows_page result ≡ shown_at slot self.now.pages }
     {
@@ -102,8 +151,9 @@ impl<D: Disk + Drop> PageStore<D> {
         None
     }
 
-    /// Stores a page of at most 4,096 bytes in a slot. A crash at any moment leaves pages that stood there before, or there
-    /// this one. After an error the slot counts as closed. `Memory` where memory ran out here, or in the disk.
+    /// Stores a page of at most 4,096 bytes in a slot below the number of slots. A crash at any moment leaves pages that stood there before, or there
+    /// this one. After an error the slot counts as closed. `Memory` where memory ran out here, or in the disk. A round that is under way
+    /// is dropped: its slots stay closed.
     pub fn store(
         &mut self,
         slot: u32,
@@ -112,22 +162,24 @@ impl<D: Disk + Drop> PageStore<D> {
         index: u64,
         bytes: &[u8],
     ) -> Result<(), StoreFault>
-        requires slot { slot < 1024 }
+        requires slot { slot < length self.old.pages }
         requires page { length bytes.now ≤ 4096 }
-        ensures safe { D.tells self.old.disk → IsSound (D.may_leave self.old.disk) → IsSound (D.may_leave self.new.disk) }
-        ensures leaves { D.tells self.old.disk → IsSound (D.may_leave self.old.disk)
-            → Every (D.may_leave self.new.disk) (KeepsOnly slot (stored_page file.now stamp.now index bytes.now) (D.may_leave self.old.disk)) }
-        ensures any_moment { D.tells self.old.disk → IsSound (D.may_leave self.old.disk)
+        ensures safe { D.tells self.old.disk → (n : ℕ) → slot < n → IsSound n (D.may_leave self.old.disk) → IsSound n (D.may_leave self.new.disk) }
+        ensures leaves { D.tells self.old.disk → (n : ℕ) → slot < n → IsSound n (D.may_leave self.old.disk)
+            → Every (D.may_leave self.new.disk) (KeepsOnly n slot (stored_page file.now stamp.now index bytes.now) (D.may_leave self.old.disk)) }
+        ensures any_moment { D.tells self.old.disk → (n : ℕ) → slot < n → IsSound n (D.may_leave self.old.disk)
             → LeavesOnly D.moment D.left_since self.old.disk self.new.disk
-            (KeepsOnly slot (stored_page file.now stamp.now index bytes.now) (D.may_leave self.old.disk)) }
-        ensures stored { D.tells self.old.disk → IsSound (D.may_leave self.old.disk)
+            (KeepsOnly n slot (stored_page file.now stamp.now index bytes.now) (D.may_leave self.old.disk)) }
+        ensures stored { D.tells self.old.disk → (n : ℕ) → slot < n → IsSound n (D.may_leave self.old.disk)
             → OnOk result (IsStored slot (stored_page file.now stamp.now index bytes.now) (D.seen self.new.disk) (D.may_leave self.new.disk)) }
-        ensures stands { D.tells self.old.disk → IsSound (D.may_leave self.old.disk) → Stands (D.may_leave self.old.disk) self.old.pages
+        ensures stands { D.tells self.old.disk → IsSound (length self.old.pages) (D.may_leave self.old.disk) → Stands (D.may_leave self.old.disk) self.old.pages
             → Stands (D.may_leave self.new.disk) self.new.pages }
         ensures pages { self.new.pages ≡ pages_after slot (stored_page file.now stamp.now index bytes.now) result self.old.pages }
+        ensures round { self.new.round ≡ [] }
         ensures goes_on { D.tells self.old.disk → D.tells self.new.disk }
         ensures cause { HasStoreCause (D.faults self.old.disk) (D.faults self.new.disk) result }
     {
+        self.round.truncate(0);
         self.slots[slot as usize] = None;
         let Ok((stored, body)) = prepared(self.alloc, file, stamp, index, bytes) else {
             return Err(StoreFault::Memory);
@@ -138,6 +190,125 @@ impl<D: Disk + Drop> PageStore<D> {
                 Ok(())
             }
             Err(fault) => Err(fault),
+        }
+    }
+
+    /// Begins a round, which stores into several slots with one sync for each of its three steps: closes the gates of these
+    /// slots, and syncs. A slot that isn't below the number of slots is left out. Of a round that was under way the slots stay
+    /// closed. After an error there is no round.
+    pub fn begin(&mut self, slots: &[u32]) -> Result<(), StoreFault>
+        ensures safe { D.tells self.old.disk → (n : ℕ) → length self.old.pages ≤ n → IsSound n (D.may_leave self.old.disk)
+            → IsSound n (D.may_leave self.new.disk) }
+        ensures leaves { D.tells self.old.disk → (n : ℕ) → length self.old.pages ≤ n → IsSound n (D.may_leave self.old.disk)
+            → Every (D.may_leave self.new.disk) (KeepsAll n (D.may_leave self.old.disk)) }
+        ensures any_moment { D.tells self.old.disk → (n : ℕ) → length self.old.pages ≤ n → IsSound n (D.may_leave self.old.disk)
+            → LeavesOnly D.moment D.left_since self.old.disk self.new.disk (KeepsAll n (D.may_leave self.old.disk)) }
+        ensures stands { D.tells self.old.disk → IsSound (length self.old.pages) (D.may_leave self.old.disk)
+            → Stands (D.may_leave self.old.disk) self.old.pages → Stands (D.may_leave self.new.disk) self.new.pages }
+        ensures under_way { D.tells self.old.disk → IsSound (length self.old.pages) (D.may_leave self.old.disk)
+            → IsUnderWay (D.seen self.new.disk) (D.may_leave self.new.disk) self.new.round }
+        ensures pages { self.new.pages ≡ cleared slots.now self.old.pages }
+        ensures round { OnOk result (self.new.round ≡ taken_in slots.now (replicate (length self.old.pages) None)) }
+        ensures none { OnErr result (self.new.round ≡ []) }
+        ensures goes_on { D.tells self.old.disk → D.tells self.new.disk }
+        ensures cause { HasStoreCause (D.faults self.old.disk) (D.faults self.new.disk) result }
+    {
+        self.round.truncate(0);
+        clear_slots(&mut self.slots, slots);
+        let Ok(round) = round_of(self.alloc, self.slots.as_slice(), slots) else {
+            return Err(StoreFault::Memory);
+        };
+        match shut_round(&mut self.disk, round.as_slice()) {
+            Ok(()) => {
+                self.round = round;
+                Ok(())
+            }
+            Err(fault) => Err(fault),
+        }
+    }
+
+    /// Writes a page of at most 4,096 bytes into a slot of the round, without a sync. False, with nothing done, exactly where
+    /// the slot isn't in the round. After an error there is no round, and its slots stay closed.
+    pub fn fill(
+        &mut self,
+        slot: u32,
+        file: &Handle,
+        stamp: &Stamp,
+        index: u64,
+        bytes: &[u8],
+    ) -> Result<bool, StoreFault>
+        requires { length bytes.now ≤ 4096 }
+        ensures safe { D.tells self.old.disk → (n : ℕ) → length self.old.pages ≤ n → IsSound n (D.may_leave self.old.disk)
+            → IsUnderWay (D.seen self.old.disk) (D.may_leave self.old.disk) self.old.round → IsSound n (D.may_leave self.new.disk) }
+        ensures leaves { D.tells self.old.disk → (n : ℕ) → length self.old.pages ≤ n → IsSound n (D.may_leave self.old.disk)
+            → IsUnderWay (D.seen self.old.disk) (D.may_leave self.old.disk) self.old.round
+            → Every (D.may_leave self.new.disk) (KeepsAll n (D.may_leave self.old.disk)) }
+        ensures any_moment { D.tells self.old.disk → (n : ℕ) → length self.old.pages ≤ n → IsSound n (D.may_leave self.old.disk)
+            → IsUnderWay (D.seen self.old.disk) (D.may_leave self.old.disk) self.old.round
+            → LeavesOnly D.moment D.left_since self.old.disk self.new.disk (KeepsAll n (D.may_leave self.old.disk)) }
+        ensures stands { D.tells self.old.disk → IsSound (length self.old.pages) (D.may_leave self.old.disk)
+            → Stands (D.may_leave self.old.disk) self.old.pages → Stands (D.may_leave self.new.disk) self.new.pages }
+        ensures under_way { D.tells self.old.disk → IsSound (length self.old.pages) (D.may_leave self.old.disk)
+            → IsUnderWay (D.seen self.old.disk) (D.may_leave self.old.disk) self.old.round
+            → IsUnderWay (D.seen self.new.disk) (D.may_leave self.new.disk) self.new.round }
+        ensures is_in { IfOk result (λ yes. (yes ≡ true) ↔ IsIn self.old.round slot) }
+        ensures pages { self.new.pages ≡ self.old.pages }
+        ensures round { self.new.round ≡ round_after slot (stored_page file.now stamp.now index bytes.now) result self.old.round }
+        ensures goes_on { D.tells self.old.disk → D.tells self.new.disk }
+        ensures cause { HasStoreCause (D.faults self.old.disk) (D.faults self.new.disk) result }
+    {
+        if !is_in(self.round.as_slice(), slot) {
+            return Ok(false);
+        }
+        let Ok((stored, body)) = prepared(self.alloc, file, stamp, index, bytes) else {
+            self.round.truncate(0);
+            return Err(StoreFault::Memory);
+        };
+        match fill_page(&mut self.disk, slot, body.bytes()) {
+            Ok(()) => {
+                self.round[slot as usize] = Some(Some(stored));
+                Ok(true)
+            }
+            Err(fault) => {
+                self.round.truncate(0);
+                Err(fault)
+            }
+        }
+    }
+
+    /// Ends the round: syncs, opens the gate of each slot that was filled, and syncs. A crash at any moment leaves pages that
+    /// stood there before, or in a slot of the round the page that it was filled with. At `Ok` these stand there. After an
+    /// error all slots of the round count as closed.
+    pub fn finish(&mut self) -> Result<(), StoreFault>
+        ensures safe { D.tells self.old.disk → (n : ℕ) → length self.old.pages ≤ n → IsSound n (D.may_leave self.old.disk)
+            → IsSound n (D.may_leave self.new.disk) }
+        ensures leaves { D.tells self.old.disk → (n : ℕ) → length self.old.pages ≤ n → IsSound n (D.may_leave self.old.disk)
+            → IsUnderWay (D.seen self.old.disk) (D.may_leave self.old.disk) self.old.round
+            → Every (D.may_leave self.new.disk) (KeepsOrFills n self.old.round (D.may_leave self.old.disk)) }
+        ensures any_moment { D.tells self.old.disk → (n : ℕ) → length self.old.pages ≤ n → IsSound n (D.may_leave self.old.disk)
+            → IsUnderWay (D.seen self.old.disk) (D.may_leave self.old.disk) self.old.round
+            → LeavesOnly D.moment D.left_since self.old.disk self.new.disk (KeepsOrFills n self.old.round (D.may_leave self.old.disk)) }
+        ensures ended { D.tells self.old.disk → IsSound (length self.old.pages) (D.may_leave self.old.disk)
+            → IsUnderWay (D.seen self.old.disk) (D.may_leave self.old.disk) self.old.round
+            → OnOk result (IsEnded self.old.round (D.seen self.new.disk) (D.may_leave self.new.disk)) }
+        ensures stands { D.tells self.old.disk → IsSound (length self.old.pages) (D.may_leave self.old.disk)
+            → IsUnderWay (D.seen self.old.disk) (D.may_leave self.old.disk) self.old.round
+            → Stands (D.may_leave self.old.disk) self.old.pages → Stands (D.may_leave self.new.disk) self.new.pages }
+        ensures pages { ArePagesAfter self.old.round result self.old.pages self.new.pages }
+        ensures round { self.new.round ≡ [] }
+        ensures goes_on { D.tells self.old.disk → D.tells self.new.disk }
+        ensures cause { HasStoreCause (D.faults self.old.disk) (D.faults self.new.disk) result }
+    {
+        match end_round(&mut self.disk, self.round.as_slice()) {
+            Ok(()) => {
+                show_filled(&mut self.slots, &mut self.round);
+                self.round.truncate(0);
+                Ok(())
+            }
+            Err(fault) => {
+                self.round.truncate(0);
+                Err(fault)
+            }
         }
     }
 }

@@ -1,7 +1,9 @@
 //! A disk in memory, or a store over it.
 
-use crate::words::{handle, last, numbers, show_bytes, show_done, show_slot, small, stamp, store};
-use page_store::{Disk, DiskCall, MemDisk, PageStore};
+use crate::words::{
+    fill, handle, last, numbers, show_bytes, show_done, show_slot, slots, small, stamp, store,
+};
+use page_store::{Disk, DiskCall, MemDisk, OpenFault, PageStore, StoreFault};
 use std::alloc::Global;
 use std::io;
 
@@ -53,8 +55,8 @@ fn on_disk(
     let [a, b, ..] = numbers(rest);
     match word {
         "new" => return new_disk(rt, alloc, word, rest),
-        "format" => show_done(rt, PageStore::format(alloc, &mut disk))?,
-        "open" => return open(rt, alloc, disk),
+        "format" => show_done(rt, format(alloc, &mut disk, small(a)))?,
+        "open" => return open(rt, alloc, disk, small(a)),
         "sync" => println!(rt; "= {:?}", disk.sync())?,
         "crash" => println!(rt; "= {:?}", disk.crash())?,
         "write" => write(rt, alloc, &mut disk, a, last(rest))?,
@@ -65,9 +67,31 @@ fn on_disk(
     Ok(Held::Disk(disk))
 }
 
+/// Formats a disk, for so many slots where a number from 1,024 to 65,536 is given.
+fn format(alloc: Global, disk: &mut MemDisk, slots: u32) -> Result<(), StoreFault> {
+    if slots >= 1024 && slots <= 65_536 {
+        PageStore::format_sized(alloc, disk, slots)
+    } else {
+        PageStore::format(alloc, disk)
+    }
+}
+
+/// Opens a disk, with so many slots where a number from 1,024 to 65,536 is given.
+fn opened(
+    alloc: Global,
+    disk: MemDisk,
+    slots: u32,
+) -> Result<PageStore<MemDisk>, OpenFault<MemDisk>> {
+    if slots >= 1024 && slots <= 65_536 {
+        PageStore::open_sized(alloc, disk, slots)
+    } else {
+        PageStore::open(alloc, disk)
+    }
+}
+
 /// Opens a store.
-fn open(rt: &HostRuntime, alloc: Global, disk: MemDisk) -> io::Result<Held> {
-    match PageStore::open(alloc, disk) {
+fn open(rt: &HostRuntime, alloc: Global, disk: MemDisk, slots: u32) -> io::Result<Held> {
+    match opened(alloc, disk, slots) {
         Ok(store) => {
             println!(rt; "= done")?;
             Ok(Held::Store(store))
@@ -96,6 +120,14 @@ fn on_store(
             Some(result) => show_done(rt, result)?,
             None => println!(rt; "= no such slot or page")?,
         },
+        "begin" => begin(rt, alloc, &mut pages, rest)?,
+        "fill" => match fill(&mut pages, small(a), b, c, d, last(rest)) {
+            Some(Ok(true)) => println!(rt; "= done")?,
+            Some(Ok(false)) => println!(rt; "= not in the round")?,
+            Some(Err(fault)) => println!(rt; "= {fault:?}")?,
+            None => println!(rt; "= no such page")?,
+        },
+        "finish" => show_done(rt, pages.finish())?,
         "page" => show_slot(rt, alloc, &pages, small(a))?,
         "find" => match pages.find(&handle(a), &stamp(b), c) {
             Some(bytes) => show_bytes(rt, alloc, bytes)?,
@@ -104,6 +136,19 @@ fn on_store(
         _ => {}
     }
     Ok(Held::Store(pages))
+}
+
+/// Begins a round of these slots.
+fn begin(
+    rt: &HostRuntime,
+    alloc: Global,
+    pages: &mut PageStore<MemDisk>,
+    rest: &str,
+) -> io::Result<()> {
+    match slots(alloc, rest) {
+        Ok(list) => show_done(rt, pages.begin(list.as_slice())),
+        Err(_) => println!(rt; "= memory"),
+    }
 }
 
 /// Writes bytes in hex to a disk.

@@ -4,10 +4,13 @@
 //!
 //! - `new N N ..`: an empty disk whose calls of these numbers fail; `format`, `open`, `close` (the store's disk again), `sync`,
 //!   `crash`
+//! - `format N`, `open N`: the same for so many slots
 //! - `store SLOT FILE SIZE INDEX TEXT`, `page SLOT`, `find FILE SIZE INDEX`
+//! - `begin SLOT SLOT ..`, `fill SLOT FILE SIZE INDEX TEXT`, `finish`: a round
 //! - `write AT HEX`, `bytes AT COUNT`, `last COUNT`: writes to the disk, shows bytes of it, and the last calls that it recorded
 //! - `stops OLD NEW`: for each call of a store of the text NEW, over OLD where that isn't `-`: the call fails, the disk
 //!   crashes, and what `open` finds
+//! - `round OLD NEW`: for each call of a round that stores NEW over OLD in a slot, and NEW in the next slot: the same
 //! - `faults format`, `faults open`: at each of its calls in turn the disk fails
 //! - `file PATH`, `chopped`: stores pages in a file of the system, and in one that gives and takes few bytes at a time
 #![tactic(auto)]
@@ -28,6 +31,7 @@ fn row(rt: &HostRuntime, alloc: Global, held: Held, line: &str) -> io::Result<He
     let (word, rest) = line.split_once(' ').unwrap_or((line, ""));
     match word {
         "stops" => stops::row(rt, alloc, rest)?,
+        "round" => stops::round(rt, alloc, rest)?,
         "faults" => faults::row(rt, alloc, rest)?,
         "file" => files::row(rt, alloc, rest)?,
         "chopped" => chopped::row(rt, alloc)?,

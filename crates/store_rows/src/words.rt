@@ -4,6 +4,7 @@ use nfs_types::{Handle, KeptPage, Stamp, Time};
 use page_store::{Disk, PageStore, StoreFault};
 use std::alloc::Global;
 use std::io;
+use xdr_codec::Memory;
 
 /// The first six numbers of a text; a word that isn't a number counts as 0.
 pub fn numbers(text: &str) -> [u64; 6] {
@@ -57,10 +58,35 @@ pub fn store<D: Disk + Drop>(
     text: &str,
 ) -> Option<Result<(), StoreFault>> {
     let bytes = text.as_bytes();
-    if slot >= 1024 || bytes.len() > 4096 {
+    if slot >= store.count() || bytes.len() > 4096 {
         return None;
     }
     Some(store.store(slot, &handle(file), &stamp(size), index, bytes))
+}
+
+/// The numbers of a text, as slots.
+pub fn slots(alloc: Global, text: &str) -> Result<Vec<u32>, Memory> {
+    let mut found = Vec::new(alloc);
+    for word in text.split_whitespace() {
+        found.push(small(word.parse::<u64>().unwrap_or(0)))?;
+    }
+    Ok(found)
+}
+
+/// Fills a slot of a round; None where the text is beyond its bound.
+pub fn fill<D: Disk + Drop>(
+    store: &mut PageStore<D>,
+    slot: u32,
+    file: u64,
+    size: u64,
+    index: u64,
+    text: &str,
+) -> Option<Result<bool, StoreFault>> {
+    let bytes = text.as_bytes();
+    if bytes.len() > 4096 {
+        return None;
+    }
+    Some(store.fill(slot, &handle(file), &stamp(size), index, bytes))
 }
 
 /// Prints what a call gave.

@@ -6,53 +6,53 @@ use Rattle.page_store.proofs.Torn.{torn-but, but-sound, but-itself, torn-beside,
 use Rattle.page_store.proofs.slots.write_gate.Goals as goal
 
 pub returns-in-Err-clause-safe : goal.returns-in-Err-clause-safe
-returns-in-Err-clause-safe g c = λ tells alike s.
+returns-in-Err-clause-safe g c = λ tells n low alike s.
     let crash = subst (λ (n : ℕ). Follows (Torn (4224 * c.args.slot) n) (g.D.Disk.may_leave c.args.disk.now) (g.D.Disk.may_leave c.write.new.self)) c.requires.gate (c.write.ensures.crash tells) in
-    but-sound c.args.slot c.requires.slot (g.D.Disk.may_leave c.args.disk.now) (g.D.Disk.may_leave c.write.new.self) s alike crash
+    but-sound n c.args.slot low (g.D.Disk.may_leave c.args.disk.now) (g.D.Disk.may_leave c.write.new.self) s alike crash
 
 pub returns-in-Err-clause-alike : goal.returns-in-Err-clause-alike
-returns-in-Err-clause-alike g c = λ tells s.
+returns-in-Err-clause-alike g c = λ tells n low s.
     let crash = subst (λ (n : ℕ). Follows (Torn (4224 * c.args.slot) n) (g.D.Disk.may_leave c.args.disk.now) (g.D.Disk.may_leave c.write.new.self)) c.requires.gate (c.write.ensures.crash tells) in
-    torn-but c.args.slot c.requires.slot (g.D.Disk.may_leave c.args.disk.now) (g.D.Disk.may_leave c.write.new.self) s crash
+    torn-but n c.args.slot low (g.D.Disk.may_leave c.args.disk.now) (g.D.Disk.may_leave c.write.new.self) s crash
 
 pub returns-in-Err-clause-any_moment : goal.returns-in-Err-clause-any_moment
-returns-in-Err-clause-any_moment g c = λ tells s.
+returns-in-Err-clause-any_moment g c = λ tells n low s.
     let old = c.args.disk.now in
     let crash = subst (λ (n : ℕ). Follows (Torn (4224 * c.args.slot) n) (g.D.Disk.may_leave old) (g.D.Disk.may_leave c.write.new.self)) c.requires.gate (c.write.ensures.crash tells) in
-    let P = IsBut c.args.slot (g.D.Disk.may_leave old) in
-    let start = started g.D.Disk.moment g.D.Disk.left_since old P (g.D.Disk.may_leave old) (λ i left. g.met.D.Disk.only_now old tells i left) (but-itself c.args.slot (g.D.Disk.may_leave old)) in
+    let P = IsBut n c.args.slot (g.D.Disk.may_leave old) in
+    let start = started g.D.Disk.moment g.D.Disk.left_since old P (g.D.Disk.may_leave old) (λ i left. g.met.D.Disk.only_now old tells i left) (but-itself n c.args.slot (g.D.Disk.may_leave old)) in
     goes_on g.D.Disk.moment g.D.Disk.left_since old old c.write.new.self P (g.D.Disk.may_leave c.write.new.self) start (c.write.ensures.time tells)
-    (torn-but c.args.slot c.requires.slot (g.D.Disk.may_leave old) (g.D.Disk.may_leave c.write.new.self) s crash)
+    (torn-but n c.args.slot low (g.D.Disk.may_leave old) (g.D.Disk.may_leave c.write.new.self) s crash)
 
 pub returns-clause-safe : goal.returns-clause-safe
-returns-clause-safe g c = λ tells alike s.
+returns-clause-safe g c = λ tells n low alike s.
     let crash = subst (λ (n : ℕ). Follows (Torn (4224 * c.args.slot) n) (g.D.Disk.may_leave c.args.disk.now) (g.D.Disk.may_leave c.write.new.self)) c.requires.gate (c.write.ensures.crash tells) in
-    fewer (g.D.Disk.may_leave c.write.new.self) (g.D.Disk.may_leave c.sync.new.self)
-    (but-sound c.args.slot c.requires.slot (g.D.Disk.may_leave c.args.disk.now) (g.D.Disk.may_leave c.write.new.self) s alike crash) (c.sync.ensures.crash (c.write.ensures.goes_on tells))
+    fewer n (g.D.Disk.may_leave c.write.new.self) (g.D.Disk.may_leave c.sync.new.self)
+    (but-sound n c.args.slot low (g.D.Disk.may_leave c.args.disk.now) (g.D.Disk.may_leave c.write.new.self) s alike crash) (c.sync.ensures.crash (c.write.ensures.goes_on tells))
 
 pub returns-clause-alike : goal.returns-clause-alike
-returns-clause-alike g c = λ tells s.
+returns-clause-alike g c = λ tells n low s.
     let crash = subst (λ (n : ℕ). Follows (Torn (4224 * c.args.slot) n) (g.D.Disk.may_leave c.args.disk.now) (g.D.Disk.may_leave c.write.new.self)) c.requires.gate (c.write.ensures.crash tells) in
-    λ i left. torn-but c.args.slot c.requires.slot (g.D.Disk.may_leave c.args.disk.now) (g.D.Disk.may_leave c.write.new.self) s crash i (c.sync.ensures.crash (c.write.ensures.goes_on tells) i left)
+    λ i left. torn-but n c.args.slot low (g.D.Disk.may_leave c.args.disk.now) (g.D.Disk.may_leave c.write.new.self) s crash i (c.sync.ensures.crash (c.write.ensures.goes_on tells) i left)
 
 pub returns-clause-any_moment : goal.returns-clause-any_moment
-returns-clause-any_moment g c = λ tells s.
+returns-clause-any_moment g c = λ tells n low s.
     let old = c.args.disk.now in
     let crash = subst (λ (n : ℕ). Follows (Torn (4224 * c.args.slot) n) (g.D.Disk.may_leave old) (g.D.Disk.may_leave c.write.new.self)) c.requires.gate (c.write.ensures.crash tells) in
-    let P = IsBut c.args.slot (g.D.Disk.may_leave old) in
-    let start = started g.D.Disk.moment g.D.Disk.left_since old P (g.D.Disk.may_leave old) (λ i left. g.met.D.Disk.only_now old tells i left) (but-itself c.args.slot (g.D.Disk.may_leave old)) in
-    let leaves = torn-but c.args.slot c.requires.slot (g.D.Disk.may_leave old) (g.D.Disk.may_leave c.write.new.self) s crash in
+    let P = IsBut n c.args.slot (g.D.Disk.may_leave old) in
+    let start = started g.D.Disk.moment g.D.Disk.left_since old P (g.D.Disk.may_leave old) (λ i left. g.met.D.Disk.only_now old tells i left) (but-itself n c.args.slot (g.D.Disk.may_leave old)) in
+    let leaves = torn-but n c.args.slot low (g.D.Disk.may_leave old) (g.D.Disk.may_leave c.write.new.self) s crash in
     let wrote = goes_on g.D.Disk.moment g.D.Disk.left_since old old c.write.new.self P (g.D.Disk.may_leave c.write.new.self) start (c.write.ensures.time tells) leaves in
     goes_on g.D.Disk.moment g.D.Disk.left_since old c.write.new.self c.sync.new.self P (g.D.Disk.may_leave c.sync.new.self) wrote (c.sync.ensures.time (c.write.ensures.goes_on tells))
     (λ i left. leaves i (c.sync.ensures.crash (c.write.ensures.goes_on tells) i left))
 
 pub returns-in-Err-clause-beside : goal.returns-in-Err-clause-beside
-returns-in-Err-clause-beside g c = λ tells s.
+returns-in-Err-clause-beside g c = λ tells n low s.
     let crash = subst (λ (n : ℕ). Follows (Torn (4224 * c.args.slot) n) (g.D.Disk.may_leave c.args.disk.now) (g.D.Disk.may_leave c.write.new.self)) c.requires.gate (c.write.ensures.crash tells) in
-    torn-beside c.args.slot c.requires.slot (g.D.Disk.may_leave c.args.disk.now) (g.D.Disk.may_leave c.write.new.self) s (4224 * c.args.slot) 4 (omega arith) (omega arith) crash
+    torn-beside n c.args.slot low (g.D.Disk.may_leave c.args.disk.now) (g.D.Disk.may_leave c.write.new.self) s (4224 * c.args.slot) 4 (omega arith) (omega arith) crash
 
 pub returns-clause-beside : goal.returns-clause-beside
-returns-clause-beside g c = λ tells s i left.
+returns-clause-beside g c = λ tells n low s i left.
     let crash = subst (λ (n : ℕ). Follows (Torn (4224 * c.args.slot) n) (g.D.Disk.may_leave c.args.disk.now) (g.D.Disk.may_leave c.write.new.self)) c.requires.gate (c.write.ensures.crash tells) in
-    torn-beside c.args.slot c.requires.slot (g.D.Disk.may_leave c.args.disk.now) (g.D.Disk.may_leave c.write.new.self) s (4224 * c.args.slot) 4 (omega arith) (omega arith) crash i
+    torn-beside n c.args.slot low (g.D.Disk.may_leave c.args.disk.now) (g.D.Disk.may_leave c.write.new.self) s (4224 * c.args.slot) 4 (omega arith) (omega arith) crash i
     (c.sync.ensures.crash (c.write.ensures.goes_on tells) i left)
