@@ -315,6 +315,7 @@ impl Link for World {
     ghost use Rattle.outside.specs.Causes.{HasCause, HasCauseReceived};
     ghost use Rattle.outside.specs.Link.{NotesOnly, dialed_as, sent_as, received_as, noted_as};
     ghost use Rattle.world_model.specs.Told.{Tells};
+    ghost use Rattle.world_link.specs.declared.world.World.{World};
     ghost use Rattle.world_link.specs.Honest.{IsHonestWorld};
     ghost use Rattle.world_link.specs.Replay.{told};
     ghost use Rattle.world_link.specs.Steps as steps;
@@ -326,12 +327,13 @@ impl Link for World {
 
     ghost honest = { λ w. IsHonestWorld (seen w) };
 
-    ghost stays = { λ x y. Unit {0} };
+    ghost stays = { λ x y. (told (seen y)).at 0 ≡ (told (seen x)).at 0 };
 
     ghost lawful = { λ w h. h.server.lawful };
 
     fn dial(&mut self, port: u16) -> Result<(), LinkFault>
         ensures told { Tells (Some (told (seen self.old))) (Some (told (seen self.new))) (dialed_as port result) }
+        ensures stays { (first : World) → (told (seen self.old)).at 0 ≡ (told (seen first)).at 0 → (told (seen self.new)).at 0 ≡ (told (seen first)).at 0 }
         ensures honest { IsHonestWorld (seen self.old) → IsHonestWorld (seen self.new) }
         ensures cause { HasCause self.old.faults self.new.faults result }
         ensures exact { steps.Dials (seen self.old) (seen self.new) port result }
@@ -341,6 +343,7 @@ impl Link for World {
 
     fn send(&mut self, rec: &[u8]) -> Result<(), LinkFault>
         ensures told { Tells (Some (told (seen self.old))) (Some (told (seen self.new))) (sent_as rec.now result) }
+        ensures stays { (first : World) → (told (seen self.old)).at 0 ≡ (told (seen first)).at 0 → (told (seen self.new)).at 0 ≡ (told (seen first)).at 0 }
         ensures honest { IsHonestWorld (seen self.old) → IsHonestWorld (seen self.new) }
         ensures cause { HasCause self.old.faults self.new.faults result }
         ensures exact { steps.Sends (seen self.old) (seen self.new) rec.now result }
@@ -351,6 +354,7 @@ impl Link for World {
     fn receive(&mut self, _wait_ms: u32, rec: &mut Vec<u8>) -> Received
         requires { 15000 ≤ _wait_ms }
         ensures told { Tells (Some (told (seen self.old))) (Some (told (seen self.new))) (received_as rec.new.items result) }
+        ensures stays { (first : World) → (told (seen self.old)).at 0 ≡ (told (seen first)).at 0 → (told (seen self.new)).at 0 ≡ (told (seen first)).at 0 }
         ensures honest { IsHonestWorld (seen self.old) → IsHonestWorld (seen self.new) }
         ensures cause { HasCauseReceived self.old.faults self.new.faults result }
         ensures exact { steps.Receives (seen self.old) (seen self.new) rec.new.items result }
@@ -363,6 +367,7 @@ impl Link for World {
 
     fn note(&mut self, mark: Mark) -> Result<(), Memory>
         ensures told { NotesOnly (Some (told (seen self.old))) (Some (told (seen self.new))) (noted_as mark result) }
+        ensures stays { (first : World) → (told (seen self.old)).at 0 ≡ (told (seen first)).at 0 → (told (seen self.new)).at 0 ≡ (told (seen first)).at 0 }
         ensures honest { IsHonestWorld (seen self.old) → IsHonestWorld (seen self.new) }
         ensures cause { self.old.faults ≤ self.new.faults }
         ensures exact { steps.Notes (seen self.old) (seen self.new) mark result }

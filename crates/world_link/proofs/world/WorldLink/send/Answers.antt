@@ -1,3 +1,4 @@
+use Rattle.std.proofs.Common.{◌∙◌, arith}
 use Rattle.world_link.proofs.WorldTellsCalls.{sends_adds}
 use Rattle.world_link.proofs.WorldKeepsContract.{sends_honest}
 use Rattle.world_link.proofs.world.WorldLink.send.Goals as goal
@@ -7,3 +8,6 @@ returns-clause-told c = sends_adds _ _ c.args.rec.now c.send_record.result c.sen
 
 pub returns-clause-honest : goal.returns-clause-honest
 returns-clause-honest c = sends_honest _ _ c.args.rec.now c.send_record.result c.send_record.ensures.exact
+
+pub returns-clause-stays : goal.returns-clause-stays
+returns-clause-stays c = λ first s. (sends_adds _ _ c.args.rec.now c.send_record.result c.send_record.ensures.exact).earlier 0 (omega arith) ∙ s
