@@ -1,5 +1,5 @@
 -- What a run promises of the history of a simulated server, with its premises met.
-use Rattle.std.proofs.Common.{◌≡◌, ℕ, List, [], Option, Some, Result, Ok, Err, refl, ap}
+use Rattle.std.proofs.Common.{◌≡◌, ℕ, List, [], Option, Some, Result, Ok, Err, refl, ap, ◌∙◌}
 use Rattle.world_model.specs.Told.{Relates}
 use Rattle.made_script.specs.Made.{made_text}
 use Rattle.run_made.specs.MadeRuns.{MadeRunOf}
@@ -14,7 +14,7 @@ use Rattle.world_link.specs.Readings.{ReadView}
 use Rattle.world_link.specs.Replay.{told}
 use Rattle.world_link.specs.View.{WorldView, seen}
 use Rattle.world_link.proofs.WorldKeepsContract.{honest_is_lawful, honest_is_fresh, honest_is_rising}
-use Rattle.run_replay.specs.Replays.{IsRead, Keeps, ReplayShows, ReplayOf, MadeReplayOf}
+use Rattle.run_replay.specs.Replays.{IsRead, StartsAs, Keeps, ReplayShows, ReplayOf, MadeReplayOf}
 
 -- ---- the schedule
 
@@ -27,6 +27,12 @@ was_read (Err n) world tick status later b = absurd b
 begins_empty : (read : Result ReadView ℕ) (world : World) (tick : ℕ) → Begins read (Ok (world, tick)) → (told (seen world)).entries ≡ []
 begins_empty (Ok view) world tick b = ap (λ (w : WorldView). w.server.entries) b.world_is
 begins_empty (Err n) world tick b = absurd b
+
+-- the server at the first moment is still that of the schedule
+pub starts : (read : Result ReadView ℕ) (start later : World) (tick : ℕ) → Begins read (Ok (start, tick)) → (told (seen later)).at 0 ≡ (told (seen start)).at 0
+    → StartsAs read (told (seen later))
+starts (Ok view) start later tick b same = same ∙ ap (λ (w : WorldView). (told w).at 0) b.world_is
+starts (Err n) start later tick b same = absurd b
 
 -- ---- what is promised
 

@@ -17,6 +17,7 @@ use Rattle.session_setup.specs.Origins.{origin_of}
 use Rattle.script_runs.specs.Run.{RunOf}
 use Rattle.nfs_client.specs.Headline.{Headline, modes_of, terms_by}
 use Rattle.run_made.specs.MadeRuns.{MadeRunOf}
+use Rattle.export_fs.specs.Seen.{server_of}
 use Rattle.world_link.specs.declared.schedule.ScheduleFault.{ScheduleFault}
 use Rattle.world_link.specs.declared.schedule.ScheduleFault.TheVariants as faults
 use Rattle.world_link.specs.declared.world.World.{World}
@@ -27,6 +28,11 @@ abbrev pub IsRead : Result ReadView ℕ → Result (World × ℕ) ScheduleFault 
 IsRead read (Ok ran) = (view : ReadView) × (read ≡ Ok view)
 IsRead read (Err (faults.Line n)) = read ≡ Err n
 IsRead read (Err faults.Memory) = Unit {0}
+
+-- At the first moment the server is the one that the lines of the schedule make: it holds the files and directories that they name.
+abbrev pub StartsAs : Result ReadView ℕ → History → Type 0
+StartsAs (Ok view) t = t.at 0 ≡ server_of view.export
+StartsAs (Err n) t = ⊥
 
 -- The simulated server is honest, gives each change a fresh stamp, and its cookies rise. It remembers no calls: where a late copy of one may be executed,
 -- `Once` is asked for.

@@ -6,7 +6,7 @@ ghost use Rattle.script_runs.specs.Run.{Says};
 ghost use Rattle.world_link.specs.Readings.{read_of};
 ghost use Rattle.world_link.specs.Replay.{told};
 ghost use Rattle.world_link.specs.View.{seen};
-ghost use Rattle.run_replay.specs.Replays.{IsRead, ReplayOf};
+ghost use Rattle.run_replay.specs.Replays.{IsRead, ReplayOf, StartsAs};
 
 use nfs_client::run;
 use outside::{Sink, Source, TickClock};
@@ -26,6 +26,9 @@ pub fn replay<S: Source, K: Sink>(
     // A schedule is refused only for its first faulty line, or for lack of memory.
     ensures schedule { IsRead (read_of schedule.now) result }
     ensures statuses { IfOk result (λ ran. ran.1 ≤ 8) }
+
+    // At the first moment the server holds the schedule's files and directories.
+    ensures start { IfOk result (λ ran. StartsAs (read_of schedule.now) (told (seen ran.0))) }
 
     // What a session promises of the history that the world tells: `Headline` of nfs_client. The server is honest, its stamps
     // are fresh and its cookies rise; so of the premises only `Once` is left.

@@ -1,5 +1,6 @@
+use Rattle.std.proofs.Common.{refl}
 use Rattle.world_link.specs.Readings.{read_of}
-use Rattle.run_replay.proofs.Replaying.{was_read, replay_says}
+use Rattle.run_replay.proofs.Replaying.{was_read, starts, replay_says}
 use Rattle.run_replay.proofs.top.replay.Goals as goal
 
 -- src/top.rt:19:1
@@ -10,3 +11,7 @@ pub returns-clause-headline : goal.returns-clause-headline
 returns-clause-headline g c =
     replay_says (read_of c.args.schedule.now) c.in_ok-world.world c.run-status.new.link c.in_ok-world.tick _ _ _ _ _ _ c.run-status.result c.in_ok-world.ensures.begins c.run-status.ensures.honest
     c.in_ok-world.ensures.honest c.run-status.ensures.headline
+
+pub returns-clause-start : goal.returns-clause-start
+returns-clause-start g c =
+    starts (read_of c.args.schedule.now) c.in_ok-world.world c.run-status.new.link c.in_ok-world.tick c.in_ok-world.ensures.begins (c.run-status.ensures.stays c.in_ok-world.world refl)
