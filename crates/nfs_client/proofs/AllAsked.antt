@@ -9,7 +9,7 @@ use Rattle.world_model.specs.Entries.{At}
 use Rattle.world_model.proofs.Places.{At-back}
 use Rattle.session_words.specs.declared.settings.Settings.{Settings}
 use Rattle.session_setup.specs.declared.opening.SetUp.{SetUp}
-use Rattle.session_setup.specs.Origins.{origin_of}
+use Rattle.session_setup.specs.Origins.{origin_of, terms_by}
 use Rattle.session_setup.specs.Outcomes.{SetsUp, FitsSession}
 use Rattle.session_setup.specs.Sendings.{IsSetUpCall, mounts, informs}
 use Rattle.lane_session.specs.Bonds.{HasCore, SentSince}
@@ -20,7 +20,6 @@ use Rattle.core_session.specs.calls.Whole.{IsSetUpFor, GoesFrom}
 use Rattle.core_facts.proofs.Noting.{notes-reach}
 use Rattle.core_session.specs.settled.Settling as settling
 use Rattle.script_runs.specs.LaneRuns.{setup_of}
-use Rattle.nfs_client.specs.Headline.{terms_by}
 
 module _ (s : Settings) (first : ℕ) (v : SetUp) (before : List Entry) (so : SetsUp s first (Ok v) before) (fits : FitsSession s first v) where
   none-began : (i : ℕ) → NoneBegan before i

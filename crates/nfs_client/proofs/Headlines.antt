@@ -12,7 +12,7 @@ use Rattle.nfs_script.specs.declared.script.ScriptLine.{ScriptLine}
 use Rattle.session_words.specs.declared.settings.Settings.{Settings}
 use Rattle.session_setup.specs.declared.opening.SetUp.{SetUp}
 use Rattle.session_setup.specs.declared.opening.SetUpFault.TheVariants.{Refused, Lost}
-use Rattle.session_setup.specs.Origins.{origin_of}
+use Rattle.session_setup.specs.Origins.{origin_of, modes_of, terms_by}
 use Rattle.session_setup.specs.Outcomes.{SetsUp}
 use Rattle.session_setup.specs.Sendings.{IsUnmarked}
 use Rattle.lane_session.specs.Endings.{cut, TextOf, NotesAll}
@@ -25,7 +25,7 @@ use Rattle.lane_session.proofs.Ending.{broken-none}
 use Rattle.script_runs.specs.Ends.{TellsMount, EndsSo, ran, unmounted, IsClocked}
 use Rattle.script_runs.specs.LaneRuns.{SetUpAndRun, ready, lost, refused, unready, SessionBy, no_lines, some_lines}
 use Rattle.script_runs.proofs.LaneRuns.{fresh, fewer}
-use Rattle.nfs_client.specs.Headline.{Promises, Headline, modes_of, terms_by}
+use Rattle.nfs_client.specs.Headline.{Promises, Headline}
 use Rattle.nfs_client.specs.Run.{Shows}
 use Rattle.nfs_client.specs.Shown.{RunShows}
 use Rattle.nfs_client.proofs.Ports.{lost-ports, empty-ports}

@@ -16,12 +16,11 @@ use Rattle.session_words.specs.declared.settings.Settings.{Settings}
 use Rattle.session_setup.specs.declared.opening.SetUp.{SetUp}
 use Rattle.session_setup.specs.declared.opening.SetUpFault.{SetUpFault}
 use Rattle.session_setup.specs.declared.opening.SetUpFault.TheVariants.{Lost}
-use Rattle.session_setup.specs.Origins.{origin_of}
+use Rattle.session_setup.specs.Origins.{origin_of, terms_by}
 use Rattle.session_setup.specs.Outcomes.{SetsUp}
 use Rattle.session_setup.specs.Sendings.{IsSetUpCall, mounts, informs}
 use Rattle.lane_session.specs.Losing.{IsLosing}
 use Rattle.lane_session.proofs.CoreEnds.{loses-more}
-use Rattle.nfs_client.specs.Headline.{terms_by}
 use Rattle.nfs_client.proofs.Quiet.{IsQuiet, IsSetUpRecord}
 use Rattle.nfs_client.proofs.Quiet as quiet
 

@@ -103,7 +103,7 @@ use Rattle.core_answers.proofs.writes.WholeWrites.{writes-whole}
 use Rattle.session_words.specs.declared.settings.Settings.{Settings}
 use Rattle.link_dials.specs.Dials.{Dials}
 use Rattle.session_setup.specs.declared.opening.SetUp.{SetUp}
-use Rattle.session_setup.specs.Origins.{origin_of}
+use Rattle.session_setup.specs.Origins.{origin_of, longest_of, modes_of, terms_by}
 use Rattle.session_setup.specs.Outcomes.{FitsSession, SetsUp}
 use Rattle.lane_session.specs.Bonds.{HasCore, SentSince, TakesEarlier}
 use Rattle.lane_session.specs.Endings.{entries_of}
@@ -113,7 +113,6 @@ use Rattle.core_counts.proofs.coarse.Along.{writes-were-long}
 use Rattle.law_calls.proofs.CallsWait.{xid_of_call}
 use Rattle.core_counts.specs.coarse.WereLong.{write_call}
 use Rattle.script_runs.specs.LaneRuns.{setup_of}
-use Rattle.nfs_client.specs.Headline.{longest_of, modes_of, terms_by}
 use Rattle.nfs_client.specs.Shown.{AllRowed, CallsShown, CountsShown, OksShown, SlotsShown, PutsShown, CompleteShown, FaultsShown, KeptShown, RestShown, StableShown, HonestShown, RunShows, NoneUnderWay}
 use Rattle.nfs_client.proofs.AllAsked.{goes-from, only-sets-up}
 use Rattle.nfs_client.proofs.AllOks.{all-oks}

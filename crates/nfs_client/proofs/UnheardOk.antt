@@ -12,7 +12,8 @@ use Rattle.world_model.specs.Operations.{Ended}
 use Rattle.claims.specs.OkRows.{ActOk}
 use Rattle.nfs_script.specs.declared.script.ScriptLine.{ScriptLine}
 use Rattle.session_words.specs.declared.settings.Settings.{Settings}
-use Rattle.nfs_client.specs.Headline.{Headline, terms_by}
+use Rattle.session_setup.specs.Origins.{terms_by}
+use Rattle.nfs_client.specs.Headline.{Headline}
 
 -- no directory was made if no record came
 pub unheard : (s : Settings) (lines : List ScriptLine) (given : List ℕ) (h : List Entry) (status : ℕ) (text : List ℕ) → Headline s lines given h status text

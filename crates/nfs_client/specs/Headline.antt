@@ -1,6 +1,5 @@
 -- What a session promises, in the words of the model alone.
-use Rattle.std.specs.Prelude.{◌≡◌, max, ℕ, List, []}
-use Rattle.attr_cache.specs.declared.lives.Lives.{Lives}
+use Rattle.std.specs.Prelude.{◌≡◌, ℕ, List, []}
 use Rattle.world_model.specs.declared.entry.Entry.{Entry}
 use Rattle.world_model.specs.Follows.{Follows}
 use Rattle.world_model.specs.Fresh.{Fresh}
@@ -12,34 +11,16 @@ use Rattle.world_model.specs.Rising.{Rising}
 use Rattle.claims.specs.Caused.{Caused}
 use Rattle.claims.specs.Complete.{Completes}
 use Rattle.claims.specs.Cuts.{CutsStay}
-use Rattle.claims.specs.Modes.{Modes, modes_with}
 use Rattle.claims.specs.ReadTrue.{ReadCurrent, ReadShort, ReadTrue}
 use Rattle.claims.specs.Recent.{AttrAge, ListTrue, NamesTrue}
 use Rattle.claims.specs.Settled.{Evident, Settled}
-use Rattle.claims.specs.Terms.{Terms}
 use Rattle.claims.specs.Thrifty.{Thrifty}
 use Rattle.link_dials.specs.Sendings.{GoesToPorts, Resends}
 use Rattle.nfs_script.specs.declared.script.ScriptLine.{ScriptLine}
 use Rattle.session_words.specs.declared.settings.Settings.{Settings}
-use Rattle.session_setup.specs.Origins.{origin_of}
+use Rattle.session_setup.specs.Origins.{origin_of, modes_of, terms_by}
 use Rattle.lane_session.specs.Endings.{entries_of}
 use Rattle.script_runs.specs.Ends.{EndsSo, IsClocked}
-
--- ---- what a session is given by its settings
-
--- the longest that an attribute is believed
-abbrev pub longest_of : Lives → ℕ
-longest_of l = max (max l.reg_min l.reg_max) (max l.dir_min l.dir_max)
-
-abbrev pub modes_of : Settings → Modes
-modes_of s = modes_with (longest_of s.lives) s.noac s.nocto
-
--- the terms of a session whose calls have xids from the first one on
-abbrev pub terms_by : Settings → ℕ → Terms
-terms_by s first =
-    record { origin = origin_of s.export; cred = s.cred; first = first; calls = s.calls; rsize = s.rsize; wsize = s.wsize; modes = modes_of s }
-
--- ---- what it promises
 
 -- Of the history with the server at each of its moments. An honest server executes calls as RFC 1813 says (`Lawful`), none anew once its reply came
 -- (`Once`), and gives each change stamps that the object never had (`Fresh`).

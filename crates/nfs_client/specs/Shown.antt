@@ -85,8 +85,7 @@ use Rattle.nfs_script.specs.declared.script.ScriptLine.{ScriptLine}
 use Rattle.session_words.specs.declared.settings.Settings.{Settings}
 use Rattle.session_setup.specs.declared.opening.SetUp.{SetUp}
 use Rattle.script_runs.specs.LaneRuns.{setup_of}
-use Rattle.nfs_client.specs.Headline.{longest_of, modes_of, terms_by}
-use Rattle.session_setup.specs.Origins.{origin_of}
+use Rattle.session_setup.specs.Origins.{origin_of, longest_of, modes_of, terms_by}
 use Rattle.lane_session.specs.Bonds.{HasCore}
 use Rattle.lane_session.specs.Running.{mounted_by}
 use Rattle.lane_session.specs.Endings.{EndsAs, entries_of}

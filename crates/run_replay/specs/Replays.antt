@@ -13,9 +13,9 @@ use Rattle.claims.specs.Recent.{AttrAge, ListTrue, NamesTrue}
 use Rattle.claims.specs.Settled.{Settled}
 use Rattle.nfs_script.specs.declared.script.ScriptLine.{ScriptLine}
 use Rattle.session_words.specs.declared.settings.Settings.{Settings}
-use Rattle.session_setup.specs.Origins.{origin_of}
+use Rattle.session_setup.specs.Origins.{origin_of, modes_of, terms_by}
 use Rattle.script_runs.specs.Run.{RunOf}
-use Rattle.nfs_client.specs.Headline.{Headline, modes_of, terms_by}
+use Rattle.nfs_client.specs.Headline.{Headline}
 use Rattle.run_made.specs.MadeRuns.{MadeRunOf}
 use Rattle.export_fs.specs.Seen.{server_of}
 use Rattle.world_link.specs.declared.schedule.ScheduleFault.{ScheduleFault}
