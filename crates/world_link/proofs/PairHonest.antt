@@ -137,13 +137,15 @@ pub all_same : (old new : WorldEnds) → new ≡ old → KeepsAllEnds old new
 all_same old new e = record { more = []; grown = ap (λ (w : WorldEnds). w.server.told) e ∙ sym (append-nil old.server.told); right = λ r. subst AreAllRouted (sym e) r }
 
 -- The oldest had its turn, or a part of it: it was sent by its end.
-pub turn_ends : (old new : WorldEnds) (next : Routed) → slice_get old.waiting 0 ≡ Some next → KeepsEnds (IsSentBy old.server.told next) old.server new.server → (Every (IsSentBy old.server.told) old.waiting → Every (IsSentBy old.server.told) new.waiting)
-    → KeepsAllEnds old new
-turn_ends old new next first k left = record {
+pub turn_ends : (old new : WorldEnds) (next : Routed) (rec : List ℕ) → rec ≡ next.bytes → slice_get old.waiting 0 ≡ Some next → KeepsEnds (IsSentBy old.server.told (record { end = next.end; bytes = rec })) old.server new.server
+    → (Every (IsSentBy old.server.told) old.waiting → Every (IsSentBy old.server.told) new.waiting) → KeepsAllEnds old new
+turn_ends old new next rec same first k left = record {
   more = k.more;
   grown = k.grown;
-  right = λ r. record {
-    server = k.right (every_slice (IsSentBy old.server.told) old.waiting 0 next first r.waiting) r.server;
-    waiting = subst (λ (t : List Told). Every (IsSentBy t) new.waiting) (sym k.grown) (sent_all_on old.server.told k.more new.waiting (left r.waiting));
-  };
+  right = λ r.
+      let sent : IsSentBy old.server.told next = every_slice (IsSentBy old.server.told) old.waiting 0 next first r.waiting in
+      record {
+        server = k.right (subst (λ (b : List ℕ). IsSentBy old.server.told (record { end = next.end; bytes = b })) (sym same) sent) r.server;
+        waiting = subst (λ (t : List Told). Every (IsSentBy t) new.waiting) (sym k.grown) (sent_all_on old.server.told k.more new.waiting (left r.waiting));
+      };
 }

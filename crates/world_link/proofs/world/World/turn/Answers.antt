@@ -37,7 +37,7 @@ returns-clause-ends c =
     let q : Queued = c.in-Some.queued.now in
     let some : 0 < length items = search rules in
     let first : q ≡ get_or items 0 q = search rules in
-    turn_ends (world_ends c.args.self.now) _ (record_in q) (first_record items q some first) (ends_then _ _ _ _ _ c.in_ok-turn.ensures.ends c.release.ensures.ends (λ s. tt)) (rest_records _ items _ c.pop_front.ensures.rest)
+    turn_ends (world_ends c.args.self.now) _ (record_in q) c.bytes.result.now (search rules) (first_record items q some first) (ends_then _ _ _ _ _ c.in_ok-turn.ensures.ends c.release.ensures.ends (λ s. tt)) (rest_records _ items _ c.pop_front.ensures.rest)
 
 pub returns-in_err-turn-clause-ends : goal.returns-in_err-turn-clause-ends
 returns-in_err-turn-clause-ends c =
@@ -45,4 +45,4 @@ returns-in_err-turn-clause-ends c =
     let q : Queued = c.in-Some.queued.now in
     let some : 0 < length items = search rules in
     let first : q ≡ get_or items 0 q = search rules in
-    turn_ends (world_ends c.args.self.now) _ (record_in q) (first_record items q some first) c.in_err-turn.ensures.ends (λ e. e)
+    turn_ends (world_ends c.args.self.now) _ (record_in q) c.bytes.result.now (search rules) (first_record items q some first) c.in_err-turn.ensures.ends (λ e. e)
