@@ -13,7 +13,7 @@ returns-in-Some-clause-any_moment g c = λ tells n low round there image each.
 
 pub returns-in-Some-clause-opened : goal.returns-in-Some-clause-opened
 returns-in-Some-clause-opened g c = λ tells.
-    on_ok_weaker c.open_filled.result (λ h page is. h page (inner c.in-Some.field-0 page (sym c.in-Some.is ∙ is))) (c.open_filled.ensures.opened tells)
+    on_ok_weaker c.open_filled.result (λ h page is. h page (inner c.in-Some.page page (sym c.in-Some.is ∙ is))) (c.open_filled.ensures.opened tells)
   where
     inner : (o : Option StoredPage) (page : StoredPage) → Some o ≡ Some (Some page) → o ≡ Some page
     inner o page e = cc

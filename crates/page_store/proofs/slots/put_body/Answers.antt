@@ -78,3 +78,25 @@ returns-clause-beside g c = λ tells n low s i left.
     let s3 = c.write_body.ensures.safe on n low (c.in-Ok.ensures.shut tells n low s) s2 in
     beside-then n c.args.slot old mid (c.close_gate.ensures.beside tells n low s) i
     (beside-then n c.args.slot mid late (c.write_body.ensures.beside on n low s2) i (c.open_gate.ensures.beside on2 n low s3 i left))
+
+pub returns-in-Err-clause-leaves : goal.returns-in-Err-clause-leaves
+returns-in-Err-clause-leaves g c = λ tells n low s i left.
+    or-weaker n c.args.slot c.args.body.now (g.D.Disk.may_leave c.args.disk.now) i (c.close_gate.ensures.leaves tells n low s i left)
+
+pub returns-in-Err-write_body-clause-safe : goal.returns-in-Err-write_body-clause-safe
+returns-in-Err-write_body-clause-safe g c = λ tells n low s.
+    c.write_body.ensures.safe (c.close_gate.ensures.goes_on tells) n low (c.in-Ok.ensures.shut tells n low s) (c.close_gate.ensures.safe tells n low s)
+
+pub returns-clause-safe : goal.returns-clause-safe
+returns-clause-safe g c = λ tells n low s.
+    let on = c.close_gate.ensures.goes_on tells in
+    let on2 = c.write_body.ensures.goes_on on in
+    let s3 = c.write_body.ensures.safe on n low (c.in-Ok.ensures.shut tells n low s) (c.close_gate.ensures.safe tells n low s) in
+    c.open_gate.ensures.safe on2 n low c.args.body.now (c.in-Ok-write_body.ensures.body on) s3
+
+pub returns-clause-stored : goal.returns-clause-stored
+returns-clause-stored g c = λ tells n low s.
+    let on = c.close_gate.ensures.goes_on tells in
+    let on2 = c.write_body.ensures.goes_on on in
+    let s3 = c.write_body.ensures.safe on n low (c.in-Ok.ensures.shut tells n low s) (c.close_gate.ensures.safe tells n low s) in
+    c.open_gate.ensures.stands on2 n low c.args.body.now (c.in-Ok-write_body.ensures.body on) s3
