@@ -1,0 +1,15 @@
+pub mod Testing
+pub mod Ranging
+pub mod Sparing
+pub mod Turned
+pub mod FileDone
+pub mod Serving
+pub mod FileRows
+pub mod Entering
+pub mod Listing
+pub mod NameDone
+pub mod RemoveDone
+pub mod RenameDone
+pub mod PageDone
+pub mod DirRows
+pub mod StepDone

@@ -1,0 +1,10 @@
+-- The rest decides, if the whole begins so.
+use Rattle.std.proofs.Common.{◌++◌, ◌∙◌, replicate}
+use Rattle.trace_steps.proofs.Ranging.{rest-eq, joined-not}
+use Rattle.trace_steps.proofs.ranges.is_gapped.Goals as goal
+
+pub returns-in-Some : goal.returns-in-Some
+returns-in-Some c = c.is_followed.ensures ∙ rest-eq c.args.whole.now (replicate c.args.zeros 0) c.in-Some.rest.now (c.args.middle.now ++ c.args.last.now) c.in-Some.ensures
+
+pub returns-in-None : goal.returns-in-None
+returns-in-None c = joined-not c.args.whole.now (replicate c.args.zeros 0) (c.args.middle.now ++ c.args.last.now) c.in-None.ensures

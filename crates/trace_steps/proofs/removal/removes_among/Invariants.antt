@@ -1,0 +1,14 @@
+-- So far no place passes.
+use Rattle.std.proofs.Common.{length, ◌-◌, ◌≡◌, ◌≤◌, false}
+use Rattle.trace_rules.specs.Decided.{any_below}
+use Rattle.trace_steps.specs.MoveTests.{removes_at}
+use Rattle.trace_steps.proofs.removal.removes_among.Given as goal
+
+abbrev pub invariant-loop-place : goal.invariant-loop-place
+invariant-loop-place l = record {
+  within : l.place ≤ length l.old;
+  none : any_below (λ k. removes_at l.trace l.entry l.dir l.name l.old l.new k) l.place ≡ false;
+}
+
+abbrev pub decreases-loop-place : goal.decreases-loop-place
+decreases-loop-place l = length l.old - l.place

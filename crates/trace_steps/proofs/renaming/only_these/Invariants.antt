@@ -1,0 +1,18 @@
+-- So far each object is spared.
+use Rattle.std.proofs.Common.{length, ◌-◌, ◌≡◌, ◌≤◌, true}
+use Rattle.trace_rules.specs.Decided.{all_below}
+use Rattle.trace_data.specs.Histories.{objects_after}
+use Rattle.trace_rules.specs.Keeping.{keeps_verf}
+use Rattle.trace_steps.specs.MomentTests.{spares_at}
+use Rattle.trace_steps.specs.MoveTests.{is_touched}
+use Rattle.trace_steps.proofs.renaming.only_these.Given as goal
+
+abbrev pub invariant-loop-place : goal.invariant-loop-place
+invariant-loop-place l = record {
+  within : l.place ≤ length (objects_after l.trace.updates.items l.entry);
+  verf : keeps_verf l.trace.start.verf l.trace.updates.items l.entry ≡ true;
+  all : all_below (λ k. spares_at (is_touched l.from_dir l.to_dir l.object l.to l.target) l.trace l.entry k) l.place ≡ true;
+}
+
+abbrev pub decreases-loop-place : goal.decreases-loop-place
+decreases-loop-place l = length (objects_after l.trace.updates.items l.entry) - l.place

@@ -1,0 +1,9 @@
+pub mod RangeTests
+pub mod MomentTests
+pub mod TurnTests
+pub mod FileTests
+pub mod ListTests
+pub mod NameTests
+pub mod MoveTests
+pub mod PageTests
+pub mod StepTests
