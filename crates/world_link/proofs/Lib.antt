@@ -19,11 +19,3 @@ pub mod TurnStaysHonest
 pub mod Bounds
 pub mod WorldBegins
 pub mod WorldKeepsContract
-pub mod Queues
-pub mod EndsStayRight
-pub mod PairSides
-pub mod PairTells
-pub mod PairHonest
-pub mod PairReceiving
-pub mod NextPairLine
-pub mod PairBegins

@@ -1,7 +1,6 @@
 use Rattle.std.proofs.Common.{rules, refl}
 use Rattle.world_link.proofs.TurnStaysHonest.{foreign_stays, left_stays}
 use Rattle.world_link.proofs.ServerEntriesOnly.{foreign_goes, quiet_goes}
-use Rattle.world_link.proofs.EndsStayRight.{foreign_ends, left_ends}
 use Rattle.world_link.proofs.server.Server.execute_foreign.Goals as goal
 
 pub returns-clause-goes : goal.returns-clause-goes
@@ -21,12 +20,3 @@ returns-in_err-reserve-clause-goes c = quiet_goes _ _ (search rules) refl refl
 
 pub returns-in_err-reply-clause-goes : goal.returns-in_err-reply-clause-goes
 returns-in_err-reply-clause-goes c = quiet_goes _ _ (search rules) refl c.in_err-reply.ensures.err
-
-pub returns-clause-ends : goal.returns-clause-ends
-returns-clause-ends c = foreign_ends _ _ c.args.call c.in_ok-reply.reply refl (search rules)
-
-pub returns-in_err-reserve-clause-ends : goal.returns-in_err-reserve-clause-ends
-returns-in_err-reserve-clause-ends c = left_ends _ _ _ refl (search rules)
-
-pub returns-in_err-reply-clause-ends : goal.returns-in_err-reply-clause-ends
-returns-in_err-reply-clause-ends c = left_ends _ _ _ refl (search rules)

@@ -1,7 +1,6 @@
 use Rattle.std.proofs.Common.{rules, refl}
 use Rattle.world_link.proofs.TurnStaysHonest.{left_stays, restarted_stays, unstarted_stays}
 use Rattle.world_link.proofs.ServerEntriesOnly.{restart_goes, unstarted_goes, quiet_goes}
-use Rattle.world_link.proofs.EndsStayRight.{reboot_ends, left_ends}
 use Rattle.world_link.proofs.server.Server.reboot.Goals as goal
 
 pub returns-then-reboot-clause-goes : goal.returns-then-reboot-clause-goes
@@ -21,12 +20,3 @@ returns-in_err-reserve-clause-goes c = quiet_goes _ _ (search rules) refl refl
 
 pub returns-else-reboot-clause-goes : goal.returns-else-reboot-clause-goes
 returns-else-reboot-clause-goes c = unstarted_goes _ _ c.reboot.result c.reboot.ensures.done c.reboot.ensures.after c.if-reboot.false (search rules) refl
-
-pub returns-then-reboot-clause-ends : goal.returns-then-reboot-clause-ends
-returns-then-reboot-clause-ends c = reboot_ends _ _ c.verifier-verf.result refl (search rules)
-
-pub returns-in_err-reserve-clause-ends : goal.returns-in_err-reserve-clause-ends
-returns-in_err-reserve-clause-ends c = left_ends _ _ _ refl (search rules)
-
-pub returns-else-reboot-clause-ends : goal.returns-else-reboot-clause-ends
-returns-else-reboot-clause-ends c = left_ends _ _ _ refl (search rules)

@@ -4,8 +4,6 @@ use Rattle.world_link.proofs.TurnStaysHonest.{left_stays, told_stays, told_answe
 use Rattle.world_link.proofs.ServerEntriesOnly.{told_goes, quiet_goes}
 use Rattle.world_link.proofs.BreaksWrites.{told_is}
 use Rattle.world_link.specs.View.{served}
-use Rattle.world_link.proofs.EndsStayRight.{executed_ends, executed_answers, left_ends}
-use Rattle.world_link.specs.Ends.{ends_of}
 use Rattle.world_link.proofs.server.Server.serve_part.Goals as goal
 
 pub returns-clause-goes : goal.returns-clause-goes
@@ -37,18 +35,3 @@ returns-in_err-reply-clause-goes c = quiet_goes _ _ (search rules) (search rules
 
 pub returns-clause-told : goal.returns-clause-told
 returns-clause-told c = told_is (served c.args.self.now) _ (Some c.args.part) c.args.xid c.args.call _ c.in_ok-reply.reply c.reply_record-bytes.result refl c.in_ok-reply.ensures.ok.1 (search rules) (search rules) c.in_ok-reply.ensures.ok.0
-
-pub returns-clause-ends : goal.returns-clause-ends
-returns-clause-ends c = executed_ends _ _ c.args.end c.args.xid c.args.call c.in_ok-reply.reply refl (search rules)
-
-pub returns-clause-answers_to : goal.returns-clause-answers_to
-returns-clause-answers_to c = executed_answers (ends_of c.args.self.now).told _ (Some c.args.part) plain c.args.self.now.export c.args.end c.args.xid c.args.call c.in_ok-reply.reply c.reply_record-bytes.result c.in_ok-reply.ensures.ok.1 (search rules) c.reply_record-bytes.ensures.spells
-
-pub returns-in_err-reserve-clause-ends : goal.returns-in_err-reserve-clause-ends
-returns-in_err-reserve-clause-ends c = left_ends _ _ _ refl (search rules)
-
-pub returns-in_err-reply-clause-ends : goal.returns-in_err-reply-clause-ends
-returns-in_err-reply-clause-ends c = left_ends _ _ _ refl (search rules)
-
-pub returns-in_err-reserve-2-clause-ends : goal.returns-in_err-reserve-2-clause-ends
-returns-in_err-reserve-2-clause-ends c = left_ends _ _ _ refl (search rules)

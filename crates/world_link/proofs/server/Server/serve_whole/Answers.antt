@@ -1,8 +1,6 @@
 use Rattle.std.proofs.Common.{rules, refl, None}
 use Rattle.world_link.proofs.TurnStaysHonest.{left_stays, told_stays, told_answers}
 use Rattle.world_link.proofs.ServerEntriesOnly.{told_goes, quiet_goes}
-use Rattle.world_link.proofs.EndsStayRight.{executed_ends, executed_answers, left_ends}
-use Rattle.world_link.specs.Ends.{ends_of}
 use Rattle.world_link.proofs.server.Server.serve_whole.Goals as goal
 
 pub returns-clause-goes : goal.returns-clause-goes
@@ -25,15 +23,3 @@ returns-in_err-reserve-clause-goes c = quiet_goes _ _ (search rules) refl refl
 
 pub returns-in_err-reply-clause-goes : goal.returns-in_err-reply-clause-goes
 returns-in_err-reply-clause-goes c = quiet_goes _ _ (search rules) refl c.in_err-reply.ensures.err
-
-pub returns-clause-ends : goal.returns-clause-ends
-returns-clause-ends c = executed_ends _ _ c.args.end c.args.xid c.args.call c.in_ok-reply.reply refl (search rules)
-
-pub returns-clause-answers_to : goal.returns-clause-answers_to
-returns-clause-answers_to c = executed_answers (ends_of c.args.self.now).told _ None c.args.manner.now c.args.self.now.export c.args.end c.args.xid c.args.call c.in_ok-reply.reply c.reply_record-bytes.result c.in_ok-reply.ensures.reply (search rules) c.reply_record-bytes.ensures.spells
-
-pub returns-in_err-reserve-clause-ends : goal.returns-in_err-reserve-clause-ends
-returns-in_err-reserve-clause-ends c = left_ends _ _ _ refl (search rules)
-
-pub returns-in_err-reply-clause-ends : goal.returns-in_err-reply-clause-ends
-returns-in_err-reply-clause-ends c = left_ends _ _ _ refl (search rules)
