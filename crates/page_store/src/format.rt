@@ -13,8 +13,29 @@ use outside::LinkFault;
 use std::alloc::Global;
 use xdr_codec::Memory;
 
+/// The bytes of one write.
+const PIECE: u64 = 65_536;
+
+/// So many writes cover 1,024 slots.
+const PIECES: u32 = 66;
+
+/// Writes zeros over 1,024 slots in few writes, and syncs.
+pub(crate) fn write_zeros<D: Disk>(alloc: Global, disk: &mut D) -> Result<(), StoreFault>
+    ensures empty { D.tells disk.old → OnOk result (Every (D.may_leave disk.new) (HasZeros 4325376)) }
+    ensures goes_on { D.tells disk.old → D.tells disk.new }
+    ensures cause { HasStoreCause (D.faults disk.old) (D.faults disk.new) result }
+{
+    let Ok(zeros) = zeros(alloc, PIECE as usize) else {
+        return Err(StoreFault::Memory);
+    };
+    match write_pieces(disk, zeros.as_slice()) {
+        Ok(()) => Ok(()),
+        Err(fault) => Err(store_fault(fault)),
+    }
+}
+
 /// Writes zeros over so many slots, and syncs.
-pub(crate) fn write_zeros<D: Disk>(
+pub(crate) fn write_sized<D: Disk>(
     alloc: Global,
     disk: &mut D,
     count: u32,
@@ -26,7 +47,7 @@ pub(crate) fn write_zeros<D: Disk>(
     let Ok(zeros) = zeros(alloc, SLOT as usize) else {
         return Err(StoreFault::Memory);
     };
-    match write_pieces(disk, count, zeros.as_slice()) {
+    match write_slots(disk, count, zeros.as_slice()) {
         Ok(()) => Ok(()),
         Err(fault) => Err(store_fault(fault)),
     }
@@ -41,16 +62,33 @@ fn zeros(alloc: Global, count: usize) -> Result<Vec<u8>, Memory>
     Ok(vec![in alloc; 0; count]?)
 }
 
+/// Writes the piece over 1,024 slots, time after time, and syncs.
+fn write_pieces<D: Disk>(disk: &mut D, zeros: &[u8]) -> Result<(), LinkFault>
+    requires length { length zeros.now ≡ 65536 }
+    requires zeros { HasZeros 65536 zeros.now }
+    ensures empty { D.tells disk.old → OnOk result (Every (D.may_leave disk.new) (HasZeros 4325376)) }
+    ensures goes_on { D.tells disk.old → D.tells disk.new }
+    ensures cause { HasCause (D.faults disk.old) (D.faults disk.new) result }
+{
+    for piece in 0..PIECES {
+        match disk.write(PIECE * piece as u64, zeros) {
+            Ok(()) => {}
+            Err(fault) => return Err(fault),
+        }
+    }
+    disk.sync()
+}
+
 /// Writes the zeros of a slot over so many, one after the other, and syncs.
-fn write_pieces<D: Disk>(disk: &mut D, count: u32, zeros: &[u8]) -> Result<(), LinkFault>
+fn write_slots<D: Disk>(disk: &mut D, count: u32, zeros: &[u8]) -> Result<(), LinkFault>
     requires length { length zeros.now ≡ 4224 }
     requires zeros { HasZeros 4224 zeros.now }
     ensures empty { D.tells disk.old → OnOk result (Every (D.may_leave disk.new) (HasZeros (4224 * count))) }
     ensures goes_on { D.tells disk.old → D.tells disk.new }
     ensures cause { HasCause (D.faults disk.old) (D.faults disk.new) result }
 {
-    for piece in 0..count {
-        match disk.write(SLOT * piece as u64, zeros) {
+    for slot in 0..count {
+        match disk.write(SLOT * slot as u64, zeros) {
             Ok(()) => {}
             Err(fault) => return Err(fault),
         }

@@ -9,7 +9,7 @@ ghost use Rattle.page_store.specs.Store.{IsOpened, IsStored, Stands, HasZeros, s
 ghost use Rattle.page_store.specs.Rounds.{IsIn, IsUnderWay, IsEnded, KeepsAll, KeepsOrFills, ArePagesAfter, cleared, taken_in, round_after};
 ghost use Rattle.page_store.specs.Faults.{HasStoreCause, IsFault};
 
-use crate::format::write_zeros;
+use crate::format::{write_sized, write_zeros};
 use crate::opening::sync_and_read;
 use crate::put::{end_round, fill_page, put_page, shut_round};
 use crate::record::{Stored, body_of};
@@ -60,7 +60,7 @@ impl<D: Disk + Drop> PageStore<D> {
         ensures goes_on { D.tells disk.old → D.tells disk.new }
         ensures cause { HasStoreCause (D.faults disk.old) (D.faults disk.new) result }
     {
-        PageStore::format_sized(alloc, disk, SLOTS)
+        write_zeros(alloc, disk)
     }
 
     /// The same for so many slots, from 1,024 to 65,536.
@@ -71,7 +71,7 @@ impl<D: Disk + Drop> PageStore<D> {
         ensures goes_on { D.tells disk.old → D.tells disk.new }
         ensures cause { HasStoreCause (D.faults disk.old) (D.faults disk.new) result }
     {
-        write_zeros(alloc, disk, slots)
+        write_sized(alloc, disk, slots)
     }
 
     /// Syncs, and reads 1,024 slots. An open slot that breaks a rule of its fields counts as closed. On an error the disk is
