@@ -205,9 +205,9 @@ writer_is m origin w i v (put lane line offset n path bytes at ends leads covers
 none_put : (w : ℕ) → PutRefused (entries_of sends_given_up) w → ⊥
 none_put w p =
     absurd (
-      let low = begins_outside sends_given_up is_put 0 42 refl w p.lane p.ended.line (ops.Put p.path p.offset p.bytes) p.ended.began refl
-      (At-below (entries_of sends_given_up) w (entries.Began p.lane p.ended.line (ops.Put p.path p.offset p.bytes)) p.ended.began) in
-      omega (arith, low))
+    let low = begins_outside sends_given_up is_put 0 42 refl w p.lane p.ended.line (ops.Put p.path p.offset p.bytes) p.ended.began refl
+    (At-below (entries_of sends_given_up) w (entries.Began p.lane p.ended.line (ops.Put p.path p.offset p.bytes)) p.ended.began) in
+    omega (arith, low))
 
 not_pending : (m : Modes) (origin : Origin) (n i v : ℕ) → 34 ≤ n → Pending m origin (entries_of sends_given_up) the_file i n v → ⊥
 not_pending m origin n i v late p = p.unleft (none_put p.w) 23 answered (alone_then m) (omega (arith, late))
