@@ -1,5 +1,6 @@
 pub mod Prelude
 pub mod bonds
+pub mod engine
 pub mod paths
 pub mod pages
 pub mod reads

@@ -7,7 +7,7 @@ pub use Rattle.std.proofs.lemmas.List.Elements.{All-nil, filter-append}
 pub use Rattle.std.specs.Prelude.{if◌then◌else◌, nat_lt, unwrap_or}
 pub use Rattle.attr_cache.specs.Attrs.{Attrs, looked}
 pub use Rattle.attr_cache.specs.declared.kept.KeptAttr.{KeptAttr}
-pub use Rattle.call_replies.specs.Says.{Says, said_of}
+pub use Rattle.call_replies.specs.Says.{said_of}
 pub use Rattle.claims.specs.Asks.{Asks, Stabilizes, look_up}
 pub use Rattle.claims.specs.Modes.{Modes}
 pub use Rattle.claims.specs.Paths.{PlaceOf}
@@ -16,8 +16,8 @@ pub use Rattle.claims.specs.Shown.{of_object}
 pub use Rattle.claims.specs.Slots.{IsOf, NamesFile}
 pub use Rattle.claims.specs.Terms.{Terms}
 pub use Rattle.client_core.specs.Fresh.{IsFresh}
-pub use Rattle.client_core.specs.Lanes.{is_busy, lost_lane}
-pub use Rattle.client_core.specs.Numbers.{IsIdle, IsOther, numbers_of}
+pub use Rattle.client_core.specs.Lanes.{is_busy}
+pub use Rattle.client_core.specs.Numbers.{IsIdle, numbers_of}
 pub use Rattle.client_core.specs.Steps.{BeginsIf, IsRefused, Leads, Makes, Moves, StartsLane, Stirs, TakesAt, counted, moves_more, moves_none, record_of, with_state}
 pub use Rattle.client_core.specs.View.{View, turn_at, unmade_turn}
 pub use Rattle.client_core.specs.declared.lane.Lane.{Lane}
@@ -39,45 +39,44 @@ pub use Rattle.commit_verf.specs.declared.commit.Verdict.TheVariants.{AllStable,
 pub use Rattle.core_answers.specs.bonds.Ages.{IsRecent, ShownRecently, own, time_next}
 pub use Rattle.core_answers.specs.bonds.Kept.{HadShown, IsAnswered}
 pub use Rattle.core_answers.specs.pages.Kept.{IsPage, WasCut, WasRead, WasWritten}
+pub use Rattle.core_answers.specs.pages.Passing.{Passes}
 pub use Rattle.core_answers.specs.pages.Read.{IsShown}
 pub use Rattle.core_answers.specs.writes.Carried.{write_of}
 pub use Rattle.core_facts.proofs.AllAwaited.{Awaits, PathOr, PutAwaits, awaits-laws}
 pub use Rattle.core_facts.proofs.AllCounts.{begins-unbegun, counts-calls, of_path, path-file, path-walk}
+pub use Rattle.core_facts.proofs.Answered.{HadStory}
 pub use Rattle.core_facts.proofs.Awaited.{OwnOr, WalkAwaits, WalkStep, go-step, took-step}
 pub use Rattle.core_facts.proofs.Cases.{FailedNow, Heard, answered_now, dropped, failed_now, gives_up, goes_on, replied, sent_now, taken_one}
-pub use Rattle.core_facts.proofs.Counting.{IsKnown, calls-some, calls-without, hears-count, known-none, known-only, none-busy, none-idle, one_for, reached-count, starts-count, stirs-count}
+pub use Rattle.core_facts.proofs.Counting.{calls-some, hears-count, reached-count, starts-count, stirs-count}
 pub use Rattle.core_facts.proofs.Expects.{ExpectLaws}
 pub use Rattle.core_facts.proofs.Faults.{FineAnswer, FineNext, FineOption, FineResult, fine-as, fine-fault}
 pub use Rattle.core_facts.proofs.FilesKept.{all-resumes, all-starts, all-takes}
 pub use Rattle.core_facts.proofs.Flights.{Flies, flies_close, flies_file, flies_if, flies_of, flies_path, flies_put, flies_save, flies_sync, flies_write}
 pub use Rattle.core_facts.proofs.Flown.{Flown, keeps-flown, look_at, sender}
-pub use Rattle.core_facts.proofs.Hearing.{says-of, was-sent}
 pub use Rattle.core_facts.proofs.HeldSlots.{Given, Held, always-later, held-begins, held-later, is-given}
 pub use Rattle.core_facts.proofs.Keeping.{Known, purpose_at, reached-all}
-pub use Rattle.core_facts.proofs.LaneMarks.{LanesKnown, idle-numbers, lanes-begin, lanes-stay, lanes-under-way, number_of, quiet-facts, reached-lanes}
+pub use Rattle.core_facts.proofs.LaneMarks.{LanesKnown, lanes-begin, lanes-stay, lanes-under-way, quiet-facts}
 pub use Rattle.core_facts.proofs.Leading.{IsHeard, IsNameTold, LeadsTo, NamesTold, WalkLeads, end-leads, go-leads, heard-tells, leads-from, leads-later, names-later, took-leads, walk-later}
-pub use Rattle.core_facts.proofs.Lists.{at-position, at-push, at-set, get-push, get-remove, in-map, skip, to-map}
-pub use Rattle.core_facts.proofs.Losing.{lost-grow, reached-shown}
+pub use Rattle.core_facts.proofs.Lists.{at-push, at-set, get-push, get-remove, skip}
 pub use Rattle.core_facts.proofs.NameCounts.{Plain, walk-takes}
 pub use Rattle.core_facts.proofs.NamesAwaited.{RemoveAwaits}
 pub use Rattle.core_facts.proofs.NamesKept.{Told}
 pub use Rattle.core_facts.proofs.OneCallStory.{ends-later, ends-until, front-last}
 pub use Rattle.core_facts.proofs.OneCalls.{VisitStory, then-as}
 pub use Rattle.core_facts.proofs.OpenStory.{IsFileOf, OpeningStory, StepStory, has_to}
-pub use Rattle.core_facts.proofs.Owning.{reached-since}
-pub use Rattle.core_facts.proofs.Resting.{comes-to-rest, none-moves, own-none}
+pub use Rattle.core_facts.proofs.Passing.{Anything, forget, passes-any}
 pub use Rattle.core_facts.proofs.Rows.{Rows, made-asked, made-known, not-sent, reached-rows, rows-grow, rows-stay, same-rows, silent-grow, taken-quiet, taken-rows}
 pub use Rattle.core_facts.proofs.SaveCommits.{goes-steps, takes-steps}
 pub use Rattle.core_facts.proofs.Steps.{AskedOf, KeptOf, ThenOf}
-pub use Rattle.core_facts.proofs.Stories.{by-place, good-over, set-other, some-answer}
-pub use Rattle.core_facts.proofs.Tales.{AsksFor, Did, IsLastReply, IsQuiet, IsTold, IsWhy, TaleLaws, reached-good}
+pub use Rattle.core_facts.proofs.Stories.{by-place, good-over, set-other}
+pub use Rattle.core_facts.proofs.Tales.{IsTold, TaleLaws, reached-good}
+pub use Rattle.core_facts.proofs.Telling.{AsksFor, Did, IsQuiet}
 pub use Rattle.core_facts.proofs.Walks.{Stays, begins-stay, hears-for-stay, starts-stay, steps-stay, stirs-stay}
-pub use Rattle.core_facts.specs.Counted.{calls_for, where_}
+pub use Rattle.core_facts.specs.Counted.{calls_for}
 pub use Rattle.core_facts.specs.InFlight.{Counts, IsCounted, IsUnbegun, in_flight, of_closing, of_name, of_opening, of_phase, of_putting, of_reading, of_saving, of_syncing, of_truncating, of_walk, of_writing, own_or, removal_by, visit_by}
 pub use Rattle.core_facts.specs.Naming.{KnowsRoot}
-pub use Rattle.core_facts.specs.Reaches.{HearsRecord, IsSetUp, Reaches, StepsTo, begins, goes, last_reading, loses}
-pub use Rattle.core_facts.specs.Resting.{NoneBusy}
-pub use Rattle.core_facts.specs.Tries.{IsMade, IsOutstanding, Tried, runs, unsent}
+pub use Rattle.core_facts.specs.Reaches.{Reaches, StepsTo, begins, goes, last_reading, loses}
+pub use Rattle.core_facts.specs.Tries.{IsMade, IsOutstanding}
 pub use Rattle.dir_list.specs.Listings.{last_cookie}
 unfoldable pub use Rattle.dir_list.specs.Listings.{listing_limit, page_step}
 pub use Rattle.dir_list.specs.declared.progress.ListFault.{ListFault}
@@ -165,8 +164,6 @@ pub use Rattle.open_files.specs.declared.opened.Opened.{Opened}
 pub use Rattle.page_cache.specs.Bytes.{start_of}
 pub use Rattle.page_cache.specs.Pages.{Pages, after_page, known_of, page_of}
 pub use Rattle.rpc_message.specs.Call.{xid_at}
-pub use Rattle.rpc_message.specs.Reply.{Accepted, RpcReply}
-pub use Rattle.rpc_message.specs.declared.reply.ReplyFault.{ReplyFault}
 pub use Rattle.rpc_retry.proofs.Lookups.{at_made, others_made, others_taken, waits_early}
 pub use Rattle.rpc_retry.proofs.Records.{before_failed, before_sent, gone}
 pub use Rattle.rpc_retry.specs.Fail.{failed_after}
@@ -174,14 +171,13 @@ pub use Rattle.rpc_retry.specs.Held.{next_xid}
 pub use Rattle.rpc_retry.specs.Records.{WaitedAs}
 pub use Rattle.rpc_retry.specs.Waiting.{made_call, waiting_at, without}
 pub use Rattle.rpc_retry.specs.declared.waiting.Waiting.{Waiting}
-pub use Rattle.world_model.proofs.Growth.{Asked-grow, Asked-wide, FirstSent-grow, Heard-wide, Rooted-wide}
+pub use Rattle.world_model.proofs.Growth.{Asked-grow, Asked-wide, Heard-wide, Rooted-wide}
 pub use Rattle.world_model.proofs.Places.{At-back, At-below, At-cases, At-grow, At-last, At-one, length_last}
 pub use Rattle.world_model.specs.Chains.{LastCookie, list_call, names_of, page_reply}
 pub use Rattle.world_model.specs.Entries.{At}
 pub use Rattle.world_model.specs.Fresh.{Fresh}
 pub use Rattle.world_model.specs.Heard.{Asked}
 pub use Rattle.world_model.specs.History.{History}
-pub use Rattle.world_model.specs.LanesTogether.{IsBusy}
 pub use Rattle.world_model.specs.Lawful.{Lawful}
 pub use Rattle.world_model.specs.Lost.{IsLost}
 pub use Rattle.world_model.specs.Messages.{HasXid, SpellsCall, SpellsCallBy, SpellsReply, proc_of, program_of}
@@ -205,4 +201,3 @@ pub use Rattle.write_back.specs.Files.{OnFile, Pending, of_file}
 pub use Rattle.write_back.specs.Landing.{with_xid}
 pub use Rattle.write_back.specs.Pieces.{FilePending, Sent, nothing, piece_under, renumbered}
 pub use Rattle.write_back.specs.Segments.{Segments, last_end}
-pub use Rattle.xdr_codec.specs.declared.reader.XdrFault.{XdrFault}

@@ -1,6 +1,4 @@
-pub mod Passing
 pub mod Waited
-pub mod SaidNone
 pub mod Answering
 pub mod SentCalls
 pub mod OneAsking

@@ -1,5 +1,6 @@
 -- For which call an operation waits that waits for one alone: those on names, opens, and walks on their way.
 use Rattle.core_facts.proofs.Prelude.{◌≡◌, ◌≤◌, ◌+◌, ◌-◌, ◌⊎◌, ◌||◌, not, inl, inr, ℕ, Bool, true, false, List, Option, Some, None, Result, Ok, Err, refl, sym, ap, subst, ◌∙◌, arith, if◌then◌else◌, Fault, Call, Reply, Next, Shelf, Turn, OpenFile, Led, Opening, OpeningNext, OpeningStep, PutFile, Putting, Saving, joined, by-step, is_first, WalkNext, FileMachine, Machine, Opener, PathMachine, file_of, slot_taken, begun_at, placed, Starts, Resumes, Takes, one_if, of_walk, of_opening, of_putting, of_names, in_flight}
+use Rattle.core_facts.specs.InFlight.{of_file, path_by}
 use Rattle.std.specs.FinMap as finite
 use Rattle.world_model.specs.declared.answer.Answer.TheVariants as answers
 use Rattle.world_model.specs.declared.answer.Fault.TheVariants as faults
@@ -19,7 +20,6 @@ use Rattle.op_machines.specs.declared.machine.Machine.TheVariants as machines
 use Rattle.op_machines.specs.declared.opener.Opener.TheVariants as openers
 use Rattle.op_machines.specs.FileSteps as steps
 use Rattle.op_machines.specs.PathSteps as paths
-use Rattle.core_facts.specs.InFlight.{of_file, path_by}
 use Rattle.core_facts.proofs.Awaited.{WalkAwaits, WalkStep, go-step, took-step, walk-rests, one-walk}
 use Rattle.core_facts.proofs.NamesAwaited.{NameAwaits, one-name, none-left, rests-kept, Sends, sends-as, name-goes, name-rests, name-takes}
 use Rattle.core_facts.proofs.Steps.{AskedOf, KeptOf}

@@ -1,5 +1,6 @@
 -- How many calls of any operation wait after each of its steps.
 use Rattle.core_facts.proofs.Prelude.{◌≡◌, ◌+◌, ◌-◌, ℕ, Bool, true, false, List, Result, refl, sym, ap, subst, ◌∙◌, Fault, Reply, Op, Next, Shelf, Turn, WalkNext, Opening, Putting, Writing, file_to_write, file_at, found_file, Mounted, FileMachine, Machine, Opener, PathMachine, machine_of, file_of, slot_taken, begun_at, placed, Starts, Resumes, Takes, of_walk, of_opening, of_writing, of_syncing, of_closing, of_truncating, of_putting, in_flight, IsUnbegun, IsCounted, Counts}
+use Rattle.core_facts.specs.InFlight.{of_reading, of_file, path_by, FileUnbegun, FileCounted, Leaves, CountsCalls}
 use Rattle.std.specs.FinMap as finite
 use Rattle.world_model.specs.declared.answer.Answer.TheVariants as answers
 use Rattle.world_model.specs.declared.answer.Fault.TheVariants as faults
@@ -14,7 +15,6 @@ use Rattle.op_machines.specs.declared.machine.Machine.TheVariants as machines
 use Rattle.op_machines.specs.declared.opener.Opener.TheVariants as openers
 use Rattle.op_machines.specs.FileSteps as steps
 use Rattle.op_machines.specs.PathSteps as paths
-use Rattle.core_facts.specs.InFlight.{of_reading, of_file, path_by, FileUnbegun, FileCounted, Leaves, CountsCalls}
 use Rattle.core_facts.proofs.NameCounts.{sends-leaves, waits-leaves, done-leaves, Plain, from-none, leaves-after, WalkCounts, walk-counts, walk-takes, took-counts}
 use Rattle.core_facts.proofs.PairCounts.{name-goes, name-takes}
 use Rattle.core_facts.proofs.FileCounts.{open-starts, open-follows, opening-goes, opening-leaves, opening-took, read-starts, read-resumes, read-takes, write-starts, write-resumes, write-takes, sync-starts, sync-resumes, sync-takes, close-starts, close-resumes, close-takes, truncate-starts, truncate-resumes, truncate-takes}

@@ -1,16 +1,16 @@
 -- Where any operation has a place in the order of a file, as its machine says; and that it never waits for nothing.
 use Rattle.core_facts.proofs.Prelude.{◌≡◌, ◌+◌, ◌-◌, ◌⊎◌, ℕ, Bool, true, false, List, Option, Some, None, Result, inl, inr, refl, sym, ap, subst, ◌∙◌, Fault, Reply, Op, left, LaneFile, Next, Shelf, Turn, WalkNext, Mounted, Machine, Opener, PathMachine, machine_of, file_of, slot_taken, begun_at, placed, Starts, Resumes, Takes, of_walk, of_names, in_flight, IsCounted}
+use Rattle.client_shelf.specs.LaneFiles.{added}
+use Rattle.core_facts.specs.InFlight.{of_file, path_by, FileCounted}
 use Rattle.world_model.specs.declared.answer.Answer.TheVariants as answers
 use Rattle.world_model.specs.declared.answer.Fault.TheVariants as faults
 use Rattle.world_model.specs.declared.op.Op.TheVariants as ops
-use Rattle.client_shelf.specs.LaneFiles.{added}
 use Rattle.client_shelf.specs.declared.next.Next.TheVariants as nexts
 use Rattle.name_ops.specs.declared.walk.WalkNext.TheVariants as walks
 use Rattle.name_ops.specs.Walking as walking
 use Rattle.op_machines.specs.declared.machine.Machine.TheVariants as machines
 use Rattle.op_machines.specs.declared.opener.Opener.TheVariants as openers
 use Rattle.op_machines.specs.PathSteps as paths
-use Rattle.core_facts.specs.InFlight.{of_file, path_by, FileCounted}
 use Rattle.core_facts.proofs.AllCounts.{of_path, path-file, path-walk, placed-none}
 use Rattle.core_facts.proofs.NameCounts.{walk-takes}
 use Rattle.core_facts.proofs.NameRests.{Rest, rest, walk-rest}

@@ -1,5 +1,6 @@
 -- For which call an operation on names, and an open on its way, waits: for one at most.
 use Rattle.core_facts.proofs.Prelude.{◌≡◌, ◌<◌, ◌≤◌, ◌+◌, ◌-◌, ◌⊎◌, inl, inr, ◌||◌, ℕ, not, Bool, true, false, List, Option, Some, None, Result, Ok, Err, refl, sym, ap, subst, ◌∙◌, arith, if◌then◌else◌, Attr, Step, More, End, ListFault, Answer, Fault, Call, Reply, Next, Shelf, Turn, ListDir, Pair, PairNext, Stat, Visit, VisitNext, Walk, WalkNext, look_up, found_by, look_again, of_walk, visit_by, of_visit, pair_by, of_pair}
+use Rattle.core_facts.specs.InFlight.{of_name}
 use Rattle.attr_cache.specs.Attrs as attrs
 use Rattle.world_model.specs.declared.answer.Answer.TheVariants as answers
 use Rattle.client_shelf.specs.declared.next.Next.TheVariants as nexts
@@ -9,7 +10,6 @@ use Rattle.name_ops.specs.declared.walk.WalkNext.TheVariants as walks
 use Rattle.name_ops.specs.Pairs as pairs
 use Rattle.name_ops.specs.Visiting as visiting
 use Rattle.name_ops.specs.Walking as walking
-use Rattle.core_facts.specs.InFlight.{of_name}
 use Rattle.core_facts.proofs.NameCounts.{unasked}
 
 -- ---- walks

@@ -2,8 +2,8 @@
 use Rattle.core_facts.proofs.Prelude.{◌≡◌, ◌+◌, ℕ, List, Bool, true, false, Option, Some, None, MatchOption, option_map, position, refl, ap, subst, xid_at, awaited, waiting_at, without, Waiting, Answer, Purpose, View, HearsFor, failed_view, lost, AnswersAt}
 use Rattle.rpc_retry.specs.Take.{after_taking}
 use Rattle.rpc_retry.specs.Waiting.{first_due, first_given_up, sent}
-use Rattle.client_core.specs.Lanes.{is_over}
 use Rattle.client_core.specs.Steps.{taken, Hears, SendsIf, SendsBy, FailsAs, FailsBy, AnswersBy}
+use Rattle.client_core.specs.Lanes.{is_over}
 
 -- the call under the xid waits no more
 abbrev pub taken_one : View → ℕ → View

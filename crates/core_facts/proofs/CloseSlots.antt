@@ -1,5 +1,6 @@
 -- What each step of a close makes of the table of opens: its slot is free once its sync has ended.
 use Rattle.core_facts.proofs.Prelude.{◌≡◌, ◌≢◌, ℕ, Bool, true, false, List, Option, Some, None, option_map, Result, refl, sym, ap, subst, ◌∙◌, Opened, Place, Opens, of_file, last_end, Fault, Reply, is_first, goes_again, Next, Shelf, Turn, CloseFile, Closing, Removal, Saving, closed_answer, refusal_of, remove_of, file_at, joined, by-step}
+use Rattle.file_ops.specs.Closings.{remove_busy}
 use Rattle.std.specs.FinMap as finite
 use Rattle.open_files.proofs.Laws.{get-close_same, get-close_other}
 use Rattle.world_model.specs.declared.answer.Answer.TheVariants as answers
@@ -7,7 +8,6 @@ use Rattle.world_model.specs.declared.answer.Fault.TheVariants as faults
 use Rattle.client_shelf.specs.declared.next.Next.TheVariants as nexts
 use Rattle.file_ops.specs.declared.close_file.Closing.TheVariants as closing
 use Rattle.file_ops.specs.Closes as closes
-use Rattle.file_ops.specs.Closings.{remove_busy}
 use Rattle.file_ops.specs.Saves as saves
 use Rattle.core_facts.proofs.Steps.{ThenOf}
 

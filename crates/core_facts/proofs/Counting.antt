@@ -1,10 +1,10 @@
 -- As many calls wait as the operations know of.
 use Rattle.core_facts.proofs.Prelude.{◌≡◌, ◌≤◌, ◌+◌, ◌-◌, inl, inr, ℕ, zero, suc, List, [], ◌∷◌, ◌++◌, length, remove, Bool, true, false, cond, nat_eq, Option, Some, None, MatchOption, position, slice_get, slice_set, Err, refl, sym, ap, subst, ◌∙◌, arith, eq-eqb, ne_eqb, Waiting, failed_after, Held, next_xid, made_call, waiting_at, without, Answer, Entry, Began, Answered, Dialed, Sent, Executed, Foreign, Flushed, Reboot, Delivered, Failed, Clock, Op, proc_of, said_of, Next, Send, Wait, Done, Shelf, Machine, Lane, Purpose, State, Busy, Over, Setup, IsFresh, is_busy, IsOther, numbers_of, IsBusyAt, with_state, record_of, IsRefused, Leads, Stirs, Moves, moves_none, moves_more, counted, StartsLane, BeginsIf, TakesAt, AnswersAt, View, turn_at, unmade_turn, in_flight, IsUnbegun, IsCounted, Counts, where_, calls_for, StepsTo, Reaches, begins, goes, loses, last_reading}
+use Rattle.rpc_retry.specs.Waiting.{sent, sent_call, failed}
+use Rattle.core_facts.specs.Counted.{known_in, known_by, AreCounted}
 use Rattle.std.proofs.lemmas.Option.{get_or_from_slice_get, slice_get_within}
 use borrow.Author.Tests.{eqb-true}
-use Rattle.rpc_retry.specs.Waiting.{sent, sent_call, failed}
 use Rattle.rpc_retry.proofs.Dues.{fails_everywhere}
-use Rattle.core_facts.specs.Counted.{known_in, known_by, AreCounted}
 use Rattle.core_facts.proofs.AllCounts.{counts-calls}
 use Rattle.core_facts.proofs.Cases.{Heard, dropped, replied, heard, sent_now, FailedNow, goes_on, gives_up, failed_now, answered_now, taken_one}
 use Rattle.core_facts.proofs.LaneMarks.{lanes-under-way, reached-lanes, idle-numbers, number_of}

@@ -1,5 +1,6 @@
 -- For which calls the operations wait that open a file or make one stable.
 use Rattle.core_facts.proofs.Prelude.{◌≡◌, ◌≤◌, ◌+◌, ◌-◌, ℕ, Bool, true, false, List, [], Option, Some, None, Result, Ok, refl, sym, ap, subst, ◌∙◌, arith, Verf, Answer, Fault, Call, Reply, is_first, Next, Shelf, Turn, OpenFile, PutFile, Putting, Saving, SyncFile, Syncing, commit_told, file_at, joined, by-step, WalkNext, FileMachine, Machine, Opener, PathMachine, file_of, slot_taken, begun_at, placed, Starts, Resumes, Takes, of_walk, of_opening, of_saving, of_syncing, in_flight}
+use Rattle.core_facts.specs.InFlight.{of_file}
 use Rattle.world_model.specs.declared.answer.Answer.TheVariants as answers
 use Rattle.world_model.specs.declared.answer.Fault.TheVariants as faults
 use Rattle.client_shelf.specs.declared.next.Next.TheVariants as nexts
@@ -16,7 +17,6 @@ use Rattle.op_machines.specs.declared.machine.Machine.TheVariants as machines
 use Rattle.op_machines.specs.declared.opener.Opener.TheVariants as openers
 use Rattle.op_machines.specs.FileSteps as steps
 use Rattle.op_machines.specs.PathSteps as paths
-use Rattle.core_facts.specs.InFlight.{of_file}
 use Rattle.core_facts.proofs.AllCounts.{of_path, path-file, path-walk, placed-none}
 use Rattle.core_facts.proofs.OpenSteps.{OpenExpects, OpenSteps, open-resumes, open-takes}
 use Rattle.core_facts.proofs.NameCounts.{WalkCounts, walk-counts, walk-takes, took-counts}

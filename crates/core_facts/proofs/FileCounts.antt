@@ -1,5 +1,8 @@
 -- How many calls of an operation on a file wait after each of its steps.
 use Rattle.core_facts.proofs.Prelude.{◌≡◌, ◌+◌, ◌-◌, ◌||◌, ◌&&◌, ℕ, not, Bool, true, false, List, Option, Some, None, Result, Ok, Err, inl, inr, refl, sym, ap, subst, ◌∙◌, arith, if◌then◌else◌, Attr, Mode, Wcc, Opened, Place, Opens, Pages, Fault, Call, Reply, Pending, of_file, last_end, goes_again, left, is_first, Next, Repeat, Shelf, Turn, CloseFile, Closing, Removal, OpenFile, Led, Opening, OpeningNext, ReadFile, Reading, Saving, SyncFile, Syncing, TruncateFile, Truncating, WriteFile, Writing, remove_of, closed_answer, refusal_of, joined, got_by, one_if, of_opening, of_saving, of_writing, of_syncing, of_closing, of_truncating, by-step, ends_as}
+use Rattle.file_ops.specs.Closings.{remove_busy}
+use Rattle.core_facts.specs.InFlight.{of_phase, of_reading, ClosingCounted, Leaves}
+use Rattle.file_ops.proofs.SaveCounts.{SaveCounts, save-goes, save-takes}
 use Rattle.std.specs.FinMap as finite
 use Rattle.nfs_types.specs.declared.mode.Mode.TheVariants as modes
 use Rattle.xdr_codec.specs.declared.blob.Memory as memory
@@ -19,7 +22,6 @@ use Rattle.file_ops.specs.declared.truncate_file.Truncating.TheVariants as trunc
 use Rattle.file_ops.specs.declared.write_file.Writing.TheVariants as writing
 use Rattle.file_ops.specs.Base.{place_after}
 use Rattle.file_ops.specs.Closes as closes
-use Rattle.file_ops.specs.Closings.{remove_busy}
 use Rattle.file_ops.specs.OpenFile as opens
 use Rattle.file_ops.specs.Opening as opening
 use Rattle.file_ops.specs.ReadFile as reads
@@ -29,9 +31,7 @@ use Rattle.file_ops.specs.Saves as saves
 use Rattle.file_ops.specs.Syncs as syncs
 use Rattle.file_ops.specs.TruncateFile as truncates
 use Rattle.file_ops.specs.WriteFile as writes
-use Rattle.core_facts.specs.InFlight.{of_phase, of_reading, ClosingCounted, Leaves}
 use Rattle.core_facts.proofs.NameCounts.{leaves-as, sends-leaves, waits-leaves, done-leaves, again-leaves, Plain, from-none, leaves-after, one-left}
-use Rattle.file_ops.proofs.SaveCounts.{SaveCounts, save-goes, save-takes}
 
 or-left : (a b : Bool) → (a || b) ≡ false → a ≡ false
 or-left true b e = absurd cc

@@ -1,7 +1,7 @@
 -- What a step of an operation on a file, or of one on its way, leaves of the kept names: what holds of each of them, if it holds of what a
 -- LOOKUP was answered with.
 -- ---- writes
-use Rattle.core_facts.proofs.Prelude.{◌≡◌, ◌-◌, ℕ, Bool, true, false, List, Option, Some, None, Result, Ok, Err, inl, inr, refl, ap, ◌∙◌, Fault, Call, Reply, Pending, of_file, last_end, left, is_first, Next, Shelf, Turn, CloseFile, Closing, Removal, Opening, OpeningNext, Saving, SyncFile, Syncing, TruncateFile, Truncating, WriteFile, Writing, refusal_of, joined, OpeningStep, by-step, ends_as, WalkNext, file_at, file_to_write, found_file, FileMachine, Machine, PathMachine, file_of, slot_taken, begun_at, placed, Starts, Resumes, Takes, PutFile, Putting}
+use Rattle.core_facts.proofs.Prelude.{◌≡◌, ◌-◌, ℕ, Bool, true, false, List, Option, Some, None, Result, Ok, Err, inl, inr, refl, ap, ◌∙◌, Fault, Call, Reply, Pending, of_file, last_end, left, is_first, Next, Shelf, Turn, CloseFile, Closing, Removal, Opening, OpeningNext, Saving, SyncFile, Syncing, TruncateFile, Truncating, WriteFile, Writing, refusal_of, joined, file_at, OpeningStep, by-step, ends_as, WalkNext, file_to_write, found_file, FileMachine, Machine, PathMachine, file_of, slot_taken, begun_at, placed, Starts, Resumes, Takes, PutFile, Putting}
 use Rattle.world_model.specs.declared.answer.Answer.TheVariants as answers
 use Rattle.client_shelf.specs.Unmade.{came_unmade}
 use Rattle.client_shelf.specs.declared.next.Next.TheVariants as nexts

@@ -1,5 +1,6 @@
 -- The file whose WRITEs an operation waits for, which stays the same while one of them waits.
 use Rattle.core_facts.proofs.Prelude.{◌≡◌, ◌≤◌, ◌+◌, ◌-◌, ℕ, Bool, true, false, List, Option, Some, None, Result, Ok, Err, inl, inr, refl, sym, ap, subst, ◌∙◌, arith, Fault, Reply, Pending, of_file, is_first, Next, Shelf, Turn, CloseFile, Closing, OpeningNext, PutFile, Putting, Phase, Sending, Committing, Resending, CommittingAgain, Saving, SyncFile, Syncing, WriteFile, Writing, IsUnused, by-step, ends_as, WalkNext, FileMachine, Machine, Opener, PathMachine, file_of, placed, Resumes, Takes, of_walk, of_saving, of_opening, of_writing, of_syncing, of_closing, of_putting, in_flight}
+use Rattle.file_ops.proofs.SaveCounts.{SaveCounts, save-goes, save-takes}
 use Rattle.world_model.specs.declared.answer.Answer.TheVariants as answers
 use Rattle.client_shelf.specs.declared.next.Next.TheVariants as nexts
 use Rattle.file_ops.specs.declared.close_file.Closing.TheVariants as closing
@@ -11,7 +12,6 @@ use Rattle.file_ops.specs.PutFile as puts
 use Rattle.file_ops.specs.Saves as saves
 use Rattle.file_ops.specs.Syncs as syncs
 use Rattle.file_ops.specs.WriteFile as writes
-use Rattle.file_ops.proofs.SaveCounts.{SaveCounts, save-goes, save-takes}
 use Rattle.file_ops.proofs.PutWalks.{PutHasIn}
 use Rattle.file_ops.proofs.Unmade.{InFile, MineIn, Mine}
 use Rattle.file_ops.proofs.Walks.{WriteHas, SyncHas, CloseHas}

@@ -1,8 +1,8 @@
 -- Along a history the bytes in flight under an xid are of the operation whose call waits under it.
 use Rattle.core_facts.proofs.Prelude.{◌≡◌, ◌≢◌, ◌≤◌, ◌<◌, ◌+◌, ◌-◌, ◌⊎◌, inl, inr, ℕ, zero, suc, List, [], ◌∷◌, ◌++◌, length, remove, Bool, true, false, nat_eq, Option, Some, None, option_map, position, slice_get, slice_set, Result, Err, refl, sym, ap, subst, ◌∙◌, arith, eqb-true, eqb-false, eq-eqb, ne_eqb, Waiting, Held, next_xid, waiting_at, without, at_made, others_made, others_taken, gone, Answer, Fault, Entry, Began, Reply, Op, Pending, of_file, said_of, Next, Send, Wait, Done, Shelf, Turn, Saving, IsUnused, Mounted, Machine, Opener, machine_of, file_of, Starts, Resumes, Takes, Lane, Purpose, State, Busy, Over, Setup, is_busy, with_state, IsRefused, Leads, Stirs, counted, StartsLane, TakesAt, View, turn_at, unmade_turn, in_flight, Counts, where_, calls_for}
+use Rattle.rpc_retry.proofs.Lookups.{waits_early}
 use Rattle.rpc_message.specs.declared.cred.Cred.{Cred}
 use Rattle.rpc_retry.specs.Sound.{AreSound}
-use Rattle.rpc_retry.proofs.Lookups.{waits_early}
 use Rattle.file_ops.proofs.Unmade.{InFile, Mine, AnyCall, UnusedSave, carries-mine, replies-mine}
 use Rattle.file_ops.proofs.Walks.{LeftAs}
 use Rattle.op_machines.specs.declared.machine.Machine.TheVariants as machines

@@ -1,10 +1,10 @@
 -- What a history shows of calls, it shows as well with one entry more.
 use Rattle.core_facts.proofs.Prelude.{◌≡◌, ◌<◌, ◌≤◌, ◌⊎◌, inl, inr, ℕ, List, [], ◌∷◌, ◌++◌, length, Some, sym, ◌∙◌, arith, Waiting, Entry, Sent, Delivered, At, HasXid, FirstSent-grow, At-grow, At-below, At-cases, length_last, Purpose, IsOutstanding, Tried, unsent, runs}
+use Rattle.world_model.proofs.Growth.{Waits-back}
+use Rattle.core_facts.specs.Tries.{IsUnsent, FailedTries, one, more, IsRunning, ended}
 use Rattle.world_model.specs.Lost.{FailedAttempt}
 use Rattle.world_model.specs.Waiting.{Answers}
-use Rattle.world_model.proofs.Growth.{Waits-back}
 use Rattle.law_calls.specs.Calls.{Numbered}
-use Rattle.core_facts.specs.Tries.{IsUnsent, FailedTries, one, more, IsRunning, ended}
 
 -- the entry is no record under the xid that was sent or came
 pub record IsQuiet (xid : ℕ) (e : Entry) : Type 0 where

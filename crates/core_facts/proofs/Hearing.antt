@@ -1,12 +1,12 @@
 -- A record under the xid of a call that waits answers a call of the operation that is under way.
-use Rattle.core_facts.proofs.Prelude.{◌≡◌, ◌<◌, ◌≤◌, ◌+◌, ℕ, zero, suc, List, [], ◌∷◌, ◌++◌, length, true, false, cond, nat_eq, Bool, Option, Some, None, MatchOption, sym, ap, subst, ◌∙◌, arith, xid_at, Waiting, awaited, waiting_at, Entry, Sent, Delivered, Call, Op, HasXid, FirstSent-grow, At-grow, At-below, At-back, At-last, said_of, Machine, Purpose, Setup, HearsFor, View, IsUnbegun, Reaches, HearsRecord, IsOutstanding, Tried, unsent, runs}
-use Rattle.world_model.specs.Heard.{Heard}
+use Rattle.core_facts.proofs.Prelude.{◌≡◌, ◌<◌, ◌≤◌, ◌+◌, ℕ, zero, suc, List, [], ◌∷◌, ◌++◌, length, true, false, cond, nat_eq, Bool, Option, Some, None, MatchOption, sym, ap, subst, ◌∙◌, arith, xid_at, Waiting, awaited, waiting_at, Entry, Sent, Delivered, Call, Op, HasXid, FirstSent-grow, At-grow, At-below, At-back, At-last, said_of, Says, Machine, Purpose, Setup, HearsFor, View, IsUnbegun, Reaches, HearsRecord, IsOutstanding, Tried, unsent, runs}
 use Rattle.world_model.specs.Messages.{SpellsCall}
-use Rattle.call_replies.specs.Says.{IsCallOf, Says}
+use Rattle.call_replies.specs.Says.{IsCallOf}
 use Rattle.client_core.specs.Steps.{WereSent, Hears, taken}
+use Rattle.core_facts.specs.Tries.{ended, IsMade}
+use Rattle.world_model.specs.Heard.{Heard}
 use Rattle.core_facts.specs.Counted.{IsOfOperation}
 use Rattle.core_facts.specs.Hearing.{IsAnswer}
-use Rattle.core_facts.specs.Tries.{ended, IsMade}
 use Rattle.core_facts.proofs.Owning.{reached-owned}
 use Rattle.core_facts.proofs.Rows.{reached-rows}
 

@@ -1,12 +1,12 @@
 -- An operation on a slot goes on only where the slot holds an open for it, as it begins.
 use Rattle.core_facts.proofs.Prelude.{◌≡◌, ◌⊎◌, inl, inr, ℕ, Bool, true, false, List, [], ◌∷◌, ◌++◌, length, Option, Some, None, option_map, Result, Ok, Err, refl, sym, ap, subst, ◌∙◌, arith, append_assoc, Mode, Opened, Answer, Fault, Value, Entry, Began, Op, At, Modes, Ended, can_write, slot_of, At-grow, At-below, At-last, At-one, Next, Shelf, Turn, CloseFile, Closing, ReadFile, Reading, SyncFile, Syncing, TruncateFile, WriteFile, Pages, Pending, Mounted, Machine, machine_of, Starts, State, Busy, Over, Setup, View, Reaches}
+use Rattle.claims.specs.Rights.{can_read}
 use Rattle.std.proofs.lemmas.List.{append-nil}
 use Rattle.std.specs.FinMap as finite
 use Rattle.nfs_types.specs.declared.mode.Mode.TheVariants as modes
 use Rattle.world_model.specs.declared.answer.Answer.TheVariants as answers
 use Rattle.world_model.specs.declared.answer.Fault.TheVariants as faults
 use Rattle.world_model.specs.declared.op.Op.TheVariants as ops
-use Rattle.claims.specs.Rights.{can_read}
 use Rattle.client_shelf.specs.declared.next.Next.TheVariants as nexts
 use Rattle.file_ops.specs.Closes as closes
 use Rattle.file_ops.specs.Opens.{of_open, in_mode}

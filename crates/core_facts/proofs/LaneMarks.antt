@@ -1,11 +1,12 @@
 -- The lanes of the core are those that have an operation under way.
-use Rattle.core_facts.proofs.Prelude.{◌≡◌, ◌≢◌, ◌<◌, ◌≤◌, ◌⊎◌, inl, inr, ℕ, zero, suc, List, [], ◌∷◌, ◌++◌, length, map, remove, slice_get, true, false, nat_eq, Some, None, refl, sym, ap, subst, ◌∙◌, arith, append_assoc, Answer, Entry, Began, Answered, Dialed, Sent, Executed, Foreign, Flushed, Reboot, Delivered, Failed, Clock, Op, At, AnsweredBefore, At-grow, At-below, At-last, At-cases, At-one, Machine, Lane, State, Over, Setup, IsFresh, lost_lane, IsOther, numbers_of, View, IsSetUp, StepsTo, Reaches, begins, goes, loses, last_reading}
+use Rattle.core_facts.proofs.Prelude.{◌≡◌, ◌≢◌, ◌<◌, ◌≤◌, ◌⊎◌, inl, inr, ℕ, zero, suc, List, [], ◌∷◌, ◌++◌, length, map, remove, slice_get, true, false, nat_eq, Some, None, refl, sym, ap, subst, ◌∙◌, arith, append_assoc, Answer, Entry, Began, Answered, Dialed, Sent, Executed, Foreign, Flushed, Reboot, Delivered, Failed, Clock, Op, At, At-grow, At-below, At-last, At-cases, At-one, Machine, Lane, State, Over, Setup, IsFresh, lost_lane, IsOther, numbers_of, View, IsSetUp, StepsTo, Reaches, begins, goes, loses, last_reading}
 use Rattle.std.proofs.Common.{append-nil}
+use Rattle.core_facts.specs.Reaches.{IsOpenLine}
+use Rattle.world_model.specs.Operations.{AnsweredBefore}
 use borrow.Author.Tests.{eqb-true, eqb-false}
 use Rattle.world_model.specs.Follows.{marks_of, Alternates}
 use Rattle.world_model.specs.LanesTogether.{IsBusy}
 use Rattle.core_facts.specs.Lanes.{AreUnderWay}
-use Rattle.core_facts.specs.Reaches.{IsOpenLine}
 use Rattle.core_facts.proofs.Cases.{Heard, dropped, replied, heard, sent_now, FailedNow, goes_on, gives_up, failed_now, answered_now, taken_one}
 use Rattle.core_facts.proofs.Grown.{longer}
 use Rattle.core_facts.proofs.Lists.{map-set, map-push, map-remove, to-map, skip, get-remove, still-there, get-push, at-push, before-push, skip-apart, skip-other}

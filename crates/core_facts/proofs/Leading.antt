@@ -1,6 +1,8 @@
 -- A walk leads along its path: by names that are kept, each of which a LOOKUP was answered with, and by the replies to its own.
 use Rattle.core_facts.proofs.Prelude.{◌≡◌, ◌<◌, ◌≤◌, ◌+◌, ◌-◌, ℕ, zero, suc, Bool, true, false, List, [], ◌∷◌, ◌++◌, length, take, Option, Some, None, Result, Ok, Err, slice_get, refl, sym, ap, subst, ◌∙◌, arith, cases_lt, if◌then◌else◌, Attr, DirKept, Fault, Entry, Call, Reply, Asked, Rooted, Asked-wide, length_last, Shelf, Turn, Walk, WalkNext, look_up, found_by, look_again}
 use Rattle.std.proofs.Common.{All}
+use Rattle.world_model.specs.Mounts.{Origin, Given}
+use Rattle.world_model.proofs.Growth.{Asked-grow}
 use Rattle.attr_cache.specs.Attrs as attrs
 use Rattle.name_cache.specs.declared.entry.KeptName.{KeptName}
 use Rattle.name_cache.specs.declared.entry.Place.{Place}
@@ -10,8 +12,6 @@ use Rattle.nfs_types.specs.Stamps.{stamp_of}
 use Rattle.nfs_dir_calls.specs.declared.keeping.DirKept.TheVariants as kept
 use Rattle.world_model.specs.declared.message.Reply.TheVariants as replies
 use Rattle.world_model.specs.Leads.{Leads, root, step}
-use Rattle.world_model.specs.Mounts.{Origin, Given}
-use Rattle.world_model.proofs.Growth.{Asked-grow}
 use Rattle.name_ops.specs.declared.walk.Spot.{Spot}
 use Rattle.name_ops.specs.Walking as walking
 use Rattle.core_facts.proofs.NamesKept.{Told, Tells, CallTells, passed-told, looked-told}

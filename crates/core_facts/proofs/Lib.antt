@@ -46,6 +46,10 @@ pub mod HeldSlots
 pub mod SlotSyncs
 pub mod SlotTheorems
 pub mod SlotExact
+pub mod Passing
+pub mod Answered
+pub mod SaidNone
+pub mod Telling
 pub mod Tales
 pub mod Refusals
 pub mod Expects

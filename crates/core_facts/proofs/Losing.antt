@@ -1,12 +1,12 @@
 -- A lost session has one of three causes.
 use Rattle.core_facts.proofs.Prelude.{◌≡◌, ◌≤◌, inl, inr, ℕ, suc, List, [], ◌∷◌, ◌++◌, length, true, false, Option, Some, option_map, refl, sym, ap, subst, ◌∙◌, arith, Waiting, failed_after, next_xid, waiting_at, Entry, Began, Answered, Dialed, Sent, Executed, Foreign, Flushed, Reboot, Delivered, Failed, Clock, Op, IsLost, At-grow, At-below, At-back, Machine, Purpose, Setup, failed_view, lost, View, StepsTo, Reaches, begins, goes, loses, last_reading, Tried, unsent, runs}
 use Rattle.rpc_retry.specs.Waiting.{first_given_up, failed_call}
+use Rattle.world_model.specs.Lost.{FailedAttempt, FailedDial, Loses, given_up, undialed, dropped}
+use Rattle.core_facts.specs.Tries.{FailedTries, one, more, ended}
 use Rattle.rpc_retry.proofs.GivenUp.{oldest_given_up}
 use Rattle.rpc_retry.proofs.Lookups.{all_failed}
-use Rattle.world_model.specs.Lost.{FailedAttempt, FailedDial, Loses, given_up, undialed, dropped}
 use Rattle.world_model.specs.Rows.{most_dropped}
 use Rattle.world_model.proofs.Growth.{DropRun-grow}
-use Rattle.core_facts.specs.Tries.{FailedTries, one, more, ended}
 use Rattle.core_facts.proofs.Cases as cases
 use Rattle.core_facts.proofs.Cases.{Heard, replied, heard, sent_now, FailedNow, goes_on, gives_up, failed_now, answered_now, taken_one}
 use Rattle.core_facts.proofs.Grown.{longer, attempt-grow}

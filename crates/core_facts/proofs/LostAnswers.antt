@@ -1,12 +1,12 @@
 -- An operation is answered that the session is lost only where the history shows it.
 use Rattle.core_facts.proofs.Prelude.{◌≤◌, ℕ, List, [], ◌∷◌, ◌++◌, length, Result, Ok, Err, sym, subst, arith, append_assoc, DirKept, FileKept, Answer, Refused, Fault, Reply, Entry, Op, IsLost, length_last, Next, Mounted, Machine, machine_of, State, Busy, Over}
+use Rattle.world_model.specs.declared.answer.Answer.TheVariants.{Done}
+use Rattle.world_model.specs.Lost.{Loses}
 use Rattle.std.proofs.lemmas.List.{append-nil}
 use Rattle.nfs_dir_calls.specs.declared.keeping.DirKept.TheVariants as found
 use Rattle.nfs_file_calls.specs.declared.owned.FileKept.TheVariants as kept
-use Rattle.world_model.specs.declared.answer.Answer.TheVariants.{Done}
 use Rattle.world_model.specs.declared.answer.Fault.TheVariants as faults
 use Rattle.world_model.specs.declared.message.Reply.TheVariants as replies
-use Rattle.world_model.specs.Lost.{Loses}
 use Rattle.client_shelf.specs.declared.next.Next.TheVariants as nexts
 use Rattle.core_facts.specs.Lanes.{LostAnswersShown}
 use Rattle.core_facts.proofs.AllCounts.{begins-unbegun}

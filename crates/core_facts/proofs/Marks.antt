@@ -1,6 +1,7 @@
 -- Where a lane begins and answers its lines, in a history with one entry more.
-use Rattle.core_facts.proofs.Prelude.{◌≡◌, ◌≢◌, ◌≤◌, inl, inr, ℕ, List, [], ◌∷◌, ◌++◌, true, false, cond, nat_eq, refl, sym, ap, subst, ◌∙◌, arith, eq-eqb, ne_eqb, Answer, Entry, Began, Answered, Dialed, Sent, Executed, Foreign, Flushed, Reboot, Delivered, Failed, Clock, Op, AnsweredBefore, At-grow, At-below, At-cases}
+use Rattle.core_facts.proofs.Prelude.{◌≡◌, ◌≢◌, ◌≤◌, inl, inr, ℕ, List, [], ◌∷◌, ◌++◌, true, false, cond, nat_eq, refl, sym, ap, subst, ◌∙◌, arith, eq-eqb, ne_eqb, Answer, Entry, Began, Answered, Dialed, Sent, Executed, Foreign, Flushed, Reboot, Delivered, Failed, Clock, Op, At-grow, At-below, At-cases}
 use Rattle.std.proofs.Common.{ap₂}
+use Rattle.world_model.specs.Operations.{AnsweredBefore}
 use Rattle.rpc_retry.proofs.Dues.{if_true, if_false}
 use Rattle.world_model.specs.Follows.{marks_of, Alternates, none, busy, answered}
 

@@ -1,22 +1,22 @@
 -- How many calls of an operation on names wait after each of its steps.
 use Rattle.core_facts.proofs.Prelude.{◌≡◌, ◌+◌, ◌-◌, ℕ, Bool, true, false, List, Option, Some, None, Result, Ok, Err, inl, inr, refl, sym, ap, subst, ◌∙◌, arith, if◌then◌else◌, Attr, Step, More, End, ListFault, Answer, Fault, Value, Call, Reply, goes_again, Next, Shelf, Turn, ListDir, Stat, SymLink, Told, Visit, VisitNext, Walk, WalkNext, found_by, look_again, text_call, TakesText, shown_answer, TakesShow, sym_link_call, sym_linked_told, CopiesBy, ChangesByCopy, TakesSymLink, lacking, one_if, of_walk, visit_by, of_visit, of_stat}
+use Rattle.client_shelf.specs.Busy.{fails_busy}
+use Rattle.name_ops.specs.Showing.{Shows}
+use Rattle.core_facts.specs.InFlight.{of_name, own_or, Leaves}
 use Rattle.attr_cache.specs.Attrs as attrs
 use Rattle.dir_list.specs.Listings.{page_step}
 use Rattle.world_model.specs.declared.answer.Answer.TheVariants as answers
 use Rattle.world_model.specs.declared.answer.Fault.TheVariants as faults
 use Rattle.world_model.specs.declared.answer.Value.TheVariants as values
-use Rattle.client_shelf.specs.Busy.{fails_busy}
 use Rattle.client_shelf.specs.declared.next.Next.TheVariants as nexts
 use Rattle.name_ops.specs.declared.list_dir.PageStart.{PageStart}
 use Rattle.name_ops.specs.declared.visit.VisitNext.TheVariants as visits
 use Rattle.name_ops.specs.declared.walk.WalkNext.TheVariants as walks
 use Rattle.name_ops.specs.Changing as changing
 use Rattle.name_ops.specs.ListDir as listing
-use Rattle.name_ops.specs.Showing.{Shows}
 use Rattle.name_ops.specs.Stat as stats
 use Rattle.name_ops.specs.Visiting as visiting
 use Rattle.name_ops.specs.Walking as walking
-use Rattle.core_facts.specs.InFlight.{of_name, own_or, Leaves}
 
 -- ---- what a step leads to
 

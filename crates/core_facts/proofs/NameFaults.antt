@@ -1,5 +1,8 @@
 -- Which faults a step of an operation on names gives: its own, and those of what came of its call.
-use Rattle.core_facts.proofs.Prelude.{◌≡◌, ℕ, Bool, true, false, List, Option, Some, None, Result, Ok, Err, inl, inr, sym, subst, ◌||◌, if◌then◌else◌, Attr, Step, More, End, ListFault, Fault, Value, Call, Reply, Next, Shelf, Turn, ListDir, Stat, SymLink, Told, Visit, VisitNext, Walk, WalkNext, found_by, look_again, text_call, TakesText, shown_answer, TakesShow, sym_link_call, sym_linked_told, CopiesBy, ChangesByCopy, TakesSymLink, lacking, Opens, plan_of, Link, Pair, PairNext, Deed, Look, Seek, Move, RemoveFile, Rename, access_call, access_attr, access_told, deed_call, deed_told, link_call, TakesLink, moved_told, rename_call, TakesRename, NameMachine, DirKept, FileKept, linked_told}
+use Rattle.core_facts.proofs.Prelude.{◌≡◌, ℕ, Bool, true, false, List, Option, Some, None, Result, Ok, Err, inl, inr, sym, subst, ◌||◌, if◌then◌else◌, Attr, Step, More, End, ListFault, Fault, Value, Call, Reply, Next, Shelf, Turn, ListDir, Stat, SymLink, Told, Visit, VisitNext, Walk, WalkNext, found_by, look_again, text_call, TakesText, shown_answer, TakesShow, sym_link_call, sym_linked_told, CopiesBy, ChangesByCopy, TakesSymLink, lacking, Opens, plan_of, Link, Pair, PairNext, Deed, Look, Seek, Move, RemoveFile, Rename, access_call, access_attr, access_told, deed_call, deed_told, link_call, TakesLink, linked_told, moved_told, rename_call, TakesRename, NameMachine, DirKept, FileKept}
+use Rattle.name_ops.specs.ReadLink.{TellsText}
+use Rattle.name_ops.specs.Showing.{Shows}
+use Rattle.name_ops.specs.declared.remove_file.Deed.TheVariants.{Remove}
 use Rattle.attr_cache.specs.Attrs as attrs
 use Rattle.world_model.specs.declared.answer.Answer.TheVariants as answers
 use Rattle.world_model.specs.declared.answer.Fault.TheVariants as faults
@@ -9,12 +12,10 @@ use Rattle.name_ops.specs.declared.visit.VisitNext.TheVariants as visits
 use Rattle.name_ops.specs.declared.walk.WalkNext.TheVariants as walks
 use Rattle.name_ops.specs.Changing as changing
 use Rattle.name_ops.specs.ListDir as listing
-use Rattle.name_ops.specs.Showing.{Shows}
 use Rattle.name_ops.specs.Stat as stats
 use Rattle.name_ops.specs.Visiting as visiting
 use Rattle.name_ops.specs.Walking as walking
 use Rattle.name_ops.specs.declared.pair.PairNext.TheVariants as two
-use Rattle.name_ops.specs.declared.remove_file.Deed.TheVariants.{Remove}
 use Rattle.name_ops.specs.Pairs as pairs
 use Rattle.name_ops.specs.RemoveFile as removals
 use Rattle.op_machines.specs.declared.name_machine.NameMachine.TheVariants as machines
@@ -27,7 +28,6 @@ use Rattle.name_ops.specs.declared.dir_change.DirDeed.{DirDeed}
 use Rattle.name_ops.specs.declared.dir_change.DirDeed.TheVariants as deeds
 use Rattle.name_ops.specs.MakeDir.{made_told}
 use Rattle.name_ops.specs.RemoveDir.{removed_told}
-use Rattle.name_ops.specs.ReadLink.{TellsText}
 use Rattle.core_facts.proofs.Faults.{OwnFaults, OfReply, Came, FineResult, FineOption, FineAnswer, FineNext, fine-as, again-fine, call-or-wait}
 
 module _ (P : Fault → Type 0) (own : OwnFaults P) where

@@ -1,12 +1,13 @@
 -- An operation on names never waits for nothing: where none of its calls waits it goes on as soon as there is room.
 use Rattle.core_facts.proofs.Prelude.{◌≡◌, ◌+◌, ◌-◌, ◌||◌, ℕ, Bool, true, false, List, Option, Some, None, Result, Ok, Err, inl, inr, refl, sym, ap, subst, ◌∙◌, arith, if◌then◌else◌, Attr, Opens, plan_of, Step, More, End, ListFault, Answer, Fault, Value, Call, Reply, goes_again, Next, Shelf, Turn, Link, ListDir, Pair, PairNext, Deed, Look, Seek, Move, RemoveFile, Rename, Stat, SymLink, Told, Visit, VisitNext, Walk, WalkNext, access_call, access_attr, access_told, deed_call, deed_told, link_call, TakesLink, found_by, look_again, moved_told, text_call, TakesText, rename_call, TakesRename, TakesShow, sym_link_call, CopiesBy, TakesSymLink, NameMachine, one_if, of_walk, visit_by, of_visit, of_stat, pair_by, of_pair, of_names}
+use Rattle.client_shelf.specs.Busy.{fails_busy}
+use Rattle.name_ops.specs.declared.remove_file.Deed.TheVariants.{Remove}
+use Rattle.core_facts.specs.InFlight.{own_or, removal_by, of_removal}
 use Rattle.attr_cache.specs.Attrs as attrs
 use Rattle.dir_list.specs.Listings.{page_step}
 use Rattle.world_model.specs.declared.answer.Answer.TheVariants as answers
-use Rattle.client_shelf.specs.Busy.{fails_busy}
 use Rattle.client_shelf.specs.declared.next.Next.TheVariants as nexts
 use Rattle.name_ops.specs.declared.pair.PairNext.TheVariants as two
-use Rattle.name_ops.specs.declared.remove_file.Deed.TheVariants.{Remove}
 use Rattle.name_ops.specs.declared.visit.VisitNext.TheVariants as visits
 use Rattle.name_ops.specs.declared.walk.WalkNext.TheVariants as walks
 use Rattle.name_ops.specs.Changing as changing
@@ -18,7 +19,6 @@ use Rattle.name_ops.specs.Visiting as visiting
 use Rattle.name_ops.specs.Walking as walking
 use Rattle.op_machines.specs.declared.name_machine.NameMachine.TheVariants as machines
 use Rattle.op_machines.specs.NameSteps as steps
-use Rattle.core_facts.specs.InFlight.{own_or, removal_by, of_removal}
 use Rattle.core_facts.proofs.NameCounts.{WalkGoes, unasked, on-walk, walk-takes}
 
 pub clash : {P : Type 0} → (b : Bool) → b ≡ true → b ≡ false → P

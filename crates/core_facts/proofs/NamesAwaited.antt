@@ -1,5 +1,8 @@
 -- For which call each operation on names waits, and that its steps keep to it.
 use Rattle.core_facts.proofs.Prelude.{◌≡◌, ◌<◌, ◌≤◌, ◌+◌, ◌-◌, ◌⊎◌, inl, inr, ℕ, Bool, true, false, List, Option, Some, None, Result, Ok, Err, refl, sym, ap, subst, ◌∙◌, arith, if◌then◌else◌, Attr, Step, More, End, ListFault, Opens, plan_of, Answer, Fault, Value, Call, Reply, Next, Shelf, Turn, Link, ListDir, Pair, PairNext, Deed, Look, Seek, Move, RemoveFile, Rename, Stat, SymLink, Told, Visit, VisitNext, Walk, WalkNext, access_call, deed_call, link_call, linked_told, TakesLink, look_up, found_by, look_again, moved_told, text_call, TakesText, rename_call, TakesRename, shown_answer, TakesShow, sym_link_call, sym_linked_told, CopiesBy, ChangesByCopy, TakesSymLink, lacking, NameMachine, one_if, of_walk, of_visit, of_pair, of_stat, of_names}
+use Rattle.name_ops.specs.declared.remove_file.Deed.TheVariants.{Remove}
+use Rattle.name_ops.specs.Showing.{Shows}
+use Rattle.core_facts.specs.InFlight.{own_or, of_removal, removal_by}
 use Rattle.attr_cache.specs.Attrs as attrs
 use Rattle.dir_list.specs.Listings.{page_step}
 use Rattle.world_model.specs.declared.answer.Answer.TheVariants as answers
@@ -7,20 +10,17 @@ use Rattle.world_model.specs.declared.answer.Fault.TheVariants as faults
 use Rattle.world_model.specs.declared.answer.Value.TheVariants as values
 use Rattle.client_shelf.specs.declared.next.Next.TheVariants as nexts
 use Rattle.name_ops.specs.declared.pair.PairNext.TheVariants as two
-use Rattle.name_ops.specs.declared.remove_file.Deed.TheVariants.{Remove}
 use Rattle.name_ops.specs.declared.visit.VisitNext.TheVariants as visits
 use Rattle.name_ops.specs.declared.walk.WalkNext.TheVariants as walks
 use Rattle.name_ops.specs.Changing as changing
 use Rattle.name_ops.specs.ListDir as listing
 use Rattle.name_ops.specs.Pairs as pairs
 use Rattle.name_ops.specs.RemoveFile as removals
-use Rattle.name_ops.specs.Showing.{Shows}
 use Rattle.name_ops.specs.Stat as stats
 use Rattle.name_ops.specs.Visiting as visiting
 use Rattle.name_ops.specs.Walking as walking
 use Rattle.op_machines.specs.declared.name_machine.NameMachine.TheVariants as machines
 use Rattle.op_machines.specs.NameSteps as steps
-use Rattle.core_facts.specs.InFlight.{own_or, of_removal, removal_by}
 use Rattle.core_facts.proofs.Awaited.{WalkAwaits, WalkStep, go-step, took-step, walk-rests, one-walk, OwnOr, own-true, VisitAwaits, VisitStep, visit-step, visit-took-step, visit-rests, one-visit, PairOr, PairAwaits, pair-own, PairStep, pair-step, pair-took-step, one-pair, pair-rests}
 use Rattle.core_facts.proofs.Steps.{AskedOf, KeptOf}
 

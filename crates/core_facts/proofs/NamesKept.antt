@@ -1,6 +1,8 @@
 -- What holds of each kept name goes on holding after a step, if it holds of what a LOOKUP was answered with.
 use Rattle.core_facts.proofs.Prelude.{◌≡◌, ◌||◌, ℕ, zero, suc, Bool, true, false, List, Option, Some, None, Result, Ok, Err, inl, inr, refl, sym, ap, subst, ◌∙◌, if◌then◌else◌, Attr, DirKept, Fault, Value, Call, Reply, Next, Shelf, Turn, Link, ListDir, Pair, PairNext, Deed, Look, Seek, Move, RemoveFile, Rename, Stat, SymLink, Visit, Walk, WalkNext, link_call, TakesLink, look_up, found_by, look_again, moved_told, text_call, TakesText, rename_call, TakesRename, TakesShow, sym_link_call, sym_linked_told, ChangesByCopy, TakesSymLink, NameMachine, access_call, deed_call}
 use Rattle.std.proofs.Common.{All}
+use Rattle.name_ops.specs.declared.remove_file.Deed.TheVariants.{Remove}
+use Rattle.name_ops.specs.Looking.{LookedNames}
 use Rattle.attr_cache.specs.Attrs as attrs
 use Rattle.name_cache.specs.declared.entry.KeptName.{KeptName}
 use Rattle.name_cache.specs.declared.entry.Place.{Place}
@@ -12,12 +14,10 @@ use Rattle.nfs_dir_calls.specs.declared.keeping.DirKept.TheVariants as kept
 use Rattle.world_model.specs.declared.message.Reply.TheVariants as replies
 use Rattle.client_shelf.specs.Learning.{LearnsName}
 use Rattle.client_shelf.specs.Unmade.{names_after}
-use Rattle.name_ops.specs.declared.remove_file.Deed.TheVariants.{Remove}
 use Rattle.name_ops.specs.declared.told.Told.{Told as ChangeTold}
 use Rattle.name_ops.specs.declared.walk.WalkNext.TheVariants as walks
 use Rattle.name_ops.specs.Changing as changing
 use Rattle.name_ops.specs.ListDir as listing
-use Rattle.name_ops.specs.Looking.{LookedNames}
 use Rattle.name_ops.specs.Pairs as pairs
 use Rattle.name_ops.specs.RemoveFile as removals
 use Rattle.name_ops.specs.Stat as stats

@@ -1,6 +1,8 @@
 -- For which call an operation of one call waits: for one that it asks for.
 use Rattle.core_facts.proofs.Prelude.{◌≡◌, ◌≤◌, ◌+◌, ◌-◌, ℕ, zero, suc, Bool, true, false, List, [], ◌∷◌, ◌++◌, length, take, slice_get, Option, Some, None, refl, sym, ap, subst, ◌∙◌, arith, append_assoc, if◌then◌else◌, Entry, Call, Op, Rooted, Terms, Next, Pair, Visit, Walk, access_call, deed_call, link_call, text_call, rename_call, sym_link_call, Machine, IsNamed, front_of, last_of, of_walk, visit_by, of_visit, pair_by, of_pair, in_flight, Counts}
 use Rattle.std.proofs.Common.{drop, Contains}
+use Rattle.op_machines.specs.Begun.{IsAsked}
+use Rattle.core_facts.specs.InFlight.{of_name}
 use Rattle.world_model.specs.declared.op.Op.TheVariants as ops
 use Rattle.claims.specs.Asks.{Asks, Acts, Opening, Stabilizes, IsWriter, found_by, look_up}
 use Rattle.claims.specs.Asks as asks
@@ -8,8 +10,6 @@ use Rattle.claims.specs.Paths.{paths_of}
 use Rattle.client_shelf.specs.declared.next.Next.TheVariants as nexts
 use Rattle.name_ops.specs.declared.dir_change.DirDeed.TheVariants as deeds
 use Rattle.name_ops.specs.Walking as walking
-use Rattle.op_machines.specs.Begun.{IsAsked}
-use Rattle.core_facts.specs.InFlight.{of_name}
 use Rattle.core_facts.specs.Naming.{IsOneCall}
 use Rattle.core_facts.proofs.AllAwaited.{Awaits}
 use Rattle.core_facts.proofs.Awaited.{WalkAwaits, OwnOr, PairOr}
@@ -17,7 +17,7 @@ use Rattle.core_facts.proofs.Leading.{LeadsTo, leads-from, WalkLeads}
 use Rattle.core_facts.proofs.OneCalls.{VisitStory, PairStory}
 use Rattle.core_facts.proofs.OneCallStory.{given, Runs, front-last, place-from, acts-from, act-dir, act-pair, place}
 use Rattle.core_facts.proofs.Steps.{AskedOf, ThenOf}
-use Rattle.core_facts.proofs.Tales.{AsksFor}
+use Rattle.core_facts.proofs.Telling.{AsksFor}
 
 -- ---- lists
 

@@ -1,17 +1,18 @@
 -- An operation that makes one call goes well only where its paths lead to the objects of the call, which was answered with status 0.
 use Rattle.core_facts.proofs.Prelude.{◌≡◌, ◌≤◌, ◌+◌, ◌-◌, ◌⊎◌, inl, inr, ℕ, zero, suc, Bool, true, false, List, [], ◌∷◌, ◌++◌, length, take, slice_get, Option, None, Result, Ok, refl, sym, ap, subst, ◌∙◌, arith, Attr, Answer, Fault, Value, Entry, Delivered, Call, Reply, Op, At, Rooted, EndsWith, Terms, Asked-wide, FirstSent-grow, At-grow, At-below, At-back, At-cases, length_last, goes_again, Next, Shelf, Turn, Link, Pair, Rename, SymLink, Told, Visit, access_call, access_told, deed_call, deed_told, link_call, linked_told, TakesLink, moved_told, text_call, TakesText, rename_call, TakesRename, shown_answer, TakesShow, sym_link_call, sym_linked_told, ChangesByCopy, TakesSymLink, lacking, Machine, NameMachine, IsNamed, front_of, last_of, Resumes, Takes, State, Busy, Over}
 use Rattle.std.proofs.Common.{unwrap_or}
+use Rattle.world_model.specs.Mounts.{Origin, Given}
+use Rattle.world_model.proofs.Growth.{Waits-grow}
+use Rattle.op_machines.specs.Begun.{IsAsked}
 use Rattle.world_model.specs.declared.answer.Answer.TheVariants as answers
 use Rattle.world_model.specs.declared.answer.Fault.TheVariants as faults
 use Rattle.world_model.specs.declared.answer.Value.TheVariants as values
 use Rattle.world_model.specs.declared.op.Op.TheVariants as ops
 use Rattle.claims.specs.Asks.{Acts}
 use Rattle.claims.specs.Asks as asks
-use Rattle.world_model.specs.Mounts.{Origin, Given}
 use Rattle.claims.specs.OkRows.{ActOk}
 use Rattle.claims.specs.Paths.{PlaceOf}
 use Rattle.world_model.specs.Waiting.{IsDelivered}
-use Rattle.world_model.proofs.Growth.{Waits-grow}
 use Rattle.client_shelf.specs.declared.next.Next.TheVariants as nexts
 use Rattle.name_ops.specs.declared.dir_change.DirDeed.{DirDeed}
 use Rattle.name_ops.specs.declared.dir_change.DirDeed.TheVariants as deeds
@@ -20,14 +21,14 @@ use Rattle.name_ops.specs.Pairs as pairs
 use Rattle.name_ops.specs.Visiting as visiting
 use Rattle.op_machines.specs.declared.machine.Machine.TheVariants as machines
 use Rattle.op_machines.specs.declared.name_machine.NameMachine.TheVariants as names
-use Rattle.op_machines.specs.Begun.{IsAsked}
 use Rattle.core_facts.specs.Naming.{IsOneCall}
 use Rattle.core_facts.proofs.AllAwaited.{Awaits}
 use Rattle.core_facts.proofs.Awaited.{OwnOr, PairOr}
 use Rattle.core_facts.proofs.Leading.{NamesTold, LeadsTo, leads-from, IsHeard}
 use Rattle.core_facts.proofs.OneCalls.{IsOkReply, deed-ok, sym-ok, moved-ok, link-ok, access-ok, text-ok, refusal-answer, told-answer, again-then, VisitStory, visit-at, visit-then, walks-then, copy-then, copies-then, visit-later, PairStory, pair-at, pair-then, pair-walks-then, pair-later}
 use Rattle.core_facts.proofs.Steps.{ThenOf}
-use Rattle.core_facts.proofs.Tales.{IsTold, IsQuiet, AsksFor}
+use Rattle.core_facts.proofs.Tales.{IsTold}
+use Rattle.core_facts.proofs.Telling.{IsQuiet, AsksFor}
 
 -- ---- paths
 

@@ -1,5 +1,6 @@
 -- Which calls operations of one call ask for, and what their answers show.
-use Rattle.core_facts.proofs.Prelude.{◌≡◌, ◌+◌, ◌-◌, ◌⊎◌, inl, inr, ℕ, List, [], ◌∷◌, ◌++◌, length, take, Result, refl, sym, ap, subst, arith, Fault, Value, Entry, Began, Call, Reply, Op, Rooted, Terms, At-grow, At-back, length_last, Next, Shelf, Turn, Link, Rename, SymLink, Mounted, Machine, front_of, machine_of, Starts, Setup, Answered, UnderWay, in_flight, IsCounted, Counts}
+use Rattle.core_facts.proofs.Prelude.{◌≡◌, ◌+◌, ◌-◌, ◌⊎◌, inl, inr, ℕ, List, [], ◌∷◌, ◌++◌, length, take, Result, refl, sym, ap, subst, arith, Fault, Value, Entry, Began, Answered, Call, Reply, Op, Rooted, Terms, At-grow, At-back, length_last, Next, Shelf, Turn, Link, Rename, SymLink, Mounted, Machine, front_of, machine_of, Starts, Setup, UnderWay, in_flight, IsCounted, Counts}
+use Rattle.op_machines.specs.Begun.{IsAsked}
 use Rattle.std.proofs.lemmas.List.Elements.{All-nil}
 use Rattle.world_model.specs.declared.answer.Answer.TheVariants as answers
 use Rattle.world_model.specs.declared.op.Op.TheVariants as ops
@@ -10,23 +11,20 @@ use Rattle.client_shelf.specs.declared.next.Next.TheVariants as nexts
 use Rattle.name_ops.specs.Pairs as pairs
 use Rattle.name_ops.specs.Pairs.{walk_of}
 use Rattle.name_ops.specs.Visiting as visiting
-use Rattle.op_machines.specs.Begun.{IsAsked}
 use Rattle.core_facts.specs.Naming.{IsOneCall, OneCallsDone}
 use Rattle.core_facts.proofs.AllAwaited.{Awaits, awaits-laws}
-use Rattle.core_facts.proofs.AllCounts.{begins-unbegun}
+use Rattle.core_facts.proofs.AllCounts.{begins-unbegun, counts-calls}
 use Rattle.core_facts.proofs.FilesKept.{all-starts, all-resumes, all-takes}
 use Rattle.core_facts.proofs.Leading.{IsNameTold, NamesTold, names-later, WalkLeads, heard-tells}
 use Rattle.core_facts.proofs.OneCalls.{VisitStory, PairStory}
-use Rattle.core_facts.proofs.Steps.{ThenOf}
-use Rattle.core_facts.proofs.Tales.{IsTold, AsksFor, TaleLaws, reached-answered}
+use Rattle.core_facts.proofs.Steps.{ThenOf, AskedOf}
+use Rattle.core_facts.proofs.Tales.{IsTold, TaleLaws, reached-answered, WasAsked, NoneYet, reached-asked}
+use Rattle.core_facts.proofs.Telling.{AsksFor}
 use Rattle.claims.specs.Asks.{Asks}
 use Rattle.claims.specs.CallsAsked.{NoneBegan}
 use Rattle.core_facts.specs.Asked.{IsMadeFor, CallsCaused}
-use Rattle.core_facts.proofs.AllCounts.{counts-calls}
 use Rattle.core_facts.proofs.OneCallAsks.{AsksNow, asks-new, asks-from}
 use Rattle.core_facts.proofs.OneCallStory.{given, Runs, Story, Shelved, NoWait, Steps, heard-all, goes, takes, state-later, for-op, until}
-use Rattle.core_facts.proofs.Steps.{AskedOf}
-use Rattle.core_facts.proofs.Tales.{WasAsked, NoneYet, reached-asked}
 
 -- ---- operations that begin
 

@@ -1,9 +1,9 @@
 -- An open is refused for its slot only where that held an open as it began, also where the session is lost since.
 use Rattle.core_facts.proofs.Prelude.{◌≡◌, ◌<◌, ◌≤◌, ◌+◌, ◌⊎◌, inl, inr, ℕ, List, [], ◌∷◌, ◌++◌, length, map, Bool, true, false, Some, None, slice_get, refl, sym, ap, subst, ◌∙◌, arith, append_assoc, cases_lt, Mode, Answer, Entry, Began, Answered, Dialed, Sent, Executed, Foreign, Flushed, Reboot, Delivered, Failed, Clock, Op, Modes, Ended, UnderWay, At-below, length_last, Mounted, machine_of, Lane, State, Busy, Over, Setup, lost_lane, numbers_of, BeginsIf, counted, View, StepsTo, HearsRecord, Reaches, begins, goes, loses, last_reading, NoneBusy}
+use Rattle.client_core.specs.Lanes.{lost_state}
 use Rattle.world_model.specs.declared.answer.Answer.TheVariants as answers
 use Rattle.world_model.specs.declared.answer.Fault.TheVariants as faults
 use Rattle.world_model.specs.declared.op.Op.TheVariants as ops
-use Rattle.client_core.specs.Lanes.{lost_state}
 use Rattle.core_facts.proofs.AllCounts.{begins-unbegun}
 use Rattle.core_facts.proofs.Cases.{Heard, dropped, replied, heard, sent_now, FailedNow, goes_on, gives_up, failed_now, answered_now, taken_one}
 use Rattle.core_facts.proofs.LaneMarks.{idle-numbers, number_of}

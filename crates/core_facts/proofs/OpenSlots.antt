@@ -2,13 +2,15 @@
 -- else leaves the table as it is.
 use Rattle.core_facts.proofs.Prelude.{◌≡◌, ◌-◌, ℕ, Bool, true, false, List, Option, Some, None, Result, Ok, Err, inl, inr, refl, sym, ap, subst, ◌∙◌, if◌then◌else◌, Attr, Mode, Wcc, Opened, Place, Opens, Pages, Answer, Fault, Call, Reply, Next, Shelf, Turn, OpenFile, Led, Opening, OpeningNext, OpeningStep, file_to_write, file_at, got_by, found_file, WalkNext, FileMachine, Machine, Opener, PathMachine, file_of, slot_taken, begun_at, placed, Starts, Resumes, Takes}
 use Rattle.std.proofs.Common.{is_some}
+use Rattle.page_cache.specs.Pages.{known_of}
+use Rattle.file_ops.specs.Told.{found_by, made_by}
+use Rattle.op_machines.specs.Openers.{opening_in}
 use Rattle.std.specs.FinMap as finite
 use Rattle.nfs_dir_calls.specs.declared.create.Making.{Making}
 use Rattle.nfs_dir_calls.specs.declared.call.DirCall.TheVariants as dirs
 use Rattle.nfs_dir_calls.specs.declared.keeping.DirKept.TheVariants as found
 use Rattle.nfs_file_calls.specs.declared.call.FileCall.TheVariants as file_calls
 use Rattle.nfs_file_calls.specs.declared.owned.FileKept.TheVariants as kept
-use Rattle.page_cache.specs.Pages.{known_of}
 use Rattle.attr_cache.specs.Attrs.{Attrs, looked}
 use Rattle.nfs_types.specs.declared.wcc.Stamp.{Stamp}
 use Rattle.world_model.specs.declared.answer.Answer.TheVariants as answers
@@ -21,14 +23,12 @@ use Rattle.file_ops.specs.declared.opening.OpeningNext.TheVariants as openings
 use Rattle.file_ops.specs.declared.opening.OpeningStep.TheVariants as opening_steps
 use Rattle.file_ops.specs.OpenFile as opens
 use Rattle.file_ops.specs.Opening as opening
-use Rattle.file_ops.specs.Told.{found_by, made_by}
 use Rattle.name_ops.specs.declared.walk.WalkNext.TheVariants as walks
 use Rattle.name_ops.specs.Walking as walking
 use Rattle.op_machines.specs.declared.file_machine.FileMachine.TheVariants as files
 use Rattle.op_machines.specs.declared.machine.Machine.TheVariants as machines
 use Rattle.op_machines.specs.declared.opener.Opener.TheVariants as openers
 use Rattle.op_machines.specs.FileSteps as steps
-use Rattle.op_machines.specs.Openers.{opening_in}
 use Rattle.op_machines.specs.PathSteps as paths
 use Rattle.core_facts.proofs.Expecting.{Expects, arrived-open, no-open, some-open}
 use Rattle.core_facts.proofs.FileOpens as plain

@@ -1,5 +1,7 @@
 -- An open, step by step: its file is found by LOOKUP or CREATE of its last name, and its attributes are asked for.
 use Rattle.core_facts.proofs.Prelude.{◌≡◌, ◌≢◌, ◌-◌, ◌==◌, inl, inr, ℕ, Bool, true, false, List, length, Option, Some, None, Result, Ok, Err, refl, sym, ap, subst, ◌∙◌, arith, if◌then◌else◌, eqb-true, eqb-false, Attr, Wcc, Mode, DirKept, FileKept, Answer, Fault, Entry, Call, Reply, Asked, EndsWith, Asked-wide, Next, Turn, OpenFile, Led, Opening, OpeningNext, OpeningStep, got_by, IsNamed, front_of, last_of}
+use Rattle.world_model.specs.Heard.{status_of}
+use Rattle.file_ops.specs.Told.{found_by, made_by}
 use Rattle.std.specs.FinMap as finite
 use Rattle.nfs_types.specs.declared.mode.Mode.TheVariants as modes
 use Rattle.nfs_dir_calls.specs.declared.call.DirCall.TheVariants as dirs
@@ -15,7 +17,6 @@ use Rattle.world_model.specs.declared.message.Call.TheVariants as calls
 use Rattle.world_model.specs.declared.message.Reply.TheVariants as replies
 use Rattle.claims.specs.Asks.{MakesFile, look_up}
 use Rattle.claims.specs.Asks as asks
-use Rattle.world_model.specs.Heard.{status_of}
 use Rattle.world_model.specs.Leads as leading
 use Rattle.client_shelf.specs.declared.next.Next.TheVariants as nexts
 use Rattle.file_ops.specs.declared.opening.Led.TheVariants as leads
@@ -23,7 +24,6 @@ use Rattle.file_ops.specs.declared.opening.OpeningNext.TheVariants as openings
 use Rattle.file_ops.specs.declared.opening.OpeningStep.TheVariants as opening_steps
 use Rattle.file_ops.specs.OpenFile as opens
 use Rattle.file_ops.specs.Opening as opening
-use Rattle.file_ops.specs.Told.{found_by, made_by}
 use Rattle.core_facts.proofs.Leading.{LeadsTo}
 use Rattle.core_facts.proofs.OneCallStory.{front-last}
 use Rattle.core_facts.proofs.OneCalls.{then-as}

@@ -1,5 +1,6 @@
 -- An open goes well, or is refused for the kind of its file, only where its last reply shows it.
 use Rattle.core_facts.proofs.Prelude.{◌≡◌, ◌+◌, ◌-◌, inl, inr, ℕ, Bool, true, false, List, [], ◌∷◌, ◌++◌, length, take, Result, refl, sym, ap, subst, arith, Attr, Mode, Answer, Fault, Entry, Began, Call, Reply, Op, At, Asked, Rooted, Ended, Terms, Asked-wide, length_last, Next, Shelf, Turn, OpenFile, Opening, OpeningStep, Mounted, Machine, PathMachine, IsNamed, front_of, last_of, machine_of, Starts, Resumes, Takes, State, Busy, Setup}
+use Rattle.world_model.proofs.Growth.{Asked-grow, Rooted-wide}
 use Rattle.std.proofs.lemmas.List.Elements.{All-nil}
 use Rattle.nfs_file_calls.specs.declared.call.FileCall.TheVariants as file_calls
 use Rattle.world_model.specs.declared.answer.Answer.TheVariants as answers
@@ -12,7 +13,6 @@ use Rattle.world_model.specs.Leads as leads
 use Rattle.claims.specs.OkRows as rows
 use Rattle.claims.specs.RefusalRows.{IsNoFile}
 use Rattle.world_model.specs.Waiting.{IsDelivered}
-use Rattle.world_model.proofs.Growth.{Asked-grow, Rooted-wide}
 use Rattle.client_shelf.specs.declared.next.Next.TheVariants as nexts
 use Rattle.file_ops.specs.declared.opening.OpeningStep.TheVariants as opening_steps
 use Rattle.file_ops.specs.Opening as opening
@@ -31,7 +31,8 @@ use Rattle.core_facts.proofs.OneCallStory.{front-last, ends-later, ends-until}
 use Rattle.core_facts.proofs.OpenPath.{OpenRuns, Over, Step, open-resumes, open-takes}
 use Rattle.core_facts.proofs.OpenStory.{OpeningStory, StepStory, MayMake, has_to, missing, IsFileOf, found, made, GotLast, OpenAnswer}
 use Rattle.core_facts.proofs.Steps.{ThenOf}
-use Rattle.core_facts.proofs.Tales.{IsTold, IsQuiet, AsksFor, TaleLaws, reached-answered}
+use Rattle.core_facts.proofs.Tales.{IsTold, TaleLaws, reached-answered}
+use Rattle.core_facts.proofs.Telling.{IsQuiet, AsksFor}
 
 asked-until : (before after : List Entry) (x y : ℕ) (call : Call) (reply : Reply) → length before ≡ y → Asked before x (length before) call reply → Asked (before ++ after) x y call reply
 asked-until before after x y call reply there a = subst (λ (n : ℕ). Asked (before ++ after) x n call reply) there (Asked-grow before after x (length before) call reply a)

@@ -1,15 +1,15 @@
 -- The order of the files' operations: each lane that has a place in it has one, and who is the first of a file.
 use Rattle.core_facts.proofs.Prelude.{◌≡◌, ◌≢◌, ◌<◌, ◌≤◌, ◌+◌, ◌⊎◌, inl, inr, ℕ, zero, suc, List, [], ◌∷◌, ◌++◌, length, remove, Bool, true, false, nat_eq, Option, Some, None, position, slice_get, refl, sym, ap, subst, ◌∙◌, arith, if◌then◌else◌, eqb-true, eqb-false, eq-eqb, ne_eqb, Refused, left, is_first, LaneFile, Lane, Over, numbers_of, IsOther}
 use Rattle.std.proofs.Common.{nat_lt, option_and_then, get_or}
+use Rattle.std.proofs.lemmas.Bool.{lt-ltb}
+use Rattle.client_shelf.specs.LaneFiles.{is_lane, is_file, added, place_of, first_of, leads}
+use Rattle.client_core.specs.Numbers.{AreOnce, AreUpTo}
 use Rattle.std.specs.Option.{option_map_or}
 use Rattle.std.specs.Cmp.Lexicographic.{pointwise, bytes_decides}
-use Rattle.std.proofs.lemmas.Bool.{lt-ltb}
 use Rattle.std.proofs.lemmas.List.Quantifiers.{position-Some}
 use Rattle.std.proofs.lemmas.Option.{get_or_from_slice_get, slice_get_within, slice_get-get_or}
 use Rattle.rpc_retry.proofs.Dues.{fails_everywhere}
 use Rattle.world_model.specs.declared.answer.Fault.TheVariants as faults
-use Rattle.client_shelf.specs.LaneFiles.{is_lane, is_file, added, place_of, first_of, leads}
-use Rattle.client_core.specs.Numbers.{AreOnce, AreUpTo}
 use Rattle.client_core.proofs.Numbers.{idle-few}
 use Rattle.core_facts.specs.Progress.{HasPlace}
 use Rattle.core_facts.proofs.Lists.{skip, get-remove, still-there, get-push, at-push, before-push, skip-apart, skip-other}

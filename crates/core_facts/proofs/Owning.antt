@@ -1,8 +1,8 @@
 -- Each record of a call that waits was sent since its operation began.
 use Rattle.core_facts.proofs.Prelude.{◌≡◌, ◌<◌, ◌⊎◌, inl, inr, ℕ, List, [], ◌∷◌, ◌++◌, length, true, false, nat_eq, Option, Some, None, refl, sym, ap, subst, ◌∙◌, arith, Waiting, failed_after, Held, next_xid, made_call, waiting_at, without, others_made, others_taken, gone, Entry, Began, Answered, Dialed, Sent, Executed, Foreign, Flushed, Reboot, Delivered, Failed, Clock, Call, Op, At, HasXid, proc_of, At-below, At-cases, Machine, Purpose, Busy, Setup, record_of, counted, View, turn_at, IsUnbegun, StepsTo, Reaches, begins, goes, loses, last_reading}
+use Rattle.rpc_retry.proofs.Records.{before_sent, before_failed}
 use borrow.Author.Tests.{eqb-true}
 use Rattle.rpc_retry.specs.Records.{WaitedAs}
-use Rattle.rpc_retry.proofs.Records.{before_sent, before_failed}
 use Rattle.core_facts.specs.Counted.{AreCounted, AreOwned}
 use Rattle.core_facts.proofs.Cases.{Heard, dropped, replied, heard, sent_now, FailedNow, goes_on, gives_up, failed_now, answered_now, taken_one}
 use Rattle.core_facts.proofs.Counting.{calls-some, known-some, reached-known, none-idle}

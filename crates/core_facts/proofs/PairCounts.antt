@@ -1,10 +1,11 @@
 -- How many calls of an operation on two paths, and of a removal, wait after each of its steps; and of any operation on names.
 use Rattle.core_facts.proofs.Prelude.{◌≡◌, ◌+◌, ◌||◌, ℕ, Bool, true, false, List, Option, Some, None, Result, Ok, Err, inl, inr, refl, sym, ap, subst, ◌∙◌, arith, if◌then◌else◌, Opens, plan_of, Fault, Call, Reply, Next, Shelf, Turn, Link, Pair, PairNext, Deed, Look, Seek, Move, RemoveFile, Rename, Visit, Walk, WalkNext, access_call, access_attr, access_told, deed_call, deed_told, link_call, TakesLink, found_by, look_again, moved_told, text_call, rename_call, TakesRename, sym_link_call, NameMachine, one_if, of_walk, of_visit, pair_by, of_pair, of_stat, of_names}
+use Rattle.name_ops.specs.declared.remove_file.Deed.TheVariants.{Remove}
+use Rattle.core_facts.specs.InFlight.{removal_by, of_removal}
 use Rattle.world_model.specs.declared.answer.Answer.TheVariants as answers
 use Rattle.world_model.specs.declared.answer.Fault.TheVariants as faults
 use Rattle.world_model.specs.declared.answer.Value.TheVariants as values
 use Rattle.name_ops.specs.declared.pair.PairNext.TheVariants as two
-use Rattle.name_ops.specs.declared.remove_file.Deed.TheVariants.{Remove}
 use Rattle.name_ops.specs.declared.walk.WalkNext.TheVariants as walks
 use Rattle.name_ops.specs.ListDir as listing
 use Rattle.name_ops.specs.Pairs as pairs
@@ -14,7 +15,6 @@ use Rattle.name_ops.specs.Visiting as visiting
 use Rattle.name_ops.specs.Walking as walking
 use Rattle.op_machines.specs.declared.name_machine.NameMachine.TheVariants as machines
 use Rattle.op_machines.specs.NameSteps as steps
-use Rattle.core_facts.specs.InFlight.{removal_by, of_removal}
 use Rattle.core_facts.proofs.NameCounts.{leaves-as, sends-leaves, waits-leaves, done-leaves, again-leaves, Plain, leaves-after, one-left, WalkGoes, WalkCounts, unasked, on-walk, walk-counts, walk-takes, took-counts, visit-leaves, copy-leaves, change-leaves, access-leaves, text-leaves, link-text-leaves, stat-leaves, stat-took, list-took}
 
 -- ---- two walks and a call

@@ -2,7 +2,7 @@
 pub use Rattle.std.proofs.Common.{Bool, Err, List, MatchOption, None, Ok, Option, Result, Some, [], ap, append_assoc, arith, cond, false, inl, inr, length, map, nat_eq, not, option_map, position, refl, remove, slice_get, slice_set, subst, suc, sym, take, true, zero, ℕ, ◌&&◌, ◌++◌, ◌+◌, ◌-◌, ◌<◌, ◌==◌, ◌||◌, ◌∙◌, ◌∷◌, ◌≡◌, ◌≢◌, ◌≤◌, ◌⊎◌}
 pub use Rattle.std.proofs.lemmas.Bool.{cases_lt, eq-eqb, eqb-false, eqb-true, ne_eqb}
 pub use Rattle.std.specs.Prelude.{if◌then◌else◌, nat_lt}
-pub use Rattle.call_replies.specs.Says.{said_of}
+pub use Rattle.call_replies.specs.Says.{Says, said_of}
 pub use Rattle.claims.specs.Modes.{Modes}
 pub use Rattle.claims.specs.Rights.{can_write}
 pub use Rattle.claims.specs.Slots.{slot_of}
@@ -121,7 +121,7 @@ pub use Rattle.world_model.specs.Heard.{Asked}
 pub use Rattle.world_model.specs.Lost.{IsLost}
 pub use Rattle.world_model.specs.Messages.{HasXid, SpellsReply, proc_of}
 pub use Rattle.world_model.specs.Mounts.{Rooted}
-pub use Rattle.world_model.specs.Operations.{AnsweredBefore, Ended, EndsWith, UnderWay}
+pub use Rattle.world_model.specs.Operations.{Ended, EndsWith, UnderWay}
 pub use Rattle.world_model.specs.declared.answer.Answer.{Answer}
 pub use Rattle.world_model.specs.declared.answer.Answer.TheVariants.{Refused}
 pub use Rattle.world_model.specs.declared.answer.Fault.{Fault}

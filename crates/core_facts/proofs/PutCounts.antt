@@ -1,5 +1,6 @@
 -- How many calls of a put wait after each of its steps.
 use Rattle.core_facts.proofs.Prelude.{◌≡◌, ◌+◌, ℕ, Bool, true, false, List, Some, Result, Ok, Err, refl, sym, ap, subst, ◌∙◌, arith, Fault, Reply, is_first, Next, Shelf, Turn, Opening, OpeningNext, PutFile, Putting, Saving, Writing, closed_answer, refusal_of, joined, one_if, of_opening, of_saving, of_writing, of_putting, by-step}
+use Rattle.file_ops.proofs.SaveCounts.{SaveCounts, save-goes, save-takes}
 use Rattle.world_model.specs.declared.answer.Answer.TheVariants as answers
 use Rattle.client_shelf.specs.declared.next.Next.TheVariants as nexts
 use Rattle.file_ops.specs.declared.opening.OpeningNext.TheVariants as openings
@@ -11,7 +12,6 @@ use Rattle.file_ops.specs.Saves as saves
 use Rattle.file_ops.specs.WriteFile.{made_bytes}
 use Rattle.core_facts.proofs.FileCounts.{OpeningCounts, opening-goes, opening-leaves, opening-took, writes-leave, write-resumes, write-takes}
 use Rattle.core_facts.proofs.NameCounts.{sends-leaves, waits-leaves, done-leaves, Plain, from-none, leaves-after}
-use Rattle.file_ops.proofs.SaveCounts.{SaveCounts, save-goes, save-takes}
 
 -- how many calls of the put wait
 abbrev pub of_put : PutFile → ℕ

@@ -1,5 +1,7 @@
 -- A put that went well: COMMIT of its file was answered 0 since it began.
 use Rattle.core_facts.proofs.Prelude.{◌≡◌, ◌+◌, ◌-◌, ℕ, Bool, true, false, List, [], ◌∷◌, ◌++◌, length, Result, Ok, refl, sym, ap, subst, ◌∙◌, Verf, Answer, Fault, Entry, Began, Call, Reply, Op, Asked, Next, Shelf, Turn, PutFile, Putting, Saving, commit_told, WalkNext, Mounted, Machine, Opener, PathMachine, machine_of, file_of, slot_taken, begun_at, placed, Starts, Resumes, Takes, State, Busy, Over, in_flight}
+use Rattle.op_machines.specs.Openers.{opening_in}
+use Rattle.core_facts.specs.InFlight.{of_file}
 use Rattle.nfs_file_calls.specs.declared.owned.FileKept.TheVariants as kept
 use Rattle.world_model.specs.declared.answer.Answer.TheVariants as answers
 use Rattle.world_model.specs.declared.message.Reply.TheVariants as replies
@@ -14,9 +16,7 @@ use Rattle.name_ops.specs.Walking as walking
 use Rattle.op_machines.specs.declared.machine.Machine.TheVariants as machines
 use Rattle.op_machines.specs.declared.opener.Opener.TheVariants as openers
 use Rattle.op_machines.specs.FileSteps as steps
-use Rattle.op_machines.specs.Openers.{opening_in}
 use Rattle.op_machines.specs.PathSteps as paths
-use Rattle.core_facts.specs.InFlight.{of_file}
 use Rattle.core_facts.specs.Synced.{PutsCommitted}
 use Rattle.core_facts.proofs.AllCounts.{begins-unbegun, of_path, path-file}
 use Rattle.core_facts.proofs.Expecting.{some-put, no-open, arrived-expects}

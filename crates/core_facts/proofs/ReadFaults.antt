@@ -1,5 +1,7 @@
 -- Which faults a step of an open or a read gives: its own, and those of what came of its call.
 use Rattle.core_facts.proofs.Prelude.{◌≡◌, ◌-◌, ◌||◌, ◌==◌, ℕ, not, Bool, true, false, List, Option, Some, None, Result, Ok, Err, inl, inr, sym, subst, refl, if◌then◌else◌, Attr, Mode, Opened, Place, Opens, Pages, Fault, Reply, Pending, Next, Repeat, Turn, OpenFile, Led, Opening, OpeningNext, ReadFile, Reading, got_by, DirKept, FileKept, OpeningStep}
+use Rattle.page_cache.specs.Pages.{known_of}
+use Rattle.file_ops.specs.Told.{found_by, made_by}
 use Rattle.std.specs.FinMap as finite
 use Rattle.nfs_types.specs.declared.mode.Mode.TheVariants as modes
 use Rattle.xdr_codec.specs.declared.blob.Memory as memory
@@ -14,15 +16,12 @@ use Rattle.file_ops.specs.OpenFile as opens
 use Rattle.file_ops.specs.Opening as opening
 use Rattle.file_ops.specs.ReadFile as reads
 use Rattle.file_ops.specs.Reading as reading
-use Rattle.file_ops.specs.ReadReply.{Said, part, refusal}
+use Rattle.file_ops.specs.ReadReply.{Said, part, refusal, said_to, said_by, breaks_rule}
 use Rattle.attr_cache.specs.Attrs.{looked}
-use Rattle.page_cache.specs.Pages.{known_of}
 use Rattle.nfs_dir_calls.specs.declared.keeping.DirKept.TheVariants as dir_kept
 use Rattle.nfs_file_calls.specs.declared.owned.FileKept.TheVariants as kept
 use Rattle.world_model.specs.declared.message.Reply.TheVariants as replies
 use Rattle.file_ops.specs.declared.opening.OpeningStep.TheVariants as opening_steps
-use Rattle.file_ops.specs.Told.{found_by, made_by}
-use Rattle.file_ops.specs.ReadReply.{said_to, said_by, breaks_rule}
 use Rattle.core_facts.proofs.Faults.{OwnFaults, OfReply, Came, FineResult, FineNext, fine-as, fine-fault, again-fine}
 
 module _ (P : Fault → Type 0) (own : OwnFaults P) where

@@ -1,5 +1,6 @@
 -- An operation is answered with a status of a server or a refusal by RPC only where a record refused a call of it so.
 use Rattle.core_facts.proofs.Prelude.{◌≡◌, ◌≢◌, ◌<◌, ◌+◌, ℕ, List, [], ◌∷◌, ◌++◌, length, Option, Some, None, Result, Ok, Err, refl, sym, ap, subst, arith, DirKept, FileKept, Answer, Fault, Entry, Began, Call, Reply, Op, Asked, length_last, Next, Shelf, Turn, Mounted, Machine, machine_of, Takes, State, Busy, Over, Setup}
+use Rattle.world_model.specs.Heard.{Refused, status_of}
 use Rattle.nfs_dir_calls.specs.declared.keeping.DirKept.TheVariants as found
 use Rattle.nfs_dir_calls.specs.Replies.{SpellsReply as SpellsDir}
 use Rattle.nfs_file_calls.specs.declared.owned.FileKept.TheVariants as kept
@@ -8,7 +9,6 @@ use Rattle.world_model.specs.declared.answer.Answer.TheVariants as answers
 use Rattle.world_model.specs.declared.answer.Fault.TheVariants as faults
 use Rattle.world_model.specs.declared.message.Call.TheVariants as calls
 use Rattle.world_model.specs.declared.message.Reply.TheVariants as replies
-use Rattle.world_model.specs.Heard.{Refused, status_of}
 use Rattle.world_model.specs.Messages.{SpellsResults}
 use Rattle.world_model.proofs.Growth.{Refused-grow, Refused-wide}
 use Rattle.client_shelf.specs.declared.next.Next.TheVariants as nexts
@@ -18,7 +18,8 @@ use Rattle.core_facts.proofs.AllFaults as steps
 use Rattle.core_facts.proofs.Faults.{OwnFaults, OfReply, Came, FineAnswer}
 use Rattle.core_facts.proofs.Expects.{ExpectLaws}
 use Rattle.core_facts.proofs.Steps.{AskedOf, KeptOf, ThenOf}
-use Rattle.core_facts.proofs.Tales.{IsTold, IsLastReply, IsWhy, IsQuiet, AsksFor, Did, TaleLaws, reached-answered}
+use Rattle.core_facts.proofs.Tales.{IsTold, IsLastReply, IsWhy, TaleLaws, reached-answered}
+use Rattle.core_facts.proofs.Telling.{IsQuiet, AsksFor, Did}
 
 -- ---- what a reply that fails shows
 

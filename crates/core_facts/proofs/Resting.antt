@@ -1,15 +1,15 @@
 -- After each entry of a history no lane can go on, or no further call may wait.
 use Rattle.core_facts.proofs.Prelude.{◌≡◌, ◌+◌, ℕ, zero, suc, List, [], ◌∷◌, ◌++◌, length, map, Bool, true, false, Option, Some, None, MatchOption, position, slice_get, refl, sym, ap, subst, ◌∙◌, inl, inr, xid_at, next_xid, failed_after, awaited, Waiting, Answer, Entry, Began, Answered, Dialed, Sent, Executed, Foreign, Flushed, Reboot, Delivered, Failed, Clock, Op, said_of, Next, Send, Wait, Done, Shelf, Turn, Machine, Resumes, Lane, Purpose, State, Busy, Over, Setup, NoneBusy, IsFresh, is_busy, lost_lane, Reaches, begins, goes, loses, StepsTo, last_reading, IsBusyAt, with_state, Leads, Moves, moves_none, moves_more, BeginsIf, counted, TakesAt, HearsFor, failed_view, lost, AnswersAt, View, turn_at}
 use Rattle.std.proofs.Common.{nat_lt}
-use Rattle.std.specs.Prelude.{remove}
-use Rattle.rpc_retry.specs.Waiting.{sent, first_given_up}
 use Rattle.rpc_retry.specs.Fail.{after_failure}
-use Rattle.world_model.specs.declared.answer.Answer.TheVariants as answers
-use Rattle.world_model.specs.declared.answer.Fault.TheVariants as faults
 use Rattle.core_facts.specs.Resting.{IsSettled}
 use Rattle.client_core.specs.Lanes.{is_over, lost_state, busy_in}
 use Rattle.client_core.specs.Steps.{Still, Begins, taken, HearsOwn, Hears, SendsIf, SendsBy, FailsAs, FailsBy, AnswersBy}
 use Rattle.client_core.specs.View.{has_room}
+use Rattle.std.specs.Prelude.{remove}
+use Rattle.rpc_retry.specs.Waiting.{sent, first_given_up}
+use Rattle.world_model.specs.declared.answer.Answer.TheVariants as answers
+use Rattle.world_model.specs.declared.answer.Fault.TheVariants as faults
 use Rattle.rpc_retry.proofs.Dues.{length-sent}
 use Rattle.rpc_retry.proofs.Failing.{length-failed}
 

@@ -1,21 +1,21 @@
 -- Each call that waits is one that the history shows.
 use Rattle.core_facts.proofs.Prelude.{◌≡◌, ◌<◌, ◌⊎◌, inl, inr, ℕ, suc, List, [], ◌∷◌, ◌++◌, length, Bool, true, false, cond, Option, Some, None, option_map, nat_eq, refl, sym, ap, subst, ◌∙◌, arith, eq-eqb, xid_at, Waiting, failed_after, Held, next_xid, awaited, made_call, waiting_at, without, at_made, others_made, others_taken, gone, Entry, Began, Answered, Dialed, Sent, Executed, Foreign, Flushed, Reboot, Delivered, Failed, Clock, Call, Op, At, HasXid, proc_of, At-grow, At-below, At-cases, At-last, Machine, Purpose, Setup, IsFresh, Makes, record_of, with_state, counted, View, turn_at, MaySetUp, IsSetUp, StepsTo, Reaches, begins, goes, loses, last_reading, IsOutstanding, Tried, unsent, runs}
+use Rattle.rpc_message.specs.Call.{SpellsCallHead, call_head_bytes}
+use Rattle.rpc_retry.specs.Waiting.{first_due, sent, sent_call, failed, failed_call}
+use Rattle.rpc_retry.proofs.Lookups.{waits_early, SentAt, at_sent, others_sent, all_failed}
+use Rattle.world_model.specs.Messages.{head_of, program_of}
+use Rattle.core_facts.specs.Tries.{IsUnsent, FailedTries, one, more, IsRunning, ended, IsKnown}
 use borrow.Author.Tests.{eqb-true}
 use Rattle.nfs_types.specs.declared.program.TheConstants.{NFS_PROGRAM}
 use Rattle.rpc_message.specs.declared.call.CallHead.{CallHead}
 use Rattle.rpc_message.specs.declared.cred.Cred.{Cred}
-use Rattle.rpc_message.specs.Call.{SpellsCallHead, call_head_bytes}
 use Rattle.rpc_message.proofs.CallLaws.{call_xid}
 use Rattle.rpc_retry.specs.Put.{call_head}
-use Rattle.rpc_retry.specs.Waiting.{first_due, sent, sent_call, failed, failed_call}
 use Rattle.rpc_retry.proofs.Apart.{sound_of}
-use Rattle.rpc_retry.proofs.Lookups.{waits_early, SentAt, at_sent, others_sent, all_failed}
 use Rattle.world_model.specs.declared.message.Call.TheVariants as calls
 use Rattle.world_model.specs.Lost.{FailedAttempt}
-use Rattle.world_model.specs.Messages.{head_of, program_of}
 use Rattle.law_calls.specs.Calls.{Numbered}
 use Rattle.client_shelf.specs.Spelling.{IsSpellable}
-use Rattle.core_facts.specs.Tries.{IsUnsent, FailedTries, one, more, IsRunning, ended, IsKnown}
 use Rattle.core_facts.proofs.Cases.{Heard, dropped, replied, heard, sent_now, FailedNow, goes_on, gives_up, failed_now, answered_now, taken_one}
 use Rattle.core_facts.proofs.Grown.{IsQuiet, longer, one-xid, outstanding-grow, tries-grow, tries-wide, tried-grow, FitsIn, numbered-grow}
 use Rattle.core_facts.proofs.Sound.{Sound, sound-stays, sound-taken, sound-step, sound-fresh, same-calls}

@@ -1,5 +1,6 @@
 -- What is read from a record, and why a call isn't made, is no fault that an operation gives by itself.
 use Rattle.core_facts.proofs.Prelude.{ℕ, Bool, true, false, List, length, Result, Ok, Err, if◌then◌else◌, nat_lt, DirKept, FileKept, Fault, said_of, View}
+use Rattle.call_replies.specs.Says.{said_by}
 use Rattle.xdr_codec.specs.declared.reader.XdrFault.{XdrFault}
 use Rattle.nfs_dir_calls.specs.Calls.{is_dir_proc}
 use Rattle.nfs_dir_calls.specs.Replies.{dir_reply_at}
@@ -12,7 +13,6 @@ use Rattle.world_model.specs.declared.answer.Fault.TheVariants as faults
 use Rattle.world_model.specs.Rules.{most_bytes}
 use Rattle.call_replies.specs.Records.{results_by, results_read, results_in}
 use Rattle.call_replies.specs.Results.{dir_said, file_said, said_in}
-use Rattle.call_replies.specs.Says.{said_by}
 use Rattle.client_core.specs.Steps.{IsUnmade}
 use Rattle.core_facts.proofs.Faults.{IsOuter, FineResult}
 

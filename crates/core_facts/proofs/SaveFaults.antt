@@ -1,9 +1,9 @@
 -- Which faults a step of a save gives: its own, those of what came of its calls, and those that it keeps.
 use Rattle.core_facts.proofs.Prelude.{◌≡◌, ◌+◌, ◌==◌, ◌&&◌, ◌||◌, ℕ, Bool, true, false, List, [], ◌∷◌, Option, Some, None, Result, Ok, Err, inl, inr, refl, sym, subst, nat_lt, Verdict, AllStable, SendAgain, Verf, Wcc, FileKept, Fault, Reply, Next, Repeat, Turn, goes_again, chosen, Pending, of_file, Segments, Phase, Sending, Committing, Resending, CommittingAgain, Saving, commit_told}
+use Rattle.file_ops.specs.Judging.{write_told, write_told_by, written_by, commit_told_by}
 use Rattle.nfs_file_calls.specs.declared.owned.FileKept.TheVariants as kept
 use Rattle.world_model.specs.declared.answer.Fault.TheVariants.{Memory, Nfs, Bad}
 use Rattle.world_model.specs.declared.message.Reply.TheVariants as replies
-use Rattle.file_ops.specs.Judging.{write_told, write_told_by, written_by, commit_told_by}
 use Rattle.file_ops.specs.Saves as saves
 use Rattle.file_ops.specs.Syncs as syncs
 use Rattle.core_facts.proofs.Faults.{OwnFaults, OfReply, Came, FineResult, FineOption, FineNext, fine-fault, fine-some}

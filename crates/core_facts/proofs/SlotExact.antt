@@ -1,13 +1,13 @@
 -- An operation that finds no place in its slots, or no right, is refused so.
 use Rattle.core_facts.proofs.Prelude.{◌≡◌, ◌<◌, ◌≤◌, ℕ, Bool, true, false, List, [], ◌∷◌, ◌++◌, length, Option, Some, None, refl, sym, ap, subst, ◌∙◌, arith, Mode, Opened, Answer, Entry, Began, Op, At, Ended, can_write, slot_of, Terms, At-back, At-last, At-one, length_last, Next, Shelf, Turn, Mounted, Machine, PathMachine, machine_of, Starts, State, Busy, Over, Setup, View, Reaches}
 use Rattle.std.proofs.Common.{is_some}
+use Rattle.claims.specs.Rights.{Changes, write, fill, truncate, NoPlace, taken, free, NoRight, read, change}
+use Rattle.claims.specs.Slots.{InSlot}
 use Rattle.std.specs.FinMap as finite
 use Rattle.world_model.specs.declared.answer.Answer.TheVariants as answers
 use Rattle.world_model.specs.declared.answer.Fault.TheVariants as faults
 use Rattle.world_model.specs.declared.op.Op.TheVariants as ops
 use Rattle.claims.specs.Caused.{IsTried}
-use Rattle.claims.specs.Rights.{Changes, write, fill, truncate, NoPlace, taken, free, NoRight, read, change}
-use Rattle.claims.specs.Slots.{InSlot}
 use Rattle.client_shelf.specs.declared.next.Next.TheVariants as nexts
 use Rattle.op_machines.specs.PathSteps as paths
 use Rattle.core_facts.proofs.AllCounts.{begins-unbegun}

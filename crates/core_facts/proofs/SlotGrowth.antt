@@ -1,5 +1,6 @@
 -- What a history shows of a slot, and what it shows when it goes on.
 use Rattle.core_facts.proofs.Prelude.{◌≡◌, ◌<◌, ◌≤◌, ◌+◌, ◌⊎◌, inl, inr, ℕ, List, [], ◌∷◌, ◌++◌, length, Option, Some, None, refl, sym, subst, arith, cases_lt, Mode, Opened, Answer, Value, Entry, Began, Answered, Delivered, Call, Reply, Op, SpellsReply, Modes, Ended, At-grow, At-back, At-last, At-one, length_last}
+use Rattle.world_model.specs.Operations.{LastReply}
 use Rattle.nfs_dir_calls.specs.declared.call.DirCall.TheVariants as dirs
 use Rattle.nfs_dir_calls.specs.declared.keeping.DirKept.TheVariants as found
 use Rattle.nfs_file_calls.specs.declared.call.FileCall.TheVariants as files
@@ -7,7 +8,6 @@ use Rattle.world_model.specs.declared.answer.Answer.TheVariants.{Done}
 use Rattle.world_model.specs.declared.message.Call.TheVariants as calls
 use Rattle.world_model.specs.declared.message.Reply.TheVariants as replies
 use Rattle.world_model.specs.declared.op.Op.TheVariants as ops
-use Rattle.world_model.specs.Operations.{LastReply}
 use Rattle.claims.specs.Slots.{Finds, asked, looked_up, made, InSlot}
 use Rattle.core_facts.proofs.LastReplies.{last-grow, last-back, last-stays}
 use Rattle.core_facts.proofs.Stories.{ended-grow}

@@ -1,5 +1,6 @@
 -- An operation is refused for its slot only where it finds no place there, and for its open only where that isn't for it.
 use Rattle.core_facts.proofs.Prelude.{◌≡◌, ◌≤◌, ◌-◌, ℕ, Bool, true, false, List, [], ◌∷◌, ◌++◌, length, Option, Some, None, option_map, Result, Ok, Err, refl, sym, ap, subst, ◌∙◌, arith, Mode, DirKept, FileKept, Opened, Answer, Fault, Entry, Began, Reply, Op, At, Ended, can_write, slot_of, Terms, At-grow, At-below, At-last, At-one, Next, Shelf, Turn, file_at, Mounted, FileMachine, Machine, Opener, PathMachine, machine_of, file_of, slot_taken, begun_at, placed, Starts, Resumes, Takes, WalkNext, State, Busy, Over, Setup, View, Reaches}
+use Rattle.claims.specs.Rights.{can_read, write, fill, truncate, NoPlace, taken, free, NoRight, read, change}
 use Rattle.std.specs.FinMap as finite
 use Rattle.nfs_types.specs.declared.mode.Mode.TheVariants as modes
 use Rattle.nfs_dir_calls.specs.declared.keeping.DirKept.TheVariants as found
@@ -8,7 +9,6 @@ use Rattle.world_model.specs.declared.answer.Answer.TheVariants as answers
 use Rattle.world_model.specs.declared.answer.Fault.TheVariants as faults
 use Rattle.world_model.specs.declared.message.Reply.TheVariants as replies
 use Rattle.world_model.specs.declared.op.Op.TheVariants as ops
-use Rattle.claims.specs.Rights.{can_read, write, fill, truncate, NoPlace, taken, free, NoRight, read, change}
 use Rattle.client_shelf.specs.declared.next.Next.TheVariants as nexts
 use Rattle.op_machines.specs.declared.file_machine.FileMachine.TheVariants as files
 use Rattle.op_machines.specs.declared.machine.Machine.TheVariants as machines

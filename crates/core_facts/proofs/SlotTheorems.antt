@@ -1,9 +1,9 @@
 -- The answers of operations on a slot, from what their slots held.
 use Rattle.core_facts.proofs.Prelude.{◌≡◌, ℕ, true, List, refl, ap, ◌∙◌, sym, subst, Mode, Value, Entry, Op, Ended, can_write, slot_of, Terms, Mounted, machine_of, Setup, View, Reaches}
+use Rattle.claims.specs.Rights.{can_read, HoldsToRead, HoldsToWrite, NoPlace, taken}
 use Rattle.world_model.specs.declared.answer.Answer.TheVariants as answers
 use Rattle.world_model.specs.declared.answer.Fault.TheVariants as faults
 use Rattle.world_model.specs.declared.op.Op.TheVariants as ops
-use Rattle.claims.specs.Rights.{can_read, HoldsToRead, HoldsToWrite, NoPlace, taken}
 use Rattle.core_facts.specs.SlotAnswers.{GoesWith, SyncsOk, HoldOpens, SlotsHoldOpens, PlacesExact, PlacesCaused}
 use Rattle.core_facts.proofs.HeldSlots.{HeldIn, held-ended, held-in, always-later}
 use Rattle.core_facts.proofs.OpenRefusals.{taken-grow, refused-open}

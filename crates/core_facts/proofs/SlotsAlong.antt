@@ -1,7 +1,8 @@
 -- Along a history that the core goes with, its table of opens says of each slot what the history shows.
-use Rattle.core_facts.proofs.Prelude.{◌≡◌, ◌≢◌, ◌<◌, ◌≤◌, ◌⊎◌, inl, inr, ℕ, zero, suc, List, [], ◌∷◌, ◌++◌, length, remove, Bool, true, false, nat_eq, Option, Some, None, MatchOption, position, slice_get, slice_set, Ok, Err, refl, sym, ap, subst, ◌∙◌, arith, ◌+◌, eqb-true, eqb-false, cases_lt, Opened, Place, Opens, xid_at, Waiting, waiting_at, Answer, Fault, Entry, Began, Answered, Dialed, Sent, Executed, Foreign, Flushed, Reboot, Delivered, Failed, Clock, Reply, Op, At, Modes, Ended, UnderWay, AnsweredBefore, At-grow, At-one, length_last, said_of, Next, Send, Wait, Done, Shelf, Mounted, Machine, machine_of, Lane, Purpose, State, Busy, Over, Setup, IsFresh, is_busy, IsOther, numbers_of, with_state, IsRefused, Leads, Stirs, Moves, moves_none, moves_more, counted, BeginsIf, TakesAt, View, turn_at, unmade_turn, IsSetUp, StepsTo, HearsRecord, Reaches, begins, goes, loses, last_reading, NoneBusy}
-use Rattle.std.specs.FinMap as finite
+use Rattle.core_facts.proofs.Prelude.{◌≡◌, ◌≢◌, ◌<◌, ◌≤◌, ◌⊎◌, inl, inr, ℕ, zero, suc, List, [], ◌∷◌, ◌++◌, length, remove, Bool, true, false, nat_eq, Option, Some, None, MatchOption, position, slice_get, slice_set, Ok, Err, refl, sym, ap, subst, ◌∙◌, arith, ◌+◌, eqb-true, eqb-false, cases_lt, Opened, Place, Opens, xid_at, Waiting, waiting_at, Answer, Fault, Entry, Began, Answered, Dialed, Sent, Executed, Foreign, Flushed, Reboot, Delivered, Failed, Clock, Reply, Op, At, Modes, Ended, UnderWay, At-grow, At-one, length_last, said_of, Next, Send, Wait, Done, Shelf, Mounted, Machine, machine_of, Lane, Purpose, State, Busy, Over, Setup, IsFresh, is_busy, IsOther, numbers_of, with_state, IsRefused, Leads, Stirs, Moves, moves_none, moves_more, counted, BeginsIf, TakesAt, View, turn_at, unmade_turn, IsSetUp, StepsTo, HearsRecord, Reaches, begins, goes, loses, last_reading, NoneBusy}
 use Rattle.open_files.specs.Slots.{place_cmp}
+use Rattle.world_model.specs.Operations.{AnsweredBefore}
+use Rattle.std.specs.FinMap as finite
 use Rattle.world_model.specs.declared.op.Op.TheVariants as ops
 use Rattle.core_facts.proofs.AllCounts.{begins-unbegun}
 use Rattle.core_facts.proofs.Cases.{Heard, dropped, replied, heard, sent_now, FailedNow, goes_on, gives_up, failed_now, AnsweredNow, answered_now, taken_one}

@@ -1,8 +1,8 @@
 -- The calls that wait are sound after each call of the core.
 use Rattle.core_facts.proofs.Prelude.{◌≡◌, ℕ, List, [], ◌∷◌, ◌++◌, inl, inr, Option, refl, sym, ap, ◌∙◌, subst, arith, Held, next_xid, failed_after, made_call, without, Entry, Began, Answered, Dialed, Sent, Executed, Foreign, Flushed, Reboot, Delivered, Failed, Clock, Call, Op, proc_of, Machine, Purpose, Setup, IsFresh, Makes, record_of, failed_view, View, turn_at, MaySetUp, StepsTo, Reaches, begins, goes, loses, last_reading}
+use Rattle.rpc_retry.specs.Waiting.{sent}
 use Rattle.nfs_types.specs.declared.program.TheConstants.{NFS_PROGRAM}
 use Rattle.rpc_retry.specs.Sound.{IsSound}
-use Rattle.rpc_retry.specs.Waiting.{sent}
 use Rattle.rpc_retry.proofs.Dues.{sound_next}
 use Rattle.rpc_retry.proofs.Failing.{sound_given, sound_resent}
 use Rattle.rpc_retry.proofs.Order.{sound_put}

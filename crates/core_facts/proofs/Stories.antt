@@ -1,12 +1,13 @@
 -- What the steps of operations keep along a history holds of each operation that is under way, and of each answer.
-use Rattle.core_facts.proofs.Prelude.{◌≡◌, ◌≢◌, ◌<◌, ◌≤◌, ◌+◌, ◌-◌, ◌⊎◌, inl, inr, ℕ, zero, suc, List, [], ◌∷◌, ◌++◌, length, map, Bool, true, false, nat_eq, Option, Some, None, MatchOption, position, slice_get, slice_set, Result, Ok, Err, refl, sym, ap, subst, ◌∙◌, arith, append_assoc, eqb-true, eqb-false, eq-eqb, cases_lt, xid_at, Waiting, failed_after, next_xid, made_call, waiting_at, without, at_made, others_made, others_taken, gone, Answer, Refused, Fault, Entry, Began, Answered, Dialed, Sent, Executed, Foreign, Flushed, Reboot, Delivered, Failed, Clock, Call, Reply, Op, At, Asked, IsLost, SpellsReply, proc_of, Ended, EndsWith, UnderWay, At-grow, At-below, At-back, At-one, At-cases, length_last, said_of, Next, Send, Wait, Done, Shelf, Turn, Machine, Starts, Resumes, Takes, Lane, Purpose, State, Busy, Over, Setup, is_busy, lost_lane, IsOther, numbers_of, with_state, record_of, Makes, IsRefused, Leads, Stirs, Moves, moves_none, moves_more, counted, BeginsIf, TakesAt, View, turn_at, unmade_turn, in_flight, IsUnbegun, Counts, where_, calls_for, StepsTo, HearsRecord, Reaches, begins, goes, loses, last_reading, NoneBusy, Tried, unsent, runs}
-use Rattle.rpc_retry.specs.Records.{WaitedAs}
+use Rattle.core_facts.proofs.Passing.{Anything, forget, passes-any}
+use Rattle.core_facts.proofs.Answered.{HadStory, answered-story}
+use Rattle.core_facts.proofs.Prelude.{◌≡◌, ◌≢◌, ◌<◌, ◌≤◌, ◌+◌, ◌-◌, ◌⊎◌, inl, inr, ℕ, zero, suc, List, [], ◌∷◌, ◌++◌, length, map, Bool, true, false, nat_eq, Option, Some, None, MatchOption, position, slice_get, slice_set, Result, Ok, Err, refl, sym, ap, subst, ◌∙◌, arith, eqb-true, eqb-false, eq-eqb, xid_at, Waiting, failed_after, next_xid, made_call, waiting_at, without, at_made, others_made, others_taken, gone, Answer, Refused, Fault, Entry, Began, Answered, Dialed, Sent, Executed, Foreign, Flushed, Reboot, Delivered, Failed, Clock, Call, Reply, Op, At, Asked, IsLost, SpellsReply, proc_of, Ended, EndsWith, UnderWay, At-grow, At-below, At-cases, length_last, said_of, Says, Next, Send, Wait, Done, Shelf, Turn, Machine, Starts, Resumes, Takes, Lane, Purpose, State, Busy, Over, Setup, is_busy, lost_lane, IsOther, numbers_of, with_state, record_of, Makes, IsRefused, Leads, Stirs, Moves, moves_none, moves_more, counted, BeginsIf, TakesAt, View, turn_at, unmade_turn, in_flight, IsUnbegun, Counts, where_, calls_for, StepsTo, HearsRecord, Reaches, begins, goes, loses, last_reading, NoneBusy, Tried, unsent, runs}
 use Rattle.rpc_retry.proofs.Records.{before_sent, before_failed}
+use Rattle.world_model.specs.Messages.{SpellsCallBy}
+use Rattle.core_facts.specs.Tries.{IsMade, ended}
+use Rattle.rpc_retry.specs.Records.{WaitedAs}
 use Rattle.world_model.specs.declared.answer.Fault.TheVariants as faults
 use Rattle.world_model.specs.Heard.{Heard as IsHeard}
-use Rattle.world_model.specs.Messages.{SpellsCallBy}
-use Rattle.call_replies.specs.Says.{Says}
-use Rattle.core_facts.specs.Tries.{IsMade, ended}
 use Rattle.core_facts.proofs.AllCounts.{counts-calls}
 use Rattle.core_facts.proofs.Cases.{Heard, dropped, replied, heard, sent_now, FailedNow, goes_on, gives_up, failed_now, answered_now, taken_one}
 use Rattle.core_facts.proofs.Counting.{IsKnown, calls-some, calls-without, known-only, known-none, one_for, stirs-count, starts-count, hears-count, reached-count, none-busy, none-idle}
@@ -23,6 +24,7 @@ use Rattle.core_facts.proofs.Owning.{reached-since}
 use Rattle.core_facts.proofs.Resting.{comes-to-rest, none-moves, own-none}
 use Rattle.core_facts.proofs.Rows.{Rows, rows-stay, same-rows, rows-grow, silent-grow, taken-quiet, not-sent, taken-rows, made-known, made-asked, reached-rows}
 use Rattle.core_facts.proofs.Walks.{stirs-stay, starts-stay, steps-stay}
+use Rattle.core_facts.proofs.Answered as answered
 
 -- ---- what is kept
 
@@ -77,14 +79,6 @@ over-laws machine_of S laws = record {
 abbrev pub IsGiven : (ℕ → Op → Machine) → Setup → (List Entry → ℕ → Shelf → Type 0) → Type 0
 IsGiven machine_of setup P =
     (h : List Entry) (v : View) → Reaches machine_of setup h v → v.lost ≡ false → (lane : ℕ) → IsOther lane (numbers_of v.lanes) → P h lane v.shelf
-
--- The operation was answered at a place, and this was its story until then.
-pub record HadStory (S : List Entry → ℕ → Op → State → Type 0) (h : List Entry) (x : ℕ) (op : Op) (y : ℕ) (answer : Answer) : Type 0 where
-  pub before : List Entry
-  pub after : List Entry
-  pub is : h ≡ before ++ after
-  pub there : length before ≡ y
-  pub story : S before x op (Over answer)
 
 -- ---- operations under way
 
@@ -655,108 +649,23 @@ module _ (machine_of : ℕ → Op → Machine) (unbegun : (lane : ℕ) (op : Op)
 
   -- ---- answers
 
-  same-answer : (a b c d : ℕ) (p q : Answer) → Answered a b p ≡ Answered c d q → (a ≡ c) × (q ≡ p)
-  same-answer a b c d p q e = (cc, cc)
-
-  pub ended-back : (h : List Entry) (e : Entry) (lane x : ℕ) (op : Op) (y : ℕ) (answer : Answer) → y < length h → Ended (h ++ e ∷ []) lane x op y answer → Ended h lane x op y answer
-  ended-back h e lane x op y answer within d = record {
-    line = d.line;
-    began = let early = d.later in At-back h (e ∷ []) x (Began lane d.line op) d.began (omega (arith, early, within));
-    answered = At-back h (e ∷ []) y (Answered lane d.line answer) d.answered within;
-    later = d.later;
-    first = λ j a there after. d.first j a (At-grow h (e ∷ []) j (Answered lane d.line a) there) after;
-  }
+  abbrev Ends_ : List Entry → ℕ → Op → Answer → Type 0
+  Ends_ h x op answer = S h x op (Over answer)
 
   -- the operation that is answered now was under way
   pub answered-under : (h : List Entry) (lane line : ℕ) (given : Answer) (x : ℕ) (op : Op) (answer : Answer) → Ended (h ++ Answered lane line given ∷ []) lane x op (length h) answer
       → UnderWay h lane x (length h) op
-  answered-under h lane line given x op answer d = record {
-    line = d.line;
-    began = began;
-    before = d.later;
-    unanswered = λ a.
-        let same = same-began a.lane a.ended.line lane d.line a.op op (At-one h x (Began a.lane a.ended.line a.op) (Began lane d.line op) a.ended.began began) in
-        let there : At h a.y (Answered lane d.line a.answer) =
-        subst (λ (n : ℕ). At h a.y (Answered n d.line a.answer)) same.0 (subst (λ (l : ℕ). At h a.y (Answered a.lane l a.answer)) same.1 a.ended.answered) in
-        let late = d.first a.y a.answer (At-grow h (Answered lane line given ∷ []) a.y (Answered lane d.line a.answer) there) a.ended.later in
-        let early = a.before in
-        omega (arith, late, early);
-  }
-    where
-      same-began : (a b c e : ℕ) (o p : Op) → Began a b o ≡ Began c e p → (a ≡ c) × (b ≡ e)
-      same-began a b c e o p q = (cc, cc)
+  answered-under = answered.answered-under
 
-      began : At h x (Began lane d.line op)
-      began = let early = d.later in At-back h (Answered lane line given ∷ []) x (Began lane d.line op) d.began early
-
-  had-later : (h : List Entry) (e : Entry) (x : ℕ) (op : Op) (y : ℕ) (answer : Answer) → HadStory S h x op y answer → HadStory S (h ++ e ∷ []) x op y answer
-  had-later h e x op y answer s = record {
-    before = s.before;
-    after = s.after ++ e ∷ [];
-    is = ap (λ (k : List Entry). k ++ e ∷ []) s.is ∙ append_assoc s.before s.after (e ∷ []);
-    there = s.there;
-    story = s.story;
-  }
-
-  not-answered : (h : List Entry) (e : Entry) (lane x : ℕ) (op : Op) (y : ℕ) (answer : Answer) → ((n l : ℕ) (a : Answer) → e ≡ Answered n l a → ⊥) → y ≡ length h
-      → Ended (h ++ e ∷ []) lane x op y answer → ⊥
-  not-answered h e lane x op y answer other at d = by (At-cases h e y (Answered lane d.line answer) d.answered)
-    where
-      by : At h y (Answered lane d.line answer) ⊎ ((y ≡ length h) × (e ≡ Answered lane d.line answer)) → ⊥
-      by (inl there) = let low = At-below h y (Answered lane d.line answer) there in absurd (omega (arith, low, at))
-      by (inr now) = other lane d.line answer now.1
-
-  answers-story : (h : List Entry) (old : View) (e : Entry) (new : View) (lane x : ℕ) (op : Op) (y : ℕ) (answer : Answer) → StepsTo machine_of h old e new → Reaches machine_of setup h old
-      → y ≡ length h → Ended (h ++ e ∷ []) lane x op y answer → HadStory S (h ++ e ∷ []) x op y answer
-  answers-story h old (Answered number line given) new lane x op y answer t r at d = by (At-cases h (Answered number line given) y (Answered lane d.line answer) d.answered)
-    where
-      by : At h y (Answered lane d.line answer) ⊎ ((y ≡ length h) × (Answered number line given ≡ Answered lane d.line answer)) → HadStory S (h ++ Answered number line given ∷ []) x op y answer
-      by (inl there) = absurd (let low = At-below h y (Answered lane d.line answer) there in omega (arith, low, at))
-      by (inr now) =
-          let same = same-answer number line lane d.line given answer now.1 in
-          let a = answered_now old number given new t.answers in
-          let gives : given ≡ a.is.answer = some-answer given a.is.answer a.is.gives in
-          let good = good-over h old r a.at (record { number = number; state = Over a.is.answer }) a.is.there in
-          let now-ended : Ended (h ++ Answered number line given ∷ []) lane x op (length h) answer =
-          subst (λ (n : ℕ). Ended (h ++ Answered number line given ∷ []) lane x op n answer) at d in
-          let mine : Ended (h ++ Answered number line given ∷ []) number x op (length h) answer =
-          subst (λ (n : ℕ). Ended (h ++ Answered number line given ∷ []) n x op (length h) answer) (sym same.0) now-ended in
-          record {
-            before = h;
-            after = Answered number line given ∷ [];
-            is = refl;
-            there = sym at;
-            story = subst (λ (b : Answer). S h x op (Over b)) (sym gives ∙ sym same.1) (good.1 x op (answered-under h number line given x op answer mine));
-          }
-  answers-story h old (Began number line o) new lane x op y answer t r at d = absurd (not-answered h (Began number line o) lane x op y answer (λ n l a e. cc) at d)
-  answers-story h old (Sent bytes) new lane x op y answer t r at d = absurd (not-answered h (Sent bytes) lane x op y answer (λ n l a e. cc) at d)
-  answers-story h old (Delivered bytes) new lane x op y answer t r at d = absurd (not-answered h (Delivered bytes) lane x op y answer (λ n l a e. cc) at d)
-  answers-story h old Failed new lane x op y answer t r at d = absurd (not-answered h Failed lane x op y answer (λ n l a e. cc) at d)
-  answers-story h old (Dialed port) new lane x op y answer t r at d = absurd (not-answered h (Dialed port) lane x op y answer (λ n l a e. cc) at d)
-  answers-story h old (Executed xid call reply) new lane x op y answer t r at d = absurd (not-answered h (Executed xid call reply) lane x op y answer (λ n l a e. cc) at d)
-  answers-story h old (Foreign call reply) new lane x op y answer t r at d = absurd (not-answered h (Foreign call reply) lane x op y answer (λ n l a e. cc) at d)
-  answers-story h old (Flushed file from len) new lane x op y answer t r at d = absurd (not-answered h (Flushed file from len) lane x op y answer (λ n l a e. cc) at d)
-  answers-story h old (Reboot verf) new lane x op y answer t r at d = absurd (not-answered h (Reboot verf) lane x op y answer (λ n l a e. cc) at d)
-  answers-story h old (Clock ms) new lane x op y answer t r at d = absurd (not-answered h (Clock ms) lane x op y answer (λ n l a e. cc) at d)
-
-  pub answered-over : (h : List Entry) (v : View) → Reaches machine_of setup h v → (lane x : ℕ) (op : Op) (y : ℕ) (answer : Answer) → Ended h lane x op y answer → HadStory S h x op y answer
-  answered-over _ _ (begins h v may up fresh) lane x op y answer d = absurd (up.unbegun x lane d.line op d.began)
-  answered-over _ _ (goes h before v b e r is t) lane x op y answer d =
-      subst (λ (k : List Entry). HadStory S k x op y answer) (sym is) (by (answered-over before b r lane x op y answer) (cases_lt y (length before)) (subst (λ (k : List Entry). Ended k lane x op y answer) is d))
-    where
-      by : (Ended before lane x op y answer → HadStory S before x op y answer) → (y < length before) ⊎ (length before ≤ y) → Ended (before ++ e ∷ []) lane x op y answer
-          → HadStory S (before ++ e ∷ []) x op y answer
-      by early (inl within) q = had-later before e x op y answer (early (ended-back before e lane x op y answer within q))
-      by early (inr past) q =
-          let low = At-below (before ++ e ∷ []) y (Answered lane q.line answer) q.answered in
-          let more = length_last before e in
-          answers-story before b e v lane x op y answer t r (omega (arith, low, more, past)) q
-  answered-over _ _ (loses h v b r shown is) lane x op y answer d = answered-over h b r lane x op y answer d
+  pub answered-over : (h : List Entry) (v : View) → Reaches machine_of setup h v → (lane x : ℕ) (op : Op) (y : ℕ) (answer : Answer) → Ended h lane x op y answer → HadStory Ends_ h x op y answer
+  answered-over h v r = answered-story machine_of setup Anything Ends_
+      (λ g w p known at number answer there x op u. (good-over g w (forget machine_of setup Anything g w p) at (record { number = number; state = Over answer }) there).1 x op u)
+      h v (passes-any machine_of setup h v r)
 
 -- ---- the same, with nothing to know as an operation begins
 
 pub reached-answered : (machine_of : ℕ → Op → Machine) → ((lane : ℕ) (op : Op) → IsUnbegun (machine_of lane op)) → (setup : Setup) (S : List Entry → ℕ → Op → State → Type 0)
     → StoryLaws machine_of S → (h : List Entry) (v : View) → Reaches machine_of setup h v → (lane x : ℕ) (op : Op) (y : ℕ) (answer : Answer) → Ended h lane x op y answer
-    → HadStory S h x op y answer
+    → HadStory (λ k z o b. S k z o (Over b)) h x op y answer
 reached-answered machine_of unbegun setup S laws h v r lane x op y answer d =
     answered-over machine_of unbegun setup Always (λ g w t found number other. tt) S (over-laws machine_of S laws) h v r lane x op y answer d

@@ -1,14 +1,14 @@
 -- A sync that went well: COMMIT of its file was answered 0 since it began.
 use Rattle.core_facts.proofs.Prelude.{◌≡◌, ◌+◌, ℕ, false, List, [], ◌∷◌, ◌++◌, length, Result, Ok, Err, refl, sym, ap, subst, ◌∙◌, arith, Verf, Wcc, FileKept, Answer, Fault, Entry, Began, Call, Reply, Op, Asked, Asked-wide, length_last, Next, Shelf, Turn, Saving, SyncFile, Syncing, commit_told, file_at, Mounted, Machine, machine_of, Starts, Resumes, Takes, State, Busy, Over, of_syncing, in_flight}
+use Rattle.world_model.proofs.Growth.{Asked-grow, Committed-grow}
+use Rattle.file_ops.specs.Judging.{commit_told_by}
 use Rattle.nfs_file_calls.specs.declared.owned.FileKept.TheVariants as kept
 use Rattle.world_model.specs.declared.answer.Answer.TheVariants as answers
 use Rattle.world_model.specs.declared.message.Reply.TheVariants as replies
 use Rattle.world_model.specs.declared.op.Op.TheVariants as ops
 use Rattle.world_model.specs.Commits.{Committed}
-use Rattle.world_model.proofs.Growth.{Asked-grow, Committed-grow}
 use Rattle.client_shelf.specs.declared.next.Next.TheVariants as nexts
 use Rattle.file_ops.specs.declared.sync_file.Syncing.TheVariants as syncing
-use Rattle.file_ops.specs.Judging.{commit_told_by}
 use Rattle.file_ops.specs.Saves as saves
 use Rattle.op_machines.specs.declared.file_machine.FileMachine.TheVariants as files
 use Rattle.op_machines.specs.declared.machine.Machine.TheVariants as machines

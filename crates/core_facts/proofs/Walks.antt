@@ -1,7 +1,7 @@
 -- A fact that the steps of lanes keep is kept by each call of the core.
 use Rattle.core_facts.proofs.Prelude.{◌≡◌, inl, inr, ℕ, List, [], ◌∷◌, ◌++◌, length, Bool, true, false, Option, Some, None, MatchOption, position, slice_get, sym, subst, said_of, Next, Send, Wait, Done, Shelf, Refused, Call, Machine, Purpose, State, Busy, Over, is_busy, View, IsBusyAt, with_state, Makes, Leads, Stirs, Moves, moves_none, moves_more, counted, StartsLane, BeginsIf, TakesAt, HearsFor}
-use Rattle.world_model.specs.declared.answer.Fault.TheVariants as faults
 use Rattle.client_core.specs.Steps.{Begins, HearsOwn}
+use Rattle.world_model.specs.declared.answer.Fault.TheVariants as faults
 use Rattle.core_facts.proofs.Lists.{at-set, at-push}
 
 -- The fact stays where a call is made, and where the lane at a place comes to another state with another shelf.

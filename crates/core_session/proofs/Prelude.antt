@@ -1,6 +1,6 @@
 -- What proofs of this crate import from below: one name for each, whatever module has it.
 pub use Rattle.std.proofs.Common.{Bool, Err, List, MatchOption, None, Ok, Option, Result, Some, [], ap, append-nil, append_assoc, arith, cond, drop, false, inl, inr, length, length-append, map, nat_eq, nat_le, not, option_map, position, refl, remove, replicate, slice_get, slice_set, subst, suc, sym, take, true, zero, ℕ, ◌&&◌, ◌++◌, ◌+◌, ◌-◌, ◌/◌, ◌<◌, ◌==◌, ◌^◌, ◌||◌, ◌∙◌, ◌∷◌, ◌≡◌, ◌≢◌, ◌≤◌, ◌⊎◌}
-pub use Rattle.std.proofs.lemmas.Bool.{cases_lt, eq-eqb, eqb-false, eqb-true, le-leb, le-ltb, lt-ltb, ltb-false, ltb-true}
+pub use Rattle.std.proofs.lemmas.Bool.{cases_lt, eqb-false, eqb-true, le-leb, le-ltb, lt-ltb, ltb-false, ltb-true}
 pub use Rattle.std.proofs.lemmas.Bool.Decides.{nat_tests}
 pub use Rattle.std.proofs.lemmas.List.{length-drop, length-take}
 pub use Rattle.std.proofs.lemmas.List.Elements.{All-nil}
@@ -59,13 +59,14 @@ pub use Rattle.core_answers.proofs.bonds.AttrsShown.{answered-last}
 pub use Rattle.core_answers.proofs.bonds.FileCalls.{ReadOn}
 pub use Rattle.core_answers.proofs.bonds.Learnt.{IsOn}
 pub use Rattle.core_answers.proofs.bonds.OneCall.{IsNfs, one-call}
+pub use Rattle.core_answers.proofs.engine.Laws.{HasPassed, RunsIn}
 pub use Rattle.core_answers.proofs.pages.FilePages.{IsSentAs}
 pub use Rattle.core_answers.proofs.pages.PageCalls.{Both, PhaseAwaits, ReadAwaits, both-asks}
 pub use Rattle.core_answers.proofs.pages.PageLaws.{Good, quiet-good}
 pub use Rattle.core_answers.proofs.pages.PagesShown.{from-start, page-grows}
 pub use Rattle.core_answers.proofs.pages.ReadBytes.{HasOr}
 pub use Rattle.core_answers.proofs.paths.Endings.{takes-not}
-pub use Rattle.core_answers.proofs.refusals.Answering.{CameOf, IsHeardNow, IsUnmadeFault, SlotLaws, heard_of, reached-answered, unmade}
+pub use Rattle.core_answers.proofs.refusals.Answering.{CameOf, SlotLaws, heard_of, reached-answered, unmade}
 pub use Rattle.core_answers.proofs.refusals.FitNames.{FitsWalk}
 pub use Rattle.core_answers.proofs.refusals.FitReads.{FineLed, FitsOpening}
 pub use Rattle.core_answers.proofs.refusals.Fitting.{machine-fits}
@@ -82,7 +83,7 @@ pub use Rattle.core_answers.proofs.writes.Turns.{CloseTurn, IsFirst}
 pub use Rattle.core_answers.proofs.writes.Under.{SameUnder}
 pub use Rattle.core_answers.proofs.writes.WholeWrites.{writes-whole}
 pub use Rattle.core_answers.specs.asks.PutCalls.{IsForRoom}
-pub use Rattle.core_answers.specs.bonds.Kept.{HadShown, IsAnswered, LastAtMost}
+pub use Rattle.core_answers.specs.bonds.Kept.{IsAnswered, LastAtMost}
 pub use Rattle.core_answers.specs.pages.Kept.{IsPage}
 pub use Rattle.core_answers.specs.pages.Passing.{Passes}
 pub use Rattle.core_answers.specs.refusals.Rowed.{GoesSo}
@@ -95,8 +96,7 @@ pub use Rattle.core_facts.proofs.AllCounts.{begins-unbegun, counts-calls}
 pub use Rattle.core_facts.proofs.AllSeats.{IsFreshFor, IsLive, seat_of}
 pub use Rattle.core_facts.proofs.Awaited.{OwnOr, WalkAwaits}
 pub use Rattle.core_facts.proofs.Cases.{FailedNow, Heard, SentNow, answered_now, dropped, failed_now, gives_up, goes_on, replied, sent_now, taken_one}
-pub use Rattle.core_facts.proofs.Counting.{IsKnown, calls-some, heard-lost, hears-count, known-only, none-busy, reached-count, starts-count, stirs-count}
-pub use Rattle.core_facts.proofs.Expects.{ExpectLaws}
+pub use Rattle.core_facts.proofs.Counting.{calls-some, heard-lost, hears-count, known-only, none-busy, starts-count, stirs-count}
 pub use Rattle.core_facts.proofs.Faults.{FineAnswer, FineNext, FineOption, FineResult, fine-as}
 pub use Rattle.core_facts.proofs.FileSeats.{seat_close, seat_put}
 pub use Rattle.core_facts.proofs.FilesKept.{all-resumes, all-starts, all-takes}
@@ -107,24 +107,24 @@ pub use Rattle.core_facts.proofs.HeldSlots.{Given, Held, always-later, held-begi
 pub use Rattle.core_facts.proofs.Keeping.{Known, purpose_at, reached-all, reached-kept, taker-is, taker-one}
 pub use Rattle.core_facts.proofs.LaneMarks.{LanesKnown, Runs, idle-numbers, lanes-begin, lanes-stay, lanes-under-way, number_of, quiet-facts, reached-lanes}
 pub use Rattle.core_facts.proofs.Leading.{IsHeard, IsNameTold, LeadsTo, NamesTold, WalkLeads, end-leads, heard-tells, leads-from, leads-later, names-later}
-pub use Rattle.core_facts.proofs.Lists.{at-position, at-push, at-set, before-push, get-push, get-remove, in-map, skip, still-there, to-map}
+pub use Rattle.core_facts.proofs.Lists.{at-position, at-push, at-set, before-push, get-push, get-remove, skip, still-there, to-map}
 pub use Rattle.core_facts.proofs.Looks.{look-at, look-idle}
 pub use Rattle.core_facts.proofs.NamesAwaited.{RemoveAwaits}
 pub use Rattle.core_facts.proofs.Noting.{notes-reach}
 pub use Rattle.core_facts.proofs.OneCallStory.{ends-later, front-last}
 pub use Rattle.core_facts.proofs.OpenSlots.{IsPlain}
 pub use Rattle.core_facts.proofs.Orders.{Sits, SitsWith, joins, same-sits, seat-other, seat-own, seat_with}
-pub use Rattle.core_facts.proofs.Owning.{reached-owned, reached-since}
+pub use Rattle.core_facts.proofs.Owning.{reached-owned}
 pub use Rattle.core_facts.proofs.Placing.{Placed, keeps-placed, seat_in, seat_state}
-pub use Rattle.core_facts.proofs.Resting.{comes-to-rest, none-moves, own-none}
-pub use Rattle.core_facts.proofs.Rows.{Rows, made-asked, made-known, not-sent, reached-rows, rows-grow, rows-stay, same-rows, silent-grow, taken-quiet, taken-rows}
+pub use Rattle.core_facts.proofs.Rows.{Rows, not-sent, reached-rows, rows-grow, rows-stay, same-rows, silent-grow, taken-quiet, taken-rows}
 pub use Rattle.core_facts.proofs.SaveCommits.{EndsSo}
 pub use Rattle.core_facts.proofs.SlotGrowth.{Agrees, IsHeld, held-grow}
 pub use Rattle.core_facts.proofs.Slots.{BeginsAs, Kind, SlotsAgree, StoryOf, kind_of, plainly}
 pub use Rattle.core_facts.proofs.SlotsAlong.{Slots, reached-slots}
 pub use Rattle.core_facts.proofs.Steps.{AskedOf, ThenOf}
-pub use Rattle.core_facts.proofs.Stories.{Always, by-place, ended-grow, good-over, over-laws, set-other, some-answer, under-back}
-pub use Rattle.core_facts.proofs.Tales.{AsksFor, Did, IsExpected, IsQuiet, IsTold, TaleLaws, reached-good}
+pub use Rattle.core_facts.proofs.Stories.{Always, by-place, ended-grow, good-over, over-laws, set-other, under-back}
+pub use Rattle.core_facts.proofs.Tales.{IsExpected, IsTold, TaleLaws, reached-good}
+pub use Rattle.core_facts.proofs.Telling.{AsksFor, Did, IsQuiet, IsUnmadeFault}
 pub use Rattle.core_facts.proofs.Walks.{Stays, starts-stay, steps-stay, stirs-stay}
 pub use Rattle.core_facts.specs.Counted.{IsOfOperation, calls_for}
 pub use Rattle.core_facts.specs.InFlight.{Counts, IsCounted, IsUnbegun, in_flight, of_closing, of_name, of_putting, of_syncing, of_truncating, of_walk, of_writing, path_by, removal_by}
@@ -132,7 +132,6 @@ pub use Rattle.core_facts.specs.Lanes.{AreApart}
 pub use Rattle.core_facts.specs.Naming.{KnowsRoot}
 pub use Rattle.core_facts.specs.Notes.{NoneReady, Notes}
 pub use Rattle.core_facts.specs.Reaches.{HearsRecord, IsOpenLine, IsSetUp, MayHear, MaySetUp, Reaches, StepsTo, begins, goes, last_reading, loses}
-pub use Rattle.core_facts.specs.Resting.{NoneBusy}
 pub use Rattle.core_facts.specs.SlotAnswers.{GoesWith}
 pub use Rattle.core_facts.specs.Tries.{IsMade, IsOutstanding, IsUnsent, Tried, unsent}
 pub use Rattle.core_session.specs.calls.Sessions.{IsSession}
@@ -256,7 +255,6 @@ pub use Rattle.world_model.specs.Heard.{Asked, status_of}
 pub use Rattle.world_model.specs.History.{History}
 pub use Rattle.world_model.specs.LanesTogether.{IsBusy}
 pub use Rattle.world_model.specs.Lawful.{Lawful}
-pub use Rattle.world_model.specs.Lost.{IsLost}
 pub use Rattle.world_model.specs.Messages.{HasXid, SpellsCall, SpellsCallBy, SpellsReply, proc_of}
 pub use Rattle.world_model.specs.Mounts.{Origin, Rooted, info_call}
 pub use Rattle.world_model.specs.Once.{Once}

@@ -10,6 +10,5 @@ pub mod FileSteps
 pub mod AllSteps
 pub mod Limits
 pub mod Delays
-pub mod Hearing
 pub mod Story
 pub mod Rows

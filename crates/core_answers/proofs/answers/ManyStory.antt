@@ -1,10 +1,10 @@
 -- A list is refused for too many names only where its pages hold them.
-use Rattle.core_answers.proofs.Prelude.{◌≡◌, ◌<◌, ◌≤◌, ◌+◌, ◌-◌, ℕ, zero, suc, Bool, true, false, List, [], ◌∷◌, ◌++◌, length, take, filter, map, Option, None, Result, Ok, Err, inl, inr, refl, sym, ap, subst, ◌∙◌, arith, if◌then◌else◌, All-nil, filter-append, map-append, length-append, nat_tests, Attr, Verf, DirKept, PlusRow, Step, More, End, ListFault, listing_limit, last_cookie, page_step, Answer, Fault, Entry, Began, Call, Reply, Op, LastCookie, names_of, list_call, page_reply, Asked, Rooted, EndsWith, RefusalRow, Terms, IsDelivered, Asked-grow, Asked-wide, Rooted-wide, length_last, goes_again, fails_busy, Next, Shelf, Turn, ListDir, Visit, VisitNext, Walk, Mounted, Machine, machine_of, Starts, Resumes, Takes, State, Busy, Over, Setup, Awaits, awaits-laws, begins-unbegun, OwnOr, all-starts, all-resumes, all-takes, IsNameTold, NamesTold, names-later, LeadsTo, leads-from, leads-later, IsHeard, heard-tells, then-as, VisitStory, ends-later, ends-until, ThenOf, IsTold, IsLastReply, IsWhy, IsQuiet, AsksFor, TaleLaws}
+use Rattle.core_answers.proofs.Prelude.{◌≡◌, ◌<◌, ◌≤◌, ◌+◌, ◌-◌, ℕ, zero, suc, Bool, true, false, List, [], ◌∷◌, ◌++◌, length, take, filter, map, Option, None, Result, Ok, Err, inl, inr, refl, sym, ap, subst, ◌∙◌, arith, if◌then◌else◌, All-nil, filter-append, map-append, length-append, nat_tests, Attr, Verf, DirKept, PlusRow, Step, More, End, ListFault, listing_limit, last_cookie, page_step, Answer, Fault, Entry, Began, Call, Reply, Op, LastCookie, names_of, list_call, page_reply, Asked, Rooted, EndsWith, RefusalRow, Terms, IsDelivered, Asked-grow, Asked-wide, Rooted-wide, length_last, goes_again, fails_busy, Next, Shelf, Turn, ListDir, Visit, VisitNext, Walk, Mounted, Machine, machine_of, Starts, Resumes, Takes, State, Busy, Over, Setup, Awaits, awaits-laws, begins-unbegun, OwnOr, all-starts, all-resumes, all-takes, IsNameTold, NamesTold, names-later, LeadsTo, leads-from, leads-later, IsHeard, heard-tells, then-as, VisitStory, ends-later, ends-until, ThenOf, IsTold, TaleLaws, IsQuiet, AsksFor}
 use Rattle.std.proofs.Common.{nat_lt}
 use Rattle.dir_list.specs.Listings.{counts, counted}
 use Rattle.world_model.specs.Chains.{Chain, start, next}
 use Rattle.core_facts.proofs.OneCalls.{visit-at, visit-then, walks-then, visit-later}
-use Rattle.core_facts.proofs.Tales.{reached-answered}
+use Rattle.core_facts.proofs.Tales.{IsLastReply, IsWhy, reached-answered}
 use Rattle.nfs_dir_calls.specs.declared.keeping.DirKept.TheVariants as kept
 use Rattle.dir_list.specs.declared.progress.ListFault.TheVariants as list_faults
 use Rattle.world_model.specs.declared.answer.Answer.TheVariants as answers

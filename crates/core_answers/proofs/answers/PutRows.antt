@@ -1,5 +1,5 @@
 -- A put goes well, or is refused for the kind of its file, only where its history shows it.
-use Rattle.core_answers.proofs.Prelude.{◌≡◌, ◌+◌, ◌-◌, ℕ, Bool, true, false, List, [], ◌∷◌, ◌++◌, length, take, Result, refl, sym, ap, subst, ◌∙◌, arith, All-nil, Mode, Answer, Fault, Entry, Began, Call, Reply, Op, At, Rooted, Ended, RefusalRow, Terms, IsDelivered, Asked-wide, Rooted-wide, Next, Shelf, Turn, Opening, PutFile, Putting, OpenFile, Writing, Walk, WalkNext, walk_of, Mounted, Machine, Opener, PathMachine, IsNamed, front_of, last_of, machine_of, file_of, Starts, Resumes, Takes, State, Busy, Over, Setup, in_flight, Awaits, awaits-laws, PathOr, begins-unbegun, of_path, WalkStep, go-step, took-step, all-starts, all-resumes, all-takes, IsNameTold, NamesTold, names-later, LeadsTo, leads-from, leads-later, WalkLeads, go-leads, took-leads, end-leads, walk-later, IsHeard, heard-tells, then-as, ends-later, ends-until, OpeningStory, StepStory, has_to, ThenOf, IsTold, IsQuiet, AsksFor, TaleLaws}
+use Rattle.core_answers.proofs.Prelude.{◌≡◌, ◌+◌, ◌-◌, ℕ, Bool, true, false, List, [], ◌∷◌, ◌++◌, length, take, Result, refl, sym, ap, subst, ◌∙◌, arith, All-nil, Mode, Answer, Fault, Entry, Began, Call, Reply, Op, At, Rooted, Ended, RefusalRow, Terms, IsDelivered, Asked-wide, Rooted-wide, Next, Shelf, Turn, Opening, PutFile, Putting, OpenFile, Writing, Walk, WalkNext, walk_of, Mounted, Machine, Opener, PathMachine, IsNamed, front_of, last_of, machine_of, file_of, Starts, Resumes, Takes, State, Busy, Over, Setup, in_flight, Awaits, awaits-laws, PathOr, begins-unbegun, of_path, WalkStep, go-step, took-step, all-starts, all-resumes, all-takes, IsNameTold, NamesTold, names-later, LeadsTo, leads-from, leads-later, WalkLeads, go-leads, took-leads, end-leads, walk-later, IsHeard, heard-tells, then-as, ends-later, ends-until, OpeningStory, StepStory, has_to, ThenOf, IsTold, TaleLaws, IsQuiet, AsksFor}
 use Rattle.world_model.proofs.Growth.{Committed-grow}
 use Rattle.op_machines.specs.Openers.{opening_in}
 use Rattle.core_facts.proofs.OpenStory.{not-kind, OpeningTold}

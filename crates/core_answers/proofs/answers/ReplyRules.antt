@@ -1,10 +1,11 @@
 -- Which rules a reply breaks for a put: where it asks by LOOKUP, CREATE and GETATTR, or sends by WRITE and COMMIT, what came breaks the rule that it
 -- is refused for.
-use Rattle.core_answers.proofs.Prelude.{◌≡◌, ◌<◌, ◌||◌, ◌==◌, ◌⊎◌, inl, inr, ℕ, Bool, true, false, List, length, Option, Some, None, Result, Ok, Err, refl, sym, subst, arith, if◌then◌else◌, nat_lt, eqb-true, Attr, Verf, Wcc, DirKept, FileKept, looked, known_of, Fault, Entry, Call, Reply, look_up, Asked, Turn, Pending, Sent, Led, Opening, OpeningNext, OpeningStep, Saving, write_told_by, written_by, commit_told, got_by, FineOption, FineResult, fine-fault, IsWhy, write_of}
+use Rattle.core_answers.proofs.Prelude.{◌≡◌, ◌<◌, ◌||◌, ◌==◌, ◌⊎◌, inl, inr, ℕ, Bool, true, false, List, length, Option, Some, None, Result, Ok, Err, refl, sym, subst, arith, if◌then◌else◌, nat_lt, eqb-true, Attr, Verf, Wcc, DirKept, FileKept, looked, known_of, Fault, Entry, Call, Reply, look_up, Asked, Turn, Pending, Sent, Led, Opening, OpeningNext, OpeningStep, Saving, write_told_by, written_by, commit_told, got_by, FineOption, FineResult, fine-fault, write_of}
 use Rattle.std.proofs.lemmas.Bool.{ltb-true}
 use Rattle.file_ops.specs.Judging.{commit_told_by}
 use Rattle.file_ops.specs.Told.{found_by, made_by}
 use Rattle.core_facts.proofs.Faults.{fine-some}
+use Rattle.core_facts.proofs.Tales.{IsWhy}
 use Rattle.nfs_dir_calls.specs.declared.keeping.DirKept.TheVariants as dir_kept
 use Rattle.nfs_file_calls.specs.declared.call.FileCall.TheVariants as file_calls
 use Rattle.nfs_file_calls.specs.declared.owned.FileKept.TheVariants as kept

@@ -20,7 +20,8 @@ use Rattle.op_machines.specs.declared.name_machine.NameMachine.TheVariants as na
 use Rattle.op_machines.specs.NameSteps as steps
 use Rattle.core_answers.proofs.bonds.AttrsShown.{ShownIn, answered-grow, attr-laws, fresh-attrs}
 use Rattle.core_answers.proofs.bonds.FileCalls.{Asking}
-use Rattle.core_answers.proofs.bonds.Keeping.{AskLaws, ShelfLaws, ToldSince, IsLate, BondLaws, take-early, take-whole, reached-answered}
+use Rattle.core_answers.proofs.bonds.Keeping.{BondLaws, reached-answered}
+use Rattle.core_answers.proofs.engine.Told.{AskLaws, ShelfLaws, ToldSince, IsLate, take-early, take-whole}
 use Rattle.core_answers.proofs.bonds.Learnt.{Good, IsOn}
 use Rattle.core_answers.proofs.bonds.MachineCalls.{Asks, asks-laws}
 use Rattle.core_answers.proofs.bonds.NamesShown.{NamedIn, awaits-asks, name-laws, none-kept}

@@ -1,9 +1,10 @@
 -- What the steps of lanes keep of the history and of the core's view, as long as the session isn't lost.
-use Rattle.core_answers.proofs.Prelude.{◌≡◌, inl, inr, ℕ, List, [], ◌∷◌, ◌++◌, Bool, true, false, Option, Some, None, MatchOption, position, refl, sym, ap, subst, ◌∙◌, xid_at, Waiting, waiting_at, Answer, Entry, Began, Answered, Dialed, Executed, Foreign, Flushed, Reboot, Delivered, Failed, Clock, Op, said_of, Shelf, Machine, Purpose, State, Setup, IsFresh, is_busy, IsIdle, numbers_of, Stirs, Moves, moves_none, moves_more, counted, StartsLane, BeginsIf, TakesAt, View, IsUnbegun, IsSetUp, StepsTo, Reaches, begins, goes, loses, last_reading, Heard, dropped, replied, sent_now, FailedNow, goes_on, gives_up, failed_now, answered_now, taken_one, stirs-count, starts-count, hears-count, reached-count, none-busy, Known, reached-all, LanesKnown, quiet-facts, lanes-stay, lanes-begin, lanes-under-way, Rows, rows-stay, same-rows, rows-grow, silent-grow, taken-quiet, not-sent, taken-rows, stirs-stay, starts-stay, steps-stay}
+use Rattle.core_answers.proofs.Prelude.{◌≡◌, inl, inr, ℕ, List, [], ◌∷◌, ◌++◌, Bool, true, false, Option, Some, None, MatchOption, position, refl, sym, ap, subst, ◌∙◌, xid_at, Waiting, waiting_at, Answer, Entry, Began, Answered, Dialed, Executed, Foreign, Flushed, Reboot, Delivered, Failed, Clock, Op, said_of, Shelf, Machine, Purpose, State, Setup, IsFresh, is_busy, IsIdle, numbers_of, Stirs, Moves, moves_none, moves_more, counted, StartsLane, BeginsIf, TakesAt, View, IsUnbegun, StepsTo, Reaches, begins, goes, loses, last_reading, Heard, dropped, replied, sent_now, FailedNow, goes_on, gives_up, failed_now, answered_now, taken_one, stirs-count, starts-count, hears-count, reached-count, Known, reached-all, LanesKnown, quiet-facts, lanes-stay, lanes-begin, lanes-under-way, Rows, rows-stay, same-rows, rows-grow, silent-grow, taken-quiet, not-sent, taken-rows, stirs-stay, starts-stay, steps-stay}
 use Rattle.world_model.specs.declared.entry.Entry.TheVariants.{Sent}
 use Rattle.client_core.specs.Steps.{AnswersAt}
+use Rattle.core_facts.specs.Reaches.{IsSetUp}
 use Rattle.core_facts.proofs.Cases.{heard}
-use Rattle.core_facts.proofs.Counting.{heard-lost}
+use Rattle.core_facts.proofs.Counting.{none-busy, heard-lost}
 
 -- An entry that tells neither that an operation begins nor that one is answered.
 pub record IsPlain (e : Entry) : Type 0 where

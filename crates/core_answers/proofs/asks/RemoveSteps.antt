@@ -1,7 +1,8 @@
 -- A remove, step by step: its walk leads along its path, and then it does one thing after another there.
-use Rattle.core_answers.proofs.Prelude.{◌≡◌, ℕ, Bool, true, false, List, [], ◌∷◌, ◌++◌, length, Option, Some, None, Result, Ok, Err, refl, sym, ap, subst, ◌∙◌, arith, Attr, DirKept, eqb-true, Opens, Fault, Entry, Call, Reply, Asked, Asked-grow, Asked-wide, length_last, Next, Shelf, Turn, Deed, Look, Seek, Move, Remove, RemoveFile, Walk, WalkNext, found_by, look_again, Machine, NameMachine, WalkStep, go-step, took-step, NamesTold, WalkLeads, walk-later, go-leads, took-leads, IsHeard, RemoveAwaits, IsWhy}
+use Rattle.core_answers.proofs.Prelude.{◌≡◌, ℕ, Bool, true, false, List, [], ◌∷◌, ◌++◌, length, Option, Some, None, Result, Ok, Err, refl, sym, ap, subst, ◌∙◌, arith, Attr, DirKept, eqb-true, Opens, Fault, Entry, Call, Reply, Asked, Asked-grow, Asked-wide, length_last, Next, Shelf, Turn, Deed, Look, Seek, Move, Remove, RemoveFile, Walk, WalkNext, found_by, look_again, Machine, NameMachine, WalkStep, go-step, took-step, NamesTold, WalkLeads, walk-later, go-leads, took-leads, IsHeard, RemoveAwaits}
 use Rattle.world_model.specs.Heard.{status_of}
 use Rattle.name_ops.specs.Looking.{look_up}
+use Rattle.core_facts.proofs.Tales.{IsWhy}
 use Rattle.nfs_dir_calls.specs.declared.keeping.DirKept.TheVariants as kept
 use Rattle.silly_rename.specs.Plans.{plan_of}
 use Rattle.world_model.specs.declared.answer.Fault.TheVariants as faults

@@ -1,9 +1,11 @@
 -- A record that is sent: for which operation, which machine waits for its reply, and for which call.
-use Rattle.core_answers.proofs.Prelude.{◌+◌, ◌≡◌, ◌<◌, ◌≤◌, ◌⊎◌, inl, inr, ℕ, List, [], ◌∷◌, ◌++◌, length, Bool, true, false, Some, None, slice_get, refl, sym, ap, subst, ◌∙◌, arith, append_assoc, next_xid, waiting_at, waits_early, Entry, Began, Answered, Dialed, Executed, Foreign, Flushed, Reboot, Delivered, Failed, Clock, Call, Op, At, SpellsCallBy, UnderWay, At-grow, At-below, At-back, At-cases, Next, Shelf, Machine, State, Busy, Lane, Setup, View, calls_for, in_flight, IsUnbegun, StepsTo, Reaches, begins, goes, loses, sent_now, IsKnown, calls-some, known-only, reached-count, ExpectLaws, lanes-under-way, reached-lanes, Rows, reached-rows, Did, TaleLaws, reached-good}
+use Rattle.core_answers.proofs.Prelude.{◌+◌, ◌≡◌, ◌<◌, ◌≤◌, ◌⊎◌, inl, inr, ℕ, List, [], ◌∷◌, ◌++◌, length, Bool, true, false, Some, None, slice_get, refl, sym, ap, subst, ◌∙◌, arith, append_assoc, next_xid, waiting_at, waits_early, Entry, Began, Answered, Dialed, Executed, Foreign, Flushed, Reboot, Delivered, Failed, Clock, Call, Op, At, SpellsCallBy, UnderWay, At-grow, At-below, At-back, At-cases, Next, Shelf, Machine, State, Busy, Lane, Setup, View, calls_for, in_flight, IsUnbegun, StepsTo, Reaches, begins, goes, loses, sent_now, calls-some, reached-count, ExpectLaws, lanes-under-way, Rows, reached-rows, Did, TaleLaws, reached-good}
 use Rattle.rpc_retry.proofs.Lookups.{at_sent}
 use Rattle.world_model.specs.declared.entry.Entry.TheVariants.{Sent}
 use Rattle.core_facts.specs.Counted.{IsOfOperation}
 use Rattle.core_facts.proofs.Cases.{SentNow}
+use Rattle.core_facts.proofs.Counting.{IsKnown, known-only}
+use Rattle.core_facts.proofs.LaneMarks.{reached-lanes}
 use Rattle.core_facts.proofs.Tales.{IsExpected}
 use Rattle.rpc_retry.proofs.Records.{waits_late}
 use Rattle.client_shelf.specs.declared.next.Next.TheVariants as nexts

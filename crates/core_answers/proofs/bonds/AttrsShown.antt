@@ -4,7 +4,8 @@ use Rattle.attr_cache.specs.Attrs.{nothing_learnt}
 use Rattle.world_model.proofs.Growth.{Heard-grow}
 use Rattle.core_answers.specs.bonds.Kept.{WasShown, LastAtMost, AttrsShown}
 use Rattle.attr_cache.proofs.Entries.{Believed, All-lookup}
-use Rattle.core_answers.proofs.bonds.Keeping.{IsTold, ShelfLaws, BondLaws, reached-known}
+use Rattle.core_answers.proofs.bonds.Keeping.{BondLaws, reached-known}
+use Rattle.core_answers.proofs.engine.Told.{IsTold, ShelfLaws}
 use Rattle.core_answers.proofs.bonds.Learnt.{Good, Tells, good-as}
 use Rattle.core_answers.proofs.bonds.MachineAttrs.{attrs-starts, attrs-resumes, attrs-takes}
 use Rattle.core_answers.proofs.bonds.MachineCalls.{Asks, asks-laws}

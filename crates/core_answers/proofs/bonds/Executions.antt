@@ -1,9 +1,10 @@
 -- A reply that answers a call is that of an execution of the very call, since it was first sent; and what it shows was so then.
-use Rattle.core_answers.proofs.Prelude.{◌≡◌, ◌<◌, ◌≤◌, ℕ, suc, List, inl, inr, Some, Result, Ok, sym, ap, subst, ◌∙◌, arith, Attr, RpcReply, Accepted, ReplyFault, Entry, Call, Reply, At, History, Lawful, HasXid, SpellsCall, SpellsReply, of_object, Numbered, reached-rows, machine_of, IsRecent, own, HadShown, IsAnswered}
-use Rattle.rpc_message.specs.Reply.{refusal_number, SpellsRefusal}
+use Rattle.core_answers.proofs.Prelude.{◌≡◌, ◌<◌, ◌≤◌, ℕ, suc, List, inl, inr, Some, Result, Ok, sym, ap, subst, ◌∙◌, arith, Attr, Entry, Call, Reply, At, History, Lawful, HasXid, SpellsCall, SpellsReply, of_object, Numbered, reached-rows, machine_of, IsRecent, own, HadShown, IsAnswered}
 use Rattle.world_model.specs.Lawful.{IsReplied, replied, refused}
 use Rattle.claims.specs.Shown.{ShowsAttr, of_target, of_given, of_listed}
 use Rattle.core_answers.specs.bonds.Ages.{young}
+use Rattle.rpc_message.specs.Reply.{RpcReply, Accepted, refusal_number, SpellsRefusal}
+use Rattle.rpc_message.specs.declared.reply.ReplyFault.{ReplyFault}
 use Rattle.rpc_message.proofs.ReplyLaws.{reply_first, reply_again}
 use Rattle.world_model.specs.declared.entry.Entry.TheVariants as entries
 use Rattle.world_model.specs.declared.message.Call.TheVariants as calls

@@ -12,7 +12,7 @@ use Rattle.op_machines.specs.declared.name_machine.NameMachine.TheVariants as na
 use Rattle.op_machines.specs.declared.opener.Opener.TheVariants as openers
 use Rattle.op_machines.specs.PathSteps as paths
 use Rattle.core_answers.proofs.bonds.FileCalls.{FileAsks, Asking, alone, asking-for, file-starts-asked, file-resumes-asking, file-takes-asking}
-use Rattle.core_answers.proofs.bonds.Keeping.{AskLaws}
+use Rattle.core_answers.proofs.engine.Told.{AskLaws}
 use Rattle.core_answers.proofs.bonds.NameCalls.{NameAsks, WalkOn, WalkAsked, asked-done, asked-waits, asked-sends, asked-for, go-walk, took-walk, name-goes-asked, name-takes-asked}
 
 abbrev pub PathOn : Bool → PathMachine → Call → Type 0

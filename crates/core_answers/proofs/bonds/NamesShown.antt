@@ -13,7 +13,8 @@ use Rattle.core_answers.specs.bonds.Named.{WasNamed, NamesShown, NamesTrue, Name
 use Rattle.core_answers.proofs.bonds.AttrsShown.{answered-last, no-story}
 use Rattle.core_answers.proofs.bonds.Executions.{answered-ran, attrs-true}
 use Rattle.core_answers.proofs.bonds.FileCalls.{Asking}
-use Rattle.core_answers.proofs.bonds.Keeping.{AskLaws, IsTold, ShelfLaws, reached-known}
+use Rattle.core_answers.proofs.bonds.Keeping.{reached-known}
+use Rattle.core_answers.proofs.engine.Told.{AskLaws, IsTold, ShelfLaws}
 
 -- ---- for which call an operation waits
 

@@ -1,6 +1,7 @@
 -- A record is one call at most.
-use Rattle.core_answers.proofs.Prelude.{◌≡◌, ℕ, true, false, List, Result, Ok, Err, refl, sym, ap, subst, ◌∙◌, arith, XdrFault, FileCall, Call, program_of, proc_of, SpellsCall}
+use Rattle.core_answers.proofs.Prelude.{◌≡◌, ℕ, true, false, List, Result, Ok, Err, refl, sym, ap, subst, ◌∙◌, arith, FileCall, Call, program_of, proc_of, SpellsCall}
 use Rattle.world_model.specs.Messages.{head_of, SpellsArguments}
+use Rattle.xdr_codec.specs.declared.reader.XdrFault.{XdrFault}
 use Rattle.rpc_message.specs.declared.call.CallFault.{CallFault}
 use Rattle.rpc_message.specs.declared.call.CallHead.{CallHead}
 use Rattle.rpc_message.proofs.CallLaws.{call_again}

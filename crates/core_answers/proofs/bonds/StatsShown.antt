@@ -17,7 +17,8 @@ use Rattle.op_machines.specs.declared.machine.Machine.TheVariants as machines
 use Rattle.op_machines.specs.declared.name_machine.NameMachine.TheVariants as names
 use Rattle.op_machines.specs.NameSteps as steps
 use Rattle.core_answers.proofs.bonds.AttrsShown.{ShownIn, time-grows, answered-grow, answered-last, attr-laws, fresh-attrs}
-use Rattle.core_answers.proofs.bonds.Keeping.{ToldSince, IsLate, BondLaws, take-early, take-whole, reached-answered}
+use Rattle.core_answers.proofs.bonds.Keeping.{BondLaws, reached-answered}
+use Rattle.core_answers.proofs.engine.Told.{ToldSince, IsLate, take-early, take-whole}
 use Rattle.core_answers.proofs.bonds.Learnt.{Good, IsOn}
 use Rattle.core_answers.proofs.bonds.MachineCalls.{Asks, asks-laws}
 

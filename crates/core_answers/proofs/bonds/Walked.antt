@@ -11,7 +11,7 @@ use Rattle.name_ops.specs.declared.walk.Spot.{Spot}
 use Rattle.name_ops.specs.Walking as walking
 use Rattle.core_answers.specs.bonds.Named.{WasNamed}
 use Rattle.core_answers.proofs.bonds.AttrsShown.{ShownIn, answered-last}
-use Rattle.core_answers.proofs.bonds.Keeping.{ToldSince, IsLate}
+use Rattle.core_answers.proofs.engine.Told.{ToldSince, IsLate}
 use Rattle.core_answers.proofs.bonds.Learnt.{Good}
 use Rattle.core_answers.proofs.bonds.NamesShown.{NamedIn, named-grows, told-named}
 use Rattle.core_answers.proofs.bonds.StatsShown.{believed-of, shown-grows-of}

@@ -1,9 +1,12 @@
 -- Where nothing disturbs a session whose refusals have their rows, no operation is refused by the server, the network or the link.
-use Rattle.core_answers.proofs.Prelude.{◌≡◌, ◌≢◌, ◌<◌, ◌≤◌, ◌⊎◌, inl, inr, ℕ, suc, Bool, true, false, List, [], ◌∷◌, length, Some, Result, Ok, Err, refl, sym, ap, subst, ◌∙◌, arith, cases_lt, XdrFault, DirKept, FileKept, ReplyFault, RpcReply, Accepted, Answer, Fault, Entry, Began, Answered, Executed, Delivered, Call, Reply, Op, Asks, At, History, HasXid, SpellsCall, SpellsReply, Ended, UnderWay, RefusalRow, Terms, At-one}
+use Rattle.core_answers.proofs.Prelude.{◌≡◌, ◌≢◌, ◌<◌, ◌≤◌, ◌⊎◌, inl, inr, ℕ, suc, Bool, true, false, List, [], ◌∷◌, length, Some, Result, Ok, Err, refl, sym, ap, subst, ◌∙◌, arith, cases_lt, DirKept, FileKept, Answer, Fault, Entry, Began, Answered, Executed, Delivered, Call, Reply, Op, Asks, At, History, HasXid, SpellsCall, SpellsReply, Ended, UnderWay, RefusalRow, Terms, At-one}
 use Rattle.world_model.specs.declared.entry.Entry.TheVariants.{Sent}
 use Rattle.claims.specs.Asks.{Acts}
 use Rattle.world_model.specs.Messages.{SpellsResults}
 use Rattle.claims.specs.RefusalRows.{RefusedBy}
+use Rattle.xdr_codec.specs.declared.reader.XdrFault.{XdrFault}
+use Rattle.rpc_message.specs.declared.reply.ReplyFault.{ReplyFault}
+use Rattle.rpc_message.specs.Reply.{RpcReply, Accepted}
 use Rattle.nfs_dir_calls.specs.declared.call.DirCall.TheVariants as dirs
 use Rattle.nfs_dir_calls.specs.declared.keeping.DirKept.TheVariants as found
 use Rattle.nfs_dir_calls.proofs.Replies.{dir_reply_codec}

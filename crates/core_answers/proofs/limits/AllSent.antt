@@ -1,11 +1,14 @@
 -- Each xid of a call that was made was sent, or its call waits.
-use Rattle.core_answers.proofs.Prelude.{◌≡◌, ◌<◌, ◌≤◌, ◌+◌, ◌⊎◌, inl, inr, nat_eq, ℕ, Bool, true, false, List, [], ◌∷◌, ◌++◌, length, cond, slice_get, Option, Some, None, refl, sym, ap, subst, ◌∙◌, arith, eqb-true, eqb-false, eq-eqb, cases_lt, Waiting, failed_after, next_xid, made_call, waiting_at, without, at_made, others_made, others_taken, Entry, Began, Answered, Dialed, Executed, Foreign, Flushed, Reboot, Delivered, Failed, Clock, Call, Op, At, HasXid, proc_of, At-grow, At-below, At-cases, At-last, length_last, Mounted, Machine, machine_of, Lane, Purpose, Setup, record_of, counted, View, turn_at, StepsTo, HearsRecord, Reaches, begins, goes, loses, last_reading, IsOutstanding, Tried, unsent, runs, Heard, dropped, replied, sent_now, FailedNow, goes_on, gives_up, failed_now, answered_now, taken_one, calls_for, begins-unbegun, calls-some, known-none, reached-count, was-sent, Rows, rows-stay, same-rows, taken-rows, rows-grow, silent-grow, taken-quiet, not-sent, reached-rows, Stays, begins-stay, hears-for-stay}
+use Rattle.core_answers.proofs.Prelude.{◌≡◌, ◌<◌, ◌≤◌, ◌+◌, ◌⊎◌, inl, inr, nat_eq, ℕ, Bool, true, false, List, [], ◌∷◌, ◌++◌, length, cond, slice_get, Option, Some, None, refl, sym, ap, subst, ◌∙◌, arith, eqb-true, eqb-false, eq-eqb, cases_lt, Waiting, failed_after, next_xid, made_call, waiting_at, without, at_made, others_made, others_taken, Entry, Began, Answered, Dialed, Executed, Foreign, Flushed, Reboot, Delivered, Failed, Clock, Call, Op, At, HasXid, proc_of, At-grow, At-below, At-cases, At-last, length_last, Mounted, Machine, machine_of, Lane, Purpose, Setup, record_of, counted, View, turn_at, StepsTo, Reaches, begins, goes, loses, last_reading, IsOutstanding, Heard, dropped, replied, sent_now, FailedNow, goes_on, gives_up, failed_now, answered_now, taken_one, calls_for, begins-unbegun, calls-some, reached-count, Rows, rows-stay, same-rows, taken-rows, rows-grow, silent-grow, taken-quiet, not-sent, reached-rows, Stays, begins-stay, hears-for-stay}
 use Rattle.rpc_retry.specs.Held.{Held}
 use Rattle.rpc_retry.specs.Waiting.{sent, sent_call, failed, failed_call}
 use Rattle.world_model.specs.declared.entry.Entry.TheVariants.{Sent}
 use Rattle.client_core.specs.Steps.{WereSent}
-use Rattle.core_facts.specs.Tries.{ended}
+use Rattle.core_facts.specs.Reaches.{HearsRecord}
+use Rattle.core_facts.specs.Tries.{Tried, unsent, runs, ended}
 use Rattle.core_facts.proofs.Cases.{heard}
+use Rattle.core_facts.proofs.Counting.{known-none}
+use Rattle.core_facts.proofs.Hearing.{was-sent}
 use Rattle.world_model.specs.declared.answer.Answer.TheVariants as answers
 use Rattle.world_model.specs.declared.answer.Fault.TheVariants as faults
 use Rattle.world_model.specs.Rows.{WasSent}

@@ -1,12 +1,18 @@
 -- As long as a further call may be made, no operation gives that none may.
-use Rattle.core_answers.proofs.Prelude.{◌≡◌, ◌≢◌, ◌<◌, ◌≤◌, ◌⊎◌, inl, inr, ℕ, Bool, true, false, List, [], ◌∷◌, ◌++◌, length, map, Option, Some, None, MatchOption, position, slice_get, slice_set, Result, Ok, Err, refl, sym, ap, subst, ◌∙◌, arith, if◌then◌else◌, eqb-true, cases_lt, XdrFault, DirKept, FileKept, ReplyFault, RpcReply, Accepted, Answer, Fault, Entry, Began, Answered, Dialed, Executed, Foreign, Flushed, Reboot, Delivered, Failed, Clock, Reply, Op, At, At-cases, At-below, At-back, said_of, Next, Shelf, Mounted, Machine, machine_of, Lane, Purpose, State, Busy, Over, Setup, is_busy, lost_lane, with_state, IsRefused, Leads, Stirs, Moves, moves_none, moves_more, counted, StartsLane, BeginsIf, TakesAt, View, turn_at, unmade_turn, StepsTo, Reaches, begins, goes, loses, last_reading, Heard, dropped, replied, sent_now, FailedNow, goes_on, gives_up, failed_now, answered_now, taken_one, FineAnswer, FineResult, at-set, at-push, get-push, get-remove, skip, in-map, reached-rows, set-other, by-place, some-answer, Stays, begins-stay, hears-for-stay}
+use Rattle.core_answers.proofs.Prelude.{◌≡◌, ◌≢◌, ◌<◌, ◌≤◌, ◌⊎◌, inl, inr, ℕ, Bool, true, false, List, [], ◌∷◌, ◌++◌, length, map, Option, Some, None, MatchOption, position, slice_get, slice_set, Result, Ok, Err, refl, sym, ap, subst, ◌∙◌, arith, if◌then◌else◌, eqb-true, cases_lt, DirKept, FileKept, Answer, Fault, Entry, Began, Answered, Dialed, Executed, Foreign, Flushed, Reboot, Delivered, Failed, Clock, Reply, Op, At, At-cases, At-below, At-back, said_of, Next, Shelf, Mounted, Machine, machine_of, Lane, Purpose, State, Busy, Over, Setup, is_busy, with_state, IsRefused, Leads, Stirs, Moves, moves_none, moves_more, counted, StartsLane, BeginsIf, TakesAt, View, turn_at, unmade_turn, StepsTo, Reaches, begins, goes, loses, last_reading, Heard, dropped, replied, sent_now, FailedNow, goes_on, gives_up, failed_now, answered_now, taken_one, FineAnswer, FineResult, at-set, at-push, get-push, get-remove, skip, reached-rows, set-other, by-place, Stays, begins-stay, hears-for-stay}
 use Rattle.std.proofs.Common.{nat_lt}
 use Rattle.std.specs.Prelude.{◌==◌}
 use Rattle.world_model.specs.declared.entry.Entry.TheVariants.{Sent}
 use Rattle.call_replies.specs.Says.{said_by}
+use Rattle.client_core.specs.Lanes.{lost_lane}
 use Rattle.client_core.specs.Steps.{IsUnmade, HearsFor}
 use Rattle.core_facts.proofs.Cases.{heard}
 use Rattle.core_facts.proofs.Faults.{OwnFaults, OfReply, Came}
+use Rattle.core_facts.proofs.Lists.{in-map}
+use Rattle.core_facts.proofs.Stories.{some-answer}
+use Rattle.xdr_codec.specs.declared.reader.XdrFault.{XdrFault}
+use Rattle.rpc_message.specs.declared.reply.ReplyFault.{ReplyFault}
+use Rattle.rpc_message.specs.Reply.{RpcReply, Accepted}
 use Rattle.nfs_dir_calls.specs.declared.keeping.DirKept.TheVariants as found
 use Rattle.nfs_dir_calls.specs.Calls.{is_dir_proc}
 use Rattle.nfs_dir_calls.specs.Replies.{dir_reply_at}

@@ -17,7 +17,7 @@ use Rattle.op_machines.specs.declared.machine.Machine.TheVariants as machines
 use Rattle.op_machines.specs.FileSteps as steps
 use Rattle.core_facts.proofs.FileCounts.{read-resumes as read-resumes-count, truncate-resumes as truncate-resumes-count}
 use Rattle.core_answers.proofs.bonds.FileCalls.{Asking, alone}
-use Rattle.core_answers.proofs.bonds.Keeping.{AskLaws}
+use Rattle.core_answers.proofs.engine.Told.{AskLaws}
 use Rattle.core_answers.proofs.bonds.MachineCalls.{Asks, asks-laws}
 use Rattle.core_answers.proofs.bonds.NameCalls.{asked-as, asked-done, asked-waits, asked-sends, asked-again, asked-for}
 

@@ -16,7 +16,7 @@ use Rattle.op_machines.specs.declared.machine.Machine.TheVariants as machines
 use Rattle.core_facts.specs.SlotAnswers.{GoesWith}
 use Rattle.core_facts.proofs.SlotGrowth.{IsHeld, held-grow}
 use Rattle.core_answers.proofs.bonds.AttrsShown.{answered-last}
-use Rattle.core_answers.proofs.bonds.Keeping.{take-early, take-whole}
+use Rattle.core_answers.proofs.engine.Told.{take-early, take-whole}
 use Rattle.core_answers.proofs.pages.Keeping.{HasPassed, WasTaken, BondLaws, reached-answered}
 use Rattle.core_answers.proofs.pages.MachinePages.{pages-starts, pages-resumes}
 use Rattle.core_answers.proofs.pages.PageCalls.{PageAwaits, ReadAwaits, PartAwaits, Both, both-asks}

@@ -1,8 +1,8 @@
 -- The last record that came, and which call it answers.
-use Rattle.core_answers.proofs.Prelude.{◌≡◌, ◌≤◌, ◌⊎◌, inl, inr, ℕ, List, [], ◌∷◌, ◌++◌, length, Some, sym, subst, ◌∙◌, arith, Entry, Delivered, Call, Reply, At, HasXid, SpellsCall, SpellsReply, EndsWith, IsDelivered, FirstSent-grow, At-grow, At-below, At-back, At-one, At-cases, length_last}
+use Rattle.core_answers.proofs.Prelude.{◌≡◌, ◌≤◌, ◌⊎◌, inl, inr, ℕ, List, [], ◌∷◌, ◌++◌, length, Some, sym, subst, ◌∙◌, arith, Entry, Delivered, Call, Reply, At, HasXid, SpellsCall, SpellsReply, EndsWith, IsDelivered, At-grow, At-below, At-back, At-one, At-cases, length_last}
 use Rattle.world_model.specs.declared.entry.Entry.TheVariants.{Sent}
 use Rattle.world_model.specs.Operations.{LastReply}
-use Rattle.world_model.proofs.Growth.{Waits-grow}
+use Rattle.world_model.proofs.Growth.{FirstSent-grow, Waits-grow}
 use Rattle.core_answers.proofs.bonds.OneCall.{IsNfs, one-call}
 
 -- The last record before the place n answers the call with this reply, and with no other.

@@ -21,10 +21,11 @@ use Rattle.name_ops.specs.Walking as walking
 use Rattle.op_machines.specs.declared.machine.Machine.TheVariants as machines
 use Rattle.op_machines.specs.declared.name_machine.NameMachine.TheVariants as names
 use Rattle.core_answers.proofs.bonds.AttrsShown.{answered-grow, answered-last}
-use Rattle.core_answers.proofs.bonds.Keeping.{IsLate, take-early, take-whole}
+use Rattle.core_answers.proofs.engine.Laws.{FromPlace}
+use Rattle.core_answers.proofs.engine.Told.{IsLate, take-early, take-whole, ToldLast}
 use Rattle.core_answers.proofs.bonds.StatsLed.{Both, Kept}
 use Rattle.core_answers.proofs.bonds.Walked.{LedBy, led-grows, walk-begins}
-use Rattle.core_answers.proofs.paths.Following.{ToldLast, FromPlace, FollowLaws}
+use Rattle.core_answers.proofs.paths.Following.{FollowLaws}
 use Rattle.core_answers.proofs.paths.Lasts.{IsLast, last-later}
 use Rattle.core_answers.proofs.paths.PagesRead.{Pages, none, more, names-both}
 use Rattle.core_answers.proofs.paths.Stood.{both-laws}

@@ -20,7 +20,7 @@ use Rattle.file_ops.specs.Opening as opening
 use Rattle.name_ops.specs.Looking.{look_up}
 use Rattle.core_answers.proofs.bonds.AttrsShown.{answered-last}
 use Rattle.core_answers.proofs.bonds.Walked.{LedBy, led-grows}
-use Rattle.core_answers.proofs.paths.Following.{ToldLast}
+use Rattle.core_answers.proofs.engine.Told.{ToldLast}
 use Rattle.core_answers.proofs.paths.Lasts.{IsLast, last-later}
 
 -- ---- what was told

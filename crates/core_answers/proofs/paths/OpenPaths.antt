@@ -14,11 +14,12 @@ use Rattle.op_machines.specs.declared.machine.Machine.TheVariants as machines
 use Rattle.op_machines.specs.declared.opener.Opener.TheVariants as openers
 use Rattle.op_machines.specs.PathSteps as paths
 use Rattle.core_answers.proofs.bonds.AttrsShown.{ShownIn}
-use Rattle.core_answers.proofs.bonds.Keeping.{ToldSince, IsLate, take-early, take-whole}
+use Rattle.core_answers.proofs.engine.Laws.{FromPlace}
+use Rattle.core_answers.proofs.engine.Told.{ToldSince, IsLate, take-early, take-whole}
 use Rattle.core_answers.proofs.bonds.Learnt.{Good}
 use Rattle.core_answers.proofs.bonds.StatsLed.{Both, Kept}
 use Rattle.core_answers.proofs.bonds.Walked.{LedBy, WalkAt, go-led, took-led, end-led, walk-grows, walk-begins}
-use Rattle.core_answers.proofs.paths.Following.{FromPlace, FollowLaws}
+use Rattle.core_answers.proofs.paths.Following.{FollowLaws}
 use Rattle.core_answers.proofs.paths.OpenFound.{own-of, OpeningAt, StepFound, IsHeard, led-on, go-next, led-next, OpenAnswer, as-next, follows-then, opening-grows, found-grows, last-of-later}
 use Rattle.core_answers.proofs.paths.Stood.{both-laws}
 

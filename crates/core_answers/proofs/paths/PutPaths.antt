@@ -13,12 +13,13 @@ use Rattle.op_machines.specs.declared.machine.Machine.TheVariants as machines
 use Rattle.op_machines.specs.declared.opener.Opener.TheVariants as openers
 use Rattle.op_machines.specs.PathSteps as paths
 use Rattle.core_answers.proofs.bonds.AttrsShown.{ShownIn}
-use Rattle.core_answers.proofs.bonds.Keeping.{ToldSince, IsLate, take-early, take-whole}
+use Rattle.core_answers.proofs.engine.Laws.{FromPlace}
+use Rattle.core_answers.proofs.engine.Told.{ToldSince, IsLate, take-early, take-whole}
 use Rattle.core_answers.proofs.bonds.Learnt.{Good}
 use Rattle.core_answers.proofs.bonds.MachineCalls.{PathOn, Asks}
 use Rattle.core_answers.proofs.bonds.StatsLed.{Both, Kept}
 use Rattle.core_answers.proofs.bonds.Walked.{LedBy, WalkAt, go-led, took-led, end-led, walk-grows, walk-begins}
-use Rattle.core_answers.proofs.paths.Following.{FromPlace, FollowLaws}
+use Rattle.core_answers.proofs.paths.Following.{FollowLaws}
 use Rattle.core_answers.proofs.paths.Lasts.{last-later}
 use Rattle.core_answers.proofs.paths.OpenFound.{own-of, IsHeard, opening-grows, found-grows}
 use Rattle.core_answers.proofs.paths.OpenPaths.{first-at}

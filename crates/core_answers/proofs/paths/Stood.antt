@@ -17,7 +17,7 @@ use Rattle.core_answers.specs.bonds.Led as recently
 use Rattle.core_answers.proofs.bonds.AttrsShown.{answered-grow, attr-laws}
 use Rattle.core_answers.proofs.bonds.Executions.{answered-ran, shown-had, recent-later}
 use Rattle.core_answers.proofs.bonds.FileCalls.{Asking}
-use Rattle.core_answers.proofs.bonds.Keeping.{AskLaws, ShelfLaws}
+use Rattle.core_answers.proofs.engine.Told.{AskLaws, ShelfLaws}
 use Rattle.core_answers.proofs.bonds.MachineCalls.{Asks, asks-laws}
 use Rattle.core_answers.proofs.bonds.NamesShown.{awaits-asks, name-laws}
 use Rattle.core_answers.proofs.bonds.Recents.{recent-of}

@@ -5,7 +5,7 @@ use Rattle.name_ops.specs.declared.visit.VisitNext.TheVariants as visits
 use Rattle.name_ops.specs.declared.walk.WalkNext.TheVariants as walks
 use Rattle.name_ops.specs.Visiting as visiting
 use Rattle.name_ops.specs.Walking as walking
-use Rattle.core_answers.proofs.bonds.Keeping.{ToldSince, IsLate}
+use Rattle.core_answers.proofs.engine.Told.{ToldSince, IsLate}
 use Rattle.core_answers.proofs.bonds.StatsLed.{Kept}
 use Rattle.core_answers.proofs.bonds.Walked.{LedBy, WalkAt, go-led, took-led, end-led, walk-grows}
 

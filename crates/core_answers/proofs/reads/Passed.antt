@@ -1,6 +1,6 @@
 -- What each step of a lane and each entry keep holds of each view through which the core passes.
-use Rattle.core_answers.proofs.Prelude.{◌≡◌, ℕ, List, [], ◌∷◌, ◌++◌, false, Some, position, refl, sym, subst, xid_at, Waiting, waiting_at, Entry, Began, Delivered, Op, said_of, Shelf, Machine, Purpose, State, Setup, is_busy, IsIdle, numbers_of, counted, StartsLane, TakesAt, View, IsUnbegun, Reaches, last_reading, taken_one, stirs-count, starts-count, hears-count, Known, reached-all, LanesKnown, quiet-facts, lanes-stay, lanes-begin, lanes-under-way, Rows, rows-stay, same-rows, rows-grow, silent-grow, taken-quiet, not-sent, taken-rows, stirs-stay, starts-stay, steps-stay}
-use Rattle.core_answers.specs.pages.Passing.{Passes, rests, starts, takes, stirs}
+use Rattle.core_answers.proofs.Prelude.{◌≡◌, ℕ, List, [], ◌∷◌, ◌++◌, false, Some, position, refl, sym, subst, xid_at, Waiting, waiting_at, Entry, Began, Delivered, Op, said_of, Shelf, Machine, Purpose, State, Setup, is_busy, IsIdle, numbers_of, counted, StartsLane, TakesAt, View, IsUnbegun, Reaches, last_reading, taken_one, stirs-count, starts-count, hears-count, Known, reached-all, LanesKnown, quiet-facts, lanes-stay, lanes-begin, lanes-under-way, Rows, rows-stay, same-rows, rows-grow, silent-grow, taken-quiet, not-sent, taken-rows, stirs-stay, starts-stay, steps-stay, Passes}
+use Rattle.core_answers.specs.pages.Passing.{rests, starts, takes, stirs}
 use Rattle.core_answers.proofs.writes.Along.{KeepsAlong, reached-along}
 
 module _ (machine_of : ℕ → Op → Machine) (unbegun : (lane : ℕ) (op : Op) → IsUnbegun (machine_of lane op)) (setup : Setup) (I : List Entry → View → Type 0)

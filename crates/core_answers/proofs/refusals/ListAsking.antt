@@ -1,5 +1,5 @@
 -- How a list runs, and for which calls it asks: as `proofs/rows/ListStory` has it, for a record of which it is known that it was sent for the list.
-use Rattle.core_answers.proofs.Prelude.{◌≡◌, ◌≤◌, ◌+◌, ◌-◌, ◌⊎◌, inl, inr, ℕ, zero, suc, Bool, true, false, List, [], ◌∷◌, ◌++◌, length, take, drop, slice_get, filter, map, Contains, Option, Some, None, Result, Ok, Err, refl, sym, ap, subst, ◌∙◌, arith, if◌then◌else◌, All-nil, filter-append, map-append, length-append, nat_tests, Attr, Verf, DirKept, PlusRow, Step, More, End, ListFault, listing_limit, last_cookie, page_step, Answer, Fault, Value, Entry, Began, Call, Reply, Op, Asks, look_up, LastCookie, names_of, list_call, page_reply, Asked, Rooted, EndsWith, Terms, Asked-grow, Asked-wide, length_last, goes_again, fails_busy, Next, Shelf, Turn, ListDir, Visit, Walk, Mounted, Machine, machine_of, Starts, Resumes, Takes, State, Busy, Over, Setup, of_name, of_walk, visit_by, in_flight, IsCounted, Counts, Awaits, awaits-laws, begins-unbegun, counts-calls, OwnOr, WalkAwaits, all-starts, all-resumes, all-takes, IsNameTold, NamesTold, names-later, LeadsTo, leads-from, leads-later, WalkLeads, IsHeard, heard-tells, then-as, VisitStory, ends-later, ThenOf, AskedOf, IsTold, IsLastReply, IsQuiet, AsksFor, TaleLaws}
+use Rattle.core_answers.proofs.Prelude.{◌≡◌, ◌≤◌, ◌+◌, ◌-◌, ◌⊎◌, inl, inr, ℕ, zero, suc, Bool, true, false, List, [], ◌∷◌, ◌++◌, length, take, drop, slice_get, filter, map, Contains, Option, Some, None, Result, Ok, Err, refl, sym, ap, subst, ◌∙◌, arith, if◌then◌else◌, All-nil, filter-append, map-append, length-append, nat_tests, Attr, Verf, DirKept, PlusRow, Step, More, End, ListFault, listing_limit, last_cookie, page_step, Answer, Fault, Value, Entry, Began, Call, Reply, Op, Asks, look_up, LastCookie, names_of, list_call, page_reply, Asked, Rooted, EndsWith, Terms, Asked-grow, Asked-wide, length_last, goes_again, fails_busy, Next, Shelf, Turn, ListDir, Visit, Walk, Mounted, Machine, machine_of, Starts, Resumes, Takes, State, Busy, Over, Setup, of_name, of_walk, visit_by, in_flight, IsCounted, Counts, Awaits, awaits-laws, begins-unbegun, counts-calls, OwnOr, WalkAwaits, all-starts, all-resumes, all-takes, IsNameTold, NamesTold, names-later, LeadsTo, leads-from, leads-later, WalkLeads, IsHeard, heard-tells, then-as, VisitStory, ends-later, ThenOf, AskedOf, IsTold, TaleLaws, IsQuiet, AsksFor}
 use Rattle.std.proofs.Common.{nat_lt}
 use Rattle.std.specs.Prelude.{◌↔◌}
 use Rattle.dir_list.specs.Listings.{counts, counted}
@@ -7,6 +7,7 @@ use Rattle.world_model.specs.Chains.{Chain, start, next}
 use Rattle.world_model.specs.Mounts.{Given}
 use Rattle.core_facts.specs.InFlight.{of_visit}
 use Rattle.core_facts.proofs.OneCalls.{visit-at, visit-then, walks-then, visit-later}
+use Rattle.core_facts.proofs.Tales.{IsLastReply}
 use Rattle.nfs_dir_calls.specs.declared.keeping.DirKept.TheVariants as kept
 use Rattle.dir_list.specs.declared.progress.ListFault.TheVariants as list_faults
 use Rattle.world_model.specs.declared.answer.Answer.TheVariants as answers

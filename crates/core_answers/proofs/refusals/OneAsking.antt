@@ -1,6 +1,6 @@
 -- How operations of one call run, and for which calls they ask: as `core_facts` has it (`proofs/OneCalled`), for a record of which it is known that it was sent for
 -- the operation.
-use Rattle.core_answers.proofs.Prelude.{◌≡◌, ◌-◌, ℕ, List, [], ◌∷◌, ◌++◌, length, take, Result, refl, sym, ap, subst, arith, All-nil, Fault, Entry, Began, Call, Reply, Op, Terms, length_last, Next, Shelf, Turn, walk_of, Mounted, Machine, front_of, machine_of, Starts, Setup, Awaits, awaits-laws, begins-unbegun, counts-calls, all-starts, all-resumes, all-takes, IsNameTold, NamesTold, names-later, WalkLeads, heard-tells, VisitStory, ThenOf, AskedOf, IsTold, AsksFor, TaleLaws, in_flight, IsCounted, Counts}
+use Rattle.core_answers.proofs.Prelude.{◌≡◌, ◌-◌, ℕ, List, [], ◌∷◌, ◌++◌, length, take, Result, refl, sym, ap, subst, arith, All-nil, Fault, Entry, Began, Call, Reply, Op, Terms, length_last, Next, Shelf, Turn, walk_of, Mounted, Machine, front_of, machine_of, Starts, Setup, Awaits, awaits-laws, begins-unbegun, counts-calls, all-starts, all-resumes, all-takes, IsNameTold, NamesTold, names-later, WalkLeads, heard-tells, VisitStory, ThenOf, AskedOf, IsTold, TaleLaws, AsksFor, in_flight, IsCounted, Counts}
 use Rattle.op_machines.specs.Begun.{IsAsked}
 use Rattle.core_facts.proofs.OneCalls.{PairStory}
 use Rattle.world_model.specs.declared.op.Op.TheVariants as ops

@@ -1,5 +1,5 @@
 -- How an open runs, and for which calls it asks: as `proofs/rows/OpenAsks` has it, for a record of which it is known that it was sent for the open.
-use Rattle.core_answers.proofs.Prelude.{◌≡◌, ◌≤◌, ◌-◌, ◌⊎◌, inl, inr, ℕ, zero, suc, Bool, true, false, List, [], ◌∷◌, ◌++◌, length, take, drop, slice_get, Option, Some, None, Result, refl, sym, ap, subst, ◌∙◌, arith, append_assoc, if◌then◌else◌, All-nil, Attr, Mode, Answer, Fault, Entry, Began, Call, Reply, Op, Asks, look_up, Asked, Rooted, PlaceOf, Terms, IsDelivered, Asked-grow, Asked-wide, length_last, Next, Shelf, Turn, Opening, OpeningStep, Walk, walk_of, Mounted, Machine, PathMachine, IsNamed, front_of, last_of, machine_of, file_of, Starts, Resumes, Takes, State, Busy, Setup, of_name, of_walk, in_flight, IsCounted, Counts, Awaits, PathOr, awaits-laws, begins-unbegun, counts-calls, WalkAwaits, all-starts, all-resumes, all-takes, IsNameTold, NamesTold, names-later, LeadsTo, leads-from, leads-later, WalkLeads, walk-later, IsHeard, heard-tells, then-as, front-last, ends-later, OpeningStory, StepStory, has_to, IsFileOf, ThenOf, AskedOf, IsTold, IsQuiet, AsksFor, TaleLaws}
+use Rattle.core_answers.proofs.Prelude.{◌≡◌, ◌≤◌, ◌-◌, ◌⊎◌, inl, inr, ℕ, zero, suc, Bool, true, false, List, [], ◌∷◌, ◌++◌, length, take, drop, slice_get, Option, Some, None, Result, refl, sym, ap, subst, ◌∙◌, arith, append_assoc, if◌then◌else◌, All-nil, Attr, Mode, Answer, Fault, Entry, Began, Call, Reply, Op, Asks, look_up, Asked, Rooted, PlaceOf, Terms, IsDelivered, Asked-grow, Asked-wide, length_last, Next, Shelf, Turn, Opening, OpeningStep, Walk, walk_of, Mounted, Machine, PathMachine, IsNamed, front_of, last_of, machine_of, file_of, Starts, Resumes, Takes, State, Busy, Setup, of_name, of_walk, in_flight, IsCounted, Counts, Awaits, PathOr, awaits-laws, begins-unbegun, counts-calls, WalkAwaits, all-starts, all-resumes, all-takes, IsNameTold, NamesTold, names-later, LeadsTo, leads-from, leads-later, WalkLeads, walk-later, IsHeard, heard-tells, then-as, front-last, ends-later, OpeningStory, StepStory, has_to, IsFileOf, ThenOf, AskedOf, IsTold, TaleLaws, IsQuiet, AsksFor}
 use Rattle.claims.specs.Asks.{create_guarded, create_unchecked}
 use Rattle.core_facts.specs.InFlight.{of_file, path_by}
 use Rattle.core_facts.proofs.OpenStory.{MayMake, missing, found, made, GotLast, OpenAnswer}

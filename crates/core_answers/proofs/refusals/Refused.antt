@@ -1,7 +1,10 @@
 -- An operation is answered with a status of a server, a refusal by RPC or for a rule only where a record refused so a call that was sent for this very operation,
 -- and isn't the REMOVE of a last close.
-use Rattle.core_answers.proofs.Prelude.{◌≡◌, ◌≤◌, ◌+◌, ℕ, List, [], ◌∷◌, ◌++◌, length, option_map, Result, Ok, Err, inl, inr, refl, sym, ap, subst, ◌∙◌, arith, Waiting, Answer, Fault, Entry, Began, Delivered, Call, Reply, Op, Modes, Ended, UnderWay, FirstSent-grow, length_last, Says, Next, Shelf, Turn, CloseFile, Closing, Removal, Mounted, FileMachine, Machine, machine_of, Takes, Purpose, State, Busy, Over, Setup, View, of_closing, in_flight, Reaches, begins-unbegun, FineAnswer, is-given, good-over, ThenOf, AsksFor, Did}
-use Rattle.world_model.proofs.Growth.{Answers-grow}
+use Rattle.core_answers.proofs.Prelude.{◌≡◌, ◌≤◌, ◌+◌, ℕ, List, [], ◌∷◌, ◌++◌, length, option_map, Result, Ok, Err, inl, inr, refl, sym, ap, subst, ◌∙◌, arith, Waiting, Answer, Fault, Entry, Began, Delivered, Call, Reply, Op, Modes, Ended, UnderWay, length_last, Next, Shelf, Turn, CloseFile, Closing, Removal, Mounted, FileMachine, Machine, machine_of, Takes, Purpose, State, Busy, Over, Setup, View, of_closing, in_flight, Reaches, begins-unbegun, FineAnswer, is-given, good-over, ThenOf, AsksFor, Did, forget, Anything, passes-any}
+use Rattle.core_facts.proofs.Telling.{IsHeardNow, IsUnmadeFault}
+use Rattle.core_facts.proofs.Passing.{Passes}
+use Rattle.world_model.proofs.Growth.{FirstSent-grow, Answers-grow}
+use Rattle.call_replies.specs.Says.{Says}
 use Rattle.world_model.specs.declared.answer.Answer.TheVariants as answers
 use Rattle.world_model.specs.declared.answer.Fault.TheVariants as faults
 use Rattle.world_model.specs.declared.op.Op.TheVariants as ops
@@ -26,8 +29,7 @@ use Rattle.core_answers.proofs.refusals.FitAll as steps
 use Rattle.core_answers.proofs.refusals.FitFiles.{FitsClose}
 use Rattle.core_answers.proofs.refusals.Fitting.{machine-fits}
 use Rattle.core_answers.proofs.refusals.Replied.{Given}
-use Rattle.core_answers.proofs.refusals.Answering.{IsSeen, IsSeenBy, IsHeardNow, IsToldOf, CameOf, heard_of, unmade, IsUnmadeFault, SlotLaws, reached-answered-by}
-use Rattle.core_answers.proofs.refusals.Passing.{Passes, forget, Anything, passes-any}
+use Rattle.core_answers.proofs.refusals.Answering.{IsSeen, IsSeenBy, IsToldOf, CameOf, heard_of, unmade, SlotLaws, reached-answered-by}
 use Rattle.core_answers.proofs.refusals.SentCalls.{SentCall, SentBy, nfs-of, sent-later, sent-by-later, reached-call-by}
 
 -- a close runs as the machine of one

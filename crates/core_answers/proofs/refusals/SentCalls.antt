@@ -1,5 +1,7 @@
 -- Of each call that waits and was sent: for which operation its record was first sent, and that the operation's machine waited for it then.
-use Rattle.core_answers.proofs.Prelude.{◌≡◌, ℕ, List, ◌++◌, length, false, Some, slice_get, ap, subst, ◌∙◌, arith, append_assoc, Waiting, next_xid, waiting_at, waits_early, Entry, Call, Op, SpellsCallBy, program_of, UnderWay, Machine, Lane, Purpose, Busy, Setup, View, calls_for, in_flight, IsUnbegun, Reaches, IsMade, IsOutstanding, IsKnown, calls-some, known-only, reached-count, ExpectLaws, lanes-under-way, reached-lanes, Rows, reached-rows, reached-good}
+use Rattle.core_answers.proofs.Prelude.{◌≡◌, ℕ, List, ◌++◌, length, false, Some, slice_get, ap, subst, ◌∙◌, arith, append_assoc, Waiting, next_xid, waiting_at, waits_early, Entry, Call, Op, SpellsCallBy, program_of, UnderWay, Machine, Lane, Purpose, Busy, Setup, View, calls_for, in_flight, IsUnbegun, Reaches, IsMade, IsOutstanding, calls-some, reached-count, ExpectLaws, lanes-under-way, Rows, reached-rows, reached-good}
+use Rattle.core_facts.proofs.Counting.{IsKnown, known-only}
+use Rattle.core_facts.proofs.LaneMarks.{reached-lanes}
 use Rattle.core_facts.proofs.Tales.{IsExpected}
 use Rattle.nfs_types.specs.declared.program.TheConstants.{NFS_PROGRAM}
 use Rattle.rpc_retry.proofs.Records.{waits_late}
@@ -7,7 +9,7 @@ use Rattle.world_model.specs.declared.message.Call.TheVariants as calls
 use Rattle.core_answers.proofs.asks.Limits.{reached-limit}
 use Rattle.core_answers.proofs.asks.Sendings.{SentFor, NoCall, NoShelf, NoStory, no-laws}
 use Rattle.core_answers.proofs.bonds.OneCall.{IsNfs, one-call}
-use Rattle.core_answers.proofs.refusals.Passing.{Passes}
+use Rattle.core_facts.proofs.Passing.{Passes}
 use Rattle.core_answers.proofs.refusals.Waited.{WaitedAt, SentOf, reached-sent-of, reached-sent-by}
 
 pub nfs-of : (call : Call) → program_of call ≡ NFS_PROGRAM → IsNfs call

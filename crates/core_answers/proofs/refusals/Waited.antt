@@ -1,13 +1,13 @@
 -- Where a call that waits was first sent: it waited in the core's view then, in the same lane, for the operation that is under way there now.
-use Rattle.core_answers.proofs.Prelude.{◌≡◌, ◌<◌, ◌≤◌, ◌⊎◌, inl, inr, ℕ, List, [], ◌∷◌, ◌++◌, length, true, false, nat_eq, Option, Some, None, slice_get, refl, sym, ap, subst, ◌∙◌, arith, append_assoc, cases_lt, length-append, Waiting, failed_after, next_xid, WaitedAs, made_call, waiting_at, without, others_made, others_taken, gone, before_sent, before_failed, Answer, Entry, Began, Answered, Dialed, Executed, Foreign, Flushed, Reboot, Delivered, Failed, Clock, Call, Op, At, proc_of, Ended, UnderWay, At-grow, At-below, At-back, At-cases, Machine, Purpose, Busy, Setup, record_of, counted, View, turn_at, IsUnbegun, StepsTo, Reaches, last_reading, Heard, dropped, replied, sent_now, FailedNow, goes_on, gives_up, failed_now, answered_now, taken_one, reached-since, Rows, rows-stay, same-rows, taken-rows, rows-grow, silent-grow, taken-quiet, not-sent, reached-rows, Stays, begins-stay, hears-for-stay}
+use Rattle.core_answers.proofs.Prelude.{◌≡◌, ◌<◌, ◌≤◌, ◌⊎◌, inl, inr, ℕ, List, [], ◌∷◌, ◌++◌, length, true, false, nat_eq, Option, Some, None, slice_get, refl, sym, ap, subst, ◌∙◌, arith, append_assoc, cases_lt, length-append, Waiting, failed_after, next_xid, WaitedAs, made_call, waiting_at, without, others_made, others_taken, gone, before_sent, before_failed, Answer, Entry, Began, Answered, Dialed, Executed, Foreign, Flushed, Reboot, Delivered, Failed, Clock, Call, Op, At, proc_of, Ended, UnderWay, At-grow, At-below, At-back, At-cases, Machine, Purpose, Busy, Setup, record_of, counted, View, turn_at, IsUnbegun, StepsTo, Reaches, last_reading, Heard, dropped, replied, sent_now, FailedNow, goes_on, gives_up, failed_now, answered_now, taken_one, Rows, rows-stay, same-rows, taken-rows, rows-grow, silent-grow, taken-quiet, not-sent, reached-rows, Stays, begins-stay, hears-for-stay, forget, Anything, passes-any}
 use Rattle.rpc_retry.specs.Held.{Held}
 use Rattle.world_model.specs.declared.entry.Entry.TheVariants.{Sent}
 use Rattle.core_facts.proofs.Cases.{heard, SentNow}
-use Rattle.core_facts.proofs.Owning.{reached-owned}
+use Rattle.core_facts.proofs.Passing.{Passes, passes_fresh, passes_step, passes_lost}
+use Rattle.core_facts.proofs.Owning.{reached-since, reached-owned}
 use borrow.Author.Tests.{eqb-true}
 use Rattle.world_model.specs.Waiting.{FirstSent}
 use Rattle.core_facts.specs.Counted.{IsOfOperation}
-use Rattle.core_answers.proofs.refusals.Passing.{Passes, passes_fresh, passes_step, passes_lost, forget, Anything, passes-any}
 
 -- As the record at a place was sent, a call waited for the lane under the xid, with these bytes.
 pub record WaitedAt (machine_of : ℕ → Op → Machine) (setup : Setup) (h : List Entry) (i xid lane : ℕ) (bytes : List ℕ) : Type 0 where

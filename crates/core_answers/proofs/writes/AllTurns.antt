@@ -1,7 +1,9 @@
 -- Along a history each operation on a file whose call waits is the first in the order of its file.
-use Rattle.core_answers.proofs.Prelude.{◌≡◌, ◌≢◌, ◌+◌, ◌-◌, ◌⊎◌, inl, inr, ℕ, Bool, true, false, List, [], ◌∷◌, ◌++◌, length, Option, Some, None, position, slice_get, slice_set, Result, Err, refl, sym, ap, subst, ◌∙◌, Waiting, waiting_at, Fault, Entry, Began, Reply, Op, said_of, LaneFile, Next, Send, Wait, Done, Shelf, Turn, left, Closing, Putting, Syncing, Truncating, Writing, WalkNext, Mounted, FileMachine, Machine, Opener, PathMachine, machine_of, file_of, slot_taken, begun_at, placed, Starts, Resumes, Takes, Lane, Purpose, State, Busy, Over, Setup, is_busy, IsIdle, with_state, IsRefused, Leads, Stirs, counted, StartsLane, TakesAt, View, turn_at, unmade_turn, in_flight, Counts, counts-calls, begins-unbegun, of_path, path-file, taken_one, Known, lanes-stay, lanes-begin, lanes-under-way, idle-numbers, number_of, at-set, at-push, get-push, to-map, by-place, set-other}
+use Rattle.core_answers.proofs.Prelude.{◌≡◌, ◌≢◌, ◌+◌, ◌-◌, ◌⊎◌, inl, inr, ℕ, Bool, true, false, List, [], ◌∷◌, ◌++◌, length, Option, Some, None, position, slice_get, slice_set, Result, Err, refl, sym, ap, subst, ◌∙◌, Waiting, waiting_at, Fault, Entry, Began, Reply, Op, said_of, LaneFile, Next, Send, Wait, Done, Shelf, Turn, left, Closing, Putting, Syncing, Truncating, Writing, WalkNext, Mounted, FileMachine, Machine, Opener, PathMachine, machine_of, file_of, slot_taken, begun_at, placed, Starts, Resumes, Takes, Lane, Purpose, State, Busy, Over, Setup, is_busy, IsIdle, with_state, IsRefused, Leads, Stirs, counted, StartsLane, TakesAt, View, turn_at, unmade_turn, in_flight, Counts, counts-calls, begins-unbegun, of_path, path-file, taken_one, Known, lanes-stay, lanes-begin, lanes-under-way, at-set, at-push, get-push, by-place, set-other}
 use Rattle.client_shelf.specs.LaneFiles.{added}
 use Rattle.core_facts.proofs.Keeping.{Keeps, taker-one}
+use Rattle.core_facts.proofs.LaneMarks.{idle-numbers, number_of}
+use Rattle.core_facts.proofs.Lists.{to-map}
 use Rattle.file_ops.specs.declared.close_file.Closing.TheVariants as closing
 use Rattle.file_ops.specs.declared.put_file.Putting.TheVariants as putting
 use Rattle.file_ops.specs.declared.sync_file.Syncing.TheVariants as syncing

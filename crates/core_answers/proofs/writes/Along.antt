@@ -1,10 +1,10 @@
 -- What holds of a history and the core's view that goes with it, if each step of a lane and each entry keep it, as long as the session isn't lost.
-use Rattle.core_answers.proofs.Prelude.{◌≡◌, inl, inr, ℕ, List, [], ◌∷◌, ◌++◌, Bool, true, false, cond, nat_eq, Option, Some, None, MatchOption, option_map, position, refl, sym, ap, subst, ◌∙◌, xid_at, Waiting, failed_after, WaitedAs, waiting_at, before_sent, before_failed, Answer, Entry, Began, Answered, Dialed, Executed, Foreign, Flushed, Reboot, Delivered, Failed, Clock, Op, said_of, Shelf, Machine, Purpose, State, Setup, IsFresh, is_busy, IsIdle, numbers_of, Stirs, Moves, moves_none, moves_more, counted, StartsLane, BeginsIf, TakesAt, View, IsUnbegun, StepsTo, Reaches, begins, goes, loses, last_reading, Heard, dropped, replied, sent_now, FailedNow, goes_on, gives_up, failed_now, answered_now, taken_one, stirs-count, starts-count, hears-count, none-busy, Known, purpose_at, reached-all, LanesKnown, quiet-facts, lanes-stay, lanes-begin, lanes-under-way, Rows, rows-stay, same-rows, rows-grow, silent-grow, taken-quiet, not-sent, taken-rows, stirs-stay, starts-stay, steps-stay}
+use Rattle.core_answers.proofs.Prelude.{◌≡◌, inl, inr, ℕ, List, [], ◌∷◌, ◌++◌, Bool, true, false, cond, nat_eq, Option, Some, None, MatchOption, option_map, position, refl, sym, ap, subst, ◌∙◌, xid_at, Waiting, failed_after, WaitedAs, waiting_at, before_sent, before_failed, Answer, Entry, Began, Answered, Dialed, Executed, Foreign, Flushed, Reboot, Delivered, Failed, Clock, Op, said_of, Shelf, Machine, Purpose, State, Setup, IsFresh, is_busy, IsIdle, numbers_of, Stirs, Moves, moves_none, moves_more, counted, StartsLane, BeginsIf, TakesAt, View, IsUnbegun, StepsTo, Reaches, begins, goes, loses, last_reading, Heard, dropped, replied, sent_now, FailedNow, goes_on, gives_up, failed_now, answered_now, taken_one, stirs-count, starts-count, hears-count, Known, purpose_at, reached-all, LanesKnown, quiet-facts, lanes-stay, lanes-begin, lanes-under-way, Rows, rows-stay, same-rows, rows-grow, silent-grow, taken-quiet, not-sent, taken-rows, stirs-stay, starts-stay, steps-stay}
 use Rattle.rpc_retry.specs.Waiting.{sent, sent_call, failed, failed_call}
 use Rattle.world_model.specs.declared.entry.Entry.TheVariants.{Sent}
 use Rattle.client_core.specs.Steps.{AnswersAt}
 use Rattle.core_facts.proofs.Cases.{heard}
-use Rattle.core_facts.proofs.Counting.{heard-lost}
+use Rattle.core_facts.proofs.Counting.{none-busy, heard-lost}
 
 -- the calls that wait, but for how often they were sent
 pub record SameCalls (old new : List (ℕ × Waiting Purpose)) : Type 0 where

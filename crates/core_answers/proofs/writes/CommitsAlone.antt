@@ -1,5 +1,5 @@
 -- While a COMMIT of a file waits nothing of it is in flight, and no WRITE of it waits.
-use Rattle.core_answers.proofs.Prelude.{◌≡◌, ◌≢◌, ◌≤◌, ◌⊎◌, inl, inr, ℕ, Bool, true, false, List, [], ◌∷◌, Option, Some, None, option_map, slice_get, refl, sym, ap, subst, ◌∙◌, arith, Waiting, waiting_at, of_file, Sent, piece_under, same-or, Entry, Call, Op, LaneFile, Next, Shelf, IsUnused, Closing, Opening, Putting, Saving, Syncing, Truncating, Writing, Mounted, FileMachine, Machine, Opener, PathMachine, machine_of, file_of, Lane, Purpose, Busy, Setup, View, of_writing, of_syncing, of_closing, of_truncating, of_putting, in_flight, Reaches, begins-unbegun, of_path, path-file, calls-some, flies_if, flies_save, flies_write, flies_sync, flies_close, flies_put, flies_file, flies_path, flies_of, Flies, Flown, sender, look_at, keeps-flown, Known, purpose_at, reached-all, lanes-under-way, TaleLaws, Did, reached-good}
+use Rattle.core_answers.proofs.Prelude.{◌≡◌, ◌≢◌, ◌≤◌, ◌⊎◌, inl, inr, ℕ, Bool, true, false, List, [], ◌∷◌, Option, Some, None, option_map, slice_get, refl, sym, ap, subst, ◌∙◌, arith, Waiting, waiting_at, of_file, Sent, piece_under, same-or, Entry, Call, Op, LaneFile, Next, Shelf, IsUnused, Closing, Opening, Putting, Saving, Syncing, Truncating, Writing, Mounted, FileMachine, Machine, Opener, PathMachine, machine_of, file_of, Lane, Purpose, Busy, Setup, View, of_writing, of_syncing, of_closing, of_truncating, of_putting, in_flight, Reaches, begins-unbegun, of_path, path-file, calls-some, flies_if, flies_save, flies_write, flies_sync, flies_close, flies_put, flies_file, flies_path, flies_of, Flies, Flown, sender, look_at, keeps-flown, Known, purpose_at, reached-all, lanes-under-way, TaleLaws, reached-good, Did}
 use Rattle.write_back.specs.Files.{HasNoPiece}
 use Rattle.core_facts.proofs.Flown.{flies_state}
 use Rattle.core_facts.proofs.Keeping.{lane-count, reached-kept}

@@ -13,7 +13,7 @@ use Rattle.core_answers.specs.bonds.Kept.{HadShown}
 use Rattle.core_answers.proofs.bonds.AttrsShown.{time-grows, answered-last}
 use Rattle.core_answers.proofs.bonds.Executions.{answered-ran}
 use Rattle.core_answers.proofs.bonds.FileCalls.{Asking}
-use Rattle.core_answers.proofs.bonds.Keeping.{AskLaws, WasTold}
+use Rattle.core_answers.proofs.engine.Told.{AskLaws, WasTold}
 use Rattle.core_answers.proofs.bonds.NamesShown.{awaits-asks}
 use Rattle.core_answers.proofs.bonds.Timed.{MadeAfter, reached-timed}
 use Rattle.core_answers.proofs.pages.FilePages.{IsSentAs}

@@ -28,7 +28,8 @@ use Rattle.core_facts.proofs.Awaited.{WalkAwaits, OwnOr, PairOr}
 use Rattle.core_facts.proofs.NamesAwaited.{RemoveAwaits, NameAwaits}
 use Rattle.core_facts.proofs.NamesKept.{Told, go-told, walk-told}
 use Rattle.core_answers.proofs.bonds.AttrsShown.{ShownIn, fresh-attrs}
-use Rattle.core_answers.proofs.bonds.Keeping.{BondLaws, ToldSince, IsLate, take-early, take-whole, reached-known}
+use Rattle.core_answers.proofs.bonds.Keeping.{BondLaws, reached-known}
+use Rattle.core_answers.proofs.engine.Told.{ToldSince, IsLate, take-early, take-whole}
 use Rattle.core_answers.proofs.bonds.Learnt.{Good, good-as}
 use Rattle.core_answers.proofs.bonds.MachineAttrs.{attrs-resumes}
 use Rattle.core_answers.proofs.bonds.NamesShown.{NamedIn, told-named, none-kept}
@@ -522,5 +523,5 @@ pub walks-led : WalksLed
 walks-led m setup most h v lasts r at number machine there x op under =
     let known = reached-known m setup Both both-asks (Kept most) (Story most m.root) (led-laws m most)
     (λ k w new. (fresh-attrs setup most k w.shelf.attrs lasts new.attrs, none-kept k w.shelf.names new.names)) h v r in
-    let story : AllLed most m.root h x (Busy machine) = (known.lanes at (record { number = number; state = Busy machine }) there).1 x op under in
+    let story : AllLed most m.root h x (Busy machine) = ((known.lanes at (record { number = number; state = Busy machine }) there).1 x op under).story in
     each-map (IsLed most m.root h x) (Stands h most x m.root) (λ w s. record { few = s.few; leads = leads-by h most x m.root (take (length w.path - w.spot.left) w.path) w.spot.dir s.led }) machine story.1

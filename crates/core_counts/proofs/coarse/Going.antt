@@ -1,13 +1,12 @@
 -- What holds of a history and the core's view that goes with it, as `core_session.proofs.saves.HearingAlong`; at each step of a lane it is
 -- known how the session goes on to where a history goes with it; and where an entry leaves lanes and shelf as they are, that it leaves the next xid too.
-use Rattle.core_counts.proofs.Prelude.{◌≡◌, inl, inr, ℕ, List, [], ◌∷◌, ◌++◌, Bool, true, false, Option, Some, None, MatchOption, position, refl, sym, ap, subst, ◌∙◌, xid_at, Waiting, failed_after, next_xid, waiting_at, awaited, at_sent, before_sent, Answer, Entry, Began, Answered, Dialed, Sent, Executed, Foreign, Flushed, Reboot, Delivered, Failed, Clock, Op, said_of, Shelf, Machine, Fits, Purpose, State, Setup, IsFresh, is_busy, IsIdle, numbers_of, Stirs, moves_none, moves_more, counted, StartsLane, BeginsIf, TakesAt, AnswersAt, View, MaySetUp, IsSetUp, StepsTo, HearsRecord, Reaches, begins, goes, loses, last_reading, dropped, replied, sent_now, FailedNow, goes_on, gives_up, failed_now, answered_now, taken_one, none-busy, heard-lost, Known, purpose_at, reached-all, LanesKnown, quiet-facts, lanes-stay, lanes-begin, lanes-under-way, Rows, rows-stay, same-rows, rows-grow, silent-grow, taken-quiet, not-sent, taken-rows, SameCalls, sent-purposes, stirs-stay, starts-stay, steps-stay}
+use Rattle.core_counts.proofs.Prelude.{◌≡◌, inl, inr, ℕ, List, [], ◌∷◌, ◌++◌, Bool, true, false, Option, Some, None, MatchOption, position, refl, sym, ap, subst, ◌∙◌, xid_at, Waiting, failed_after, next_xid, waiting_at, awaited, at_sent, before_sent, Answer, Entry, Began, Answered, Dialed, Sent, Executed, Foreign, Flushed, Reboot, Delivered, Failed, Clock, Op, said_of, Shelf, Machine, Fits, Purpose, State, Setup, IsFresh, is_busy, IsIdle, numbers_of, Stirs, moves_none, moves_more, counted, StartsLane, BeginsIf, TakesAt, AnswersAt, View, MaySetUp, IsSetUp, StepsTo, HearsRecord, Reaches, begins, goes, loses, last_reading, dropped, replied, sent_now, FailedNow, goes_on, gives_up, failed_now, answered_now, taken_one, none-busy, heard-lost, Known, purpose_at, reached-all, LanesKnown, quiet-facts, lanes-stay, lanes-begin, lanes-under-way, Rows, rows-stay, same-rows, rows-grow, silent-grow, taken-quiet, not-sent, taken-rows, SameCalls, sent-purposes, stirs-stay, starts-stay, steps-stay, IsPlain}
 use Rattle.rpc_retry.proofs.Records.{before_failed}
 use Rattle.client_core.specs.Steps.{Moves}
 use Rattle.core_facts.proofs.Cases.{Heard, heard}
 use Rattle.core_facts.proofs.Counting.{stirs-count, starts-count, hears-count}
 use Rattle.core_answers.proofs.writes.Along.{failed-purposes}
 use Rattle.core_facts.specs.InFlight.{IsUnbegun}
-use Rattle.core_session.proofs.saves.HearingAlong.{IsPlain}
 use Rattle.core_counts.proofs.coarse.Onward.{Ahead, on-same, ahead-of}
 
 -- It holds of a fresh core; each step of a lane keeps it, also where an operation begins or a reply comes, each answer that is noted, and each

@@ -1,12 +1,13 @@
 -- An operation takes what came of its call, and the machine hears what the record says.
 use Rattle.core_counts.proofs.Prelude.{◌⊎◌, ◌≡◌, ◌≢◌, inl, inr, ◌≤◌, ◌<◌, ◌+◌, ◌-◌, ℕ, false, List, Option, Some, None, position, Result, refl, sym, ap, subst, ◌∙◌, arith, Waiting, next_xid, made_call, waiting_at, waits_early, others_made, gone, Entry, Fault, Call, Reply, Op, SpellsCallBy, proc_of, said_of, Pending, of_file, OnFile, at_xid, landed, FilePending, fly_at, piece_under, Next, Shelf, Turn, Saving, IsReady, IsUnused, Mounted, Machine, machine_of, Fits, Purpose, Busy, Setup, is_busy, with_state, record_of, Makes, Refuses, TakesAt, View, turn_at, in_flight, Reaches, begins-unbegun, taken_one, flies_of, Known, taker-is, taker-one, Rows, same-rows, taken-rows, reached-good, written_file, Expects, expects-laws, Saves, one-call, nfs-of, CallFits, Asks, commits_of, fits-laws, After, tales, Free, unused-next, waits-late, SameUnder, Basis, basis-ready, sent-piece, Has, Wholly, takes-has, call_of, EachSound, Moves, Hears, MakesLong, Shown, ShownCall}
 use Rattle.write_back.specs.Pieces.{Sent}
-use Rattle.core_facts.proofs.Tales.{TaleLaws, Did}
+use Rattle.core_facts.proofs.Tales.{TaleLaws}
 use Rattle.core_answers.proofs.asks.CallsAwaited.{Names}
 use Rattle.core_answers.proofs.writes.PiecesCarried.{unmade-under}
 use Rattle.core_answers.proofs.writes.Under.{as_xid, renamed-under}
 use Rattle.core_session.proofs.saves.Taking.{sent-is}
 use Rattle.core_counts.specs.coarse.Runs.{heard_as}
+use Rattle.core_facts.proofs.Telling.{Did}
 use Rattle.std.proofs.lemmas.Bool.{ne_eqb}
 use Rattle.write_back.specs.declared.change.Change.TheVariants as by_change
 use Rattle.client_shelf.specs.declared.next.Next.TheVariants as nexts

@@ -141,7 +141,8 @@ module _ (m : Mounted) (terms : Terms) (setup : Setup) (h : List Entry) (v : Vie
       w.before w.old w.reached w.at (record { number = w.waiting.purpose.lane; state = Busy w.machine }) w.busy).1 w.x w.op w.under_way slot from size is-read
 
   runs : RunsLong w.before w.machine
-  runs = ((reached-long m setup w.before w.old w.reached).lanes w.at (record { number = w.waiting.purpose.lane; state = Busy w.machine }) w.busy).1 w.x w.op w.under_way slot from size is-read
+  runs = (((reached-long m setup w.before w.old w.reached).lanes w.at (record { number = w.waiting.purpose.lane; state = Busy w.machine }) w.busy).1 w.x w.op w.under_way).story slot from size
+      is-read
 
   long : LongIn w.before ranged.of.reading
   long = subst (λ (q : ReadFile). LongIn w.before q.reading) (same-read runs.of ranged.of (sym runs.is ∙ ranged.is)) runs.long

@@ -1,5 +1,6 @@
 -- Of each record that was sent for an operation: the view before it, in which no answer was ready, and how the session went on from there.
-use Rattle.core_session.proofs.Prelude.{◌≡◌, ◌<◌, ◌⊎◌, inl, inr, ℕ, List, [], ◌∷◌, ◌++◌, length, Bool, true, false, Some, None, slice_get, refl, sym, ap, subst, ◌∙◌, arith, append_assoc, next_xid, waiting_at, at_sent, waits_early, Entry, Began, Sent, Op, NoneBegan, At, At-below, At-back, At-cases, Machine, Lane, Busy, Setup, SendsIf, View, calls_for, IsOfOperation, in_flight, IsUnbegun, StepsTo, Reaches, SentNow, sent_now, IsKnown, calls-some, known-only, reached-count, lanes-under-way, reached-lanes, reached-owned, Rows, reached-rows, Notes, NoneReady, notes-reach}
+use Rattle.core_session.proofs.Prelude.{◌≡◌, ◌<◌, ◌⊎◌, inl, inr, ℕ, List, [], ◌∷◌, ◌++◌, length, Bool, true, false, Some, None, slice_get, refl, sym, ap, subst, ◌∙◌, arith, append_assoc, next_xid, waiting_at, at_sent, waits_early, Entry, Began, Sent, Op, NoneBegan, At, At-below, At-back, At-cases, Machine, Lane, Busy, Setup, SendsIf, View, calls_for, IsOfOperation, in_flight, IsUnbegun, StepsTo, Reaches, SentNow, sent_now, calls-some, known-only, lanes-under-way, reached-lanes, reached-owned, Rows, reached-rows, Notes, NoneReady, notes-reach}
+use Rattle.core_facts.proofs.Counting.{IsKnown, reached-count}
 use Rattle.core_facts.specs.Notes.{notes_fresh, notes_step, notes_lost, ComesAfter}
 use Rattle.rpc_retry.proofs.Records.{waits_late}
 use Rattle.core_answers.proofs.asks.Limits.{reached-limit}

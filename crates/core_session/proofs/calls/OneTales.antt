@@ -1,5 +1,5 @@
 -- Which calls operations of one call ask for: as `core_facts` has it, with its laws for whoever joins them with others.
-use Rattle.core_session.proofs.Prelude.{◌≡◌, ◌-◌, ℕ, List, [], ◌∷◌, ◌++◌, length, take, Result, refl, sym, ap, subst, arith, All-nil, Fault, Entry, Began, Call, Reply, Op, Terms, length_last, Next, Shelf, Turn, walk_of, Mounted, Machine, IsAsked, front_of, machine_of, Starts, Setup, Awaits, awaits-laws, begins-unbegun, counts-calls, all-starts, all-resumes, all-takes, IsNameTold, NamesTold, names-later, WalkLeads, heard-tells, ThenOf, AskedOf, IsTold, AsksFor, TaleLaws, in_flight, IsCounted, Counts}
+use Rattle.core_session.proofs.Prelude.{◌≡◌, ◌-◌, ℕ, List, [], ◌∷◌, ◌++◌, length, take, Result, refl, sym, ap, subst, arith, All-nil, Fault, Entry, Began, Call, Reply, Op, Terms, length_last, Next, Shelf, Turn, walk_of, Mounted, Machine, IsAsked, front_of, machine_of, Starts, Setup, Awaits, awaits-laws, begins-unbegun, counts-calls, all-starts, all-resumes, all-takes, IsNameTold, NamesTold, names-later, WalkLeads, heard-tells, ThenOf, AskedOf, IsTold, TaleLaws, AsksFor, in_flight, IsCounted, Counts}
 use Rattle.world_model.specs.declared.op.Op.TheVariants as ops
 use Rattle.world_model.specs.Leads as leads
 use Rattle.client_shelf.specs.declared.next.Next.TheVariants as nexts

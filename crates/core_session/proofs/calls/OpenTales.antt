@@ -1,5 +1,5 @@
 -- An open, step by step, and for which call it waits: as the topic `rows` of `core_answers` has it, with its laws for whoever joins them with others.
-use Rattle.core_session.proofs.Prelude.{◌≡◌, ◌≤◌, ◌-◌, ◌⊎◌, inl, inr, ℕ, zero, suc, Bool, true, false, List, [], ◌∷◌, ◌++◌, length, take, drop, slice_get, Option, Some, None, Result, refl, sym, ap, subst, ◌∙◌, arith, append_assoc, if◌then◌else◌, All-nil, Attr, Mode, Answer, Fault, Entry, Began, Call, Reply, Op, Asks, look_up, create_unchecked, Asked, Rooted, PlaceOf, Terms, IsDelivered, Asked-grow, Asked-wide, length_last, Next, Shelf, Turn, Opening, OpeningStep, Walk, walk_of, Mounted, Machine, PathMachine, IsNamed, front_of, last_of, machine_of, file_of, Starts, Resumes, Takes, State, Busy, Setup, of_name, of_walk, path_by, in_flight, IsCounted, Counts, Awaits, PathOr, awaits-laws, begins-unbegun, counts-calls, WalkAwaits, all-starts, all-resumes, all-takes, IsNameTold, NamesTold, names-later, LeadsTo, leads-from, leads-later, WalkLeads, IsHeard, heard-tells, front-last, ends-later, ThenOf, AskedOf, IsTold, IsQuiet, AsksFor, TaleLaws}
+use Rattle.core_session.proofs.Prelude.{◌≡◌, ◌≤◌, ◌-◌, ◌⊎◌, inl, inr, ℕ, zero, suc, Bool, true, false, List, [], ◌∷◌, ◌++◌, length, take, drop, slice_get, Option, Some, None, Result, refl, sym, ap, subst, ◌∙◌, arith, append_assoc, if◌then◌else◌, All-nil, Attr, Mode, Answer, Fault, Entry, Began, Call, Reply, Op, Asks, look_up, create_unchecked, Asked, Rooted, PlaceOf, Terms, IsDelivered, Asked-grow, Asked-wide, length_last, Next, Shelf, Turn, Opening, OpeningStep, Walk, walk_of, Mounted, Machine, PathMachine, IsNamed, front_of, last_of, machine_of, file_of, Starts, Resumes, Takes, State, Busy, Setup, of_name, of_walk, path_by, in_flight, IsCounted, Counts, Awaits, PathOr, awaits-laws, begins-unbegun, counts-calls, WalkAwaits, all-starts, all-resumes, all-takes, IsNameTold, NamesTold, names-later, LeadsTo, leads-from, leads-later, WalkLeads, IsHeard, heard-tells, front-last, ends-later, ThenOf, AskedOf, IsTold, TaleLaws, IsQuiet, AsksFor}
 use Rattle.claims.specs.Asks.{create_guarded}
 use Rattle.core_facts.specs.InFlight.{of_file}
 use Rattle.core_facts.proofs.Leading.{walk-later}

@@ -1,6 +1,8 @@
 -- At each record that was sent: the view before it, the call that waited, and the operation of that call.
-use Rattle.core_session.proofs.Prelude.{◌+◌, ◌≡◌, ◌<◌, ◌≤◌, ◌⊎◌, inl, inr, ℕ, List, [], ◌∷◌, ◌++◌, length, Bool, true, false, Some, None, slice_get, refl, sym, ap, subst, ◌∙◌, arith, append_assoc, Waiting, next_xid, waiting_at, at_sent, waits_early, Entry, Began, Answered, Dialed, Sent, Executed, Foreign, Flushed, Reboot, Delivered, Failed, Clock, Call, Op, NoneBegan, At, SpellsCall, SpellsCallBy, UnderWay, At-below, At-back, At-cases, Shelf, Machine, Lane, Purpose, State, Busy, Setup, SendsIf, View, calls_for, IsOfOperation, in_flight, IsUnbegun, StepsTo, Reaches, begins, goes, loses, SentNow, sent_now, IsKnown, calls-some, known-only, reached-count, ExpectLaws, lanes-under-way, reached-lanes, reached-owned, Rows, reached-rows, TaleLaws, IsExpected, reached-good, IsNfs, one-call, NoCall, NoShelf, NoStory, no-laws, SentFor}
+use Rattle.core_session.proofs.Prelude.{◌+◌, ◌≡◌, ◌<◌, ◌≤◌, ◌⊎◌, inl, inr, ℕ, List, [], ◌∷◌, ◌++◌, length, Bool, true, false, Some, None, slice_get, refl, sym, ap, subst, ◌∙◌, arith, append_assoc, Waiting, next_xid, waiting_at, at_sent, waits_early, Entry, Began, Answered, Dialed, Sent, Executed, Foreign, Flushed, Reboot, Delivered, Failed, Clock, Call, Op, NoneBegan, At, SpellsCall, SpellsCallBy, UnderWay, At-below, At-back, At-cases, Shelf, Machine, Lane, Purpose, State, Busy, Setup, SendsIf, View, calls_for, IsOfOperation, in_flight, IsUnbegun, StepsTo, Reaches, begins, goes, loses, SentNow, sent_now, calls-some, known-only, lanes-under-way, reached-lanes, reached-owned, Rows, reached-rows, TaleLaws, IsExpected, reached-good, IsNfs, one-call, NoCall, NoShelf, NoStory, no-laws, SentFor}
 use Rattle.world_model.specs.Messages.{program_of}
+use Rattle.core_facts.proofs.Counting.{IsKnown, reached-count}
+use Rattle.core_facts.proofs.Expects.{ExpectLaws}
 use Rattle.nfs_types.specs.declared.program.TheConstants.{NFS_PROGRAM}
 use Rattle.rpc_retry.proofs.Records.{waits_late}
 use Rattle.world_model.specs.declared.message.Call.TheVariants as calls

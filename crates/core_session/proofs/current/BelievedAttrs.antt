@@ -1,13 +1,15 @@
 -- Attributes that are believed in a step were shown by a reply, to a call that was first sent at a time which isn't long before.
-use Rattle.core_session.proofs.Prelude.{◌≡◌, ◌<◌, ◌+◌, ℕ, Bool, true, false, List, ◌∷◌, [], ◌++◌, length, Option, Some, None, Result, refl, subst, arith, if◌then◌else◌, nat_tests, Attr, looked, Fault, Entry, Call, Reply, Next, Shelf, Turn, machine_of, Takes, Mounted, Machine, Setup, View, Reaches, HadShown, IsAnswered, LastAtMost}
+use Rattle.core_session.proofs.Prelude.{◌≡◌, ◌<◌, ◌+◌, ℕ, Bool, true, false, List, ◌∷◌, [], ◌++◌, length, Option, Some, None, Result, refl, subst, arith, if◌then◌else◌, nat_tests, Attr, looked, Fault, Entry, Call, Reply, Next, Shelf, Turn, machine_of, Takes, Mounted, Machine, Setup, View, Reaches, IsAnswered, LastAtMost}
 use Rattle.std.proofs.Common.{nat_lt}
 use Rattle.attr_cache.specs.Attrs.{Attrs, kept_of, is_fresh}
+use Rattle.core_answers.specs.bonds.Kept.{HadShown}
 use Rattle.std.specs.Option.{option_and_then}
 use Rattle.attr_cache.specs.declared.kept.KeptAttr.{KeptAttr}
 use Rattle.attr_cache.proofs.Entries.{Believed, All-lookup}
 use Rattle.claims.specs.Shown.{ShowsAttr}
 use Rattle.core_answers.proofs.bonds.AttrsShown.{ShownIn, attr-laws, fresh-attrs, no-story}
-use Rattle.core_answers.proofs.bonds.Keeping.{IsTold, reached-known}
+use Rattle.core_answers.proofs.bonds.Keeping.{reached-known}
+use Rattle.core_answers.proofs.engine.Told.{IsTold}
 use Rattle.core_answers.proofs.bonds.Learnt.{Good}
 use Rattle.core_answers.proofs.bonds.MachineCalls.{Asks, asks-laws}
 

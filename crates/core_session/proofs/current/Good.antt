@@ -1,10 +1,12 @@
 -- Of each open that went well, and of each open and read that is under way: its moment, and what is known of its file since it began.
-use Rattle.core_session.proofs.Prelude.{◌≡◌, ◌≢◌, ◌<◌, ◌≤◌, ◌+◌, ◌-◌, ◌⊎◌, inl, inr, ℕ, List, [], ◌∷◌, ◌++◌, length, take, remove, Bool, true, false, nat_eq, Some, None, option_map, position, slice_get, slice_set, Option, Result, Ok, Err, refl, sym, ap, subst, ◌∙◌, arith, eqb-true, cases_lt, Attr, Stamp, Wcc, stamp_of, looked, xid_at, Waiting, next_xid, made_call, waiting_at, without, at_made, others_made, others_taken, gone, Pages, after_page, Pending, Answer, Fault, Entry, Began, Answered, Delivered, Clock, Call, Reply, Op, At, SpellsReply, proc_of, Modes, Ended, UnderWay, LastReply, of_object, Finds, At-below, At-grow, length_last, said_of, Next, Shelf, Reading, opened_pages, Mounted, Machine, machine_of, Starts, Lane, Purpose, State, Busy, Over, Setup, IsFresh, is_busy, IsIdle, numbers_of, with_state, record_of, Makes, IsRefused, Leads, Stirs, counted, StartsLane, TakesAt, AnswersAt, View, turn_at, unmade_turn, IsSetUp, HearsRecord, Reaches, IsMade, IsUnsent, IsOutstanding, begins-unbegun, taken_one, Known, reached-kept, idle-numbers, number_of, at-set, at-push, at-position, get-push, get-remove, skip, to-map, reached-since, Rows, rows-stay, same-rows, silent-grow, rows-grow, taken-quiet, not-sent, taken-rows, ThenOf, Always, set-other, by-place, under-back, HadShown, LastAtMost, IsOn, ReadOn, IsSentAs, Both, both-asks, SameCalls, IsAged, IsSeen, shown, WasRegular}
+use Rattle.core_session.proofs.Prelude.{◌≡◌, ◌≢◌, ◌<◌, ◌≤◌, ◌+◌, ◌-◌, ◌⊎◌, inl, inr, ℕ, List, [], ◌∷◌, ◌++◌, length, take, remove, Bool, true, false, nat_eq, Some, None, option_map, position, slice_get, slice_set, Option, Result, Ok, Err, refl, sym, ap, subst, ◌∙◌, arith, eqb-true, cases_lt, Attr, Stamp, Wcc, stamp_of, looked, xid_at, Waiting, next_xid, made_call, waiting_at, without, at_made, others_made, others_taken, gone, Pages, after_page, Pending, Answer, Fault, Entry, Began, Answered, Delivered, Clock, Call, Reply, Op, At, SpellsReply, proc_of, Modes, Ended, UnderWay, LastReply, of_object, Finds, At-below, At-grow, length_last, said_of, Next, Shelf, Reading, opened_pages, Mounted, Machine, machine_of, Starts, Lane, Purpose, State, Busy, Over, Setup, IsFresh, is_busy, IsIdle, numbers_of, with_state, record_of, Makes, IsRefused, Leads, Stirs, counted, StartsLane, TakesAt, AnswersAt, View, turn_at, unmade_turn, IsSetUp, HearsRecord, Reaches, IsMade, IsUnsent, IsOutstanding, begins-unbegun, taken_one, Known, reached-kept, idle-numbers, number_of, at-set, at-push, at-position, get-push, get-remove, skip, to-map, Rows, rows-stay, same-rows, silent-grow, rows-grow, taken-quiet, not-sent, taken-rows, ThenOf, Always, set-other, by-place, under-back, LastAtMost, IsOn, ReadOn, IsSentAs, Both, both-asks, SameCalls, IsAged, IsSeen, shown, WasRegular}
 use Rattle.rpc_retry.specs.Held.{Held}
 use Rattle.page_cache.specs.Pages.{opened}
 use Rattle.claims.specs.Slots.{Opens}
 use Rattle.client_core.specs.Steps.{Refuses}
 use Rattle.core_facts.proofs.Stories.{now-told, answered-under}
+use Rattle.core_answers.specs.bonds.Kept.{HadShown}
+use Rattle.core_facts.proofs.Owning.{reached-since}
 use Rattle.nfs_dir_calls.specs.declared.call.DirCall.TheVariants as dir_calls
 use Rattle.nfs_dir_calls.specs.declared.keeping.DirKept.TheVariants as dir_kept
 use Rattle.nfs_file_calls.specs.declared.call.FileCall.TheVariants as file_calls
@@ -22,7 +24,7 @@ use Rattle.core_facts.proofs.SlotGrowth.{ended-back, ended-now, finds-by, finds-
 use Rattle.core_facts.proofs.SlotsAlong.{Plain, plain-laws}
 use Rattle.core_answers.specs.bonds.Ages.{began_at, time_next}
 use Rattle.core_answers.proofs.bonds.AttrsShown.{time-grows}
-use Rattle.core_answers.proofs.bonds.Keeping.{take-early}
+use Rattle.core_answers.proofs.engine.Told.{take-early}
 use Rattle.core_answers.proofs.bonds.Timed.{MadeAfter, reached-timed}
 use Rattle.core_answers.proofs.bonds.MachineCalls.{Asks}
 use Rattle.core_answers.proofs.pages.Keeping as keeping

@@ -1,11 +1,12 @@
 -- On an honest server what a read found are bytes that the file had since its open began.
-use Rattle.core_session.proofs.Prelude.{◌≡◌, ◌<◌, ◌≤◌, ◌+◌, ◌⊎◌, inl, inr, ℕ, suc, Bool, true, false, List, [], ◌∷◌, ◌++◌, length, length-append, take, drop, slice_get, Option, Some, None, refl, sym, ap, subst, ◌∙◌, append_assoc, append-nil, arith, cases_lt, length-take, length-drop, slice_get_within, Stamp, FileCall, FileKept, start_of, Cell, cell_at, byte_of, of_file, Entry, Began, Op, At, Fresh, History, Lawful, Modes, HeldSize, ReadsBytes, Bytes, Entries, Text, InSlot, IsOf, Terms, At-grow, At-one, Numbered, HasStamp, serves, Mounted, machine_of, Setup, View, GoesWith, begins-unbegun, always-later, reached-rows, HadShown, IsAnswered, IsPage, page-grows, IsAged, SeenFrom, WasRegular, RecentThen, IsFound, in_page, in_reply, IsEnd, by_known, by_page, by_reply}
+use Rattle.core_session.proofs.Prelude.{◌≡◌, ◌<◌, ◌≤◌, ◌+◌, ◌⊎◌, inl, inr, ℕ, suc, Bool, true, false, List, [], ◌∷◌, ◌++◌, length, length-append, take, drop, slice_get, Option, Some, None, refl, sym, ap, subst, ◌∙◌, append_assoc, append-nil, arith, cases_lt, length-take, length-drop, slice_get_within, Stamp, FileCall, FileKept, start_of, Cell, cell_at, byte_of, of_file, Entry, Began, Op, At, Fresh, History, Lawful, Modes, HeldSize, ReadsBytes, Bytes, Entries, Text, InSlot, IsOf, Terms, At-grow, At-one, Numbered, HasStamp, serves, Mounted, machine_of, Setup, View, GoesWith, begins-unbegun, always-later, reached-rows, IsAnswered, IsPage, page-grows, IsAged, SeenFrom, WasRegular, RecentThen, IsFound, in_page, in_reply, IsEnd, by_known, by_page, by_reply}
 use Rattle.page_cache.specs.Bytes.{page_at}
 use Rattle.claims.specs.ReadTrue.{HeldByte, Since, each_read, opened}
 use Rattle.world_model.specs.Server.{Listed, IsSound}
 use Rattle.claims.specs.Slots.{Opens}
 use Rattle.law_reads.specs.Kept.{Done}
 use Rattle.law_reads.proofs.KeptBytes.{reads}
+use Rattle.core_answers.specs.bonds.Kept.{HadShown}
 use Rattle.core_session.specs.current.Read.{IsShown}
 use Rattle.nfs_file_calls.specs.declared.call.FileCall.TheVariants as files
 use Rattle.nfs_file_calls.specs.declared.owned.FileKept.TheVariants as kept

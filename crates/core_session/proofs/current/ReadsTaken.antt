@@ -1,5 +1,5 @@
 -- What a read answers, along a history, and since when the server showed so.
-use Rattle.core_session.proofs.Prelude.{◌≡◌, ◌≤◌, ◌+◌, ◌-◌, ◌⊎◌, inl, inr, ℕ, Bool, true, false, List, [], ◌∷◌, ◌++◌, length, Option, Some, None, Result, Ok, Err, refl, sym, ap, subst, ◌∙◌, append_assoc, arith, Attr, stamp_of, of_object, IsAnswered, LastAtMost, Mode, Opened, Stamp, Pages, known_of, Pending, Fault, Entry, Began, Call, Reply, Op, Modes, Ended, IsOf, Terms, At-grow, At-below, Next, Shelf, Turn, ReadFile, Repeat, Phase, Reading, place_after, nothing_of, opened_pages, machine_of, Mounted, FileMachine, Machine, Starts, Resumes, Takes, State, Busy, Over, Setup, View, GoesWith, may, Held, Given, is-given, held-begins, always-later, IsHeld, held-grow, ThenOf, answered-last, RecentThen, IsFound, in_page, in_reply, IsEnd, by_known, by_page, by_reply, IsAged, IsSeen, SeenFrom, shown, WasRegular, ReadOn, IsOn, ReadAwaits, Both, both-asks, Good, quiet-good, page-grows, from-start}
+use Rattle.core_session.proofs.Prelude.{◌≡◌, ◌≤◌, ◌+◌, ◌-◌, ◌⊎◌, inl, inr, ℕ, Bool, true, false, List, [], ◌∷◌, ◌++◌, length, Option, Some, None, Result, Ok, Err, refl, sym, ap, subst, ◌∙◌, append_assoc, arith, Attr, stamp_of, of_object, IsAnswered, LastAtMost, Mode, Opened, Stamp, Pages, known_of, Pending, Fault, Entry, Began, Call, Reply, Op, Modes, Ended, IsOf, Terms, At-grow, At-below, Next, Shelf, Turn, ReadFile, Repeat, Phase, Reading, place_after, nothing_of, opened_pages, machine_of, Mounted, FileMachine, Machine, Starts, Resumes, Takes, State, Busy, Over, Setup, View, GoesWith, may, Held, Given, is-given, held-begins, always-later, IsHeld, held-grow, ThenOf, answered-last, RecentThen, IsFound, in_page, in_reply, IsEnd, by_known, by_page, by_reply, IsAged, IsSeen, SeenFrom, shown, WasRegular, ReadOn, IsOn, ReadAwaits, Both, both-asks, Good, quiet-good, page-grows, from-start, HasPassed, RunsIn}
 use Rattle.file_ops.specs.Base.{Bytes}
 use Rattle.core_session.specs.current.Read.{WasPast, IsShown, own, served, empty, PassedThen, ReadShown}
 use Rattle.core_answers.proofs.pages.PageCalls.{PageAwaits, PartAwaits}
@@ -25,7 +25,7 @@ use Rattle.core_answers.specs.pages.Read.{WasPending}
 use Rattle.core_session.proofs.current.FedPages as fed
 use Rattle.core_session.proofs.current.Good as marked
 use Rattle.core_session.proofs.current.Along.{KeepsMoments, of-moments}
-use Rattle.core_session.proofs.current.Keeping.{HasPassed, WasTaken, RunsIn, BondLaws}
+use Rattle.core_session.proofs.current.Keeping.{WasTaken, BondLaws}
 use Rattle.core_session.proofs.current.Answered.{Unwatched, nothing-watched, laws-plain}
 use Rattle.core_session.proofs.shown.Following.{reached-answered}
 use Rattle.core_session.proofs.room.Onward as onward

@@ -1,5 +1,6 @@
 -- On an honest server that gives each change another stamp, a file that has a stamp again had it all the time.
-use Rattle.core_session.proofs.Prelude.{◌≡◌, ◌≤◌, ◌<◌, inl, inr, ℕ, zero, suc, Bool, true, false, ◌&&◌, ◌==◌, List, length, Some, refl, sym, ap, subst, ◌∙◌, arith, cases_lt, eq-eqb, Time, Stamp, stamp_of, Fresh, History, Lawful, Holds, Bytes, Entries, Text, Object, HasStamp}
+use Rattle.core_session.proofs.Prelude.{◌≡◌, ◌≤◌, ◌<◌, inl, inr, ℕ, zero, suc, Bool, true, false, ◌&&◌, ◌==◌, List, length, Some, refl, sym, ap, subst, ◌∙◌, arith, cases_lt, Time, Stamp, stamp_of, Fresh, History, Lawful, Holds, Bytes, Entries, Text, Object, HasStamp}
+use Rattle.std.proofs.lemmas.Bool.{eq-eqb}
 use Rattle.nfs_types.specs.Stamps.{same_time, same_stamp}
 use Rattle.world_model.specs.Fresh.{file_stamp}
 use Rattle.world_model.specs.Server.{Listed}

@@ -1,9 +1,12 @@
 -- Along a history each call that waits was put off at as many different places of its operation as it was made before; and there are no more calls that are made
 -- again than calls that wait.
-use Rattle.core_session.proofs.Prelude.{◌≡◌, ◌≢◌, ◌<◌, ◌≤◌, ◌+◌, ◌-◌, ◌⊎◌, inl, inr, ℕ, List, [], ◌∷◌, ◌++◌, length, Bool, true, false, nat_eq, Option, Some, None, option_map, position, Result, Ok, Err, refl, sym, ap, subst, ◌∙◌, arith, eqb-true, eqb-false, xid_at, Waiting, next_xid, made_call, waiting_at, without, waits_early, at_made, others_made, others_taken, gone, Fault, Entry, Began, Answered, Sent, Delivered, Call, Reply, Op, SpellsCall, SpellsCallBy, proc_of, UnderWay, RefusesSo, jukebox, FirstSent-grow, At-grow, At-below, At-back, At-last, length_last, said_of, Says, Next, Send, Wait, Done, Repeat, Shelf, goes_again, Mounted, Machine, machine_of, Purpose, Busy, Setup, is_busy, IsIdle, with_state, record_of, Makes, Leads, Stirs, counted, StartsLane, TakesAt, View, turn_at, unmade_turn, in_flight, Counts, calls_for, HearsRecord, Reaches, IsMade, IsOutstanding, Tried, unsent, counts-calls, begins-unbegun, taken_one, calls-some, known-only, was-sent, says-of, Known, purpose_at, lanes-under-way, at-position, reached-since, Rows, same-rows, rows-grow, silent-grow, taken-quiet, not-sent, taken-rows, made-known, made-asked, AskedOf, under-back, IsExpected, reached-good, ExpectLaws, Expects, expects-laws, NoCall, NoShelf, NoStory, no-laws, IsPiece, CallFaults, one-call, CallFits, fits-laws, SameCalls, machine-fits}
+use Rattle.core_session.proofs.Prelude.{◌≡◌, ◌≢◌, ◌<◌, ◌≤◌, ◌+◌, ◌-◌, ◌⊎◌, inl, inr, ℕ, List, [], ◌∷◌, ◌++◌, length, Bool, true, false, nat_eq, Option, Some, None, option_map, position, Result, Ok, Err, refl, sym, ap, subst, ◌∙◌, arith, eqb-true, eqb-false, xid_at, Waiting, next_xid, made_call, waiting_at, without, waits_early, at_made, others_made, others_taken, gone, Fault, Entry, Began, Answered, Sent, Delivered, Call, Reply, Op, SpellsCall, SpellsCallBy, proc_of, UnderWay, RefusesSo, jukebox, FirstSent-grow, At-grow, At-below, At-back, At-last, length_last, said_of, Says, Next, Send, Wait, Done, Repeat, Shelf, goes_again, Mounted, Machine, machine_of, Purpose, Busy, Setup, is_busy, IsIdle, with_state, record_of, Makes, Leads, Stirs, counted, StartsLane, TakesAt, View, turn_at, unmade_turn, in_flight, Counts, calls_for, HearsRecord, Reaches, IsMade, IsOutstanding, Tried, unsent, counts-calls, begins-unbegun, taken_one, calls-some, known-only, was-sent, says-of, Known, purpose_at, lanes-under-way, at-position, Rows, same-rows, rows-grow, silent-grow, taken-quiet, not-sent, taken-rows, AskedOf, under-back, IsExpected, reached-good, Expects, expects-laws, NoCall, NoShelf, NoStory, no-laws, IsPiece, CallFaults, one-call, CallFits, fits-laws, SameCalls, machine-fits}
 use Rattle.claims.specs.PageRules.{refuses, breaks}
 use Rattle.client_shelf.specs.Busy.{repeats_after}
 use Rattle.core_facts.proofs.Counting.{none-idle}
+use Rattle.core_facts.proofs.Rows.{made-known, made-asked}
+use Rattle.core_facts.proofs.Owning.{reached-since}
+use Rattle.core_facts.proofs.Expects.{ExpectLaws}
 use Rattle.world_model.specs.declared.answer.Fault.TheVariants as faults
 use Rattle.world_model.specs.Heard.{Heard, Refuses}
 use Rattle.client_shelf.specs.Repeats.{times_of, ended, repeated, answered as answered_table}

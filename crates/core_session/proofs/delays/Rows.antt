@@ -8,7 +8,7 @@ use Rattle.core_session.specs.outcomes.Refusals.{MakesNoRoom}
 use Rattle.core_session.proofs.outcomes.OwnAsks.{asks-or-rooms, own-last}
 use Rattle.core_session.proofs.outcomes.RoomRows.{under}
 use Rattle.core_session.specs.delays.Busy.{BusyRowsShown, BusyForRoom, BusyRowsRoomed}
-use Rattle.core_answers.proofs.refusals.Passing.{Anything, passes-any}
+use Rattle.core_facts.proofs.Passing.{Anything, passes-any}
 use Rattle.core_session.proofs.delays.Puts.{not-few}
 use Rattle.core_session.proofs.delays.Story.{OffRefusal, off-refused}
 

@@ -1,8 +1,11 @@
 -- An operation is answered with NFS3ERR_JUKEBOX (RFC 1813, section 2.6) only where a record refused so a call that was sent for this very operation, which had been put
 -- off at three places of it before, and isn't the REMOVE of a last close.
-use Rattle.core_session.proofs.Prelude.{◌≡◌, ◌≤◌, ◌<◌, ◌+◌, ◌&&◌, ℕ, List, [], ◌∷◌, ◌++◌, length, Bool, true, false, option_map, Result, Ok, Err, inl, inr, refl, sym, ap, subst, ◌∙◌, arith, nat_lt, eq-eqb, lt-ltb, ltb-false, Waiting, without, Answer, Fault, Entry, Began, Delivered, Call, Reply, Op, Modes, RefusesSo, Ended, jukebox, FirstSent-grow, Answers-grow, length_last, Says, Next, Shelf, Turn, goes_again, CloseFile, Closing, Removal, Mounted, Machine, machine_of, Takes, Purpose, State, Busy, Over, Setup, View, of_closing, in_flight, Reaches, begins-unbegun, FineAnswer, reached-rows, ThenOf, AsksFor, Did, CloseNames, Saves, IsPiece, CallFaults, IsHeardNow, IsUnmadeFault, machine-fits}
+use Rattle.core_session.proofs.Prelude.{◌≡◌, ◌≤◌, ◌<◌, ◌+◌, ◌&&◌, ℕ, List, [], ◌∷◌, ◌++◌, length, Bool, true, false, option_map, Result, Ok, Err, inl, inr, refl, sym, ap, subst, ◌∙◌, arith, nat_lt, lt-ltb, ltb-false, Waiting, without, Answer, Fault, Entry, Began, Delivered, Call, Reply, Op, Modes, RefusesSo, Ended, jukebox, FirstSent-grow, Answers-grow, length_last, Says, Next, Shelf, Turn, goes_again, CloseFile, Closing, Removal, Mounted, Machine, machine_of, Takes, Purpose, State, Busy, Over, Setup, View, of_closing, in_flight, Reaches, begins-unbegun, FineAnswer, reached-rows, ThenOf, AsksFor, Did, IsUnmadeFault, CloseNames, Saves, IsPiece, CallFaults, machine-fits}
+use Rattle.std.proofs.lemmas.Bool.{eq-eqb}
 use Rattle.claims.specs.PageRules.{RefusedSo, refuses}
 use Rattle.client_shelf.specs.Busy.{is_busy}
+use Rattle.core_facts.proofs.Telling.{IsHeardNow, IsSeenBy, IsToldOf, CameOf, heard_of, unmade, TellLaws, reached-answered-by}
+use Rattle.core_facts.proofs.Passing.{Passes, forget}
 use Rattle.world_model.specs.declared.answer.Answer.TheVariants as answers
 use Rattle.world_model.specs.declared.answer.Fault.TheVariants as faults
 use Rattle.world_model.specs.declared.op.Op.TheVariants as ops
@@ -14,13 +17,11 @@ use Rattle.core_answers.proofs.answers.Writing.{written-reached}
 use Rattle.core_answers.proofs.refusals.FitAll as one
 use Rattle.core_answers.proofs.refusals.FitFiles.{FitsClose}
 use Rattle.core_answers.proofs.refusals.Refused as refused
-use Rattle.core_answers.proofs.refusals.Passing.{Passes, forget}
 use Rattle.core_answers.proofs.refusals.Refused.{IsClose, NoRemoval, SentSo}
 use Rattle.core_answers.proofs.refusals.Replied.{Given}
 use Rattle.core_answers.proofs.refusals.SentCalls.{sent-by-later}
 use Rattle.core_session.proofs.delays.AllSteps as steps
 use Rattle.core_session.proofs.delays.Delays.{Delayed, Calls, calls-laws, Off, off-own, off-given, off-evident, reached-delayed}
-use Rattle.core_session.proofs.delays.Hearing.{IsSeen, IsToldOf, CameOf, heard_of, unmade, SlotLaws, reached-answered}
 use Rattle.core_session.proofs.delays.Limits.{any-fits, calm-takes}
 use Rattle.core_session.proofs.delays.Puts.{Puts, puts-later}
 use Rattle.core_session.proofs.delays.Tables.{left, count, ended-is, times-is, IsWaiting, left-apart, left-each, few-repeats, fewer, without-waits}
@@ -235,7 +236,7 @@ module _ (m : Mounted) (setup : Setup) (G : List Entry → View → Type 0) wher
 
     took-step : CameOf Seen Calls NoWait h x op machine sent turn came old → StepsSo h x op next new
     took-step (heard_of k) = told-step k
-    took-step (unmade call e fault is u) = call-step call 0 [] e (λ reply ok. absurd (let no_way : ◌≡◌ {A = Result Reply Fault} (Err fault) (Ok reply) = sym is ∙ ok in cc)) (record {
+    took-step (unmade call e fault is u asked_) = call-step call 0 [] e (λ reply ok. absurd (let no_way : ◌≡◌ {A = Result Reply Fault} (Err fault) (Ok reply) = sym is ∙ ok in cc)) (record {
       ok = λ reply ok. absurd (let no_way : ◌≡◌ {A = Result Reply Fault} (Err fault) (Ok reply) = sym is ∙ ok in cc);
       err = λ made same. let which : fault ≡ made = one-fault fault made (sym is ∙ same) in subst (Shown h x op) which (unmade-shown fault u);
       give = λ reply ok. absurd (let no_way : ◌≡◌ {A = Result Reply Fault} (Err fault) (Ok reply) = sym is ∙ ok in cc);
@@ -283,7 +284,7 @@ module _ (m : Mounted) (setup : Setup) (G : List Entry → View → Type 0) wher
   state-later h e x op (Over (answers.Done value)) s = tt
   state-later h e x op (Over (answers.Refused fault)) s = shown-later h e x op fault s
 
-  off-laws : SlotLaws NoLane Seen (machine_of m) setup Calls NoWait NoShelf Story
+  off-laws : TellLaws NoLane Seen (machine_of m) setup Calls NoWait NoShelf Story
   off-laws = record {
     fresh = λ h v up fresh. tt;
     starts = λ h lane line op wsize turn old next new after given_ kept s.
@@ -303,7 +304,7 @@ module _ (m : Mounted) (setup : Setup) (G : List Entry → View → Type 0) wher
 
   -- ---- of each call that waits
 
-  sees : (modes : Modes) → m.nocto ≡ modes.nocto → IsSeen (machine_of m) setup G Seen
+  sees : (modes : Modes) → m.nocto ≡ modes.nocto → IsSeenBy (machine_of m) setup G Seen
   sees modes same h v p found may xid w waits made at machine there x op u from o rec = record {
     was = known.was;
     runs = known.runs;
@@ -348,7 +349,7 @@ module _ (m : Mounted) (setup : Setup) (G : List Entry → View → Type 0) wher
   pub off-refused : (modes : Modes) → m.nocto ≡ modes.nocto → (h : List Entry) (v : View) → Passes (machine_of m) setup G h v → (lane x y : ℕ) (op : Op)
       → Ended h lane x op y (answers.Refused (faults.Nfs jukebox)) → OffRefusal h x y op
   off-refused modes same h v r lane x y op ended_ =
-      let s = reached-answered (machine_of m) (begins-unbegun m) setup G NoLane (λ k w q found number idle. tt) Seen (sees modes same) Calls calls-laws NoWait NoShelf Story off-laws
+      let s = reached-answered-by (machine_of m) (begins-unbegun m) setup G NoLane (λ k w q found number idle. tt) Seen (sees modes same) Calls calls-laws NoWait NoShelf Story off-laws
       h v r lane x op y (answers.Refused (faults.Nfs jukebox)) ended_ in
       let there = s.there in
       subst (λ (k : List Entry). OffRefusal k x y op) (sym s.is) (off-later s.before s.after x (length s.before) y op (omega (arith, there)) (s.story refl))

@@ -1,8 +1,8 @@
 -- The table of the calls that are made again: what is told of each call after one was answered.
-use Rattle.core_session.proofs.Prelude.{◌≡◌, ◌≢◌, ◌≤◌, ◌+◌, ℕ, suc, not, nat_eq, cond, Bool, true, false, List, [], ◌∷◌, ◌++◌, length, Option, Some, None, position, remove, slice_get, refl, sym, ap, subst, ◌∙◌, arith, if◌then◌else◌, option_map_or, eqb-true, eqb-false, eq-eqb, lt-ltb, ltb-true, ltb-false, Waiting, waiting_at, without, others_taken, Repeat, Purpose}
+use Rattle.core_session.proofs.Prelude.{◌≡◌, ◌≢◌, ◌≤◌, ◌+◌, ℕ, suc, not, nat_eq, cond, Bool, true, false, List, [], ◌∷◌, ◌++◌, length, Option, Some, None, position, remove, slice_get, refl, sym, ap, subst, ◌∙◌, arith, if◌then◌else◌, option_map_or, eqb-true, eqb-false, lt-ltb, ltb-true, ltb-false, Waiting, waiting_at, without, others_taken, Repeat, Purpose}
 use Rattle.std.proofs.Common.{nat_lt}
 use Rattle.std.specs.Prelude.{option_and_then}
-use Rattle.std.proofs.lemmas.Bool.{ne_eqb}
+use Rattle.std.proofs.lemmas.Bool.{eq-eqb, ne_eqb}
 use Rattle.std.specs.List.{position_or_len}
 use Rattle.client_shelf.specs.Repeats.{is_call, times_of, ended}
 

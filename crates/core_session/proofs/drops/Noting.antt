@@ -1,7 +1,8 @@
 -- An answer is noted while a close's answer is owed: it was the last one of the file's closes, or another one is owed still.
-use Rattle.core_session.proofs.Prelude.{◌≡◌, ◌≢◌, ◌⊎◌, ◌≤◌, ◌<◌, inl, inr, ℕ, suc, zero, List, [], ◌∷◌, ◌++◌, length, Bool, true, false, nat_eq, Option, Some, None, slice_get, refl, sym, ap, subst, ◌∙◌, arith, eqb-true, eqb-false, cases_lt, Mode, Opened, Opens, IsOpen, Answer, Entry, Began, Answered, Op, At, Ended, AnsweredBefore, UnderWay, InSlot, IsOf, Terms, GivesUp, itself, beside, At-grow, At-last, At-below, At-one, At-cases, length_last, Mounted, machine_of, Lane, State, Busy, Over, Setup, IsOther, numbers_of, AnswersAt, View, AreApart, IsOpenLine, GoesWith, Known, Runs, lanes-under-way, number_of, get-remove, still-there, skip, to-map, Agrees, SlotsAgree, Kind, plainly, kind_of, StoryOf, Slots, reached-slots, ended-grow, some-answer, IsPast, NonePast, IsOwed, WasLeft, IsDropped}
+use Rattle.core_session.proofs.Prelude.{◌≡◌, ◌≢◌, ◌⊎◌, ◌≤◌, ◌<◌, inl, inr, ℕ, suc, zero, List, [], ◌∷◌, ◌++◌, length, Bool, true, false, nat_eq, Option, Some, None, slice_get, refl, sym, ap, subst, ◌∙◌, arith, eqb-true, eqb-false, cases_lt, Mode, Opened, Opens, IsOpen, Answer, Entry, Began, Answered, Op, At, Ended, AnsweredBefore, UnderWay, InSlot, IsOf, Terms, GivesUp, itself, beside, At-grow, At-last, At-below, At-one, At-cases, length_last, Mounted, machine_of, Lane, State, Busy, Over, Setup, IsOther, numbers_of, AnswersAt, View, AreApart, IsOpenLine, GoesWith, Known, Runs, lanes-under-way, number_of, get-remove, still-there, skip, to-map, Agrees, SlotsAgree, Kind, plainly, kind_of, StoryOf, Slots, reached-slots, ended-grow, IsPast, NonePast, IsOwed, WasLeft, IsDropped}
 use Rattle.claims.specs.Touched.{Left}
 use Rattle.core_facts.proofs.Slots.{opening, closing}
+use Rattle.core_facts.proofs.Stories.{some-answer}
 use Rattle.core_session.specs.drops.Dropped.{IsReady, IsRefused, ready, noted}
 use Rattle.std.specs.FinMap as finite
 use Rattle.world_model.specs.declared.answer.Answer.TheVariants as answers

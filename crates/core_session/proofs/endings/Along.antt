@@ -1,9 +1,9 @@
 -- A core that went with a history passed through views from which it went on to the last one; and where a record was sent next, no answer was ready.
 use Rattle.core_session.proofs.Prelude.{◌≡◌, ℕ, List, [], ◌∷◌, ◌++◌, length, refl, sym, ap, subst, ◌∙◌, append_assoc, Entry, Sent, Op, At, At-grow, At-last, At-one, Machine, Setup, View, StepsTo, Reaches, Notes, NoneReady, notes-reach}
 use Rattle.core_facts.specs.Notes.{notes_fresh, notes_step, notes_lost, ComesAfter}
+use Rattle.core_facts.proofs.Passing.{Passes, passes_fresh, passes_step, passes_lost}
 use Rattle.client_core.specs.Steps.{lost}
 use Rattle.core_session.proofs.asked.Onwards.{onward-then, onward-rest}
-use Rattle.core_answers.proofs.refusals.Passing.{Passes, passes_fresh, passes_step, passes_lost}
 use Rattle.core_session.proofs.room.Onward.{Onward, stays, steps, drops}
 
 module _ (machine_of : ℕ → Op → Machine) (setup : Setup) (whole : List Entry) (last : View) where

@@ -1,6 +1,7 @@
 -- All rows of refusals, and that sessions complete: by those of NFS3ERR_JUKEBOX and those of any other fault.
 use Rattle.core_session.proofs.Prelude.{◌≡◌, ◌==◌, ◌++◌, inl, inr, ℕ, Bool, true, false, List, length, refl, sym, subst, arith, eqb-true, eqb-false, Fault, Entry, Op, Asks, IsWriter, Ended, RefusedBy, Terms, jukebox, Mounted, IsAsked, machine_of, Setup, View, IsSession, GoesFrom, Notes, GoesSo}
 use Rattle.claims.specs.RefusalRows.{RefusalRow}
+use Rattle.core_facts.proofs.Passing.{Passes}
 use Rattle.world_model.specs.declared.answer.Answer.TheVariants as answers
 use Rattle.world_model.specs.declared.answer.Fault.TheVariants as faults
 use Rattle.core_session.proofs.calls.Whole.{session}
@@ -16,7 +17,6 @@ use Rattle.core_session.proofs.outcomes.Complete.{own-unless}
 use Rattle.core_session.proofs.outcomes.OwnAsks.{own-last}
 use Rattle.core_session.proofs.outcomes.Refusals.{refusal-rows}
 use Rattle.core_session.proofs.outcomes.RoomRows.{writer-ends}
-use Rattle.core_answers.proofs.refusals.Passing.{Passes}
 use Rattle.core_answers.proofs.refusals.Refused.{OwnRefusalBy, ShownBy, own-later-by, own-refused-by}
 use Rattle.core_session.proofs.room.Onward.{stays}
 

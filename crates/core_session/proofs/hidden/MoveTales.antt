@@ -15,9 +15,10 @@ use Rattle.name_ops.specs.Walking as walking
 use Rattle.op_machines.specs.declared.machine.Machine.TheVariants as machines
 use Rattle.op_machines.specs.declared.name_machine.NameMachine.TheVariants as names
 use Rattle.op_machines.specs.NameSteps as steps
-use Rattle.core_answers.proofs.bonds.Keeping.{ShelfLaws}
+use Rattle.core_answers.proofs.engine.Laws.{FromPlace}
+use Rattle.core_answers.proofs.engine.Told.{ShelfLaws, IsAfter}
 use Rattle.core_answers.proofs.bonds.NamesShown.{awaits-asks}
-use Rattle.core_answers.proofs.paths.Following.{IsAfter, FromPlace, FollowLaws, IsHeld, reached-known}
+use Rattle.core_answers.proofs.paths.Following.{FollowLaws, reached-known}
 
 -- a LOOKUP of the name since the place x gave the file, before the place n
 pub record Gave (h : List Entry) (x n : ℕ) (d name file : List ℕ) : Type 0 where
@@ -401,5 +402,5 @@ pub reached-gave : (m : Mounted) (setup : Setup) (h : List Entry) (v : View) →
     → slice_get v.lanes at ≡ Some (record { number = number; state = Busy machine }) → (x : ℕ) (op : Op) → UnderWay h number x (length h) op → GaveBefore h v number x op machine
 reached-gave m setup h v r at number machine there x op u =
     let k = (reached-known m setup Awaits awaits-asks NoShelf MachineGave NoAnswer (gave-laws m) (λ g w new. tt) h v r).lanes at (record { number = number; state = Busy machine }) there in
-    let held : IsHeld m setup Awaits awaits-asks NoShelf MachineGave NoAnswer (gave-laws m) h v.calls.calls number x op machine = k.1 x op u in
+    let held = k.1 x op u in
     record { place = held.place; gave = held.story; sent = held.sent }

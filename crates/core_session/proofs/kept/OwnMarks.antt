@@ -12,7 +12,7 @@ use Rattle.world_model.specs.Waiting.{Waits}
 use Rattle.client_shelf.specs.declared.next.Next.TheVariants as nexts
 use Rattle.file_ops.specs.Saves as saves
 use Rattle.core_facts.specs.Tries as tries
-use Rattle.core_answers.proofs.refusals.SaidNone.{said-made}
+use Rattle.core_facts.proofs.SaidNone.{said-made}
 use Rattle.core_session.proofs.current.Along.{IsPlain, KeepsHeard}
 use Rattle.core_session.proofs.kept.OwnHeeds.{Awaits, AllHeard, HeardFrom, WasSent, keeps-heard}
 use Rattle.core_session.proofs.current.FedMachines.{pages-starts, pages-resumes, pages-takes}

@@ -1,5 +1,5 @@
 -- What a read has found and what it answers, with any fact of the stamps under which it took pages, and of the views in which its own bytes were pending.
-use Rattle.core_session.proofs.Prelude.{◌≡◌, ◌<◌, ◌≤◌, ◌+◌, ◌-◌, ◌⊎◌, ℕ, Bool, true, List, [], ◌∷◌, ◌++◌, length, Option, Some, None, slice_get, Result, Ok, Attr, Stamp, IsOpen, start_of, Pages, known_of, after_page, Fault, Entry, Call, Reply, Op, Modes, IsOf, Shelf, Turn, Machine, Setup, View, IsAnswered, IsPage, Passes, RecentThen, pending_in}
+use Rattle.core_session.proofs.Prelude.{◌≡◌, ◌<◌, ◌≤◌, ◌+◌, ◌-◌, ◌⊎◌, ℕ, Bool, true, List, [], ◌∷◌, ◌++◌, length, Option, Some, None, slice_get, Result, Ok, Attr, Stamp, IsOpen, start_of, Pages, known_of, after_page, Fault, Entry, Call, Reply, Op, Modes, IsOf, Shelf, Turn, Machine, Setup, View, IsAnswered, IsPage, RecentThen, pending_in, Passes}
 use Rattle.nfs_file_calls.specs.declared.call.FileCall.TheVariants as files
 use Rattle.nfs_file_calls.specs.declared.owned.FileKept.TheVariants as kept
 use Rattle.world_model.specs.declared.message.Call.TheVariants as calls

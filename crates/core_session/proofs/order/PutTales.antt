@@ -1,7 +1,8 @@
 -- Along a history: at the step with a reply in which a put adds its bytes, its path leads to the file that they are added to.
-use Rattle.core_session.proofs.Prelude.{◌≡◌, ◌+◌, ℕ, Bool, true, false, List, [], ◌∷◌, ◌++◌, length, Some, slice_get, Result, refl, sym, subst, arith, All-nil, xid_at, Waiting, waiting_at, Fault, Entry, Began, Delivered, Call, Reply, Op, UnderWay, Asked-wide, said_of, Says, Next, Shelf, Turn, PutFile, Walk, walk_of, Mounted, Machine, PathMachine, IsNamed, front_of, machine_of, Starts, Resumes, Takes, Purpose, State, Busy, Over, Setup, View, HearsRecord, Reaches, IsOutstanding, Tried, unsent, PathOr, begins-unbegun, all-starts, all-resumes, all-takes, was-sent, says-of, IsNameTold, NamesTold, names-later, LeadsTo, IsHeard, heard-tells, reached-since, reached-rows, Did, IsTold, TaleLaws, IsExpected, reached-good, Expects, expects-laws, NoCall}
+use Rattle.core_session.proofs.Prelude.{◌≡◌, ◌+◌, ℕ, Bool, true, false, List, [], ◌∷◌, ◌++◌, length, Some, slice_get, Result, refl, sym, subst, arith, All-nil, xid_at, Waiting, waiting_at, Fault, Entry, Began, Delivered, Call, Reply, Op, UnderWay, Asked-wide, said_of, Says, Next, Shelf, Turn, PutFile, Walk, walk_of, Mounted, Machine, PathMachine, IsNamed, front_of, machine_of, Starts, Resumes, Takes, Purpose, State, Busy, Over, Setup, View, HearsRecord, Reaches, IsOutstanding, Tried, unsent, PathOr, begins-unbegun, all-starts, all-resumes, all-takes, was-sent, says-of, IsNameTold, NamesTold, names-later, LeadsTo, IsHeard, heard-tells, reached-rows, Did, IsTold, TaleLaws, IsExpected, reached-good, Expects, expects-laws, NoCall}
 use Rattle.core_facts.specs.Tries.{runs, ended}
 use Rattle.core_facts.proofs.Hearing.{heard-of}
+use Rattle.core_facts.proofs.Owning.{reached-since}
 use Rattle.world_model.specs.declared.op.Op.TheVariants as ops
 use Rattle.world_model.specs.Heard.{Heard}
 use Rattle.client_shelf.specs.declared.next.Next.TheVariants as nexts

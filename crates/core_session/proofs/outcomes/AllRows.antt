@@ -1,10 +1,10 @@
 -- All rows of refusals but those of NFS3ERR_JUKEBOX; of an operation that makes room, that it was refused so, or its row where it asked for the calls by which it does.
 use Rattle.core_session.proofs.Prelude.{◌≡◌, ◌≢◌, ◌⊎◌, inl, inr, ℕ, List, ◌++◌, length, refl, sym, subst, arith, Refused, Fault, Entry, Call, Op, Asks, IsWriter, Ended, RefusedBy, Terms, jukebox, Mounted, IsAsked, machine_of, Setup, View, begins-unbegun, IsForRoom, GoesSo}
 use Rattle.claims.specs.RefusalRows.{RefusalRow}
+use Rattle.core_facts.proofs.Passing.{Passes}
 use Rattle.world_model.specs.declared.answer.Fault.TheVariants as faults
 use Rattle.world_model.specs.declared.op.Op.TheVariants as ops
 use Rattle.claims.specs.Asks as asks
-use Rattle.core_answers.proofs.refusals.Passing.{Passes}
 use Rattle.core_answers.proofs.refusals.Refused.{OwnRefusalBy, ShownBy, own-later-by, own-refused-by}
 use Rattle.core_answers.proofs.refusals.SentCalls.{SentBy}
 use Rattle.core_session.specs.outcomes.Refusals.{MakesNoRoom}

@@ -1,8 +1,9 @@
 -- Where nothing goes wrong, each operation goes well, or has a reason of its own why not.
-use Rattle.core_session.proofs.Prelude.{◌≡◌, ◌≢◌, ◌≤◌, ◌⊎◌, inl, inr, ℕ, List, ◌++◌, length, refl, sym, ap, subst, ◌∙◌, arith, Answer, Fault, Entry, Delivered, Call, Op, Asks, At, GoesOn, status_of, History, Lawful, IsLost, SpellsCall, info_call, Ended, RefusesSo, RefusedBy, Terms, Mounted, machine_of, Setup, View, Notes, KnowsRoot, IsForRoom, IsNfs, one-call, GoesFrom, CallsAskedBut}
+use Rattle.core_session.proofs.Prelude.{◌≡◌, ◌≢◌, ◌≤◌, ◌⊎◌, inl, inr, ℕ, List, ◌++◌, length, refl, sym, ap, subst, ◌∙◌, arith, Answer, Fault, Entry, Delivered, Call, Op, Asks, At, GoesOn, status_of, History, Lawful, SpellsCall, info_call, Ended, RefusesSo, RefusedBy, Terms, Mounted, machine_of, Setup, View, Notes, KnowsRoot, IsForRoom, IsNfs, one-call, GoesFrom, CallsAskedBut}
 use Rattle.world_model.specs.Heard.{Heard}
 use Rattle.world_model.specs.Mounts.{mount_call}
 use Rattle.claims.specs.PageRules.{RefusedSo}
+use Rattle.world_model.specs.Lost.{IsLost}
 use Rattle.rpc_message.specs.Reply.{SpellsRefusal}
 use Rattle.nfs_file_calls.specs.declared.call.FileCall.TheVariants as files
 use Rattle.world_model.specs.declared.answer.Answer.TheVariants as answers

@@ -1,9 +1,10 @@
 -- An open that may make its file, and a remove, are refused with NFS3ERR_NOENT only where a record refused so a call from which they don't go on: the LOOKUP of
 -- a name on their way, a call that is no LOOKUP, or that of the last name, by an open that made it before and by a remove.
-use Rattle.core_session.proofs.Prelude.{◌≡◌, ◌≤◌, ◌+◌, inl, inr, ℕ, Bool, true, false, List, [], ◌∷◌, ◌++◌, length, Option, Some, None, Result, Ok, Err, refl, sym, ap, subst, ◌∙◌, arith, append_assoc, if◌then◌else◌, eqb-false, cases_lt, Mode, DirKept, Answer, Fault, Entry, Began, Delivered, Call, Reply, Op, look_up, create_unchecked, Modes, Ended, RefusesSo, FirstSent-grow, Answers-grow, length_last, Says, Next, Shelf, Turn, OpeningStep, Deed, Look, Seek, Move, Mounted, Machine, PathMachine, IsNamed, front_of, last_of, machine_of, file_of, Takes, State, Busy, Over, Setup, View, of_walk, path_by, removal_by, in_flight, Reaches, Awaits, PathOr, awaits-laws, begins-unbegun, FineAnswer, RemoveAwaits, ThenOf, AsksFor, Did, reached-good, Expects, expects-laws, RemoveRuns, NoCall, walk-looks, IsPiece, CallFaults, CallFits, fits-laws, IsHeardNow, CameOf, heard_of, unmade, IsUnmadeFault, SlotLaws, reached-answered, FineLed, FitsOpening, machine-fits, SentCall}
+use Rattle.core_session.proofs.Prelude.{◌≡◌, ◌≤◌, ◌+◌, inl, inr, ℕ, Bool, true, false, List, [], ◌∷◌, ◌++◌, length, Option, Some, None, Result, Ok, Err, refl, sym, ap, subst, ◌∙◌, arith, append_assoc, if◌then◌else◌, eqb-false, cases_lt, Mode, DirKept, Answer, Fault, Entry, Began, Delivered, Call, Reply, Op, look_up, create_unchecked, Modes, Ended, RefusesSo, FirstSent-grow, Answers-grow, length_last, Says, Next, Shelf, Turn, OpeningStep, Deed, Look, Seek, Move, Mounted, Machine, PathMachine, IsNamed, front_of, last_of, machine_of, file_of, Takes, State, Busy, Over, Setup, View, of_walk, path_by, removal_by, in_flight, Reaches, Awaits, PathOr, awaits-laws, begins-unbegun, FineAnswer, RemoveAwaits, ThenOf, AsksFor, Did, IsUnmadeFault, reached-good, Expects, expects-laws, RemoveRuns, NoCall, walk-looks, IsPiece, CallFaults, CallFits, fits-laws, CameOf, heard_of, unmade, SlotLaws, reached-answered, FineLed, FitsOpening, machine-fits, SentCall}
 use Rattle.claims.specs.PageRules.{RefusedSo}
 use Rattle.name_ops.specs.declared.remove_file.Deed.TheVariants.{Remove}
 use Rattle.core_facts.specs.InFlight.{of_file}
+use Rattle.core_facts.proofs.Telling.{IsHeardNow}
 use Rattle.core_answers.proofs.asks.WalkAsks.{Looks}
 use Rattle.core_answers.proofs.refusals.Answering.{IsSeen, IsToldOf}
 use Rattle.core_answers.proofs.refusals.SentCalls.{sent-later}

@@ -1,5 +1,5 @@
 -- An operation is refused for the kind of a file only if it wants one, and for too many names only if it lists them.
-use Rattle.core_session.proofs.Prelude.{◌≡◌, ◌+◌, ℕ, List, [], ◌∷◌, ◌++◌, length, option_map, Result, Ok, Err, sym, ap, subst, ◌∙◌, Waiting, Answer, Fault, Entry, Began, Call, Reply, Op, RefusesSo, Says, Next, Shelf, Turn, Mounted, Machine, machine_of, Takes, Purpose, State, Busy, Over, Setup, in_flight, begins-unbegun, FineAnswer, ThenOf, AsksFor, Did, Expects, expects-laws, IsPiece, CallFaults, one-call, CallFits, fits-laws, machine-fits, CameOf, heard_of, unmade, IsUnmadeFault, SlotLaws, reached-answered}
+use Rattle.core_session.proofs.Prelude.{◌≡◌, ◌+◌, ℕ, List, [], ◌∷◌, ◌++◌, length, option_map, Result, Ok, Err, sym, ap, subst, ◌∙◌, Waiting, Answer, Fault, Entry, Began, Call, Reply, Op, RefusesSo, Says, Next, Shelf, Turn, Mounted, Machine, machine_of, Takes, Purpose, State, Busy, Over, Setup, in_flight, begins-unbegun, FineAnswer, ThenOf, AsksFor, Did, IsUnmadeFault, Expects, expects-laws, IsPiece, CallFaults, one-call, CallFits, fits-laws, machine-fits, CameOf, heard_of, unmade, SlotLaws, reached-answered}
 use Rattle.core_answers.proofs.refusals.Answering.{IsSeen}
 use Rattle.world_model.specs.declared.answer.Answer.TheVariants as answers
 use Rattle.world_model.specs.declared.answer.Fault.TheVariants as faults

@@ -1,6 +1,7 @@
 -- What came of a call that a machine waited for: a reply, the last record, or why there is none.
-use Rattle.core_session.proofs.Prelude.{◌≡◌, ◌<◌, ◌+◌, ℕ, List, length, Result, Ok, Err, sym, subst, ◌∙◌, arith, Fault, Entry, Call, Reply, Op, SpellsReply, Says, Shelf, Turn, Machine, IsTold, IsHeardNow, CameOf, heard_of, unmade, IsUnmadeFault}
+use Rattle.core_session.proofs.Prelude.{◌≡◌, ◌<◌, ◌+◌, ℕ, List, length, Result, Ok, Err, sym, subst, ◌∙◌, arith, Fault, Entry, Call, Reply, Op, SpellsReply, Says, Shelf, Turn, Machine, IsTold, IsUnmadeFault, CameOf, heard_of, unmade}
 use Rattle.core_facts.proofs.Tales.{IsWhy, IsLastReply}
+use Rattle.core_facts.proofs.Telling.{IsHeardNow}
 use Rattle.core_answers.proofs.refusals.Answering.{Sight}
 use Rattle.world_model.specs.declared.answer.Fault.TheVariants as faults
 use Rattle.world_model.specs.Heard.{Refuses as IsRefusal, Heard as IsHeard}

@@ -1,9 +1,10 @@
 -- Where answers are noted before records are sent, nothing is sent between the last record that came before the answer of a truncate that goes well and that answer.
-use Rattle.core_session.proofs.Prelude.{◌≡◌, ◌≤◌, ◌<◌, ◌⊎◌, inl, inr, ℕ, Bool, true, false, nat_eq, List, [], ◌∷◌, ◌++◌, length, map, Some, None, slice_get, slice_set, refl, sym, ap, subst, ◌∙◌, arith, eqb-true, eqb-false, Answer, Fault, Value, Entry, Began, Answered, Dialed, Sent, Executed, Foreign, Flushed, Reboot, Delivered, Failed, Clock, Op, At, Ended, UnderWay, Terms, At-grow, At-below, At-back, At-last, At-one, At-cases, length_last, Next, Shelf, Truncating, Mounted, FileMachine, Machine, machine_of, Starts, Resumes, Lane, State, Busy, Over, Setup, lost_lane, numbers_of, IsRefused, Moves, moves_none, moves_more, Stirs, StartsLane, BeginsIf, AnswersAt, counted, View, turn_at, NoneReady, Notes, StepsTo, Reaches, last_reading, begins-unbegun, sent_now, FailedNow, goes_on, gives_up, failed_now, answered_now, Given, is-given, idle-numbers, number_of, lanes-under-way, reached-lanes, at-set, get-push, get-remove, in-map, skip, to-map, notes-reach, good-over, ended-grow, set-other, WorksAt, SlotRuns, SlotStory, slot-laws}
+use Rattle.core_session.proofs.Prelude.{◌≡◌, ◌≤◌, ◌<◌, ◌⊎◌, inl, inr, ℕ, Bool, true, false, nat_eq, List, [], ◌∷◌, ◌++◌, length, map, Some, None, slice_get, slice_set, refl, sym, ap, subst, ◌∙◌, arith, eqb-true, eqb-false, Answer, Fault, Value, Entry, Began, Answered, Dialed, Sent, Executed, Foreign, Flushed, Reboot, Delivered, Failed, Clock, Op, At, Ended, UnderWay, Terms, At-grow, At-below, At-back, At-last, At-one, At-cases, length_last, Next, Shelf, Truncating, Mounted, FileMachine, Machine, machine_of, Starts, Resumes, Lane, State, Busy, Over, Setup, lost_lane, numbers_of, IsRefused, Moves, moves_none, moves_more, Stirs, StartsLane, BeginsIf, AnswersAt, counted, View, turn_at, NoneReady, Notes, StepsTo, Reaches, last_reading, begins-unbegun, sent_now, FailedNow, goes_on, gives_up, failed_now, answered_now, Given, is-given, idle-numbers, number_of, lanes-under-way, reached-lanes, at-set, get-push, get-remove, skip, to-map, notes-reach, good-over, ended-grow, set-other, WorksAt, SlotRuns, SlotStory, slot-laws}
 use Rattle.client_core.specs.Lanes.{lost_state}
 use Rattle.client_core.specs.Steps.{BeginsNow, lost}
 use Rattle.core_facts.specs.Notes.{ComesAfter}
 use Rattle.core_facts.specs.Reaches.{BeginsOp}
+use Rattle.core_facts.proofs.Lists.{in-map}
 use Rattle.world_model.specs.declared.answer.Answer.TheVariants as answers
 use Rattle.world_model.specs.declared.answer.Fault.TheVariants as faults
 use Rattle.world_model.specs.declared.op.Op.TheVariants as ops

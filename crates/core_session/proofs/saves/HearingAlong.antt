@@ -1,15 +1,11 @@
 -- What holds of a history and the core's view that goes with it, if each step of a lane and each entry keep it, as long as the session isn't lost; where
 -- an operation takes what came, the record that was heard is known.
-use Rattle.core_session.proofs.Prelude.{◌≡◌, inl, inr, ℕ, List, [], ◌∷◌, ◌++◌, Bool, true, false, Option, Some, None, MatchOption, position, refl, sym, ap, subst, ◌∙◌, xid_at, Waiting, failed_after, waiting_at, before_sent, before_failed, Answer, Entry, Began, Answered, Dialed, Sent, Executed, Foreign, Flushed, Reboot, Delivered, Failed, Clock, Op, said_of, Shelf, Machine, Fits, Purpose, State, Setup, IsFresh, is_busy, IsIdle, numbers_of, Stirs, Moves, moves_none, moves_more, counted, StartsLane, BeginsIf, TakesAt, AnswersAt, View, IsUnbegun, MaySetUp, IsSetUp, StepsTo, HearsRecord, Reaches, begins, goes, loses, last_reading, Heard, dropped, replied, sent_now, FailedNow, goes_on, gives_up, failed_now, answered_now, taken_one, stirs-count, starts-count, hears-count, none-busy, heard-lost, Known, purpose_at, reached-all, LanesKnown, quiet-facts, lanes-stay, lanes-begin, lanes-under-way, Rows, rows-stay, same-rows, rows-grow, silent-grow, taken-quiet, not-sent, taken-rows, SameCalls, sent-purposes, failed-purposes, stirs-stay, starts-stay, steps-stay}
-use Rattle.core_facts.proofs.Cases.{heard}
+use Rattle.core_session.proofs.Prelude.{◌≡◌, ℕ, List, [], ◌∷◌, ◌++◌, false, Some, position, xid_at, Waiting, waiting_at, Answer, Entry, Began, Answered, Delivered, Op, said_of, Machine, Fits, Purpose, Setup, IsFresh, is_busy, IsIdle, Stirs, counted, StartsLane, TakesAt, AnswersAt, View, IsUnbegun, MaySetUp, IsSetUp, HearsRecord, Reaches, taken_one, Known, SameCalls}
+use Rattle.core_session.proofs.drops.KnowingAlong.{IsPlain}
+use Rattle.core_session.proofs.syncs.WatchingAlong.{KeepsWatching, reached-watching}
 
 -- It holds of a fresh core; each step of a lane keeps it, also where an operation begins or a reply comes, each answer that is noted, and each
 -- entry that leaves lanes, shelf and calls as they are.
--- no operation begins or is answered
-pub record IsPlain (e : Entry) : Type 0 where
-  pub begins_ : (lane line : ℕ) (op : Op) → e ≡ Began lane line op → ⊥
-  pub answers_ : (lane line : ℕ) (answer : Answer) → e ≡ Answered lane line answer → ⊥
-
 pub record KeepsHearing (machine_of : ℕ → Op → Machine) (setup : Setup) (I : List Entry → View → Type 0) : Type 0 where
   pub fresh : (h : List Entry) (v : View) → MaySetUp setup → IsSetUp setup h → IsFresh setup v → I h v
   pub stirs : (h : List Entry) (old new : View) (at : ℕ) → Known setup h old → Stirs old at new → I h old → I h new
@@ -23,144 +19,17 @@ pub record KeepsHearing (machine_of : ℕ → Op → Machine) (setup : Setup) (I
   pub same : (h : List Entry) (e : Entry) (old new : View) → IsPlain e → new.lanes ≡ old.lanes → new.shelf ≡ old.shelf → new.wsize ≡ old.wsize → SameCalls old.calls.calls new.calls.calls → I h old
       → I (h ++ e ∷ []) new
 
-module _ (machine_of : ℕ → Op → Machine) (unbegun : (lane : ℕ) (op : Op) → IsUnbegun (machine_of lane op)) (setup : Setup) (I : List Entry → View → Type 0)
-    (laws : KeepsHearing machine_of setup I) where
-  known-of : (h : List Entry) (v : View) → Reaches machine_of setup h v → v.lost ≡ false → Known setup h v
-  known-of = reached-all machine_of unbegun setup
+-- as laws of what is watched, which know more of each entry
+pub of-hearing : (machine_of : ℕ → Op → Machine) (setup : Setup) (I : List Entry → View → Type 0) → KeepsHearing machine_of setup I → KeepsWatching machine_of setup I
+of-hearing machine_of setup I k = record {
+  fresh = k.fresh;
+  stirs = k.stirs;
+  starts = k.starts;
+  takes = k.takes;
+  answers = λ h old new at lane line answer r found known later still open_ answers i. k.answers h old new at lane line answer known answers i;
+  same = λ h e old new r found known plain noted sent lanes shelf wsize calls i. k.same h e old new plain lanes shelf wsize calls i;
+}
 
-  record Kept (h : List Entry) (v : View) : Type 0 where
-    known : Known setup h v
-    is : I h v
-
-  moves-kept : (h : List Entry) (old new : View) → Moves old new → Kept h old → Kept h new
-  moves-kept h _ _ (moves_none old new is) k = subst (Kept h) (sym is) k
-  moves-kept h _ _ (moves_more old mid new at m room t first) k =
-      let before = moves-kept h old mid m k in
-      record {
-        known = record {
-          rows = stirs-stay (Rows setup h) (rows-stay setup h) mid new at t before.known.rows;
-          lanes = stirs-stay (LanesKnown h) (lanes-stay h) mid new at t before.known.lanes;
-          known = stirs-count mid new at t before.known.known;
-        };
-        is = laws.stirs h mid new at before.known t before.is;
-      }
-
-  lost-of : (old new : View) → new ≡ old → new.lost ≡ false → old.lost ≡ false
-  lost-of old new is found = ap (λ (v : View). v.lost) (sym is) ∙ found
-
-  -- ---- an operation begins
-
-  begins-kept : (b : Bool) (h : List Entry) (old new : View) (lane line : ℕ) (op : Op) → old.lost ≡ b → StepsTo machine_of h old (Began lane line op) new
-      → Reaches machine_of setup h old → BeginsIf b old lane (machine_of lane op) (last_reading 0 h) new → (old.lost ≡ false → I h old) → new.lost ≡ false
-      → I (h ++ Began lane line op ∷ []) new
-  begins-kept true h old new lane line op was t r is i found =
-      absurd (let no_way : true ≡ false = sym was ∙ ap (λ (w : View). w.lost) (sym is) ∙ found in cc)
-  begins-kept false h old new lane line op was t r b i found = (moves-kept later b.first new b.rest (record { known = known; is = first })).is
-    where
-      later : List Entry
-      later = h ++ Began lane line op ∷ []
-
-      before : Known setup h old
-      before = known-of h old r was
-
-      pushed : (state : State) (shelf : Shelf) → LanesKnown later (record (counted old (last_reading 0 h)) { lanes = old.lanes ++ record { number = lane; state = state } ∷ []; shelf = shelf })
-      pushed state shelf = lanes-begin h old lane line op before.lanes t.idle.other state
-
-      known : Known setup later b.first
-      known = record {
-        rows = starts-stay (Rows setup later) (rows-stay setup later) (counted old (last_reading 0 h)) b.first lane (machine_of lane op)
-            (λ state shelf. same-rows setup later old (record (counted old (last_reading 0 h)) { lanes = old.lanes ++ record { number = lane; state = state } ∷ []; shelf = shelf }) refl
-            (silent-grow setup h (Began lane line op) old (record { sent = λ bytes is. cc; came = λ bytes is. cc }) before.rows)) b.own;
-        lanes = starts-stay (LanesKnown later) (lanes-stay later) (counted old (last_reading 0 h)) b.first lane (machine_of lane op) pushed b.own;
-        known = starts-count (counted old (last_reading 0 h)) b.first lane (machine_of lane op) (unbegun lane op) b.own
-            (record { counted = before.known.counted; right = before.known.right });
-      }
-
-      first : I later b.first
-      first = laws.starts h old b.first lane line op (last_reading 0 h) r was before t.idle t.fits b.own (i was)
-
-  -- ---- a record comes
-
-  hears-kept : (h : List Entry) (old : View) (rec : List ℕ) (xid : ℕ) (call : Waiting Purpose) (at : ℕ) (first : View) → Reaches machine_of setup h old → old.lost ≡ false → (fin : View) → HearsRecord old rec fin
-      → xid_at rec ≡ Some xid → waiting_at xid old.calls.calls ≡ Some call → position (is_busy call.purpose.lane) old.lanes ≡ Some at
-      → TakesAt (taken_one old xid) at call.purpose.sent (said_of call.purpose.proc rec) first → I h old → Kept (h ++ Delivered rec ∷ []) first
-  hears-kept h old rec xid call at first r found fin hears named waits there o i = record {
-    known = record {
-      rows = steps-stay (Rows setup later) (rows-stay setup later) (taken_one old xid) first at o.number o.machine o.after o.shelf o.next o.there o.leads
-          (rows-grow setup h (Delivered rec) (taken_one old xid) (taken-quiet setup h old rec xid before.rows named) (not-sent rec) (taken-rows setup h old xid before.rows));
-      lanes = steps-stay (LanesKnown later) (lanes-stay later) (taken_one old xid) first at o.number o.machine o.after o.shelf o.next o.there o.leads
-          (quiet-facts h (Delivered rec) (numbers_of old.lanes) (λ number. refl) before.lanes);
-      known = hears-count old first rec xid call at waits there (lanes-under-way h old before.lanes).apart o before.known;
-    };
-    is = laws.takes h old first rec xid call at r found before fin hears named waits there o i;
-  }
-    where
-      later : List Entry
-      later = h ++ Delivered rec ∷ []
-
-      before : Known setup h old
-      before = known-of h old r found
-
-  same-kept : (h : List Entry) (e : Entry) (old new : View) → IsPlain e → new ≡ old → I h old → I (h ++ e ∷ []) new
-  same-kept h e old new plain is i =
-      subst (I (h ++ e ∷ [])) (sym is)
-      (laws.same h e old old plain refl refl refl (record { waited = λ xid w at. record { was = w; waited = at; bytes = refl; purpose = refl }; purposes = λ xid. refl }) i)
-
-  heard-kept : (h : List Entry) (old : View) (rec : List ℕ) (new : View) → old.lost ≡ false → Reaches machine_of setup h old → (fin : View) → HearsRecord old rec fin → Heard old rec new → I h old
-      → I (h ++ Delivered rec ∷ []) new
-  heard-kept h old rec new found r fin hears (dropped none is) i = same-kept h (Delivered rec) old new (record { begins_ = λ lane line op is. cc; answers_ = λ lane line answer is. cc }) is i
-  heard-kept h old rec new found r fin hears (replied xid call named waits f) i = by (position (is_busy call.purpose.lane) old.lanes) refl f.own
-    where
-      by : (o : Option ℕ) → position (is_busy call.purpose.lane) old.lanes ≡ o
-          → MatchOption o (f.first ≡ taken_one old xid) (λ at. TakesAt (taken_one old xid) at call.purpose.sent (said_of call.purpose.proc rec) f.first)
-          → I (h ++ Delivered rec ∷ []) new
-      by None none is = absurd (none-busy old xid call waits none (known-of h old r found).known.counted)
-      by (Some at) there o = (moves-kept (h ++ Delivered rec ∷ []) f.first new f.rest (hears-kept h old rec xid call at f.first r found fin hears named waits there o i)).is
-
-  -- ---- each entry
-
-  failed-kept : (h : List Entry) (old new : View) → FailedNow old new → (old.lost ≡ false → I h old) → new.lost ≡ false → I (h ++ Failed ∷ []) new
-  failed-kept h old new (goes_on none is) i found =
-      laws.same h Failed old new (record { begins_ = λ lane line op is. cc; answers_ = λ lane line answer is. cc }) (ap (λ (v : View). v.lanes) is) (ap (λ (v : View). v.shelf) is) (ap (λ (v : View). v.wsize) is)
-      (record {
-        waited = λ xid w at. before_failed true old.calls.calls xid w
-            (sym (ap (λ (v : View). waiting_at xid v.calls.calls) is ∙ ap (λ (o : Option ℕ). waiting_at xid (failed_after o old.calls.calls)) none) ∙ at);
-        purposes = λ xid.
-            ap (λ (v : View). purpose_at xid v.calls.calls) is ∙ ap (λ (o : Option ℕ). purpose_at xid (failed_after o old.calls.calls)) none
-            ∙ failed-purposes true xid old.calls.calls;
-      })
-      (i (ap (λ (v : View). v.lost) (sym is) ∙ found))
-  failed-kept h old new (gives_up xid up is) i found = absurd (let no_way : true ≡ false = ap (λ (v : View). v.lost) (sym is) ∙ found in cc)
-
-  kept-step : (h : List Entry) (old : View) (e : Entry) (new : View) → StepsTo machine_of h old e new → Reaches machine_of setup h old → (old.lost ≡ false → I h old)
-      → new.lost ≡ false → ((rec : List ℕ) → Heard old rec new → old.lost ≡ false) → I (h ++ e ∷ []) new
-  kept-step h old (Began lane line op) new t r i found was = begins-kept old.lost h old new lane line op refl t r t.step i found
-  kept-step h old (Answered lane line answer) new t r i found was =
-      let a = answered_now old lane answer new t.answers in
-      let before = ap (λ (v : View). v.lost) (sym a.is.is) ∙ found in
-      laws.answers h old new a.at lane line answer (known-of h old r before) a.is (i before)
-  kept-step h old (Sent bytes) new t r i found was =
-      let n = sent_now old bytes new t in
-      laws.same h (Sent bytes) old new (record { begins_ = λ lane line op is. cc; answers_ = λ lane line answer is. cc }) (ap (λ (v : View). v.lanes) n.is) (ap (λ (v : View). v.shelf) n.is) (ap (λ (v : View). v.wsize) n.is)
-      (record {
-        waited = λ xid w at. before_sent old.calls.calls xid w (sym (ap (λ (v : View). waiting_at xid v.calls.calls) n.is) ∙ at);
-        purposes = λ xid. ap (λ (v : View). purpose_at xid v.calls.calls) n.is ∙ sent-purposes xid old.calls.calls;
-      }) (i (ap (λ (v : View). v.lost) (sym n.is) ∙ found))
-  kept-step h old (Delivered bytes) new t r i found was =
-      let d = heard old bytes t.result new t.hears in
-      let before = was bytes d in
-      heard-kept h old bytes new before r new t d (i before)
-  kept-step h old Failed new (inl t) r i found was = failed-kept h old new (failed_now old t.0 new t.1) i found
-  kept-step h old Failed new (inr t) r i found was = same-kept h Failed old new (record { begins_ = λ lane line op is. cc; answers_ = λ lane line answer is. cc }) t (i (lost-of old new t found))
-  kept-step h old (Dialed port) new t r i found was = same-kept h (Dialed port) old new (record { begins_ = λ lane line op is. cc; answers_ = λ lane line answer is. cc }) t (i (lost-of old new t found))
-  kept-step h old (Executed xid call reply) new t r i found was = same-kept h (Executed xid call reply) old new (record { begins_ = λ lane line op is. cc; answers_ = λ lane line answer is. cc }) t (i (lost-of old new t found))
-  kept-step h old (Foreign call reply) new t r i found was = same-kept h (Foreign call reply) old new (record { begins_ = λ lane line op is. cc; answers_ = λ lane line answer is. cc }) t (i (lost-of old new t found))
-  kept-step h old (Flushed file from len) new t r i found was = same-kept h (Flushed file from len) old new (record { begins_ = λ lane line op is. cc; answers_ = λ lane line answer is. cc }) t (i (lost-of old new t found))
-  kept-step h old (Reboot verf) new t r i found was = same-kept h (Reboot verf) old new (record { begins_ = λ lane line op is. cc; answers_ = λ lane line answer is. cc }) t (i (lost-of old new t found))
-  kept-step h old (Clock ms) new t r i found was = same-kept h (Clock ms) old new (record { begins_ = λ lane line op is. cc; answers_ = λ lane line answer is. cc }) t (i (lost-of old new t found))
-
-  pub reached-hearing : (h : List Entry) (v : View) → Reaches machine_of setup h v → v.lost ≡ false → I h v
-  reached-hearing _ _ (begins h v may up fresh) found = laws.fresh h v may up fresh
-  reached-hearing _ _ (goes h before v b e r is t) found =
-      subst (λ (k : List Entry). I k v) (sym is) (kept-step before b e v t r (reached-hearing before b r) found (λ rec d. sym (heard-lost b rec v d) ∙ found))
-  reached-hearing _ _ (loses h v b r shown is) found = absurd (let no_way : true ≡ false = ap (λ (w : View). w.lost) (sym is) ∙ found in cc)
+pub reached-hearing : (machine_of : ℕ → Op → Machine) → ((lane : ℕ) (op : Op) → IsUnbegun (machine_of lane op)) → (setup : Setup) (I : List Entry → View → Type 0)
+    → KeepsHearing machine_of setup I → (h : List Entry) (v : View) → Reaches machine_of setup h v → v.lost ≡ false → I h v
+reached-hearing machine_of unbegun setup I laws = reached-watching machine_of unbegun setup I (of-hearing machine_of setup I laws)

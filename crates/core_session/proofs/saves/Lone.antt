@@ -12,7 +12,8 @@ use Rattle.file_ops.specs.PutFile.{not_begun}
 use Rattle.core_facts.proofs.Flown.{Flown, sender, look_at}
 use Rattle.core_answers.proofs.writes.AllFits as fitting
 use Rattle.core_session.proofs.saves.Evidenced.{stable-grow}
-use Rattle.core_session.proofs.saves.HearingAlong.{IsPlain, KeepsHearing, reached-hearing}
+use Rattle.core_session.proofs.drops.KnowingAlong.{IsPlain}
+use Rattle.core_session.proofs.saves.HearingAlong.{KeepsHearing, reached-hearing}
 use Rattle.core_session.proofs.saves.PutPaths.{runs-starts, runs-resumes, runs-takes}
 use Rattle.core_session.proofs.saves.Puts.{only-lane, same-lane, Wrote, Made, Runs, Goes, StateSo, LanesSo, state-grow, state-calls, goes-calls, leads-so}
 use Rattle.core_session.proofs.saves.Taking.{sent-piece, put-known}

@@ -1,6 +1,7 @@
 -- What the operation of a call knows of it, as a record that answers it is heard.
-use Rattle.core_session.proofs.Prelude.{◌≡◌, ◌≤◌, ◌^◌, ◌+◌, ◌-◌, ℕ, List, [], ◌∷◌, ◌++◌, length, Bool, true, false, Some, Ok, option_map, slice_get, refl, sym, ap, subst, ◌∙◌, arith, slice_index, Verf, Wcc, xid_at, Waiting, waiting_at, Entry, Began, Delivered, Call, Op, At, SpellsCall, commit_call, length_last, said_of, Next, Shelf, Turn, Putting, Saving, Mounted, Machine, machine_of, Purpose, Busy, Setup, View, Reaches, HearsRecord, begins-unbegun, ExpectLaws, flies_of, TaleLaws, Did, reached-good, one-call, written_file, write_of, CallFits, fits-laws, MadeStable}
+use Rattle.core_session.proofs.Prelude.{◌≡◌, ◌≤◌, ◌^◌, ◌+◌, ◌-◌, ℕ, List, [], ◌∷◌, ◌++◌, length, Bool, true, false, Some, Ok, option_map, slice_get, refl, sym, ap, subst, ◌∙◌, arith, slice_index, Verf, Wcc, xid_at, Waiting, waiting_at, Entry, Began, Delivered, Call, Op, At, SpellsCall, commit_call, length_last, said_of, Next, Shelf, Turn, Putting, Saving, Mounted, Machine, machine_of, Purpose, Busy, Setup, View, Reaches, HearsRecord, begins-unbegun, flies_of, TaleLaws, reached-good, Did, one-call, written_file, write_of, CallFits, fits-laws, MadeStable}
 use Rattle.core_answers.specs.writes.Carried.{IsCarried}
+use Rattle.core_facts.proofs.Expects.{ExpectLaws}
 use Rattle.nfs_file_calls.specs.declared.owned.FileKept.TheVariants as kept
 use Rattle.world_model.specs.declared.message.Reply.TheVariants as replies
 use Rattle.client_shelf.specs.declared.next.Next.TheVariants as nexts

@@ -1,7 +1,8 @@
 -- Each WRITE that waits has its piece in flight: the same bytes.
-use Rattle.core_session.proofs.Prelude.{◌≡◌, ◌≢◌, ◌≤◌, ◌<◌, ◌+◌, ◌-◌, ◌&&◌, ◌==◌, inl, inr, ℕ, List, [], ◌∷◌, ◌++◌, length, Bool, true, false, nat_eq, Option, Some, None, option_map, position, Result, Ok, Err, refl, sym, ap, subst, ◌∙◌, arith, nat_lt, eqb-true, eqb-false, Verdict, AllStable, SendAgain, verdict_of, Verf, Waiting, next_xid, made_call, waiting_at, without, waits_early, at_made, others_made, others_taken, gone, lost, chosen, piece_of, with_sent, Pending, of_file, OnFile, with_xid, FilePending, piece_under, Segments, Fault, Memory, Entry, Began, Delivered, Call, Reply, Op, SpellsCallBy, proc_of, said_of, Next, Repeat, Shelf, Turn, goes_again, Closing, Putting, Sending, Committing, Resending, CommittingAgain, Saving, Syncing, Writing, commit_told, IsUnused, Mounted, FileMachine, Machine, Opener, PathMachine, machine_of, file_of, Starts, Resumes, Takes, Purpose, Busy, Setup, is_busy, IsIdle, with_state, record_of, Makes, Leads, Stirs, counted, StartsLane, TakesAt, View, turn_at, unmade_turn, in_flight, Reaches, begins-unbegun, taken_one, flies_if, flies_save, flies_write, flies_sync, flies_close, flies_put, flies_file, flies_path, flies_of, Known, taker-is, taker-one, Rows, same-rows, taken-rows, made-known, made-asked, reached-good, one-call, written_file, IsWaiting, write_of, IsInFlight, CallFits, fits-laws, After, CarriesReply, Free, waits-late, unused-next, starts-under, resumes-under, takes-under, SameUnder}
+use Rattle.core_session.proofs.Prelude.{◌≡◌, ◌≢◌, ◌≤◌, ◌<◌, ◌+◌, ◌-◌, ◌&&◌, ◌==◌, inl, inr, ℕ, List, [], ◌∷◌, ◌++◌, length, Bool, true, false, nat_eq, Option, Some, None, option_map, position, Result, Ok, Err, refl, sym, ap, subst, ◌∙◌, arith, nat_lt, eqb-true, eqb-false, Verdict, AllStable, SendAgain, verdict_of, Verf, Waiting, next_xid, made_call, waiting_at, without, waits_early, at_made, others_made, others_taken, gone, lost, chosen, piece_of, with_sent, Pending, of_file, OnFile, with_xid, FilePending, piece_under, Segments, Fault, Memory, Entry, Began, Delivered, Call, Reply, Op, SpellsCallBy, proc_of, said_of, Next, Repeat, Shelf, Turn, goes_again, Closing, Putting, Sending, Committing, Resending, CommittingAgain, Saving, Syncing, Writing, commit_told, IsUnused, Mounted, FileMachine, Machine, Opener, PathMachine, machine_of, file_of, Starts, Resumes, Takes, Purpose, Busy, Setup, is_busy, IsIdle, with_state, record_of, Makes, Leads, Stirs, counted, StartsLane, TakesAt, View, turn_at, unmade_turn, in_flight, Reaches, begins-unbegun, taken_one, flies_if, flies_save, flies_write, flies_sync, flies_close, flies_put, flies_file, flies_path, flies_of, Known, taker-is, taker-one, Rows, same-rows, taken-rows, reached-good, one-call, written_file, IsWaiting, write_of, IsInFlight, CallFits, fits-laws, After, CarriesReply, Free, waits-late, unused-next, starts-under, resumes-under, takes-under, SameUnder}
 use Rattle.std.specs.Prelude.{unwrap_or}
 use Rattle.write_back.specs.Pieces.{Sent}
+use Rattle.core_facts.proofs.Rows.{made-known, made-asked}
 use Rattle.core_answers.proofs.writes.AllFits.{Asks}
 use Rattle.core_answers.proofs.writes.Backs.{Carries, SyncSaves, CloseSaves, WriteSaves, PutSaves, FileSaves}
 use Rattle.core_answers.proofs.writes.OwnPieces.{on-free, out-free}

@@ -1,9 +1,11 @@
 -- Each byte of an ok put that was alone was made stable, in a session that is lost later, too: what is ready to be answered stays.
-use Rattle.core_session.proofs.Prelude.{◌≡◌, ◌⊎◌, inl, inr, ◌≤◌, ◌^◌, ◌+◌, ◌-◌, ℕ, List, [], ◌∷◌, ◌++◌, length, map, Bool, true, false, Some, None, slice_get, refl, sym, ap, subst, ◌∙◌, arith, slice_index, Answer, Value, Entry, Began, Answered, Dialed, Sent, Executed, Foreign, Flushed, Reboot, Delivered, Failed, Clock, Op, At, Ended, At-back, At-cases, At-grow, At-last, At-below, length_last, Mounted, machine_of, Lane, State, Busy, Over, Setup, lost_lane, BeginsIf, AnswersAt, counted, View, StepsTo, Reaches, begins, goes, loses, last_reading, NoneBusy, begins-unbegun, Heard, dropped, replied, sent_now, FailedNow, goes_on, gives_up, failed_now, answered_now, taken_one, in-map, get-push, get-remove, skip, comes-to-rest, none-moves, own-none, AllMadeStable}
+use Rattle.core_session.proofs.Prelude.{◌≡◌, ◌⊎◌, inl, inr, ◌≤◌, ◌^◌, ◌+◌, ◌-◌, ℕ, List, [], ◌∷◌, ◌++◌, length, map, Bool, true, false, Some, None, slice_get, refl, sym, ap, subst, ◌∙◌, arith, slice_index, Answer, Value, Entry, Began, Answered, Dialed, Sent, Executed, Foreign, Flushed, Reboot, Delivered, Failed, Clock, Op, At, Ended, At-back, At-cases, At-grow, At-last, At-below, length_last, Mounted, machine_of, Lane, State, Busy, Over, Setup, lost_lane, BeginsIf, AnswersAt, counted, View, StepsTo, Reaches, begins, goes, loses, last_reading, begins-unbegun, Heard, dropped, replied, sent_now, FailedNow, goes_on, gives_up, failed_now, answered_now, taken_one, get-push, get-remove, skip, AllMadeStable}
 use Rattle.client_core.specs.Lanes.{lost_state}
 use Rattle.core_facts.proofs.Cases.{heard}
-use Rattle.core_facts.proofs.Resting.{leads-lost, moves-lost, own-lost}
+use Rattle.core_facts.proofs.Lists.{in-map}
 use Rattle.core_session.specs.saves.PutsWritten.{IsAlone}
+use Rattle.core_facts.specs.Resting.{NoneBusy}
+use Rattle.core_facts.proofs.Resting.{comes-to-rest, none-moves, own-none, leads-lost, moves-lost, own-lost}
 use Rattle.world_model.specs.declared.answer.Answer.TheVariants as answers
 use Rattle.world_model.specs.declared.answer.Fault.TheVariants as faults
 use Rattle.world_model.specs.declared.op.Op.TheVariants as ops

@@ -1,8 +1,10 @@
 -- Settled bytes were made stable, in a session that is lost later, too: nothing is sent any more, and what is ready to be answered stays.
-use Rattle.core_session.proofs.Prelude.{◌≡◌, ◌≢◌, ◌≤◌, ◌<◌, ◌⊎◌, inl, inr, ℕ, suc, Bool, true, false, nat_eq, List, [], ◌∷◌, ◌++◌, length, map, Some, None, slice_get, refl, sym, ap, subst, ◌∙◌, append_assoc, append-nil, arith, eqb-true, eqb-false, cases_lt, Answer, Fault, Value, Entry, Began, Answered, Dialed, Sent, Executed, Foreign, Flushed, Reboot, Delivered, Failed, Clock, Op, At, Modes, Origin, Ended, UnderWay, AnsweredBefore, Terms, SettledBy, RefusedWrite, Wrote, WritesByte, At-one, At-grow, At-last, length_last, Mounted, machine_of, Lane, Busy, Over, Setup, lost_lane, BeginsIf, AnswersAt, counted, SendsIf, View, AreApart, MayHear, StepsTo, Reaches, IsOpenLine, begins, goes, loses, last_reading, NoneBusy, GoesWith, begins-unbegun, Heard, dropped, replied, sent_now, FailedNow, goes_on, gives_up, failed_now, answered_now, taken_one, LanesKnown, Runs, lanes-under-way, reached-lanes, number_of, to-map, at-push, before-push, still-there, comes-to-rest, none-moves, own-none, ended-grow, some-answer, KnowsRoot, WritesCarry, MadeAndKept, PutsNamed, TouchedUntil}
+use Rattle.core_session.proofs.Prelude.{◌≡◌, ◌≢◌, ◌≤◌, ◌<◌, ◌⊎◌, inl, inr, ℕ, suc, Bool, true, false, nat_eq, List, [], ◌∷◌, ◌++◌, length, map, Some, None, slice_get, refl, sym, ap, subst, ◌∙◌, append_assoc, append-nil, arith, eqb-true, eqb-false, cases_lt, Answer, Fault, Value, Entry, Began, Answered, Dialed, Sent, Executed, Foreign, Flushed, Reboot, Delivered, Failed, Clock, Op, At, Modes, Origin, Ended, UnderWay, AnsweredBefore, Terms, SettledBy, RefusedWrite, Wrote, WritesByte, At-one, At-grow, At-last, length_last, Mounted, machine_of, Lane, Busy, Over, Setup, lost_lane, BeginsIf, AnswersAt, counted, SendsIf, View, AreApart, MayHear, StepsTo, Reaches, IsOpenLine, begins, goes, loses, last_reading, GoesWith, begins-unbegun, Heard, dropped, replied, sent_now, FailedNow, goes_on, gives_up, failed_now, answered_now, taken_one, LanesKnown, Runs, lanes-under-way, reached-lanes, number_of, to-map, at-push, before-push, still-there, ended-grow, KnowsRoot, WritesCarry, MadeAndKept, PutsNamed, TouchedUntil}
 use Rattle.core_facts.proofs.Cases.{heard}
-use Rattle.core_facts.proofs.Resting.{leads-lost, moves-lost, own-lost}
+use Rattle.core_facts.proofs.Stories.{some-answer}
 use Rattle.core_session.specs.syncs.Until.{written, given_up}
+use Rattle.core_facts.specs.Resting.{NoneBusy}
+use Rattle.core_facts.proofs.Resting.{comes-to-rest, none-moves, own-none, leads-lost, moves-lost, own-lost}
 use Rattle.world_model.specs.declared.answer.Answer.TheVariants as answers
 use Rattle.world_model.specs.declared.answer.Fault.TheVariants as faults
 use Rattle.world_model.specs.declared.op.Op.TheVariants as ops

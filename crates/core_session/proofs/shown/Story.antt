@@ -1,5 +1,5 @@
 -- What a read has found at each step and what it answers, as `proofs.current.ReadStory`; with what is known of the views in which its own bytes were pending.
-use Rattle.core_session.proofs.Prelude.{◌≡◌, ◌<◌, ◌≤◌, ◌+◌, ◌-◌, ◌/◌, ◌||◌, ◌==◌, ◌⊎◌, inl, inr, ℕ, zero, suc, not, Bool, true, false, nat_le, List, ◌++◌, length, take, slice_get, Option, Some, None, Result, Ok, Err, refl, sym, ap, subst, ◌∙◌, arith, if◌then◌else◌, cases_lt, eqb-true, nat_tests, length-take, length-drop, slice_get-get_or, slice_get_within, Attr, Stamp, FileKept, start_of, Pages, page_of, known_of, after_page, Pending, of_file, newest_at, last_end, end-some, EachSound, Answer, Fault, Entry, Call, Reply, Op, Modes, IsOf, Next, Repeat, Shelf, Turn, Found, Phase, Reading, place_after, is_whole, nothing_of, Gathered, was_pending, shown_over, part, refusal, said_to, said_by, breaks_rule, PagesOpened, opened_pages, got_by, Machine, Setup, View, ThenOf, IsAnswered, IsPage, RecentThen, IsFound, in_page, in_reply, IsEnd, by_known, by_page, by_reply, PhaseAwaits, Good, quiet-good, HasOr}
+use Rattle.core_session.proofs.Prelude.{◌≡◌, ◌<◌, ◌≤◌, ◌+◌, ◌-◌, ◌/◌, ◌||◌, ◌==◌, ◌⊎◌, inl, inr, ℕ, zero, suc, not, Bool, true, false, nat_le, List, ◌++◌, length, take, slice_get, Option, Some, None, Result, Ok, Err, refl, sym, ap, subst, ◌∙◌, arith, if◌then◌else◌, cases_lt, eqb-true, nat_tests, length-take, length-drop, slice_get-get_or, slice_get_within, Attr, Stamp, FileKept, start_of, Pages, page_of, known_of, after_page, Pending, of_file, newest_at, last_end, end-some, EachSound, Answer, Fault, Entry, Call, Reply, Op, Modes, IsOf, Next, Repeat, Shelf, Turn, Found, Phase, Reading, place_after, is_whole, nothing_of, Gathered, was_pending, shown_over, part, refusal, said_to, said_by, breaks_rule, PagesOpened, opened_pages, got_by, Machine, Setup, View, ThenOf, IsAnswered, IsPage, RecentThen, IsFound, in_page, in_reply, IsEnd, by_known, by_page, by_reply, PhaseAwaits, Good, quiet-good, HasOr, HasPassed}
 use Rattle.std.proofs.Common.{◌*◌, ◌%◌, min, nat_lt, IsSome}
 use Rattle.std.proofs.lemmas.List.{length-append}
 use Rattle.file_ops.specs.Base.{Bytes, with_more}
@@ -23,7 +23,7 @@ use Rattle.file_ops.specs.Gather as gather
 use Rattle.file_ops.specs.Reading as reading
 use Rattle.core_session.proofs.shown.Answer.{OwnByte, OwnPast, IsShown, own, served, empty, ReadShown}
 use Rattle.core_session.proofs.current.FedPages.{got-is, gathered-pages as gathered-shown}
-use Rattle.core_session.proofs.current.Keeping.{HasPassed, WasTaken}
+use Rattle.core_session.proofs.current.Keeping.{WasTaken}
 use Rattle.core_answers.proofs.pages.PagesShown.{kept-of}
 use Rattle.core_answers.proofs.pages.ReadStory.{page-fits}
 use Rattle.core_session.proofs.current.ReadMarks.{past}

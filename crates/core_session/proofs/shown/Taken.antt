@@ -1,5 +1,5 @@
 -- What a read answers, along a history, as `proofs.current.ReadsTaken`; with how the session went on from the views in which its own bytes were pending.
-use Rattle.core_session.proofs.Prelude.{◌≡◌, ◌≤◌, ◌+◌, ◌-◌, ◌⊎◌, inl, inr, ℕ, Bool, true, false, List, [], ◌∷◌, ◌++◌, length, Option, Some, None, Result, Ok, Err, refl, sym, ap, subst, ◌∙◌, append_assoc, arith, Attr, stamp_of, of_object, IsAnswered, LastAtMost, Mode, Opened, Stamp, Pages, known_of, Pending, EachSound, Fault, Entry, Began, Call, Reply, Op, Modes, Ended, IsOf, Terms, At-grow, At-below, Next, Shelf, Turn, ReadFile, Repeat, Phase, Reading, place_after, nothing_of, opened_pages, machine_of, Mounted, FileMachine, Machine, Starts, Resumes, Takes, State, Busy, Over, Setup, View, GoesWith, may, Held, Given, is-given, held-begins, always-later, IsHeld, held-grow, ThenOf, answered-last, RecentThen, IsFound, in_page, in_reply, IsEnd, by_known, by_page, by_reply, IsAged, IsSeen, SeenFrom, shown, WasRegular, ReadOn, IsOn, ReadAwaits, Both, both-asks, Good, quiet-good, page-grows, from-start}
+use Rattle.core_session.proofs.Prelude.{◌≡◌, ◌≤◌, ◌+◌, ◌-◌, ◌⊎◌, inl, inr, ℕ, Bool, true, false, List, [], ◌∷◌, ◌++◌, length, Option, Some, None, Result, Ok, Err, refl, sym, ap, subst, ◌∙◌, append_assoc, arith, Attr, stamp_of, of_object, IsAnswered, LastAtMost, Mode, Opened, Stamp, Pages, known_of, Pending, EachSound, Fault, Entry, Began, Call, Reply, Op, Modes, Ended, IsOf, Terms, At-grow, At-below, Next, Shelf, Turn, ReadFile, Repeat, Phase, Reading, place_after, nothing_of, opened_pages, machine_of, Mounted, FileMachine, Machine, Starts, Resumes, Takes, State, Busy, Over, Setup, View, GoesWith, may, Held, Given, is-given, held-begins, always-later, IsHeld, held-grow, ThenOf, answered-last, RecentThen, IsFound, in_page, in_reply, IsEnd, by_known, by_page, by_reply, IsAged, IsSeen, SeenFrom, shown, WasRegular, ReadOn, IsOn, ReadAwaits, Both, both-asks, Good, quiet-good, page-grows, from-start, HasPassed, RunsIn}
 use Rattle.file_ops.specs.Base.{Bytes}
 use Rattle.core_answers.proofs.pages.PageCalls.{PageAwaits, PartAwaits}
 use Rattle.core_answers.proofs.pages.PageLaws.{told-good-laws}
@@ -24,7 +24,7 @@ use Rattle.core_session.proofs.shown.Answer.{OwnByte, OwnPast, IsShown, own, ser
 use Rattle.core_session.proofs.current.FedPages as fed
 use Rattle.core_session.proofs.current.Good as marked
 use Rattle.core_session.proofs.current.Along.{KeepsMoments, of-moments}
-use Rattle.core_session.proofs.current.Keeping.{HasPassed, WasTaken, RunsIn, BondLaws}
+use Rattle.core_session.proofs.current.Keeping.{WasTaken, BondLaws}
 use Rattle.core_session.proofs.shown.Following.{Followed, reached-answered}
 use Rattle.core_session.proofs.room.Onward as onward
 use Rattle.core_session.proofs.syncs.WatchingAlong.{KeepsWatching}

@@ -1,5 +1,5 @@
 -- What a record that is heard shows of a byte that came with a write's number, from its first flight on.
-use Rattle.core_session.proofs.Prelude.{◌≡◌, inl, inr, ◌≤◌, ◌<◌, ◌+◌, ℕ, List, [], ◌∷◌, ◌++◌, length, Bool, true, false, Some, None, Ok, slice_get, refl, sym, ap, subst, ◌∙◌, arith, Verf, Wcc, xid_at, Waiting, next_xid, waiting_at, Entry, Sent, Delivered, Call, Reply, Op, At, Asked, HasXid, SpellsCall, SpellsCallBy, SpellsReply, commit_call, length_last, said_of, Says, Next, Shelf, Closing, Putting, Saving, Syncing, Writing, Mounted, FileMachine, Machine, PathMachine, machine_of, file_of, of_file, Flown, fly_at, piece_under, fly-under, EachSound, flown-from, Purpose, Busy, Setup, View, Reaches, HearsRecord, IsOfOperation, Tried, unsent, begins-unbegun, flies_of, was-sent, says-of, reached-owned, reached-rows, TaleLaws, Did, reached-good, PathNames, Names, Expects, expects-laws, SyncNames, CloseNames, WriteNames, StateNames, FileNames, Saves, IsNfs, one-call, IsWaiting, write_of, WroteByte, MadeStable}
+use Rattle.core_session.proofs.Prelude.{◌≡◌, inl, inr, ◌≤◌, ◌<◌, ◌+◌, ℕ, List, [], ◌∷◌, ◌++◌, length, Bool, true, false, Some, None, Ok, slice_get, refl, sym, ap, subst, ◌∙◌, arith, Verf, Wcc, xid_at, Waiting, next_xid, waiting_at, Entry, Sent, Delivered, Call, Reply, Op, At, Asked, HasXid, SpellsCall, SpellsCallBy, SpellsReply, commit_call, length_last, said_of, Says, Next, Shelf, Closing, Putting, Saving, Syncing, Writing, Mounted, FileMachine, Machine, PathMachine, machine_of, file_of, of_file, Flown, fly_at, piece_under, fly-under, EachSound, flown-from, Purpose, Busy, Setup, View, Reaches, HearsRecord, IsOfOperation, Tried, unsent, begins-unbegun, flies_of, was-sent, says-of, reached-owned, reached-rows, TaleLaws, reached-good, Did, PathNames, Names, Expects, expects-laws, SyncNames, CloseNames, WriteNames, StateNames, FileNames, Saves, IsNfs, one-call, IsWaiting, write_of, WroteByte, MadeStable}
 use Rattle.world_model.specs.Heard.{Heard}
 use Rattle.call_replies.specs.Says.{IsCallOf}
 use Rattle.core_facts.specs.Tries.{runs, ended}

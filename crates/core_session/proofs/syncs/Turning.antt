@@ -1,5 +1,6 @@
 -- What a step of one lane leaves of what is under way and of what was answered, and what an entry does that notes an answer, or that isn't of an operation.
-use Rattle.core_session.proofs.Prelude.{◌≡◌, ◌≢◌, ℕ, List, [], ◌∷◌, ◌++◌, length, Bool, true, false, nat_eq, Some, slice_get, refl, sym, ap, subst, ◌∙◌, arith, eqb-true, eqb-false, Answer, Entry, Began, Answered, Delivered, Op, At, IsBusy, Modes, Ended, UnderWay, At-last, At-below, At-one, length_last, Machine, Lane, State, Busy, Over, Setup, IsIdle, numbers_of, AnswersAt, View, AreApart, IsOpenLine, Known, Runs, lanes-under-way, idle-numbers, number_of, still-there, to-map, under-back, ended-grow, some-answer}
+use Rattle.core_session.proofs.Prelude.{◌≡◌, ◌≢◌, ℕ, List, [], ◌∷◌, ◌++◌, length, Bool, true, false, nat_eq, Some, slice_get, refl, sym, ap, subst, ◌∙◌, arith, eqb-true, eqb-false, Answer, Entry, Began, Answered, Delivered, Op, At, IsBusy, Modes, Ended, UnderWay, At-last, At-below, At-one, length_last, Machine, Lane, State, Busy, Over, Setup, IsIdle, numbers_of, AnswersAt, View, AreApart, IsOpenLine, Known, Runs, lanes-under-way, idle-numbers, number_of, still-there, to-map, under-back, ended-grow}
+use Rattle.core_facts.proofs.Stories.{some-answer}
 use Rattle.core_session.proofs.drops.Growing.{under-grow}
 use Rattle.core_session.proofs.drops.KnowingAlong.{IsPlain}
 use Rattle.core_session.proofs.drops.LaneIs.{state-is, number-is, answer-is, busy-over}

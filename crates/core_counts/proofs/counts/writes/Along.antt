@@ -1,8 +1,7 @@
 -- The tally of a place is kept along a history.
-use Rattle.core_counts.proofs.Prelude.{◌≡◌, ◌≤◌, ◌<◌, ◌+◌, inl, ℕ, List, [], ◌∷◌, ◌++◌, length, Some, None, slice_get, sym, ap, subst, ◌∙◌, arith, next_xid, waiting_at, Answer, Entry, Began, Sent, Call, Op, CoversPlace, HasXid, SpellsCall, SpellsCallBy, head_of, Modes, Pending, of_file, rest_at, Shelf, Mounted, machine_of, Lane, Setup, IsFresh, AnswersAt, View, MaySetUp, IsSetUp, StepsTo, Known, get-remove, skip, one-call, SameCalls, keeps-bytes, keeps-basis, keeps-wholly}
+use Rattle.core_counts.proofs.Prelude.{◌≡◌, ◌≤◌, ◌<◌, ◌+◌, inl, ℕ, List, [], ◌∷◌, ◌++◌, length, Some, None, slice_get, sym, ap, subst, ◌∙◌, arith, next_xid, waiting_at, Answer, Entry, Began, Sent, Call, Op, CoversPlace, HasXid, SpellsCall, SpellsCallBy, head_of, Modes, Pending, of_file, rest_at, Shelf, Mounted, machine_of, Lane, Setup, IsFresh, AnswersAt, View, MaySetUp, IsSetUp, StepsTo, Known, get-remove, skip, one-call, SameCalls, keeps-bytes, keeps-basis, keeps-wholly, IsPlain}
 use Rattle.rpc_message.proofs.CallLaws.{call_xid}
 use Rattle.world_model.specs.declared.entry.Entry.TheVariants.{Answered as Noted}
-use Rattle.core_session.proofs.saves.HearingAlong.{IsPlain}
 use Rattle.core_counts.proofs.coarse.Going.{IsSeen, KeepsGoing}
 use Rattle.core_counts.proofs.counts.engine.Lists.{Each}
 use Rattle.core_counts.proofs.counts.writes.Tally.{In, Writer, Waits, Spent, Tally, total, lists-later, sents-later, spent-later}

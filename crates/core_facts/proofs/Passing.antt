@@ -1,10 +1,8 @@
 -- The views that a core passed through on its way along a history, each with a fact of it.
-use Rattle.core_answers.proofs.Prelude.{◌≡◌, ℕ, List, [], ◌∷◌, ◌++◌, length, Entry, Op, Machine, Setup, IsFresh, View, IsSetUp, StepsTo, Reaches, begins, goes, loses}
-use Rattle.core_facts.specs.Reaches.{MaySetUp}
+use Rattle.core_facts.proofs.Prelude.{IsFresh, lost, View, Setup, IsSetUp, StepsTo, Reaches, begins, goes, loses, MaySetUp, Machine, ◌≡◌, ℕ, List, [], ◌∷◌, ◌++◌, length, Entry, Op}
 use Rattle.world_model.specs.Lost.{Loses}
-use Rattle.client_core.specs.Steps.{lost}
 
--- The view goes with the history, as by `Reaches` of core_facts; and G holds of the history and the view before each entry.
+-- The view goes with the history, as by `Reaches`; and G holds of the history and the view before each entry.
 pub data Passes (machine_of : ℕ → Op → Machine) (setup : Setup) (G : List Entry → View → Type 0) : List Entry → View → Type 0 where
   passes_fresh : (h : List Entry) (v : View) → MaySetUp setup → IsSetUp setup h → IsFresh setup v → Passes machine_of setup G h v
   passes_step : (h before : List Entry) (v b : View) (e : Entry) → Passes machine_of setup G before b → G before b → h ≡ before ++ e ∷ []

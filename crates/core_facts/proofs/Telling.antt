@@ -1,33 +1,73 @@
--- Stories of operations that know for which calls these wait, what their lane's slots hold as they begin, of each call that is answered for which operation it
--- was sent, and where, and what the step is told that takes the answer. It is the engine of `core_answers` (`proofs/refusals/Answering`), which knows the
--- latter too.
-use Rattle.core_session.proofs.Prelude.{◌≡◌, ◌≢◌, ◌<◌, ◌≤◌, ◌+◌, ◌-◌, ◌⊎◌, inl, inr, ℕ, List, [], ◌∷◌, ◌++◌, length, map, Bool, true, false, nat_eq, Option, Some, None, MatchOption, position, slice_get, slice_set, Result, Err, refl, sym, ap, subst, ◌∙◌, arith, append_assoc, eqb-true, eq-eqb, cases_lt, xid_at, Waiting, failed_after, next_xid, made_call, waiting_at, without, at_made, others_made, others_taken, gone, before_sent, before_failed, Answer, Refused, Fault, Entry, Began, Answered, Dialed, Sent, Executed, Foreign, Flushed, Reboot, Delivered, Failed, Clock, Call, Reply, Op, At, IsBusy, IsLost, HasXid, SpellsCall, SpellsCallBy, proc_of, Ended, UnderWay, IsDelivered, FirstSent-grow, At-grow, At-below, At-back, At-last, At-one, At-cases, length_last, said_of, Says, Next, Send, Wait, Done, Shelf, Turn, Machine, Starts, Resumes, Takes, Lane, Purpose, State, Busy, Over, Setup, is_busy, lost_lane, IsOther, numbers_of, IsFresh, with_state, record_of, Makes, IsRefused, Leads, Stirs, Moves, moves_none, moves_more, counted, BeginsIf, TakesAt, View, turn_at, unmade_turn, in_flight, IsUnbegun, Counts, calls_for, IsSetUp, StepsTo, HearsRecord, MayHear, goes, last_reading, NoneBusy, IsMade, IsOutstanding, Tried, unsent, counts-calls, Heard, dropped, replied, sent_now, FailedNow, goes_on, gives_up, failed_now, answered_now, taken_one, IsKnown, calls-some, known-only, stirs-count, starts-count, hears-count, reached-count, none-busy, ExpectLaws, AskedOf, ended-grow, under-back, set-other, by-place, some-answer, was-sent, says-of, LanesKnown, quiet-facts, lanes-stay, lanes-begin, lanes-under-way, reached-lanes, idle-numbers, number_of, at-set, at-push, at-position, get-push, get-remove, skip, in-map, to-map, reached-since, comes-to-rest, none-moves, own-none, Rows, rows-stay, same-rows, rows-grow, silent-grow, taken-quiet, not-sent, taken-rows, made-known, made-asked, reached-rows, stirs-stay, starts-stay, steps-stay, IsQuiet, Did, IsHeardNow, IsUnmadeFault}
+-- What the steps of operations keep along a history, of the shelf, of each call that waits and of each operation under way, holds of each answer: of what
+-- comes it is known which call it answers, for which operation that was sent, and where. G is known of each view before.
+use Rattle.core_facts.proofs.Answered.{HadStory, answered-story}
+use Rattle.core_facts.proofs.Prelude.{said_of, Says, IsFresh, is_busy, lost_lane, IsOther, numbers_of, with_state, record_of, Makes, IsRefused, Leads, Stirs, Moves, moves_none, moves_more, counted, BeginsIf, TakesAt, View, turn_at, unmade_turn, Lane, Purpose, State, Busy, Over, Setup, Next, Send, Wait, Done, Shelf, Turn, where_, calls_for, in_flight, IsUnbegun, Counts, IsSetUp, StepsTo, HearsRecord, goes, last_reading, loses, NoneBusy, IsOutstanding, Tried, unsent, runs, Starts, Resumes, Takes, Machine, xid_at, at_made, others_made, others_taken, gone, failed_after, next_xid, made_call, waiting_at, without, Waiting, ◌≡◌, ◌≢◌, ◌<◌, ◌+◌, ◌-◌, ◌⊎◌, inl, inr, ℕ, List, [], ◌∷◌, ◌++◌, length, map, Bool, true, false, nat_eq, Option, Some, None, MatchOption, position, slice_get, slice_set, Result, Err, refl, sym, ap, subst, ◌∙◌, arith, eqb-true, eq-eqb, FirstSent-grow, At-grow, At-below, At-back, At-last, At-cases, length_last, At, IsLost, HasXid, proc_of, Ended, UnderWay, Answer, Refused, Fault, Entry, Began, Answered, Dialed, Executed, Foreign, Flushed, Reboot, Delivered, Failed, Clock, Sent, Call, Reply, Op}
 use Rattle.client_core.specs.Steps.{IsUnmade}
-use Rattle.core_facts.specs.Counted.{where_}
-use Rattle.core_facts.specs.Tries.{runs, ended}
-use Rattle.core_facts.proofs.Cases.{heard}
-use Rattle.core_facts.proofs.Counting.{calls-without, known-none, one_for, none-idle}
-use Rattle.core_facts.proofs.Steps.{KeptOf}
-use Rattle.core_facts.proofs.Stories.{IsGiven, some-call, Going}
-use Rattle.rpc_retry.specs.Records.{WaitedAs}
-use Rattle.world_model.specs.declared.answer.Fault.TheVariants as faults
-use Rattle.world_model.specs.Heard.{Heard as IsHeard}
+use Rattle.core_facts.specs.Reaches.{MayHear}
+use Rattle.core_facts.specs.Tries.{IsMade, ended}
+use Rattle.rpc_retry.proofs.Records.{before_sent, before_failed}
+use Rattle.world_model.specs.Messages.{SpellsCall, SpellsCallBy}
+use Rattle.core_facts.proofs.AllCounts.{counts-calls}
+use Rattle.core_facts.proofs.Cases.{Heard, dropped, replied, sent_now, FailedNow, goes_on, gives_up, failed_now, answered_now, taken_one, heard}
+use Rattle.core_facts.proofs.Counting.{IsKnown, calls-some, calls-without, known-only, known-none, one_for, stirs-count, starts-count, hears-count, reached-count, none-busy, none-idle}
+use Rattle.core_facts.proofs.Expects.{ExpectLaws}
+use Rattle.core_facts.proofs.Hearing.{was-sent, says-of}
+use Rattle.core_facts.proofs.LaneMarks.{LanesKnown, quiet-facts, lanes-stay, lanes-begin, lanes-under-way, reached-lanes, idle-numbers, number_of}
+use Rattle.core_facts.proofs.Lists.{at-set, at-push, at-position, get-push, get-remove, skip, in-map, to-map}
 use Rattle.core_facts.proofs.Losing.{reached-shown, lost-grow}
-use Rattle.core_answers.proofs.refusals.Passing.{Passes, passes_fresh, passes_step, passes_lost, forget}
-use Rattle.core_answers.proofs.refusals.SaidNone.{said-none}
+use Rattle.core_facts.proofs.Owning.{reached-since}
+use Rattle.core_facts.proofs.Passing.{Passes, passes_fresh, passes_step, passes_lost, forget}
+use Rattle.core_facts.proofs.Resting.{comes-to-rest, none-moves, own-none}
+use Rattle.core_facts.proofs.Rows.{Rows, rows-stay, same-rows, rows-grow, silent-grow, taken-quiet, not-sent, taken-rows, made-known, made-asked, reached-rows}
+use Rattle.core_facts.proofs.SaidNone.{said-none}
+use Rattle.core_facts.proofs.Steps.{AskedOf, KeptOf, ThenOf}
+use Rattle.core_facts.proofs.Stories.{set-other, by-place, IsGiven, ended-grow, under-back, some-call, Going}
+use Rattle.core_facts.proofs.Walks.{stirs-stay, starts-stay, steps-stay}
+use Rattle.rpc_retry.specs.Records.{WaitedAs}
+use Rattle.world_model.specs.Heard.{Heard as IsHeard}
+use Rattle.world_model.specs.LanesTogether.{IsBusy}
+use Rattle.world_model.specs.Waiting.{IsDelivered}
+use Rattle.world_model.specs.declared.answer.Fault.TheVariants as faults
+
+-- a call that is made, of which W holds
+abbrev pub AsksFor : (Call → Type 0) → Next → Type 0
+AsksFor W (Send call) = W call
+AsksFor W Wait = Unit {0}
+AsksFor W (Done answer) = Unit {0}
+
+-- an operation that has its answer sees no further record
+abbrev pub IsQuiet : State → Entry → Type 0
+IsQuiet (Busy machine) e = Unit {0}
+IsQuiet (Over answer) e = IsDelivered e → ⊥
+
+-- What a step leaves: I of the shelf, W of the call that it asks for, and S of the operation.
+pub record Did (W : List Entry → ℕ → Op → Call → Type 0) (I : List Entry → Shelf → Type 0) (S : List Entry → ℕ → Op → State → Type 0) (h : List Entry) (x : ℕ) (op : Op) (next : Next)
+    (new : Machine) (after : Shelf) : Type 0 where
+  pub shelf : I h after
+  pub asks : AsksFor (W h x op) next
+  pub then_ : ThenOf (λ m. S h x op (Busy m)) (λ a. S h x op (Over a)) next new
 
 -- As a record comes Q holds of each call that waited, of the operation that is under way in its lane, of its machine, and of the place where the call was first
 -- sent; as long as the session isn't lost.
 abbrev pub Sight : Type 1
 Sight = List Entry → ℕ → Op → Machine → ℕ → Turn → Turn → Call → Shelf → Type 0
 
-abbrev pub IsSeen : (ℕ → Op → Machine) → Setup → (List Entry → View → Type 0) → Sight → Type 0
-IsSeen machine_of setup G Q = (h : List Entry) (v : View) → Passes machine_of setup G h v → v.lost ≡ false → MayHear v → (xid : ℕ) (w : Waiting Purpose)
+abbrev pub IsSeenBy : (ℕ → Op → Machine) → Setup → (List Entry → View → Type 0) → Sight → Type 0
+IsSeenBy machine_of setup G Q = (h : List Entry) (v : View) → Passes machine_of setup G h v → v.lost ≡ false → MayHear v → (xid : ℕ) (w : Waiting Purpose)
     → waiting_at xid v.calls.calls ≡ Some w → (made : IsMade setup.cred xid w) → (at : ℕ) (machine : Machine) → slice_get v.lanes at ≡ Some (record { number = w.purpose.lane; state = Busy machine })
     → (x : ℕ) (op : Op) → UnderWay h w.purpose.lane x (length h) op → (from : ℕ) → IsOutstanding h xid w.bytes from
     → (rec : List ℕ) → Q (h ++ Delivered rec ∷ []) x op machine from w.purpose.sent (turn_at (taken_one v xid)) made.asked v.shelf
 
--- what came of a call that the machine waited for, and Q of it
+-- The record at the end answers the call: a reply to it, or a refusal.
+pub record IsHeardNow (h : List Entry) (x : ℕ) (call : Call) (came : Result Reply Fault) : Type 0 where
+  pub xid : ℕ
+  pub rec : List ℕ
+  pub heard : IsHeard h x (length h) call xid rec
+  pub since : x < heard.sent_at
+  pub end : heard.got_at + 1 ≡ length h
+  pub says : Says xid call rec came
+
+-- What came of a call that the machine waited for, and Q of it: it is what the record says of the call's procedure, so a status came only in a reply.
 pub record IsToldOf (Q : Sight) (E : Machine → Call → Type 0) (W : List Entry → ℕ → Op → Call → Type 0) (h : List Entry) (x : ℕ) (op : Op) (machine : Machine) (sent turn : Turn)
     (came : Result Reply Fault) (shelf : Shelf) : Type 0 where
   pub call : Call
@@ -35,16 +75,25 @@ pub record IsToldOf (Q : Sight) (E : Machine → Call → Type 0) (W : List Entr
   pub asks : W h x op call
   pub now : IsHeardNow h x call came
   pub read : (status : ℕ) → came ≡ Err (faults.Nfs status) → ⊥
+  pub proc : ℕ
+  pub said_is : came ≡ said_of proc now.rec
   pub seen : Q h x op machine now.heard.sent_at sent turn call shelf
+
+-- a call that isn't made: none is left, or there is no memory
+abbrev pub IsUnmadeFault : Fault → Type 0
+IsUnmadeFault faults.Spent = Unit {0}
+IsUnmadeFault faults.Memory = Unit {0}
+IsUnmadeFault fault = ⊥
 
 -- Something came of a call, or it wasn't made.
 pub data CameOf (Q : Sight) (E : Machine → Call → Type 0) (W : List Entry → ℕ → Op → Call → Type 0) (h : List Entry) (x : ℕ) (op : Op) (machine : Machine) (sent turn : Turn)
     (came : Result Reply Fault) (shelf : Shelf) : Type 0 where
   heard_of : IsToldOf Q E W h x op machine sent turn came shelf → CameOf Q E W h x op machine sent turn came shelf
-  unmade : (call : Call) → E machine call → (fault : Fault) → came ≡ Err fault → IsUnmadeFault fault → CameOf Q E W h x op machine sent turn came shelf
+  unmade : (call : Call) → E machine call → (fault : Fault) → came ≡ Err fault → IsUnmadeFault fault → W h x op call
+      → CameOf Q E W h x op machine sent turn came shelf
 
--- The laws of a tale (`core_facts`), where more is known: P of the history and the shelf as the operation begins in its lane, and Q as a reply comes.
-pub record SlotLaws (P : List Entry → ℕ → Shelf → Type 0) (Q : Sight) (machine_of : ℕ → Op → Machine) (setup : Setup) (E : Machine → Call → Type 0)
+-- Facts of the shelf, of a call that waits and of an operation, which began at a place, that steps keep, and entries; where P is known of the history and the shelf as the operation begins in its lane, and Q as a reply comes.
+pub record TellLaws (P : List Entry → ℕ → Shelf → Type 0) (Q : Sight) (machine_of : ℕ → Op → Machine) (setup : Setup) (E : Machine → Call → Type 0)
     (W : List Entry → ℕ → Op → Call → Type 0) (I : List Entry → Shelf → Type 0) (S : List Entry → ℕ → Op → State → Type 0) : Type 0 where
   pub fresh : (h : List Entry) (v : View) → IsSetUp setup h → IsFresh setup v → I h v.shelf
   pub starts : (h : List Entry) (lane line : ℕ) (op : Op) (wsize : ℕ) (turn : Turn) (old : Shelf) (next : Next) (new : Machine) (after : Shelf) → P h lane old
@@ -113,13 +162,13 @@ heard-now h rec xid from x asked bytes o spells named since =
       end = sym more;
     }
 
-quiet-entry : (e : Entry) → (IsDelivered e → ⊥) → (state : State) → IsQuiet state e
+pub quiet-entry : (e : Entry) → (IsDelivered e → ⊥) → (state : State) → IsQuiet state e
 quiet-entry e other (Busy machine) = tt
 quiet-entry e other (Over answer) = other
 
 module _ (machine_of : ℕ → Op → Machine) (unbegun : (lane : ℕ) (op : Op) → IsUnbegun (machine_of lane op)) (setup : Setup) (G : List Entry → View → Type 0) (P : List Entry → ℕ → Shelf → Type 0)
-    (given : IsGiven machine_of setup P) (Q : Sight) (sees : IsSeen machine_of setup G Q) (E : Machine → Call → Type 0) (expected : ExpectLaws E) (W : List Entry → ℕ → Op → Call → Type 0) (I : List Entry → Shelf → Type 0)
-    (S : List Entry → ℕ → Op → State → Type 0) (laws : SlotLaws P Q machine_of setup E W I S) where
+    (given : IsGiven machine_of setup P) (Q : Sight) (sees : IsSeenBy machine_of setup G Q) (E : Machine → Call → Type 0) (expected : ExpectLaws E) (W : List Entry → ℕ → Op → Call → Type 0) (I : List Entry → Shelf → Type 0)
+    (S : List Entry → ℕ → Op → State → Type 0) (laws : TellLaws P Q machine_of setup E W I S) where
   -- The call that waits is one that the machine expects.
   pub record IsExpected (h : List Entry) (number xid : ℕ) (w : Waiting Purpose) (machine : Machine) : Type 0 where
     pub made : IsMade setup.cred xid w
@@ -139,7 +188,7 @@ module _ (machine_of : ℕ → Op → Machine) (unbegun : (lane : ℕ) (op : Op)
   abbrev pub LanesGood : List Entry → View → Type 0
   LanesGood h v = (k : ℕ) (lane : Lane) → slice_get v.lanes k ≡ Some lane → LaneGood h v.calls.calls lane
 
-  pub record AllGood (h : List Entry) (v : View) : Type 0 where
+  pub record AllGoodBy (h : List Entry) (v : View) : Type 0 where
     pub shelf : I h v.shelf
     pub each : LanesGood h v
 
@@ -148,7 +197,7 @@ module _ (machine_of : ℕ → Op → Machine) (unbegun : (lane : ℕ) (op : Op)
     pub rows : Rows setup h v
     pub lanes : LanesKnown h v
     pub known : IsKnown v
-    pub all : AllGood h v
+    pub all : AllGoodBy h v
 
   -- The machine of the lane at a place made a step, and what that leads to is still to come.
   pub record Owing (h : List Entry) (v : View) (at number others : ℕ) (machine : Machine) (next : Next) : Type 0 where
@@ -199,8 +248,8 @@ module _ (machine_of : ℕ → Op → Machine) (unbegun : (lane : ℕ) (op : Op)
       by false d = old xid w (sym (others_made xid (next_xid v.calls) v.calls.calls row d) ∙ at) same
 
   leads-good : (h : List Entry) (v new : View) (at number others : ℕ) (machine : Machine) (next : Next) → LanesKnown h v → Rows setup h v → Owing h v at number others machine next
-      → Leads v at number machine next new → AllGood h new
-  leads-good h v new at number others machine (Send call) lanes r o (inl m) = subst (AllGood h) (sym m.is) (record {
+      → Leads v at number machine next new → AllGoodBy h new
+  leads-good h v new at number others machine (Send call) lanes r o (inl m) = subst (AllGoodBy h) (sym m.is) (record {
     shelf = o.shelf;
     each = by-place (LaneGood h (v.calls.calls ++ (next_xid v.calls, row) ∷ [])) v.lanes at (record { number = number; state = Busy machine }) o.there
         (made-lane h v number call new m r number machine o.own (λ same. (o.asked, λ x op u. (o.told x op u).asks)), λ x op u. (o.told x op u).then_)
@@ -220,7 +269,7 @@ module _ (machine_of : ℕ → Op → Machine) (unbegun : (lane : ℕ) (op : Op)
             g.1,
           )
       other k lane here apart (Over answer) is g = (subst (StateExpected h (v.calls.calls ++ (next_xid v.calls, row) ∷ []) lane.number) (sym is) tt, g.1)
-  leads-good h v new at number others machine (Send call) lanes r o (inr f) = subst (AllGood h) (sym f.is) (record { shelf = (told busy.x busy.op busy.under_way).shelf; each = by f.next f.state f.leads kept.1 told })
+  leads-good h v new at number others machine (Send call) lanes r o (inr f) = subst (AllGoodBy h) (sym f.is) (record { shelf = (told busy.x busy.op busy.under_way).shelf; each = by f.next f.state f.leads kept.1 told })
     where
       busy : IsBusy h number (length h)
       busy = (lanes-under-way h v lanes).busy at (record { number = number; state = Busy machine }) o.there
@@ -231,7 +280,7 @@ module _ (machine_of : ℕ → Op → Machine) (unbegun : (lane : ℕ) (op : Op)
       told : (x : ℕ) (op : Op) → UnderWay h number x (length h) op → Did W I S h x op f.next f.after f.left
       told x op u =
           let d = o.told x op u in
-          laws.takes h x op machine v.wsize (turn_at v) (unmade_turn v) (Err f.fault) v.shelf f.next f.after f.left others o.shelf d.then_ o.counts.0 (unmade call o.asked f.fault refl (why-unmade v f.fault f.unmade)) f.takes
+          laws.takes h x op machine v.wsize (turn_at v) (unmade_turn v) (Err f.fault) v.shelf f.next f.after f.left others o.shelf d.then_ o.counts.0 (unmade call o.asked f.fault refl (why-unmade v f.fault f.unmade) d.asks) f.takes
 
       by : (next : Next) (state : State) → IsRefused f.after next state → KeptOf E others machine next f.after
           → ((x : ℕ) (op : Op) → UnderWay h number x (length h) op → Did W I S h x op next f.after f.left) → LanesGood h (with_state v at number state f.left)
@@ -247,11 +296,11 @@ module _ (machine_of : ℕ → Op → Machine) (unbegun : (lane : ℕ) (op : Op)
           ))
       by (Done answer) state is k t = good-set h v at number machine state f.left o.there o.rest
           (subst (λ (s : State). LaneGood h v.calls.calls (record { number = number; state = s })) (sym is) (tt, λ x op u. (t x op u).then_))
-  leads-good h v new at number others machine Wait lanes r o is = subst (AllGood h) (sym is) (record {
+  leads-good h v new at number others machine Wait lanes r o is = subst (AllGoodBy h) (sym is) (record {
     shelf = o.shelf;
     each = by-place (LaneGood h v.calls.calls) v.lanes at (record { number = number; state = Busy machine }) o.there (o.own, λ x op u. (o.told x op u).then_) o.rest;
   })
-  leads-good h v new at number others machine (Done answer) lanes r o is = subst (AllGood h) (sym is) (record {
+  leads-good h v new at number others machine (Done answer) lanes r o is = subst (AllGoodBy h) (sym is) (record {
     shelf = o.shelf;
     each = good-set h v at number machine (Over answer) v.shelf o.there o.rest (tt, λ x op u. (o.told x op u).then_);
   })
@@ -271,7 +320,7 @@ module _ (machine_of : ℕ → Op → Machine) (unbegun : (lane : ℕ) (op : Op)
       record { made = e.made; expects = k (omega (arith, some, all)) e.made.asked e.expects; asks = e.asks }
   going-own h (Done answer) calls number others machine after count own k = tt
 
-  stirs-good : (h : List Entry) (old new : View) (at : ℕ) → Stirs old at new → Good h old → AllGood h new
+  stirs-good : (h : List Entry) (old new : View) (at : ℕ) → Stirs old at new → Good h old → AllGoodBy h new
   stirs-good h old new at t g =
       let own = g.all.each at (record { number = t.number; state = Busy t.machine }) t.there in
       let e = expected.resumes t.machine old.wsize (turn_at old) old.shelf t.next t.after t.shelf t.resumes in
@@ -320,7 +369,7 @@ module _ (machine_of : ℕ → Op → Machine) (unbegun : (lane : ℕ) (op : Op)
   abbrev pub AllQuiet : View → Entry → Type 0
   AllQuiet v e = (k : ℕ) (lane : Lane) → slice_get v.lanes k ≡ Some lane → IsQuiet lane.state e
 
-  all-grows : (h : List Entry) (e : Entry) (v : View) → ((lane line : ℕ) (op : Op) → e ≡ Began lane line op → ⊥) → AllQuiet v e → AllGood h v → AllGood (h ++ e ∷ []) v
+  all-grows : (h : List Entry) (e : Entry) (v : View) → ((lane line : ℕ) (op : Op) → e ≡ Began lane line op → ⊥) → AllQuiet v e → AllGoodBy h v → AllGoodBy (h ++ e ∷ []) v
   all-grows h e v other quiet g = record {
     shelf = laws.still h e v.shelf g.shelf;
     each = λ k lane there. lane-grows h e v.calls.calls lane (other lane.number) (quiet k lane there) (g.each k lane there);
@@ -382,8 +431,8 @@ module _ (machine_of : ℕ → Op → Machine) (unbegun : (lane : ℕ) (op : Op)
       by (inr new) = subst (LaneGood h calls) (sym new.1) good
 
   begins-good : (b : Bool) (h : List Entry) (old new : View) (lane line : ℕ) (op : Op) → old.lost ≡ b → StepsTo machine_of h old (Began lane line op) new → Passes machine_of setup G h old
-      → BeginsIf b old lane (machine_of lane op) (last_reading 0 h) new → AllGood h old → AllGood (h ++ Began lane line op ∷ []) new
-  begins-good true h old new lane line op was t r is g = subst (AllGood (h ++ Began lane line op ∷ [])) (sym is) (record {
+      → BeginsIf b old lane (machine_of lane op) (last_reading 0 h) new → AllGoodBy h old → AllGoodBy (h ++ Began lane line op ∷ []) new
+  begins-good true h old new lane line op was t r is g = subst (AllGoodBy (h ++ Began lane line op ∷ [])) (sym is) (record {
     shelf = laws.still h (Began lane line op) old.shelf g.shelf;
     each = pushed-good (h ++ Began lane line op ∷ []) old.lanes old.calls.calls (record { number = lane; state = Over (Refused faults.Lost) })
         (λ k l there. lane-grows h (Began lane line op) old.calls.calls l
@@ -429,7 +478,7 @@ module _ (machine_of : ℕ → Op → Machine) (unbegun : (lane : ℕ) (op : Op)
       own-told : (x : ℕ) (o : Op) → UnderWay later lane x (length later) o → Did W I S later x o b.own.next b.own.after b.own.shelf
       own-told x o u = now-told h old lane line op (λ y q. Did W I S later y q b.own.next b.own.after b.own.shelf) (reached-lanes machine_of setup h old (forget machine_of setup G h old r)) t.idle.other own-did x o u
 
-      first : AllGood later b.first
+      first : AllGoodBy later b.first
       first = leads-good later (record (counted old (last_reading 0 h)) { lanes = old.lanes ++ record { number = lane; state = Busy b.own.after } ∷ []; shelf = b.own.shelf }) b.first
           (length old.lanes) lane 0 b.own.after b.own.next (pushed (Busy b.own.after) b.own.shelf)
           (same-rows setup later old (record (counted old (last_reading 0 h)) { lanes = old.lanes ++ record { number = lane; state = Busy b.own.after } ∷ []; shelf = b.own.shelf }) refl
@@ -475,8 +524,8 @@ module _ (machine_of : ℕ → Op → Machine) (unbegun : (lane : ℕ) (op : Op)
   taken-lane h old rec xid lane r quiet g =
       lane-grows h (Delivered rec) (without xid old.calls.calls) lane (λ line op e. came-not rec lane.number line op e) quiet (less-expected h h old xid lane.number lane.state r g.0, g.1)
 
-  taken-good : (h : List Entry) (old : View) (rec : List ℕ) (xid : ℕ) → Rows setup h old → AllQuiet old (Delivered rec) → AllGood h old
-      → AllGood (h ++ Delivered rec ∷ []) (taken_one old xid)
+  taken-good : (h : List Entry) (old : View) (rec : List ℕ) (xid : ℕ) → Rows setup h old → AllQuiet old (Delivered rec) → AllGoodBy h old
+      → AllGoodBy (h ++ Delivered rec ∷ []) (taken_one old xid)
   taken-good h old rec xid r quiet g = record {
     shelf = laws.still h (Delivered rec) old.shelf g.shelf;
     each = λ k lane there. taken-lane h old rec xid lane r (quiet k lane there) (g.each k lane there);
@@ -498,7 +547,9 @@ module _ (machine_of : ℕ → Op → Machine) (unbegun : (lane : ℕ) (op : Op)
     expects = e.expects;
     asks = laws.waits h (Delivered rec) x op e.made.asked (e.asks x op u);
     now = record { xid = xid; rec = rec; heard = out.now.heard; since = out.now.since; end = out.now.end; says = said };
-    read = said-none call.purpose.proc rec;
+    read = λ status is. said-none call.purpose.proc rec status is;
+    proc = call.purpose.proc;
+    said_is = refl;
     seen = subst (λ (n : ℕ). Q later x op machine n call.purpose.sent (turn_at (taken_one old xid)) e.made.asked old.shelf) out.now.from_is
         (sees h old r found t.may xid call waits e.made at machine there x op u out.from out.out rec);
   }
@@ -527,7 +578,7 @@ module _ (machine_of : ℕ → Op → Machine) (unbegun : (lane : ℕ) (op : Op)
 
   hears-good : (h : List Entry) (old : View) (rec : List ℕ) (new : View) (xid : ℕ) (call : Waiting Purpose) (at : ℕ) (first : View) → HearsRecord old rec new
       → Passes machine_of setup G h old → old.lost ≡ false → xid_at rec ≡ Some xid → waiting_at xid old.calls.calls ≡ Some call → position (is_busy call.purpose.lane) old.lanes ≡ Some at
-      → TakesAt (taken_one old xid) at call.purpose.sent (said_of call.purpose.proc rec) first → AllGood h old → Good (h ++ Delivered rec ∷ []) first
+      → TakesAt (taken_one old xid) at call.purpose.sent (said_of call.purpose.proc rec) first → AllGoodBy h old → Good (h ++ Delivered rec ∷ []) first
   hears-good h old rec new xid call at first t r found named waits there o g = record {
     rows = steps-stay (Rows setup later) (rows-stay setup later) (taken_one old xid) first at o.number o.machine o.after o.shelf o.next o.there o.leads rows;
     lanes = steps-stay (LanesKnown later) (lanes-stay later) (taken_one old xid) first at o.number o.machine o.after o.shelf o.next o.there o.leads lanes;
@@ -610,20 +661,20 @@ module _ (machine_of : ℕ → Op → Machine) (unbegun : (lane : ℕ) (op : Op)
       busy = (lanes-under-way later (taken_one old xid) lanes).busy at (record { number = o.number; state = Busy o.machine }) o.there
 
   heard-good : (b : Bool) (h : List Entry) (old : View) (rec : List ℕ) (new : View) → old.lost ≡ b → HearsRecord old rec new → Passes machine_of setup G h old → Heard old rec new
-      → AllGood h old → AllGood (h ++ Delivered rec ∷ []) new
+      → AllGoodBy h old → AllGoodBy (h ++ Delivered rec ∷ []) new
   heard-good b h old rec new was t r (dropped none is) g =
-      subst (AllGood (h ++ Delivered rec ∷ [])) (sym is) (all-grows h (Delivered rec) old (λ lane line op e. came-not rec lane line op e) (noted-quiet old rec new t) g)
+      subst (AllGoodBy (h ++ Delivered rec ∷ [])) (sym is) (all-grows h (Delivered rec) old (λ lane line op e. came-not rec lane line op e) (noted-quiet old rec new t) g)
   heard-good true h old rec new was t r (replied xid call named waits f) g =
       let none : NoneBusy old = (comes-to-rest machine_of setup h old (forget machine_of setup G h old r)).over was in
       let first : f.first ≡ taken_one old xid = own-none (taken_one old xid) rec call.purpose f.first none f.own in
       let none-first : NoneBusy f.first = subst NoneBusy (sym first) none in
       let is : new ≡ taken_one old xid = none-moves f.first new f.rest none-first ∙ first in
-      subst (AllGood (h ++ Delivered rec ∷ [])) (sym is) (taken-good h old rec xid (reached-rows machine_of setup h old (forget machine_of setup G h old r)) (noted-quiet old rec new t) g)
+      subst (AllGoodBy (h ++ Delivered rec ∷ [])) (sym is) (taken-good h old rec xid (reached-rows machine_of setup h old (forget machine_of setup G h old r)) (noted-quiet old rec new t) g)
   heard-good false h old rec new was t r (replied xid call named waits f) g = by (position (is_busy call.purpose.lane) old.lanes) refl f.own
     where
       by : (o : Option ℕ) → position (is_busy call.purpose.lane) old.lanes ≡ o
           → MatchOption o (f.first ≡ taken_one old xid) (λ at. TakesAt (taken_one old xid) at call.purpose.sent (said_of call.purpose.proc rec) f.first)
-          → AllGood (h ++ Delivered rec ∷ []) new
+          → AllGoodBy (h ++ Delivered rec ∷ []) new
       by None none is = absurd (none-busy old xid call waits none (reached-count machine_of unbegun setup h old (forget machine_of setup G h old r) was).counted)
       by (Some at) there o = (moves-good (h ++ Delivered rec ∷ []) f.first new f.rest (hears-good h old rec new xid call at f.first t r was named waits there o g)).all
 
@@ -651,7 +702,7 @@ module _ (machine_of : ℕ → Op → Machine) (unbegun : (lane : ℕ) (op : Op)
           }
 
   waited-good : (h : List Entry) (old new : View) → new.shelf ≡ old.shelf → new.lanes ≡ old.lanes → ((xid : ℕ) (w : Waiting Purpose) → waiting_at xid new.calls.calls ≡ Some w → WaitedAs old.calls.calls xid w)
-      → AllGood h old → AllGood h new
+      → AllGoodBy h old → AllGoodBy h new
   waited-good h old new kept same was g = record {
     shelf = subst (I h) (sym kept) g.shelf;
     each = λ k lane there. waited-lane h old.calls.calls new.calls.calls lane was (g.each k lane (ap (λ (lanes : List Lane). slice_get lanes k) (sym same) ∙ there));
@@ -662,7 +713,7 @@ module _ (machine_of : ℕ → Op → Machine) (unbegun : (lane : ℕ) (op : Op)
   lost-lane-good h calls later number (Busy machine) l g = (tt, λ x op u. laws.lost h x op l)
   lost-lane-good h calls later number (Over answer) l g = (tt, g.1)
 
-  lost-good : (h : List Entry) (old new : View) → IsLost h (length h) → new.shelf ≡ old.shelf → new.lanes ≡ map lost_lane old.lanes → AllGood h old → AllGood h new
+  lost-good : (h : List Entry) (old new : View) → IsLost h (length h) → new.shelf ≡ old.shelf → new.lanes ≡ map lost_lane old.lanes → AllGoodBy h old → AllGoodBy h new
   lost-good h old new l kept is g = record {
     shelf = subst (I h) (sym kept) g.shelf;
     each = λ k lane there.
@@ -670,21 +721,21 @@ module _ (machine_of : ℕ → Op → Machine) (unbegun : (lane : ℕ) (op : Op)
         subst (LaneGood h new.calls.calls) (sym m.2) (lost-lane-good h old.calls.calls new.calls.calls m.0.number m.0.state l (g.each k m.0 m.1));
   }
 
-  failed-good : (h : List Entry) (old new : View) → (new.lost ≡ true → IsLost h (length h)) → FailedNow old new → AllGood h old → AllGood h new
+  failed-good : (h : List Entry) (old new : View) → (new.lost ≡ true → IsLost h (length h)) → FailedNow old new → AllGoodBy h old → AllGoodBy h new
   failed-good h old new shown (goes_on none is) g =
       waited-good h old new (ap (λ (v : View). v.shelf) is) (ap (λ (v : View). v.lanes) is) (λ xid w at. before_failed true old.calls.calls xid w
       (sym (ap (λ (v : View). waiting_at xid v.calls.calls) is ∙ ap (λ (o : Option ℕ). waiting_at xid (failed_after o old.calls.calls)) none) ∙ at)) g
   failed-good h old new shown (gives_up xid up is) g = lost-good h old new (shown (ap (λ (v : View). v.lost) is)) (ap (λ (v : View). v.shelf) is) (ap (λ (v : View). v.lanes) is) g
 
-  same-good : (h : List Entry) (e : Entry) (old new : View) → ((lane line : ℕ) (op : Op) → e ≡ Began lane line op → ⊥) → (IsDelivered e → ⊥) → new ≡ old → AllGood h old
-      → AllGood (h ++ e ∷ []) new
-  same-good h e old new other quiet is g = subst (AllGood (h ++ e ∷ [])) (sym is) (all-grows h e old other (all-quiet old e quiet) g)
+  same-good : (h : List Entry) (e : Entry) (old new : View) → ((lane line : ℕ) (op : Op) → e ≡ Began lane line op → ⊥) → (IsDelivered e → ⊥) → new ≡ old → AllGoodBy h old
+      → AllGoodBy (h ++ e ∷ []) new
+  same-good h e old new other quiet is g = subst (AllGoodBy (h ++ e ∷ [])) (sym is) (all-grows h e old other (all-quiet old e quiet) g)
 
-  good-step : (h : List Entry) (old : View) (e : Entry) (new : View) → StepsTo machine_of h old e new → Passes machine_of setup G h old → AllGood h old → AllGood (h ++ e ∷ []) new
+  good-step : (h : List Entry) (old : View) (e : Entry) (new : View) → StepsTo machine_of h old e new → Passes machine_of setup G h old → AllGoodBy h old → AllGoodBy (h ++ e ∷ []) new
   good-step h old (Began lane line op) new t r g = begins-good old.lost h old new lane line op refl t r t.step g
   good-step h old (Answered lane line answer) new t r g =
       let a = answered_now old lane answer new t.answers in
-      subst (AllGood (h ++ Answered lane line answer ∷ [])) (sym a.is.is)
+      subst (AllGoodBy (h ++ Answered lane line answer ∷ [])) (sym a.is.is)
       (record {
         shelf = laws.still h (Answered lane line answer) old.shelf g.shelf;
         each = λ k l there. lane-grows h (Answered lane line answer) old.calls.calls l (λ n o e. cc) (quiet-entry (Answered lane line answer) (λ d. let is = d.1 in cc) l.state)
@@ -706,118 +757,20 @@ module _ (machine_of : ℕ → Op → Machine) (unbegun : (lane : ℕ) (op : Op)
   good-step h old (Reboot verf) new t r g = same-good h (Reboot verf) old new (λ lane line op e. cc) (λ d. let is = d.1 in cc) t g
   good-step h old (Clock ms) new t r g = same-good h (Clock ms) old new (λ lane line op e. cc) (λ d. let is = d.1 in cc) t g
 
-  pub reached-good : (h : List Entry) (v : View) → Passes machine_of setup G h v → AllGood h v
-  reached-good _ _ (passes_fresh h v may up fresh) = record {
+  pub reached-good-by : (h : List Entry) (v : View) → Passes machine_of setup G h v → AllGoodBy h v
+  reached-good-by _ _ (passes_fresh h v may up fresh) = record {
     shelf = laws.fresh h v up fresh;
     each = λ k lane there. absurd (let no_way : None ≡ Some lane = ap (λ (lanes : List Lane). slice_get lanes k) (sym fresh.lanes) ∙ there in cc);
   }
-  reached-good _ _ (passes_step h before v b e r given_so is t) = subst (λ (k : List Entry). AllGood k v) (sym is) (good-step before b e v t r (reached-good before b r))
-  reached-good _ _ (passes_lost h v b r shown is) = lost-good h b v (record { to = length h; by = omega arith; loses = shown }) (ap (λ (w : View). w.shelf) is) (ap (λ (w : View). w.lanes) is) (reached-good h b r)
+  reached-good-by _ _ (passes_step h before v b e r given_so is t) = subst (λ (k : List Entry). AllGoodBy k v) (sym is) (good-step before b e v t r (reached-good-by before b r))
+  reached-good-by _ _ (passes_lost h v b r shown is) = lost-good h b v (record { to = length h; by = omega arith; loses = shown }) (ap (λ (w : View). w.shelf) is) (ap (λ (w : View). w.lanes) is) (reached-good-by h b r)
 
   -- ---- answers
 
-  -- The operation was answered at a place, and this was its story until then.
-  pub record HadStory (h : List Entry) (x : ℕ) (op : Op) (y : ℕ) (answer : Answer) : Type 0 where
-    pub before : List Entry
-    pub after : List Entry
-    pub is : h ≡ before ++ after
-    pub there : length before ≡ y
-    pub story : S before x op (Over answer)
+  abbrev Ends_ : List Entry → ℕ → Op → Answer → Type 0
+  Ends_ h x op answer = S h x op (Over answer)
 
-  same-answer : (a b c d : ℕ) (p q : Answer) → Answered a b p ≡ Answered c d q → (a ≡ c) × (q ≡ p)
-  same-answer a b c d p q e = (cc, cc)
-
-  ended-back : (h : List Entry) (e : Entry) (lane x : ℕ) (op : Op) (y : ℕ) (answer : Answer) → y < length h → Ended (h ++ e ∷ []) lane x op y answer → Ended h lane x op y answer
-  ended-back h e lane x op y answer within d = record {
-    line = d.line;
-    began = let early = d.later in At-back h (e ∷ []) x (Began lane d.line op) d.began (omega (arith, early, within));
-    answered = At-back h (e ∷ []) y (Answered lane d.line answer) d.answered within;
-    later = d.later;
-    first = λ j a there after. d.first j a (At-grow h (e ∷ []) j (Answered lane d.line a) there) after;
-  }
-
-  -- the operation that is answered now was under way
-  answered-under : (h : List Entry) (lane line : ℕ) (given : Answer) (x : ℕ) (op : Op) (answer : Answer) → Ended (h ++ Answered lane line given ∷ []) lane x op (length h) answer
-      → UnderWay h lane x (length h) op
-  answered-under h lane line given x op answer d = record {
-    line = d.line;
-    began = began;
-    before = d.later;
-    unanswered = λ a.
-        let same = same-began a.lane a.ended.line lane d.line a.op op (At-one h x (Began a.lane a.ended.line a.op) (Began lane d.line op) a.ended.began began) in
-        let there : At h a.y (Answered lane d.line a.answer) =
-        subst (λ (n : ℕ). At h a.y (Answered n d.line a.answer)) same.0 (subst (λ (l : ℕ). At h a.y (Answered a.lane l a.answer)) same.1 a.ended.answered) in
-        let late = d.first a.y a.answer (At-grow h (Answered lane line given ∷ []) a.y (Answered lane d.line a.answer) there) a.ended.later in
-        let early = a.before in
-        omega (arith, late, early);
-  }
-    where
-      same-began : (a b c e : ℕ) (o p : Op) → Began a b o ≡ Began c e p → (a ≡ c) × (b ≡ e)
-      same-began a b c e o p q = (cc, cc)
-
-      began : At h x (Began lane d.line op)
-      began = let early = d.later in At-back h (Answered lane line given ∷ []) x (Began lane d.line op) d.began early
-
-  had-later : (h : List Entry) (e : Entry) (x : ℕ) (op : Op) (y : ℕ) (answer : Answer) → HadStory h x op y answer → HadStory (h ++ e ∷ []) x op y answer
-  had-later h e x op y answer s = record {
-    before = s.before;
-    after = s.after ++ e ∷ [];
-    is = ap (λ (k : List Entry). k ++ e ∷ []) s.is ∙ append_assoc s.before s.after (e ∷ []);
-    there = s.there;
-    story = s.story;
-  }
-
-  not-answered : (h : List Entry) (e : Entry) (lane x : ℕ) (op : Op) (y : ℕ) (answer : Answer) → ((n l : ℕ) (a : Answer) → e ≡ Answered n l a → ⊥) → y ≡ length h
-      → Ended (h ++ e ∷ []) lane x op y answer → ⊥
-  not-answered h e lane x op y answer other at d = by (At-cases h e y (Answered lane d.line answer) d.answered)
-    where
-      by : At h y (Answered lane d.line answer) ⊎ ((y ≡ length h) × (e ≡ Answered lane d.line answer)) → ⊥
-      by (inl there) = let low = At-below h y (Answered lane d.line answer) there in absurd (omega (arith, low, at))
-      by (inr now) = other lane d.line answer now.1
-
-  answers-story : (h : List Entry) (old : View) (e : Entry) (new : View) (lane x : ℕ) (op : Op) (y : ℕ) (answer : Answer) → StepsTo machine_of h old e new → Passes machine_of setup G h old
-      → y ≡ length h → Ended (h ++ e ∷ []) lane x op y answer → HadStory (h ++ e ∷ []) x op y answer
-  answers-story h old (Answered number line given) new lane x op y answer t r at d = by (At-cases h (Answered number line given) y (Answered lane d.line answer) d.answered)
-    where
-      by : At h y (Answered lane d.line answer) ⊎ ((y ≡ length h) × (Answered number line given ≡ Answered lane d.line answer)) → HadStory (h ++ Answered number line given ∷ []) x op y answer
-      by (inl there) = absurd (let low = At-below h y (Answered lane d.line answer) there in omega (arith, low, at))
-      by (inr now) =
-          let same = same-answer number line lane d.line given answer now.1 in
-          let a = answered_now old number given new t.answers in
-          let gives : given ≡ a.is.answer = some-answer given a.is.answer a.is.gives in
-          let good = (reached-good h old r).each a.at (record { number = number; state = Over a.is.answer }) a.is.there in
-          let now-ended : Ended (h ++ Answered number line given ∷ []) lane x op (length h) answer =
-          subst (λ (n : ℕ). Ended (h ++ Answered number line given ∷ []) lane x op n answer) at d in
-          let mine : Ended (h ++ Answered number line given ∷ []) number x op (length h) answer =
-          subst (λ (n : ℕ). Ended (h ++ Answered number line given ∷ []) n x op (length h) answer) (sym same.0) now-ended in
-          record {
-            before = h;
-            after = Answered number line given ∷ [];
-            is = refl;
-            there = sym at;
-            story = subst (λ (b : Answer). S h x op (Over b)) (sym gives ∙ sym same.1) (good.1 x op (answered-under h number line given x op answer mine));
-          }
-  answers-story h old (Began number line o) new lane x op y answer t r at d = absurd (not-answered h (Began number line o) lane x op y answer (λ n l a e. cc) at d)
-  answers-story h old (Sent bytes) new lane x op y answer t r at d = absurd (not-answered h (Sent bytes) lane x op y answer (λ n l a e. cc) at d)
-  answers-story h old (Delivered bytes) new lane x op y answer t r at d = absurd (not-answered h (Delivered bytes) lane x op y answer (λ n l a e. cc) at d)
-  answers-story h old Failed new lane x op y answer t r at d = absurd (not-answered h Failed lane x op y answer (λ n l a e. cc) at d)
-  answers-story h old (Dialed port) new lane x op y answer t r at d = absurd (not-answered h (Dialed port) lane x op y answer (λ n l a e. cc) at d)
-  answers-story h old (Executed xid call reply) new lane x op y answer t r at d = absurd (not-answered h (Executed xid call reply) lane x op y answer (λ n l a e. cc) at d)
-  answers-story h old (Foreign call reply) new lane x op y answer t r at d = absurd (not-answered h (Foreign call reply) lane x op y answer (λ n l a e. cc) at d)
-  answers-story h old (Flushed file from len) new lane x op y answer t r at d = absurd (not-answered h (Flushed file from len) lane x op y answer (λ n l a e. cc) at d)
-  answers-story h old (Reboot verf) new lane x op y answer t r at d = absurd (not-answered h (Reboot verf) lane x op y answer (λ n l a e. cc) at d)
-  answers-story h old (Clock ms) new lane x op y answer t r at d = absurd (not-answered h (Clock ms) lane x op y answer (λ n l a e. cc) at d)
-
-  pub reached-answered : (h : List Entry) (v : View) → Passes machine_of setup G h v → (lane x : ℕ) (op : Op) (y : ℕ) (answer : Answer) → Ended h lane x op y answer → HadStory h x op y answer
-  reached-answered _ _ (passes_fresh h v may up fresh) lane x op y answer d = absurd (up.unbegun x lane d.line op d.began)
-  reached-answered _ _ (passes_step h before v b e r given_so is t) lane x op y answer d =
-      subst (λ (k : List Entry). HadStory k x op y answer) (sym is) (by (reached-answered before b r lane x op y answer) (cases_lt y (length before)) (subst (λ (k : List Entry). Ended k lane x op y answer) is d))
-    where
-      by : (Ended before lane x op y answer → HadStory before x op y answer) → (y < length before) ⊎ (length before ≤ y) → Ended (before ++ e ∷ []) lane x op y answer
-          → HadStory (before ++ e ∷ []) x op y answer
-      by early (inl within) q = had-later before e x op y answer (early (ended-back before e lane x op y answer within q))
-      by early (inr past) q =
-          let low = At-below (before ++ e ∷ []) y (Answered lane q.line answer) q.answered in
-          let more = length_last before e in
-          answers-story before b e v lane x op y answer t r (omega (arith, low, more, past)) q
-  reached-answered _ _ (passes_lost h v b r shown is) lane x op y answer d = reached-answered h b r lane x op y answer d
+  pub reached-answered-by : (h : List Entry) (v : View) → Passes machine_of setup G h v → (lane x : ℕ) (op : Op) (y : ℕ) (answer : Answer) → Ended h lane x op y answer
+      → HadStory Ends_ h x op y answer
+  reached-answered-by = answered-story machine_of setup G Ends_
+      (λ h v p known at number answer there x op u. ((reached-good-by h v p).each at (record { number = number; state = Over answer }) there).1 x op u)

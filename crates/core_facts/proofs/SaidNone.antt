@@ -1,18 +1,21 @@
 -- A status is read from a record only as that of a reply: what is read in place of a reply is a refusal by RPC or a rule that was broken. Nor is it read that a
 -- call couldn't be made.
-use Rattle.core_answers.proofs.Prelude.{◌≡◌, ℕ, Bool, true, false, List, length, Result, Ok, Err, refl, subst, if◌then◌else◌, nat_lt, XdrFault, DirKept, FileKept, ReplyFault, RpcReply, Accepted, Fault, Reply, said_of, FineResult}
-use Rattle.rpc_message.specs.Reply.{Refused, Denied, reply_at}
+use Rattle.call_replies.specs.Records.{results_by, results_read, results_in}
+use Rattle.call_replies.specs.Results.{dir_said, file_said, said_in}
+use Rattle.core_facts.proofs.Prelude.{said_of, DirKept, FileKept, ◌≡◌, ℕ, Bool, true, false, List, length, Result, Ok, Err, refl, subst, if◌then◌else◌, nat_lt, Fault, Reply}
 use Rattle.call_replies.specs.Says.{said_by}
+use Rattle.client_shelf.specs.Unmade.{is_unmade, came_unmade}
+use Rattle.core_facts.proofs.Faults.{FineResult}
 use Rattle.nfs_dir_calls.specs.Calls.{is_dir_proc}
 use Rattle.nfs_dir_calls.specs.Replies.{dir_reply_at}
 use Rattle.nfs_file_calls.specs.Calls.{is_file_proc}
 use Rattle.nfs_file_calls.specs.Replies.{file_reply_at}
+use Rattle.rpc_message.specs.Reply.{RpcReply, Accepted, Refused, Denied, reply_at}
+use Rattle.rpc_message.specs.declared.reply.ReplyFault.{ReplyFault}
 use Rattle.rpc_message.specs.declared.reply.ReplyFault.TheVariants.{NotReply, Xdr}
-use Rattle.world_model.specs.declared.answer.Fault.TheVariants as faults
 use Rattle.world_model.specs.Rules.{most_bytes}
-use Rattle.client_shelf.specs.Unmade.{is_unmade, came_unmade}
-use Rattle.call_replies.specs.Records.{results_by, results_read, results_in}
-use Rattle.call_replies.specs.Results.{dir_said, file_said, said_in}
+use Rattle.xdr_codec.specs.declared.reader.XdrFault.{XdrFault}
+use Rattle.world_model.specs.declared.answer.Fault.TheVariants as faults
 
 -- that a server answered with a status is none of them
 abbrev NoStatus : Fault → Type 0
