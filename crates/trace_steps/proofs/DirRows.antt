@@ -1,5 +1,5 @@
 -- The tests decide whether an entry serves a call on a name: a row for each call and reply.
-use Rattle.std.proofs.Common.{◌≡◌, ℕ, suc, Bool, List}
+use Rattle.std.proofs.Common.{ℕ, suc}
 use Rattle.std.specs.Prelude.{Decides}
 use Rattle.nfs_dir_calls.specs.declared.call.DirCall.{DirCall}
 use Rattle.nfs_dir_calls.specs.declared.call.DirCall.TheVariants as dirs

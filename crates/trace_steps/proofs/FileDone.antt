@@ -1,5 +1,5 @@
 -- The tests decide what a server may do to a file.
-use Rattle.std.proofs.Common.{◌≡◌, ◌≢◌, ◌⊎◌, inl, inr, ◌==◌, ◌≤◌, ◌+◌, ℕ, suc, Bool, true, false, List, length, take, Option, Some, None, refl, sym, ◌∙◌, ap, subst, arith}
+use Rattle.std.proofs.Common.{◌≡◌, ◌≢◌, ◌⊎◌, inl, inr, ◌==◌, ◌≤◌, ℕ, suc, Bool, true, false, List, length, take, Option, Some, refl, sym, ◌∙◌, ap, arith}
 use Rattle.std.specs.Prelude.{Decides, ◌&&◌, ◌||◌, not, nat_le}
 use Rattle.std.proofs.lemmas.Bool.{cases_lt}
 use Rattle.std.proofs.lemmas.Bool.Decides.{Decides-like, Decides-and, Decides-or, Decides-not, Decides-eqb}
@@ -10,12 +10,11 @@ use Rattle.nfs_types.specs.declared.wcc.Wcc.{Wcc}
 use Rattle.nfs_types.specs.declared.set_attr.SetAttr.{SetAttr}
 use Rattle.world_model.specs.Server as model
 use Rattle.world_model.specs.Bytes.{put_at, committed_part}
-use Rattle.world_model.specs.Steps.{Same, Only, TrueOf, TrueWcc, Looks, Turns}
+use Rattle.world_model.specs.Steps.{Same, Only, TrueOf, TrueWcc}
 use Rattle.world_model.specs.FileService.{HoldsSized, Puts, GetsAttr, Asks, SetsAttr, ReadsBytes, Writes, WritesPrefix, Commits, steady_after}
 use Rattle.world_model.specs.Service.{RefusesWith, RefusesWcc}
 use Rattle.trace_data.specs.declared.trace.Trace.{Trace}
 use Rattle.trace_data.specs.Histories.{server_at, verf_at}
-use Rattle.trace_rules.specs.Restarting.{same_verf}
 use Rattle.trace_rules.proofs.Combining.{given}
 use Rattle.trace_rules.proofs.Restarted.{verf-decides}
 use Rattle.trace_steps.specs.MomentTests.{is_same, is_one, only}

@@ -1,5 +1,5 @@
 -- The tests decide whether an entry serves a call on a file: a row for each call and reply.
-use Rattle.std.proofs.Common.{◌≡◌, ◌⊎◌, inl, inr, ℕ, suc, Bool, List, Some, refl, sym, ◌∙◌, ap, subst}
+use Rattle.std.proofs.Common.{◌≡◌, ◌⊎◌, inl, inr, ℕ, suc, List, Some, refl, sym, subst}
 use Rattle.std.specs.Prelude.{Decides, ◌||◌}
 use Rattle.std.proofs.lemmas.Bool.Decides.{Decides-like, Decides-or}
 use Rattle.nfs_types.specs.declared.status.Status.{Status}

@@ -1,17 +1,16 @@
 -- The tests on the list of a directory decide what it holds.
-use Rattle.std.proofs.Common.{◌≡◌, ◌≢◌, ◌<◌, ◌≤◌, ◌⊎◌, inl, inr, ◌==◌, ℕ, zero, suc, Bool, true, false, true≢false, List, [], ◌∷◌, ◌++◌, length, map, take, drop, Option, Some, None, slice_get, refl, sym, ◌∙◌, ap, subst, arith, add-one, ◌+◌}
-use Rattle.std.specs.Prelude.{Decides, ◌&&◌, ◌||◌, not, ◌↔◌, ⊤}
+use Rattle.std.proofs.Common.{◌≡◌, ◌≢◌, ◌<◌, ◌≤◌, ◌⊎◌, inl, inr, ◌==◌, ℕ, zero, suc, Bool, true, false, true≢false, List, [], ◌∷◌, ◌++◌, length, map, take, drop, Some, slice_get, refl, sym, ◌∙◌, ap, subst, arith, add-one, ◌+◌}
+use Rattle.std.specs.Prelude.{Decides, ◌&&◌, ◌||◌, not, ⊤}
 use Rattle.std.specs.Option.{option_map}
 use Rattle.std.specs.Str.{bytes_eq}
 use Rattle.std.proofs.lemmas.Bool.Decides.{Decides-like, Decides-and, Decides-or, Decides-not, Decides-eqb}
 use Rattle.std.proofs.lemmas.List.{map-append, take_all, append-nil, length-append, length-take-le, take-append-drop}
 use Rattle.std.proofs.lemmas.Slice.Eq.{bytes_eq-Decides}
 use Rattle.world_model.specs.Server.{Listed, Lists}
-use Rattle.world_model.specs.Names.{own_name, parent_name, Lacks, Enters, Leaves, SameButParent, IsBare}
+use Rattle.world_model.specs.Names.{own_name, parent_name, Lacks, SameButParent, IsBare}
 use Rattle.trace_data.specs.declared.trace.DirEntry.{DirEntry}
 use Rattle.trace_data.specs.Histories.{listed_of}
 use Rattle.trace_rules.specs.Freshness.{same_entry, same_entries}
-use Rattle.trace_rules.proofs.Combining.{always, never}
 use Rattle.trace_rules.proofs.Changing.{entries-decides}
 use Rattle.trace_steps.specs.ListTests.{is_entry, has_entry, has_row, lacks, is_dotted, is_bare, names_it, without, is_without, has_this, is_parent, all_in}
 use Rattle.trace_steps.proofs.Testing.{without as but}

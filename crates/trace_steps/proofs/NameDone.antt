@@ -1,15 +1,13 @@
 -- The tests decide what a server may do with a name that is looked up or made.
-use Rattle.std.proofs.Common.{◌≡◌, ◌≢◌, ◌<◌, ◌⊎◌, inl, inr, ◌==◌, ℕ, zero, suc, Bool, true, false, true≢false, List, [], ◌∷◌, length, map, replicate, Option, Some, None, slice_get, refl, sym, ◌∙◌, ap, subst, arith}
-use Rattle.std.specs.Prelude.{Decides, ◌&&◌, ◌||◌, not, ⊤, if◌then◌else◌}
+use Rattle.std.proofs.Common.{◌≡◌, ◌⊎◌, inl, inr, ◌==◌, ℕ, suc, Bool, true, false, true≢false, List, [], length, map, Option, Some, None, slice_get, refl, sym, ◌∙◌, ap, subst}
+use Rattle.std.specs.Prelude.{Decides, ◌&&◌, ◌||◌, not, if◌then◌else◌}
 use Rattle.std.specs.Option.{option_map}
 use Rattle.std.specs.Str.{bytes_eq}
 use Rattle.std.proofs.lemmas.Option.{slice_get_within}
-use Rattle.std.proofs.lemmas.Bool.{cases_Bool}
-use Rattle.std.proofs.lemmas.Bool.Decides.{Decides-like, Decides-and, Decides-or, Decides-not, Decides-eqb}
+use Rattle.std.proofs.lemmas.Bool.Decides.{Decides-like, Decides-and, Decides-or, Decides-eqb}
 use Rattle.std.proofs.lemmas.Slice.Eq.{bytes_eq-Decides}
 use Rattle.nfs_types.specs.declared.attr.Attr.{Attr}
 use Rattle.nfs_types.specs.declared.status.Status.{Status}
-use Rattle.nfs_types.specs.declared.verf.Verf.{Verf}
 use Rattle.nfs_types.specs.declared.wcc.Wcc.{Wcc}
 use Rattle.nfs_types.specs.declared.set_attr.SetAttr.{SetAttr}
 use Rattle.nfs_dir_calls.specs.declared.call.DirCall.{DirCall}
@@ -18,8 +16,8 @@ use Rattle.nfs_dir_calls.specs.declared.create.Making.{Making}
 use Rattle.nfs_dir_calls.specs.declared.create.Making.TheVariants as makings
 use Rattle.nfs_dir_calls.specs.declared.mknod.Node.{Node}
 use Rattle.world_model.specs.Server as model
-use Rattle.world_model.specs.Names.{Lacks, Enters, Leaves, IsBare}
-use Rattle.world_model.specs.Steps.{Same, Only, Turns, Reads, Looks, TrueOf, TrueWcc}
+use Rattle.world_model.specs.Names.{Lacks, Enters, IsBare}
+use Rattle.world_model.specs.Steps.{Same, Only, Reads, TrueOf, TrueWcc}
 use Rattle.world_model.specs.FileService.{HoldsSized}
 use Rattle.world_model.specs.NameService.{LooksUp, ReadsLink, Relists, Begins, ShowsHandle, Shown, Makes, Meets, Creates, MakesDir, MakesLink, MakesNode, Links, new_bytes, new_file, keeps_all, kind_of}
 use Rattle.world_model.specs.Service.{RefusesWcc}
@@ -38,10 +36,10 @@ use Rattle.trace_steps.specs.MomentTests.{before, after, is_one, only}
 use Rattle.trace_steps.specs.TurnTests.{turns, reads, is_sized, shows_attr, showed_attr, shows_wcc, showed_wcc}
 use Rattle.trace_steps.specs.ListTests.{has_entry, lacks, is_bare, is_without}
 use Rattle.trace_steps.specs.FileTests.{refuses}
-use Rattle.trace_steps.specs.NameTests.{entries_of, list_of, list_there, in_list, had_name, looks_up, is_text, reads_link, are_new, new_file_of, is_made_file, is_made_dir, is_made, made_kind, is_new, begins, if_row, enters_at, makes_row, makes_at, makes_among, lists_with, makes, is_met, meets_it, meets_one, meets, shows_handle, is_shown, shows_one, shows, may_meet, creates, makes_other, links_row, links_at, links_among, links, refuses_link}
+use Rattle.trace_steps.specs.NameTests.{entries_of, list_there, in_list, had_name, looks_up, is_text, reads_link, are_new, new_file_of, is_made_file, is_made_dir, is_made, made_kind, is_new, begins, if_row, enters_at, makes_row, makes_at, makes_among, lists_with, makes, is_met, meets_it, meets_one, meets, shows_handle, is_shown, shows_one, shows, may_meet, creates, makes_other, links_row, links_at, links_among, links, refuses_link}
 use Rattle.trace_steps.proofs.Sparing.{only-one, only-two}
-use Rattle.trace_steps.proofs.Turned.{none, one, TurnsBy, turns-decides, to-turns, from-turns, turned, Unchanged, same-holds, reads-decides, sized-decides, shows-decides, showed-decides, wcc-decides, wcc-before}
-use Rattle.trace_steps.proofs.FileDone.{Refused, refuses-decides}
+use Rattle.trace_steps.proofs.Turned.{TurnsBy, turns-decides, to-turns, from-turns, turned, same-holds, reads-decides, sized-decides, shows-decides, showed-decides, wcc-decides, wcc-before}
+use Rattle.trace_steps.proofs.FileDone.{refuses-decides}
 use Rattle.trace_steps.proofs.Entering as entering
 use Rattle.trace_steps.proofs.Listing.{Has, some-entry, IsEntry, has-decides, lacks-decides, bare-decides, without-decides-at, map-get, map-got}
 

@@ -1,5 +1,5 @@
 -- The tests decide what a server may list of a directory.
-use Rattle.std.proofs.Common.{◌≡◌, ◌⊎◌, inl, inr, ◌==◌, ◌≤◌, ℕ, suc, Bool, true, List, [], ◌∷◌, length, map, Option, Some, refl, sym, ◌∙◌, ap, subst}
+use Rattle.std.proofs.Common.{◌≡◌, ◌⊎◌, ◌==◌, ◌≤◌, ℕ, suc, Bool, true, List, length, map, Option, refl, sym, ◌∙◌, ap, subst}
 use Rattle.std.specs.Prelude.{Decides, ◌&&◌, ◌||◌, nat_le, All}
 use Rattle.std.specs.Str.{bytes_eq}
 use Rattle.std.proofs.lemmas.Bool.Decides.{Decides-like, Decides-and, Decides-or, Decides-eqb, Decides-by_and}
@@ -8,7 +8,7 @@ use Rattle.nfs_types.specs.declared.attr.Attr.{Attr}
 use Rattle.nfs_dir_calls.specs.declared.plus_page.PlusRow.{PlusRow}
 use Rattle.nfs_dir_calls.specs.declared.dir_page.DirRow.{DirRow}
 use Rattle.world_model.specs.Server as model
-use Rattle.world_model.specs.Steps.{Only, Turns, TrueOf}
+use Rattle.world_model.specs.Steps.{Only, TrueOf}
 use Rattle.world_model.specs.NameService.{ShowsHandle}
 use Rattle.world_model.specs.ListService.{ReadsDir, IsRowOf, IsPlusRowOf, ListsNames, ListsObjects}
 use Rattle.trace_data.specs.declared.trace.Contents.{Contents}
@@ -26,7 +26,7 @@ use Rattle.trace_steps.specs.PageTests.{all_rows, is_plus_of, has_plus, all_plus
 use Rattle.trace_steps.proofs.Testing.{le-decides}
 use Rattle.trace_steps.proofs.Sparing.{only-one}
 use Rattle.trace_steps.proofs.Turned.{TurnsBy, turns-decides, to-turns, from-turns, turned, same-holds, shows-decides}
-use Rattle.trace_steps.proofs.Listing.{Has, some-entry, row-decides}
+use Rattle.trace_steps.proofs.Listing.{some-entry, row-decides}
 use Rattle.trace_steps.proofs.NameDone.{handle-decides}
 
 -- ---- rows

@@ -1,13 +1,13 @@
 -- The tests decide whether an object lost a name, and whether a name is removed.
-use Rattle.std.proofs.Common.{◌≡◌, ◌<◌, ◌⊎◌, inl, inr, ◌==◌, ℕ, zero, suc, Bool, true, false, true≢false, List, [], ◌∷◌, length, map, Option, Some, None, slice_get, refl, sym, ◌∙◌, ap, subst, arith}
-use Rattle.std.specs.Prelude.{Decides, ◌&&◌, ◌||◌, not, if◌then◌else◌}
+use Rattle.std.proofs.Common.{◌≡◌, ◌<◌, ◌⊎◌, inl, inr, ◌==◌, ℕ, zero, suc, Bool, true, false, true≢false, List, [], ◌∷◌, map, Option, Some, None, slice_get, refl, sym, ◌∙◌, ap, subst, arith}
+use Rattle.std.specs.Prelude.{Decides, ◌&&◌, ◌||◌}
 use Rattle.std.specs.Option.{option_map}
 use Rattle.std.specs.Str.{bytes_eq}
-use Rattle.std.proofs.lemmas.Bool.Decides.{Decides-like, Decides-and, Decides-or, Decides-not, Decides-eqb, not_from_Decides}
+use Rattle.std.proofs.lemmas.Bool.Decides.{Decides-like, Decides-and, Decides-or, Decides-eqb, not_from_Decides}
 use Rattle.std.proofs.lemmas.Slice.Eq.{bytes_eq-Decides}
 use Rattle.nfs_types.specs.declared.wcc.Wcc.{Wcc}
 use Rattle.world_model.specs.Server as model
-use Rattle.world_model.specs.Names.{own_name, parent_name, IsNamed, Loses, Leaves}
+use Rattle.world_model.specs.Names.{IsNamed, Loses}
 use Rattle.world_model.specs.Steps.{Only, TrueWcc}
 use Rattle.world_model.specs.NameService.{Removes}
 use Rattle.trace_data.specs.declared.trace.Contents.{Contents}
@@ -16,11 +16,11 @@ use Rattle.trace_data.specs.declared.trace.DirEntry.{DirEntry}
 use Rattle.trace_data.specs.declared.trace.Object.{Object}
 use Rattle.trace_data.specs.declared.trace.Updated.{Updated}
 use Rattle.trace_data.specs.declared.trace.Trace.{Trace}
-use Rattle.trace_data.specs.Histories.{listed_of, holds_of, object_of, named, objects_after, object_at, server_at}
+use Rattle.trace_data.specs.Histories.{listed_of, holds_of, object_of, named, objects_after, server_at}
 use Rattle.trace_rules.specs.Decided.{any_below}
 use Rattle.trace_rules.specs.Keeping.{same_bool, same_contents}
 use Rattle.trace_rules.proofs.Below.{any_below-found}
-use Rattle.trace_rules.proofs.Combining.{always, never}
+use Rattle.trace_rules.proofs.Combining.{never}
 use Rattle.trace_rules.proofs.Naming.{named-object, origin}
 use Rattle.trace_rules.proofs.Unchanged.{bool-decides}
 use Rattle.trace_steps.specs.MomentTests.{before, after, is_one, only}
@@ -29,7 +29,7 @@ use Rattle.trace_steps.specs.ListTests.{names_it, is_without}
 use Rattle.trace_steps.specs.NameTests.{entries_of, list_of, in_list, lists_with}
 use Rattle.trace_steps.specs.MoveTests.{names_by, names_among, is_named, is_gone_so, loses_so, loses_by, loses, removes_row, removes_at, removes_among, removes}
 use Rattle.trace_steps.proofs.Sparing.{only-two}
-use Rattle.trace_steps.proofs.Turned.{none, one, TurnsBy, turns-decides, Unchanged, same-holds, wcc-decides}
+use Rattle.trace_steps.proofs.Turned.{none, one, TurnsBy, turns-decides, same-holds, wcc-decides}
 use Rattle.trace_steps.proofs.Entering as entering
 use Rattle.trace_steps.proofs.Listing.{Has, IsNameOf, names-decides, without-decides-at}
 use Rattle.trace_steps.proofs.NameDone.{SomeRow, row-somewhere, ListsBy, lists-decide, to-relists, from-relists}

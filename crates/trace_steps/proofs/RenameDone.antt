@@ -1,5 +1,5 @@
 -- The tests decide whether a name moves.
-use Rattle.std.proofs.Common.{◌≡◌, ◌≢◌, ◌<◌, ◌⊎◌, inl, inr, ◌==◌, ℕ, zero, suc, Bool, true, false, List, [], ◌∷◌, length, map, Option, Some, None, slice_get, refl, sym, ◌∙◌, ap, subst, arith}
+use Rattle.std.proofs.Common.{◌≡◌, ◌≢◌, ◌⊎◌, inl, inr, ℕ, suc, Bool, true, false, List, length, map, Some, slice_get, refl, sym, ◌∙◌, ap, subst}
 use Rattle.std.specs.Prelude.{Decides, ◌&&◌, ◌||◌, not, if◌then◌else◌}
 use Rattle.std.specs.Str.{bytes_eq}
 use Rattle.std.proofs.lemmas.Bool.Decides.{Decides-like, Decides-and, Decides-or, Decides-not, not_from_Decides}
@@ -8,8 +8,8 @@ use Rattle.nfs_types.specs.declared.status.Status.{Status}
 use Rattle.nfs_types.specs.declared.wcc.Wcc.{Wcc}
 use Rattle.world_model.specs.Server as model
 use Rattle.world_model.specs.Names.{Lacks, Enters, Leaves, Clears, SameButParent, Loses}
-use Rattle.world_model.specs.Steps.{Same, Only, Turns, Reads, TrueWcc}
-use Rattle.world_model.specs.NameService.{Relists, HoldsMoved, Replaced, Moves, Renames, KeepsNames}
+use Rattle.world_model.specs.Steps.{Same, Only, Reads, TrueWcc}
+use Rattle.world_model.specs.NameService.{HoldsMoved, Moves, Renames, KeepsNames}
 use Rattle.world_model.specs.Service.{RefusesWcc}
 use Rattle.trace_data.specs.declared.trace.Contents.{Contents}
 use Rattle.trace_data.specs.declared.trace.Contents.TheVariants.{File, Directory, Other}
@@ -24,15 +24,14 @@ use Rattle.trace_steps.specs.MomentTests.{before, is_one, only}
 use Rattle.trace_steps.specs.TurnTests.{turns, reads, shows_wcc, showed_wcc}
 use Rattle.trace_steps.specs.ListTests.{is_entry, has_entry, lacks, without, is_without, all_in}
 use Rattle.trace_steps.specs.FileTests.{refuses}
-use Rattle.trace_steps.specs.NameTests.{list_there, in_list, if_row, lists_with, had_name}
+use Rattle.trace_steps.specs.NameTests.{list_there, in_list, lists_with, had_name}
 use Rattle.trace_steps.specs.MoveTests.{loses, clears_at, clears, replaces_row, replaces_at, replaces, moves, is_moved, replaced, is_touched, renames_row, renames_at, renames_among, moves_name, keeps_row, keeps_one, keeps_names, renames, refuses_rename}
-use Rattle.trace_steps.proofs.Testing.{without as but}
-use Rattle.trace_steps.proofs.Sparing.{IsOne, one-decides, only-decides, only-like, only-three}
+use Rattle.trace_steps.proofs.Sparing.{IsOne, one-decides, only-decides, only-three}
 use Rattle.trace_steps.proofs.Turned.{TurnsBy, turns-decides, to-turns, from-turns, same-holds, reads-decides, wcc-decides, wcc-before}
 use Rattle.trace_steps.proofs.FileDone.{refuses-decides}
 use Rattle.trace_steps.proofs.Entering as entering
 use Rattle.trace_steps.proofs.Listing.{Has, some-entry, each-entry, IsEntry, entry-decides, has-decides, lacks-decides, without-decides-at, map-without, same-but-parent}
-use Rattle.trace_steps.proofs.NameDone.{HasList, list-before, to-name, from-name, had-decides, SomeRow, row-somewhere, ListsBy, lists-decide, to-relists, from-relists}
+use Rattle.trace_steps.proofs.NameDone.{HasList, list-before, to-name, had-decides, SomeRow, row-somewhere, ListsBy, lists-decide, to-relists, from-relists}
 use Rattle.trace_steps.proofs.RemoveDone.{loses-decides}
 
 -- ---- lists

@@ -1,5 +1,5 @@
 -- The three ways in which a server serves a call, and what is left of them by call and reply.
-use Rattle.std.proofs.Common.{◌≡◌, ◌⊎◌, inl, inr, ℕ, suc, Bool, false, List, refl, sym, ◌∙◌, ap, subst}
+use Rattle.std.proofs.Common.{◌≡◌, ℕ, Bool, false, List}
 use Rattle.std.specs.Prelude.{Decides, ⊤}
 use Rattle.std.proofs.lemmas.Bool.Decides.{Decides-like}
 use Rattle.nfs_types.specs.declared.status.Status.{Status}

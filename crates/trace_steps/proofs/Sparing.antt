@@ -1,12 +1,12 @@
 -- The tests decide what an entry leaves as it was.
-use Rattle.std.proofs.Common.{◌≡◌, ◌⊎◌, inl, inr, ℕ, suc, Bool, List, length, Option, Some, None, slice_get, refl, sym, ◌∙◌, ap}
+use Rattle.std.proofs.Common.{◌≡◌, ◌⊎◌, inl, inr, ℕ, suc, Bool, List, length}
 use Rattle.std.specs.Prelude.{Decides, ◌&&◌, ◌||◌}
 use Rattle.std.specs.Str.{bytes_eq}
 use Rattle.std.proofs.lemmas.Bool.Decides.{Decides-like, Decides-and, Decides-or}
 use Rattle.std.proofs.lemmas.Slice.Eq.{bytes_eq-Decides}
 use Rattle.world_model.specs.Steps.{Same, Only}
 use Rattle.trace_data.specs.declared.trace.Trace.{Trace}
-use Rattle.trace_data.specs.Histories.{named, objects_after, server_at}
+use Rattle.trace_data.specs.Histories.{objects_after, server_at}
 use Rattle.trace_rules.specs.Decided.{all_below}
 use Rattle.trace_rules.specs.Keeping.{keeps, keeps_verf}
 use Rattle.trace_rules.proofs.Naming.{named-decides}

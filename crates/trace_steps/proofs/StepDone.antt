@@ -1,5 +1,5 @@
 -- The tests decide whether an entry serves a call, or flushes a file.
-use Rattle.std.proofs.Common.{◌≡◌, ◌≢◌, ◌==◌, ℕ, suc, Bool, true, false, List, Option, Some, None, refl, sym, ◌∙◌, ap, subst}
+use Rattle.std.proofs.Common.{◌≡◌, ◌==◌, ℕ, suc, Bool, false, List, Option, Some, None, refl, sym, ◌∙◌, ap, subst}
 use Rattle.std.specs.Prelude.{Decides, ◌&&◌, not}
 use Rattle.std.specs.Option.{option_map}
 use Rattle.std.proofs.lemmas.Bool.Decides.{Decides-like, Decides-and, Decides-not, Decides-eqb}
@@ -14,14 +14,14 @@ use Rattle.world_model.specs.declared.message.Reply.{Reply}
 use Rattle.world_model.specs.declared.message.Reply.TheVariants as replies
 use Rattle.world_model.specs.Server as model
 use Rattle.world_model.specs.Bytes.{put_at, committed_part}
-use Rattle.world_model.specs.Steps.{Same, Only}
+use Rattle.world_model.specs.Steps.{Only}
 use Rattle.world_model.specs.Service.{Serves}
 use Rattle.world_model.specs.Lawful.{Flushes}
 use Rattle.trace_data.specs.declared.trace.Object.{Object}
 use Rattle.trace_data.specs.declared.trace.Trace.{Trace}
-use Rattle.trace_data.specs.Histories.{holds_of, object_of, server_at}
+use Rattle.trace_data.specs.Histories.{object_of, server_at}
 use Rattle.trace_rules.specs.Keeping.{same_attr, same_bool}
-use Rattle.trace_rules.proofs.Combining.{always, never}
+use Rattle.trace_rules.proofs.Combining.{never}
 use Rattle.trace_rules.proofs.Unchanged.{attr-decides, bool-decides}
 use Rattle.trace_steps.specs.MomentTests.{before, after, is_same, is_one, only}
 use Rattle.trace_steps.specs.TurnTests.{is_committed}

@@ -1,5 +1,5 @@
 -- What decides facts that hold of all but some, and facts of options.
-use Rattle.std.proofs.Common.{◌≡◌, ◌⊎◌, inl, inr, Bool, true, false, true≢false, refl, sym}
+use Rattle.std.proofs.Common.{Bool, true, false, refl}
 use Rattle.std.specs.Prelude.{Decides, ◌||◌, nat_le, ◌≤◌, ℕ}
 use Rattle.std.proofs.lemmas.Bool.{leb-true, le-leb}
 use Rattle.std.proofs.lemmas.Bool.Decides.{not_from_Decides}

@@ -1,11 +1,11 @@
 -- The tests on one object before and after an entry decide how it turns, and what replies show of it.
-use Rattle.std.proofs.Common.{◌≡◌, ◌≢◌, ◌⊎◌, inl, inr, ◌==◌, ◌≤◌, ◌+◌, ℕ, suc, Bool, true, false, true≢false, List, length, take, map, Option, Some, None, refl, sym, ◌∙◌, ap, subst, arith}
+use Rattle.std.proofs.Common.{◌≡◌, ◌⊎◌, inl, inr, ◌==◌, ◌≤◌, ◌+◌, ℕ, suc, Bool, true, false, true≢false, List, length, take, map, Option, Some, None, refl, sym, ◌∙◌, ap, subst, arith}
 use Rattle.std.specs.Prelude.{Decides, ◌&&◌, ◌||◌, not, nat_le, if◌then◌else◌, ◌<◌, ⊤}
 use Rattle.std.specs.Option.{option_map}
 use Rattle.std.specs.Str.{bytes_eq}
 use Rattle.std.proofs.lemmas.Bool.{cases_lt}
 use Rattle.std.proofs.lemmas.List.{take_all}
-use Rattle.std.proofs.lemmas.Bool.Decides.{Decides-like, Decides-and, Decides-or, Decides-not, Decides-eqb}
+use Rattle.std.proofs.lemmas.Bool.Decides.{Decides-like, Decides-and, Decides-or, Decides-eqb}
 use Rattle.std.proofs.lemmas.Slice.Eq.{bytes_eq-Decides}
 use Rattle.nfs_types.specs.declared.attr.Attr.{Attr}
 use Rattle.nfs_types.specs.declared.wcc.Stamp.{Stamp}
@@ -13,13 +13,13 @@ use Rattle.nfs_types.specs.declared.wcc.Wcc.{Wcc}
 use Rattle.nfs_types.specs.Stamps.{stamp_of, same_stamp}
 use Rattle.world_model.specs.Server as model
 use Rattle.world_model.specs.Bytes.{resized, put_at, part, committed_part}
-use Rattle.world_model.specs.Steps.{Only, Becomes, Turns, Reads, Looks, TrueOf, TrueStamp, TrueWcc}
+use Rattle.world_model.specs.Steps.{Turns, Reads, Looks, TrueOf, TrueStamp, TrueWcc}
 use Rattle.world_model.specs.FileService.{HoldsSized, steady_after}
 use Rattle.trace_data.specs.declared.trace.Contents.{Contents}
 use Rattle.trace_data.specs.declared.trace.Contents.TheVariants.{File, Directory, Other}
 use Rattle.trace_data.specs.declared.trace.Object.{Object}
 use Rattle.trace_data.specs.declared.trace.Trace.{Trace}
-use Rattle.trace_data.specs.Histories.{listed_of, holds_of, object_of, object_at, server_at}
+use Rattle.trace_data.specs.Histories.{listed_of, holds_of, object_of, server_at}
 use Rattle.trace_rules.specs.Decided.{any_below}
 use Rattle.trace_rules.specs.Keeping.{same_attr, same_bool, is_file, same_contents}
 use Rattle.trace_rules.proofs.Below.{any_below-decides}

@@ -1,5 +1,5 @@
 -- The tests that decide whether an entry serves a call on a file.
-use Rattle.std.specs.Prelude.{◌==◌, ◌&&◌, ◌||◌, nat_le, not, ℕ, Bool, true, false, List, length, take, Option, Some, None, if◌then◌else◌}
+use Rattle.std.specs.Prelude.{◌==◌, ◌&&◌, ◌||◌, nat_le, not, ℕ, Bool, false, List, length, take, Option, Some}
 use Rattle.nfs_types.specs.declared.attr.Attr.{Attr}
 use Rattle.nfs_types.specs.declared.status.Status.{Status}
 use Rattle.nfs_types.specs.declared.verf.Verf.{Verf}

@@ -1,5 +1,5 @@
 -- The tests on the list of a directory.
-use Rattle.std.specs.Prelude.{◌==◌, ◌&&◌, ◌||◌, not, ℕ, suc, Bool, true, false, List, [], ◌∷◌, ◌++◌, take, drop, Option, Some, None, slice_get}
+use Rattle.std.specs.Prelude.{◌==◌, ◌&&◌, ◌||◌, not, ℕ, suc, Bool, true, false, List, [], ◌∷◌, ◌++◌, take, drop}
 use Rattle.std.specs.Str.{bytes_eq}
 use Rattle.world_model.specs.Names.{own_name, parent_name}
 use Rattle.trace_data.specs.declared.trace.DirEntry.{DirEntry}

@@ -1,5 +1,5 @@
 -- The tests that decide whether an entry serves a call by which names leave or move.
-use Rattle.std.specs.Prelude.{◌==◌, ◌&&◌, ◌||◌, not, ℕ, suc, Bool, true, false, List, [], ◌∷◌, length, Option, Some, None, slice_get, if◌then◌else◌}
+use Rattle.std.specs.Prelude.{◌==◌, ◌&&◌, ◌||◌, not, ℕ, Bool, true, false, List, [], ◌∷◌, length, Option, Some, None, slice_get, if◌then◌else◌}
 use Rattle.std.specs.Str.{bytes_eq}
 use Rattle.nfs_types.specs.declared.status.Status.{Status}
 use Rattle.nfs_types.specs.declared.wcc.Wcc.{Wcc}
@@ -7,7 +7,6 @@ use Rattle.trace_data.specs.declared.trace.Contents.{Contents}
 use Rattle.trace_data.specs.declared.trace.Contents.TheVariants.{File, Directory, Other}
 use Rattle.trace_data.specs.declared.trace.DirEntry.{DirEntry}
 use Rattle.trace_data.specs.declared.trace.Object.{Object}
-use Rattle.trace_data.specs.declared.trace.Update.{Update}
 use Rattle.trace_data.specs.declared.trace.Updated.{Updated}
 use Rattle.trace_data.specs.declared.trace.Trace.{Trace}
 use Rattle.trace_data.specs.Histories.{objects_after}

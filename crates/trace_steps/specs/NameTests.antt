@@ -1,29 +1,24 @@
 -- The tests that decide whether an entry serves a call on a name.
-use Rattle.std.specs.Prelude.{◌==◌, ◌&&◌, ◌||◌, not, ℕ, suc, Bool, true, false, List, [], ◌∷◌, length, Option, Some, None, slice_get, replicate, if◌then◌else◌}
+use Rattle.std.specs.Prelude.{◌==◌, ◌&&◌, ◌||◌, not, ℕ, Bool, true, false, List, [], ◌∷◌, length, Option, Some, None, slice_get, if◌then◌else◌}
 use Rattle.std.specs.Str.{bytes_eq}
 use Rattle.nfs_types.specs.declared.attr.Attr.{Attr}
 use Rattle.nfs_types.specs.declared.status.Status.{Status}
 use Rattle.nfs_types.specs.declared.wcc.Wcc.{Wcc}
-use Rattle.nfs_types.specs.declared.set_attr.SetAttr.{SetAttr}
 use Rattle.nfs_dir_calls.specs.declared.call.DirCall.{DirCall}
 use Rattle.nfs_dir_calls.specs.declared.call.DirCall.TheVariants as dirs
 use Rattle.nfs_dir_calls.specs.declared.create.Making.{Making}
 use Rattle.nfs_dir_calls.specs.declared.create.Making.TheVariants as makings
-use Rattle.nfs_dir_calls.specs.declared.mknod.Node.{Node}
 use Rattle.world_model.specs.NameService.{kind_of, new_bytes}
 use Rattle.trace_data.specs.declared.trace.Contents.{Contents}
 use Rattle.trace_data.specs.declared.trace.Contents.TheVariants.{File, Directory, Other}
 use Rattle.trace_data.specs.declared.trace.DirEntry.{DirEntry}
 use Rattle.trace_data.specs.declared.trace.Object.{Object}
-use Rattle.trace_data.specs.declared.trace.Update.{Update}
-use Rattle.trace_data.specs.declared.trace.Updated.{Updated}
 use Rattle.trace_data.specs.declared.trace.Trace.{Trace}
-use Rattle.trace_data.specs.Histories.{objects_after}
-use Rattle.trace_rules.specs.Decided.{all_below, any_below}
+use Rattle.trace_rules.specs.Decided.{any_below}
 use Rattle.trace_rules.specs.Keeping.{same_contents, is_other}
 use Rattle.trace_steps.specs.MomentTests.{before, after, is_one, only}
-use Rattle.trace_steps.specs.TurnTests.{stays, stays_with, turns, reads, looks, is_sized, shows_attr, showed_attr, shows_wcc, showed_wcc}
-use Rattle.trace_steps.specs.ListTests.{has_entry, lacks, is_bare, names_it, is_without}
+use Rattle.trace_steps.specs.TurnTests.{turns, reads, is_sized, shows_attr, showed_attr, shows_wcc, showed_wcc}
+use Rattle.trace_steps.specs.ListTests.{has_entry, lacks, is_bare, is_without}
 use Rattle.trace_steps.specs.FileTests.{refuses}
 
 -- ---- the list of a directory

@@ -1,8 +1,5 @@
 -- The tests that decide whether an entry serves a call, or flushes a file.
-use Rattle.std.specs.Prelude.{◌==◌, ◌&&◌, ◌||◌, not, ℕ, Bool, true, false, List, Option, Some, None}
-use Rattle.std.specs.Str.{bytes_eq}
-use Rattle.nfs_types.specs.declared.set_attr.SetAttr.{SetAttr}
-use Rattle.nfs_types.specs.declared.status.Status.{Status}
+use Rattle.std.specs.Prelude.{◌==◌, ◌&&◌, not, ℕ, Bool, false, List, Option, Some, None}
 use Rattle.mount_calls.specs.declared.call.MountCall.{MountCall}
 use Rattle.mount_calls.specs.declared.call.MountCall.TheVariants as mounts
 use Rattle.mount_calls.specs.declared.reply.MountReply.{MountReply}
@@ -16,9 +13,6 @@ use Rattle.world_model.specs.declared.message.Call.{Call}
 use Rattle.world_model.specs.declared.message.Call.TheVariants as calls
 use Rattle.world_model.specs.declared.message.Reply.{Reply}
 use Rattle.world_model.specs.declared.message.Reply.TheVariants as replies
-use Rattle.world_model.specs.Bytes.{committed_part}
-use Rattle.trace_data.specs.declared.trace.Contents.{Contents}
-use Rattle.trace_data.specs.declared.trace.Contents.TheVariants.{File, Directory, Other}
 use Rattle.trace_data.specs.declared.trace.Object.{Object}
 use Rattle.trace_data.specs.declared.trace.Trace.{Trace}
 use Rattle.trace_rules.specs.Keeping.{same_attr, same_bool}

@@ -1,5 +1,5 @@
 -- The parts before and behind the entry.
-use Rattle.std.proofs.Common.{◌∙◌, ◌+◌, take, drop, arith}
+use Rattle.std.proofs.Common.{◌+◌, drop, arith}
 use Rattle.std.proofs.lemmas.Grind.{common_steps}
 use Rattle.trace_rules.specs.Freshness.{same_entries}
 use Rattle.trace_steps.proofs.Ranging.{by-way-of}

@@ -1,5 +1,5 @@
 -- The rest decides, if the whole begins so.
-use Rattle.std.proofs.Common.{◌++◌, ◌∙◌, replicate}
+use Rattle.std.proofs.Common.{◌∙◌}
 use Rattle.trace_steps.proofs.Ranging.{rest-eq, joined-not}
 use Rattle.trace_steps.proofs.ranges.is_followed.Goals as goal
 

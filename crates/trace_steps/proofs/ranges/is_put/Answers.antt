@@ -1,8 +1,6 @@
 -- The parts of what is put.
-use Rattle.std.proofs.Common.{◌++◌, ◌-◌, ◌∙◌, length, take, drop, replicate, arith}
-use Rattle.std.specs.Str.{bytes_eq}
+use Rattle.std.proofs.Common.{◌∙◌, arith}
 use Rattle.std.proofs.lemmas.Grind.{common_steps}
-use Rattle.trace_steps.specs.RangeTests.{is_put}
 use Rattle.trace_steps.proofs.Ranging.{put-none, put-is}
 use Rattle.trace_steps.proofs.ranges.is_put.Goals as goal
 

@@ -1,5 +1,5 @@
 -- An update that names it.
-use Rattle.std.proofs.Common.{length, sym, arith}
+use Rattle.std.proofs.Common.{sym, arith}
 use Rattle.std.proofs.lemmas.Grind.{common_steps}
 use Rattle.trace_rules.proofs.Below.{any_below-found}
 use Rattle.trace_data.specs.Histories.{objects_after}

@@ -1,5 +1,5 @@
 -- So far no update names it.
-use Rattle.std.proofs.Common.{length, ◌-◌, ◌≡◌, ◌≤◌, false}
+use Rattle.std.proofs.Common.{◌-◌, ◌≡◌, ◌≤◌, false}
 use Rattle.trace_rules.specs.Decided.{any_below}
 use Rattle.trace_data.specs.Histories.{objects_after}
 use Rattle.trace_steps.specs.MoveTests.{names_among}

@@ -1,5 +1,5 @@
 -- The tests decide whether a call is served.
-use Rattle.std.proofs.Common.{◌≡◌, sym, ◌∙◌, Bool, true, Ok, Err, Result}
+use Rattle.std.proofs.Common.{◌≡◌, sym, ◌∙◌, Bool, Ok, Err, Result}
 use Rattle.std.specs.Prelude.{IfOk, ◌↔◌, IsTrue, Decides}
 use Rattle.trace_steps.proofs.StepDone.{serves-decides}
 use Rattle.trace_steps.proofs.service.is_served.Goals as goal
