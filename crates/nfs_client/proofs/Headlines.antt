@@ -28,6 +28,7 @@ use Rattle.script_runs.proofs.LaneRuns.{fresh, fewer}
 use Rattle.nfs_client.specs.Headline.{Promises, Headline}
 use Rattle.nfs_client.specs.Run.{Shows}
 use Rattle.nfs_client.specs.Shown.{RunShows}
+use Rattle.nfs_client.proofs.Hushed.{all-losing}
 use Rattle.nfs_client.proofs.Ports.{lost-ports, empty-ports}
 use Rattle.nfs_client.proofs.Resending.{lost-resends, early-resends, empty-resends}
 use Rattle.nfs_client.proofs.Quiet.{IsQuiet, quiet-caused, quiet-thrifty, quiet-completes, quiet-evident, quiet-settled, quiet-cuts, quiet-current, quiet-read, quiet-short, quiet-names, quiet-ages, quiet-lists}
@@ -115,7 +116,7 @@ lost-headline : (s : Settings) (lines : List ScriptLine) (first ms : ℕ) (rest 
     → lines ≢ [] → SetsUp s first (Err (Lost tally)) before → SessionIs s.count lines rest before h status text → LosesOnly lines before h → TextOf s.count (tally_of h) h status text
     → Headline s lines (ms ∷ rest) h status text
 lost-headline s lines first ms rest tally before h status text some so is only says =
-    let quiet : IsQuiet (terms_by s first) h = subst (IsQuiet (terms_by s first)) (sym only.is) (lost-quiet s first tally before only.more so only.each) in
+    let quiet : IsQuiet (terms_by s first) h = subst (IsQuiet (terms_by s first)) (sym only.is) (lost-quiet s first tally before only.more so (all-losing only.more only.each)) in
     record {
       first = first;
       idle = λ none_left. absurd (some none_left);
@@ -124,8 +125,8 @@ lost-headline s lines first ms rest tally before h status text some so is only s
       clock = clocked status ms rest before h so.unmarked is.clock is.timed;
       ends = ran is.ends says;
       caused = quiet-caused (terms_by s first) h quiet _ status;
-      ports = lost-ports s first tally before h lines so only;
-      resends = lost-resends s first tally before h lines so only;
+      ports = lost-ports s first tally before only.more h so only.is (all-losing only.more only.each);
+      resends = lost-resends s first tally before only.more h so only.is (all-losing only.more only.each);
       thrifty = quiet-thrifty (terms_by s first) h quiet;
       evidence = quiet-evident (terms_by s first) h quiet (modes_of s) (origin_of s.export);
       server = quiet-promises s first h quiet;

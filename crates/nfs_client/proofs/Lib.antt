@@ -3,6 +3,7 @@ pub mod AllAsked
 pub mod AllOks
 pub mod Spent
 pub mod Causes
+pub mod Hushed
 pub mod Ports
 pub mod Resending
 pub mod Showing

@@ -1,5 +1,5 @@
 -- Each record of a session goes to the port of its program: MNT in the set-up, and calls of NFS from FSINFO on.
-use Rattle.std.proofs.Common.{◌≡◌, ◌≤◌, ◌<◌, ◌⊎◌, inl, inr, ℕ, zero, suc, List, [], ◌∷◌, ◌++◌, length, Ok, Err, refl, sym, ap, subst, ◌∙◌, arith}
+use Rattle.std.proofs.Common.{◌≡◌, ◌≤◌, inl, inr, ℕ, suc, List, [], ◌∷◌, ◌++◌, length, Ok, Err, refl, sym, ap, subst, ◌∙◌, arith}
 use Rattle.nfs_types.specs.declared.program.TheConstants.{NFS_PROGRAM}
 use Rattle.rpc_retry.specs.Held.{next_xid}
 use Rattle.rpc_retry.proofs.Lookups.{at_sent}
@@ -13,11 +13,8 @@ use Rattle.world_model.specs.Messages.{SpellsCall, program_of}
 use Rattle.link_dials.specs.Dials.{IsDialOf, AreDialsOf, Dials}
 use Rattle.link_dials.specs.Sendings.{port_for, GoesToPorts}
 use Rattle.link_dials.proofs.Ports.{behind, ports-none, ports-then, sends-none, sends-over}
-use Rattle.nfs_script.specs.declared.script.ScriptLine.{ScriptLine}
 use Rattle.session_words.specs.declared.settings.Settings.{Settings}
 use Rattle.op_machines.specs.Begun.{machine_of}
-use Rattle.client_core.specs.Steps.{SendsBy}
-use Rattle.client_core.specs.View.{View}
 use Rattle.core_facts.specs.Notes.{IsAfterAnswers}
 use Rattle.core_facts.proofs.Cases.{sent_now}
 use Rattle.core_facts.proofs.Noting.{notes-reach, answers-first}
@@ -27,9 +24,9 @@ use Rattle.session_setup.specs.declared.opening.SetUpFault.TheVariants.{Lost}
 use Rattle.session_setup.specs.Outcomes.{SetsUp}
 use Rattle.session_setup.proofs.Calls.{heads_same, same_program}
 use Rattle.lane_session.specs.Bonds.{HasCore}
-use Rattle.lane_session.specs.Losing.{IsLosing, LosesOnly}
 use Rattle.lane_session.specs.Running.{mounted_by}
 use Rattle.script_runs.specs.LaneRuns.{setup_of}
+use Rattle.nfs_client.proofs.Hushed.{IsHushed, AreHushed}
 
 -- a call of NFS goes to its port
 nfs-port : (mount nfs : ℕ) (call : Call) → program_of call ≡ NFS_PROGRAM → port_for mount nfs call ≡ nfs
@@ -67,34 +64,34 @@ module _ (s : Settings) (first : ℕ) (v : SetUp) (before h : List Entry) (so : 
 
 -- ---- a session that made no call of an operation
 
-losing-dials : (port : ℕ) (e : Entry) → IsLosing e → IsDialOf port e
-losing-dials port (Clock ms) l = tt
-losing-dials port (Began lane line op) l = tt
-losing-dials port (Answered lane line answer) l = tt
-losing-dials port (Dialed other) l = absurd l
-losing-dials port (Sent bytes) l = tt
-losing-dials port (Executed xid call reply) l = tt
-losing-dials port (Foreign call reply) l = tt
-losing-dials port (Flushed file from len) l = tt
-losing-dials port (Reboot verf) l = tt
-losing-dials port (Delivered bytes) l = tt
-losing-dials port Failed l = tt
+hushed-dials : (port : ℕ) (e : Entry) → IsHushed e → IsDialOf port e
+hushed-dials port (Clock ms) l = tt
+hushed-dials port (Began lane line op) l = tt
+hushed-dials port (Answered lane line answer) l = tt
+hushed-dials port (Dialed other) l = absurd l
+hushed-dials port (Sent bytes) l = tt
+hushed-dials port (Executed xid call reply) l = tt
+hushed-dials port (Foreign call reply) l = tt
+hushed-dials port (Flushed file from len) l = tt
+hushed-dials port (Reboot verf) l = tt
+hushed-dials port (Delivered bytes) l = tt
+hushed-dials port Failed l = tt
 
-all-dials : (port : ℕ) (more : List Entry) → ((i : ℕ) (e : Entry) → At more i e → IsLosing e) → AreDialsOf port more
+all-dials : (port : ℕ) (more : List Entry) → AreHushed more → AreDialsOf port more
 all-dials port [] each = tt
-all-dials port (e ∷ more) each = (losing-dials port e (each 0 e refl), all-dials port more (λ i d at. each (suc i) d at))
+all-dials port (e ∷ more) each = (hushed-dials port e (each 0 e refl), all-dials port more (λ i d at. each (suc i) d at))
 
 -- its lines were answered that it is lost
-pub lost-ports : (s : Settings) (first : ℕ) (tally : Tally) (before h : List Entry) (lines : List ScriptLine) → SetsUp s first (Err (Lost tally)) before → LosesOnly lines before h
+pub lost-ports : (s : Settings) (first : ℕ) (tally : Tally) (before more h : List Entry) → SetsUp s first (Err (Lost tally)) before → h ≡ before ++ more → AreHushed more
     → GoesToPorts s.mount_port s.nfs_port h
-lost-ports s first tally before h lines so only =
-    ports-then s.mount_port s.nfs_port before h so.ports (sends-none s.nfs_port before h (record { more = only.more; is = only.is; only = all-dials s.nfs_port only.more only.each }) unsent)
+lost-ports s first tally before more h so is each =
+    ports-then s.mount_port s.nfs_port before h so.ports (sends-none s.nfs_port before h (record { more = more; is = is; only = all-dials s.nfs_port more each }) unsent)
     (λ i xid call bytes at late spells. absurd (unsent i bytes at late))
   where
     unsent : (i : ℕ) (bytes : List ℕ) → At h i (Sent bytes) → length before ≤ i → ⊥
     unsent i bytes at late =
-        let b = behind before only.more i (Sent bytes) (subst (λ (l : List Entry). At l i (Sent bytes)) only.is at) late in
-        only.each b.0 (Sent bytes) b.1
+        let b = behind before more i (Sent bytes) (subst (λ (l : List Entry). At l i (Sent bytes)) is at) late in
+        each b.0 (Sent bytes) b.1
 
 -- there were no lines
 pub empty-ports : (s : Settings) (h : List Entry) → h ≡ [] → GoesToPorts s.mount_port s.nfs_port h

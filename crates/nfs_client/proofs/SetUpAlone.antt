@@ -19,8 +19,8 @@ use Rattle.session_setup.specs.declared.opening.SetUpFault.TheVariants.{Lost}
 use Rattle.session_setup.specs.Origins.{origin_of, terms_by}
 use Rattle.session_setup.specs.Outcomes.{SetsUp}
 use Rattle.session_setup.specs.Sendings.{IsSetUpCall, mounts, informs}
-use Rattle.lane_session.specs.Losing.{IsLosing}
 use Rattle.lane_session.proofs.CoreEnds.{loses-more}
+use Rattle.nfs_client.proofs.Hushed.{IsHushed}
 use Rattle.nfs_client.proofs.Quiet.{IsQuiet, IsSetUpRecord}
 use Rattle.nfs_client.proofs.Quiet as quiet
 
@@ -33,7 +33,7 @@ split-at (d ∷ h) more (suc i) e at = elim (split-at h more i e at) [
   | inr new ↦ inr (new.0, (let is = new.1 in omega (arith, is)), new.2)
 ]
 
-module _ (s : Settings) (first : ℕ) (result : Result SetUp SetUpFault) (before more : List Entry) (so : SetsUp s first result before) (each : (i : ℕ) (e : Entry) → At more i e → IsLosing e) where
+module _ (s : Settings) (first : ℕ) (result : Result SetUp SetUpFault) (before more : List Entry) (so : SetsUp s first result before) (each : (i : ℕ) (e : Entry) → At more i e → IsHushed e) where
   abbrev whole : List Entry
   whole = before ++ more
 
@@ -82,11 +82,11 @@ module _ (s : Settings) (first : ℕ) (result : Result SetUp SetUpFault) (before
   set-up-so : (i : ℕ) (sent : List ℕ) → At whole i (Sent sent) → IsSetUpRecord sent
   set-up-so i sent at = let r = so.sent.caused i sent (sent-before i sent at) in record { xid = r.xid; call = r.call; spells = r.made.spells; is = set-up-call r.call i r.xid r.is }
 
-none-more : (i : ℕ) (e : Entry) → At [] i e → IsLosing e
+none-more : (i : ℕ) (e : Entry) → At [] i e → IsHushed e
 none-more i e at = absurd (cc)
 
 -- the session was lost in its set-up
-pub lost-quiet : (s : Settings) (first : ℕ) (tally : Tally) (before more : List Entry) → SetsUp s first (Err (Lost tally)) before → ((i : ℕ) (e : Entry) → At more i e → IsLosing e)
+pub lost-quiet : (s : Settings) (first : ℕ) (tally : Tally) (before more : List Entry) → SetsUp s first (Err (Lost tally)) before → ((i : ℕ) (e : Entry) → At more i e → IsHushed e)
     → IsQuiet (terms_by s first) (before ++ more)
 lost-quiet s first tally before more so each = record {
   asked = asked-so s first (Err (Lost tally)) before more so each;

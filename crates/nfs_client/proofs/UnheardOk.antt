@@ -1,5 +1,5 @@
 -- A client that answers `ok` where no server can be reached isn't one of which the headline holds: the history of such an answer breaks it.
-use Rattle.std.proofs.Common.{◌≡◌, ◌<◌, ◌≤◌, ℕ, zero, suc, List, [], ◌∷◌, refl, arith}
+use Rattle.std.proofs.Common.{◌<◌, ◌≤◌, ℕ, zero, suc, List, [], ◌∷◌, refl, arith}
 use Rattle.world_model.specs.declared.answer.Answer.{Answer}
 use Rattle.world_model.specs.declared.answer.Answer.TheVariants.{Done}
 use Rattle.world_model.specs.declared.answer.Value.{Value}
