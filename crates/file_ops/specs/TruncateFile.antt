@@ -32,7 +32,8 @@ use Rattle.file_ops.specs.declared.truncate_file.Truncating.{Truncating}
 use Rattle.file_ops.specs.declared.truncate_file.Truncating.TheVariants.{Idle, Queued, Asked}
 use Rattle.client_shelf.specs.Learning.{Learns}
 use Rattle.file_ops.specs.Opens.{file_to_write}
-use Rattle.file_ops.specs.Saves.{pages_failed}
+use Rattle.file_ops.specs.Saves.{untold}
+use Rattle.client_shelf.specs.Unmade.{is_unmade}
 use Rattle.file_ops.specs.SlotFiles.{joined}
 use Rattle.file_ops.specs.Quiet.{is_quiet}
 
@@ -115,10 +116,15 @@ abbrev pub told_next : Result Wcc Fault → Next
 told_next (Ok wcc) = Done (done Nothing)
 told_next (Err fault) = Done (refused fault)
 
--- Kept pages follow the new size. They are dropped where it wasn't set, unless the call couldn't be made.
+-- Whether a SETATTR that failed leaves the kept pages: the server refused it, or it couldn't be made. Else it isn't known whether it was executed.
+abbrev pub leaves_pages : Fault → Bool
+leaves_pages (faults.Nfs status) = true
+leaves_pages fault = is_unmade fault
+
+-- Kept pages follow the new size, and may be dropped where it wasn't set.
 abbrev pub told_pages : Result Wcc Fault → List ℕ → ℕ → ℕ → pages.Pages → pages.Pages
 told_pages (Ok wcc) file size moment c = pages.cut file wcc size moment c
-told_pages (Err fault) file size moment c = pages_failed file moment fault c
+told_pages (Err fault) file size moment c = if leaves_pages fault then c else pages.wrote file untold 0 [] moment c
 
 -- Pending bytes that are older than the truncate go from the new end on; where some are in flight, which never is so, all stay.
 abbrev pub CutsQuiet : Bool → List ℕ → ℕ → ℕ → Pending → Pending → Type 0

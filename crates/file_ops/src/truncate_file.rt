@@ -1,19 +1,22 @@
 //! A truncate: the SETATTR of the size of a file.
 
-ghost use Rattle.std.specs.Prelude.{◌≡◌, ◌≤◌, ◌-◌};
+ghost use Rattle.std.specs.Prelude.{◌≡◌, ◌≤◌, ◌-◌, [], if◌then◌else◌};
+ghost use Rattle.page_cache.specs.Pages.{wrote};
+ghost use Rattle.file_ops.specs.Saves.{untold};
 ghost use Rattle.client_shelf.specs.Coming.{reply_of};
 ghost use Rattle.file_ops.specs.declared.truncate_file.Truncating.TheVariants.{Idle};
 ghost use Rattle.client_shelf.specs.Busy.{fails_busy};
 ghost use Rattle.client_shelf.specs.Learning.{Learns};
 ghost use Rattle.write_back.specs.Files.{all_pending};
 ghost use Rattle.file_ops.specs.Quiet.{is_quiet};
-ghost use Rattle.file_ops.specs.TruncateFile.{size_call, queued_next, queued_state, started_next, started_state, started_shelf, resumed_next, resumed_state, size_told, attr_told, told_pages, CutsQuiet, CutsBack, ended_shelf, ended_next, ended_state, size_again, took_next, took_state, took_shelf, TookAttrs, TookBack};
+ghost use Rattle.file_ops.specs.TruncateFile.{size_call, queued_next, queued_state, started_next, started_state, started_shelf, resumed_next, resumed_state, size_told, attr_told, leaves_pages, told_pages, CutsQuiet, CutsBack, ended_shelf, ended_next, ended_state, size_again, took_next, took_state, took_shelf, TookAttrs, TookBack};
 
-use crate::failing::note_failed;
+use crate::failing::drop_pages;
 use crate::opens::file_to_write;
 use crate::quiet::is_quiet;
 use client_shelf::busy::{again, is_busy};
 use client_shelf::learning::learn;
+use client_shelf::unmade::is_unmade;
 use client_shelf::{Came, Next, Shelf, Turn};
 use nfs_file_calls::{FileCall, FileReply};
 use nfs_types::{Attr, Handle, SetAttr, SetTime, Wcc};
@@ -216,7 +219,7 @@ fn attr_told(came: &Came<'_>) -> Option<Attr>
     }
 }
 
-/// Kept pages follow the new size. They are dropped where it wasn't set, unless the call couldn't be made.
+/// Kept pages follow the new size, and may be dropped where it wasn't set.
 fn show_size(
     pages: &mut PageCache,
     file: &Handle,
@@ -228,7 +231,27 @@ fn show_size(
 {
     match told {
         Ok(wcc) => pages.cut(file, wcc, size, moment),
-        Err(fault) => note_failed(file, fault, moment, pages),
+        Err(fault) => note_unset(file, fault, moment, pages),
+    }
+}
+
+/// The size wasn't set. Where it isn't known whether the call was executed the pages are dropped.
+fn note_unset(file: &Handle, fault: &Fault, moment: u64, pages: &mut PageCache)
+    ensures { pages.new ≡ (if leaves_pages fault.now then pages.old else wrote file.now untold 0 [] moment pages.old) }
+{
+    if leaves_pages(fault) {
+        return;
+    }
+    drop_pages(file, moment, pages);
+}
+
+/// Whether a SETATTR that failed leaves the kept pages: the server refused it, or it couldn't be made.
+fn leaves_pages(fault: &Fault) -> bool
+    ensures { result ≡ leaves_pages fault.now }
+{
+    match *fault {
+        Fault::Nfs(_) => true,
+        _ => is_unmade(fault),
     }
 }
 

@@ -35,7 +35,7 @@ use Rattle.file_ops.specs.Saves as saves
 use Rattle.file_ops.specs.Syncs as syncs
 use Rattle.file_ops.specs.TruncateFile as truncates
 use Rattle.file_ops.specs.WriteFile as writes
-use Rattle.file_ops.proofs.Failed.{failed-as}
+use Rattle.file_ops.proofs.Failed.{failed-as, unset-as}
 use Rattle.op_machines.specs.declared.file_machine.FileMachine.TheVariants as files
 use Rattle.op_machines.specs.FileSteps as steps
 use Rattle.core_answers.proofs.pages.NamePages.{SamePages, kept-as}
@@ -571,7 +571,7 @@ module _ (T : Pages → Type 0) (quiet : QuietLaws T) where
       size-told : (k : FileKept) (file : List ℕ) (size : ℕ) → came ≡ Ok (replies.File k) → call ≡ truncates.size_call file size → T old.pages
           → T (truncates.told_pages (truncates.in_reply k) file size (turn.moment - 1) old.pages)
       size-told (kept.SetAttr wcc) file size is asked t = told.cuts file wcc size (turn.moment - 1) old.pages is asked t
-      size-told (kept.SetAttrFail status wcc) file size is asked t = quiet.drops file (turn.moment - 1) old.pages t
+      size-told (kept.SetAttrFail status wcc) file size is asked t = t
       size-told k file size is asked t = quiet.drops file (turn.moment - 1) old.pages t
 
       cut-told : (what : Result Reply Fault) (file : List ℕ) (size : ℕ) → came ≡ what → call ≡ truncates.size_call file size → T old.pages
@@ -579,7 +579,7 @@ module _ (T : Pages → Type 0) (quiet : QuietLaws T) where
       cut-told (Ok (replies.File k)) file size is asked t = size-told k file size is asked t
       cut-told (Ok (replies.Dir k)) file size is asked t = quiet.drops file (turn.moment - 1) old.pages t
       cut-told (Ok (replies.Mount k)) file size is asked t = quiet.drops file (turn.moment - 1) old.pages t
-      cut-told (Err fault) file size is asked t = failed-as T file (turn.moment - 1) fault old.pages t (quiet.drops file (turn.moment - 1) old.pages t)
+      cut-told (Err fault) file size is asked t = unset-as T file (turn.moment - 1) fault old.pages t (quiet.drops file (turn.moment - 1) old.pages t)
 
       truncate-takes : (at : Truncating) (m : TruncateFile) (attrs : _) (back : Pending) (after : Shelf) → SizeAwaits at m.size call
           → after ≡ truncates.took_shelf at m came sent turn attrs back old → T old.pages → T after.pages

@@ -12,7 +12,7 @@ use Rattle.file_ops.specs.declared.truncate_file.TruncateFile.{TruncateFile}
 use Rattle.file_ops.specs.declared.truncate_file.Truncating.TheVariants as truncating
 use Rattle.file_ops.specs.Saves as saves
 use Rattle.file_ops.specs.TruncateFile as truncates
-use Rattle.file_ops.proofs.Failed.{failed-as, failed-unmade}
+use Rattle.file_ops.proofs.Failed.{unset-as, unset-unmade}
 use Rattle.op_machines.specs.declared.file_machine.FileMachine.TheVariants as files
 use Rattle.op_machines.specs.declared.machine.Machine.TheVariants as machines
 use Rattle.op_machines.specs.declared.opener.Opener.TheVariants as openers
@@ -225,11 +225,11 @@ module _ (M : List ℕ → ℕ → Type 0) (P : List ℕ → Stamp → ℕ → T
 
   size-pages : (told : Result Wcc Fault) (g : List ℕ) (size : ℕ) → Off g → T (truncates.told_pages told g size (turn.moment - 1) old.pages)
   size-pages (Ok wcc) g size off = good-cut M P few b g wcc size (turn.moment - 1) old.pages low off good
-  size-pages (Err fault) g size off = failed-as T g (turn.moment - 1) fault old.pages good (good-wrote M P few b g saves.untold 0 [] (turn.moment - 1) old.pages low off good)
+  size-pages (Err fault) g size off = unset-as T g (turn.moment - 1) fault old.pages good (good-wrote M P few b g saves.untold 0 [] (turn.moment - 1) old.pages low off good)
 
   unmade-cut : (what : Result Reply Fault) → came_unmade what ≡ true → (g : List ℕ) (size : ℕ) → T (truncates.told_pages (truncates.size_told what) g size (turn.moment - 1) old.pages)
   unmade-cut (Ok reply) e g size = absurd (let no_way : false ≡ true = e in cc)
-  unmade-cut (Err fault) e g size = failed-unmade T g (turn.moment - 1) fault old.pages e good
+  unmade-cut (Err fault) e g size = unset-unmade T g (turn.moment - 1) fault old.pages e good
 
   cut-pages : (u : Bool) → came_unmade came ≡ u → (g : List ℕ) (size : ℕ) → OffIfMade g → T (truncates.told_pages (truncates.size_told came) g size (turn.moment - 1) old.pages)
   cut-pages true e g size off = unmade-cut came e g size

@@ -40,7 +40,7 @@ use Rattle.file_ops.specs.Saves as saves
 use Rattle.file_ops.specs.Syncs as syncs
 use Rattle.file_ops.specs.TruncateFile as truncates
 use Rattle.file_ops.specs.WriteFile as writes
-use Rattle.file_ops.proofs.Failed.{failed-as}
+use Rattle.file_ops.proofs.Failed.{failed-as, unset-as}
 use Rattle.op_machines.specs.declared.file_machine.FileMachine.TheVariants as files
 use Rattle.op_machines.specs.FileSteps as steps
 use Rattle.core_answers.proofs.pages.NamePages.{SamePages, kept-as}
@@ -719,7 +719,7 @@ module _ (T : Pages → Type 0) (shows : (file : List ℕ) (index : ℕ) (c : Pa
       size-told : (k : FileKept) (file : List ℕ) (size : ℕ) → came ≡ Ok (replies.File k) → call ≡ truncates.size_call file size → T old.pages
           → T (truncates.told_pages (truncates.in_reply k) file size (turn.moment - 1) old.pages)
       size-told (kept.SetAttr wcc) file size is asked t = fed.cuts file wcc size old.pages is asked t
-      size-told (kept.SetAttrFail status wcc) file size is asked t = fed.drops file old.pages t
+      size-told (kept.SetAttrFail status wcc) file size is asked t = t
       size-told k file size is asked t = fed.drops file old.pages t
 
       cut-told : (what : Result Reply Fault) (file : List ℕ) (size : ℕ) → came ≡ what → ((reply : Reply) → came ≡ Ok reply → call ≡ truncates.size_call file size) → T old.pages
@@ -727,7 +727,7 @@ module _ (T : Pages → Type 0) (shows : (file : List ℕ) (index : ℕ) (c : Pa
       cut-told (Ok (replies.File k)) file size is asked t = size-told k file size is (asked (replies.File k) is) t
       cut-told (Ok (replies.Dir k)) file size is asked t = fed.drops file old.pages t
       cut-told (Ok (replies.Mount k)) file size is asked t = fed.drops file old.pages t
-      cut-told (Err fault) file size is asked t = failed-as T file (turn.moment - 1) fault old.pages t (fed.drops file old.pages t)
+      cut-told (Err fault) file size is asked t = unset-as T file (turn.moment - 1) fault old.pages t (fed.drops file old.pages t)
 
       truncate-takes : (at : Truncating) (m : TruncateFile) (attrs : _) (back : Pending) (after : Shelf) → ((reply : Reply) → came ≡ Ok reply → SizeAwaits at m.size call)
           → after ≡ truncates.took_shelf at m came sent turn attrs back old → T old.pages → T after.pages
