@@ -12,7 +12,7 @@ use Rattle.world_model.specs.Waiting.{Waits}
 use Rattle.client_shelf.specs.declared.next.Next.TheVariants as nexts
 use Rattle.file_ops.specs.Saves as saves
 use Rattle.core_facts.specs.Tries as tries
-use Rattle.core_facts.proofs.SaidNone.{said-made}
+use Rattle.core_facts.proofs.SaidNone.{said-made, said-none}
 use Rattle.core_session.proofs.current.Along.{IsPlain, KeepsHeard}
 use Rattle.core_session.proofs.kept.OwnHeeds.{Awaits, AllHeard, HeardFrom, WasSent, keeps-heard}
 use Rattle.core_session.proofs.current.FedMachines.{pages-starts, pages-resumes, pages-takes}
@@ -335,7 +335,7 @@ module _ (mounted : Mounted) (modes : Modes) (same : mounted.nocto ≡ modes.noc
           sent = λ y w left late i bs at_ has. let low = m.timely y w (left-waits y w left) in absurd (omega (arith, low, late));
         };
         after = newly (AfterIn wcc later d f k_) h old r found known xid call waits at t.number t.machine t.there lane-is mine.made asked-is came its-reply
-            (said-made call.purpose.proc rec) (turn_at (taken_one old xid))
+            (said-made call.purpose.proc rec) (said-none call.purpose.proc rec) (turn_at (taken_one old xid))
             (wrote-pages saves.untold 0 [] (λ attr is_. absurd (none-attr attr is_))) (λ place bs. wrote-pages wcc place bs (λ attr is_. is_)) cut-pages t.next t.after t.shelf t.takes;
       }
         where

@@ -4,12 +4,13 @@ use Rattle.page_cache.specs.Pages.{wrote}
 use Rattle.nfs_file_calls.specs.declared.call.FileCall.TheVariants as files
 use Rattle.nfs_file_calls.specs.declared.owned.FileKept.TheVariants as kept
 use Rattle.world_model.specs.declared.message.Call.TheVariants as calls
+use Rattle.world_model.specs.declared.answer.Fault.TheVariants as faults
 use Rattle.world_model.specs.declared.message.Reply.TheVariants as replies
 use Rattle.client_shelf.specs.Unmade.{is_unmade, came_unmade}
 use Rattle.file_ops.specs.declared.truncate_file.Truncating.TheVariants as truncating
 use Rattle.file_ops.specs.Saves as saves
 use Rattle.file_ops.specs.TruncateFile as truncates
-use Rattle.file_ops.proofs.Failed.{failed-made}
+use Rattle.file_ops.proofs.Failed.{unset-dropped}
 use Rattle.op_machines.specs.declared.file_machine.FileMachine.TheVariants as machines_of
 use Rattle.op_machines.specs.declared.machine.Machine.TheVariants as machines
 use Rattle.core_session.proofs.order.Tame.{Tame, IsCut, expects-tame}
@@ -42,29 +43,36 @@ took-pages : (m : TruncateFile) (at : Truncating) (file : List ℕ) (upto : ℕ)
 took-pages m at file upto sent turn came old after state is =
     ap (λ (s : Shelf). s.pages) is ∙ ap (λ (t : Truncating). (truncates.took_shelf t m came sent turn after.attrs after.back old).pages) state
 
-err-made : (f fault : Fault) → is_unmade f ≡ false → ◌≡◌ {A = Result Wcc Fault} (Err f) (Err fault) → is_unmade fault ≡ false
-err-made f fault made e = let same : f ≡ fault = cc in subst (λ (x : Fault). is_unmade x ≡ false) same made
+-- why no size was set, where the call was made and a record doesn't tell that it was refused
+err-unknown : (f fault : Fault) → truncates.leaves_pages f ≡ false → ◌≡◌ {A = Result Wcc Fault} (Err f) (Err fault) → truncates.leaves_pages fault ≡ false
+err-unknown f fault unknown e = let same : f ≡ fault = cc in subst (λ (x : Fault). truncates.leaves_pages x ≡ false) same unknown
 
-reply-made : (reply : FileKept) (fault : Fault) → truncates.in_reply reply ≡ Err fault → is_unmade fault ≡ false
-reply-made (kept.SetAttr wcc) fault is = absurd (cc)
-reply-made (kept.SetAttrFail status wcc) fault is = err-made _ fault refl is
-reply-made reply fault is = err-made _ fault refl is
+other-reply : (reply : FileKept) (fault : Fault) → ((status : _) (w : Wcc) → reply ≡ kept.SetAttrFail status w → ⊥) → truncates.in_reply reply ≡ Err fault
+    → truncates.leaves_pages fault ≡ false
+other-reply (kept.SetAttr wcc) fault other is = absurd (cc)
+other-reply (kept.SetAttrFail status wcc) fault other is = absurd (other status wcc refl)
+other-reply reply fault other is = err-unknown _ fault refl is
 
--- the SETATTR was made
-size-made : (came : Result Reply Fault) → came_unmade came ≡ false → (fault : Fault) → truncates.size_told came ≡ Err fault → is_unmade fault ≡ false
-size-made (Ok (replies.File reply)) made fault is = reply-made reply fault is
-size-made (Ok (replies.Dir reply)) made fault is = err-made _ fault refl is
-size-made (Ok (replies.Mount reply)) made fault is = err-made _ fault refl is
-size-made (Err f) made fault is = err-made f fault made is
+not-unmade : (f : Fault) → is_unmade f ≡ false → ((status : ℕ) → f ≡ faults.Nfs status → ⊥) → truncates.leaves_pages f ≡ false
+not-unmade (faults.Nfs status) made none = absurd (none status refl)
+not-unmade f made none = made
+
+size-unknown : (came : Result Reply Fault) → came_unmade came ≡ false → ((status : ℕ) → came ≡ Err (faults.Nfs status) → ⊥)
+    → ((reply : FileKept) (status : _) (w : Wcc) → came ≡ Ok (replies.File reply) → reply ≡ kept.SetAttrFail status w → ⊥) → (fault : Fault) → truncates.size_told came ≡ Err fault
+    → truncates.leaves_pages fault ≡ false
+size-unknown (Ok (replies.File reply)) made none other fault is = other-reply reply fault (λ status w e. other reply status w refl e) is
+size-unknown (Ok (replies.Dir reply)) made none other fault is = err-unknown _ fault refl is
+size-unknown (Ok (replies.Mount reply)) made none other fault is = err-unknown _ fault refl is
+size-unknown (Err f) made none other fault is = err-unknown f fault (not-unmade f made (λ status e. none status (ap Err e))) is
 
 told-so : (T : Pages → Type 0) (f : List ℕ) (wcc : Wcc) (size moment : ℕ) (pages : Pages) (told : Result Wcc Fault) → ((w : Wcc) → told ≡ Ok w → w ≡ wcc)
-    → ((fault : Fault) → told ≡ Err fault → is_unmade fault ≡ false) → T (wrote f saves.untold 0 [] moment pages) → T (cut f wcc size moment pages)
+    → ((fault : Fault) → told ≡ Err fault → truncates.leaves_pages fault ≡ false) → T (wrote f saves.untold 0 [] moment pages) → T (cut f wcc size moment pages)
     → T (truncates.told_pages told f size moment pages)
 told-so T f wcc size moment pages (Ok w) same made drops cuts = subst (λ (z : Wcc). T (cut f z size moment pages)) (sym (same w refl)) cuts
-told-so T f wcc size moment pages (Err fault) same made drops cuts = failed-made T f moment fault pages (made fault refl) drops
+told-so T f wcc size moment pages (Err fault) same unknown drops cuts = unset-dropped T f moment fault pages (unknown fault refl) drops
 
 pub size-follows : (mounted : Mounted) (setup : Setup) (f : List ℕ) (set : SetAttr) (guard : Option Time) (wcc : Wcc) → Follows mounted setup f (files.SetAttr f set guard) (kept.SetAttr wcc) wcc
-size-follows mounted setup f set guard wcc T h old r found known xid call waits at number machine there lane made asked came its sent_ turn drops follows cuts next after shelf t =
+size-follows mounted setup f set guard wcc T h old r found known xid call waits at number machine there lane made asked came its sent_ none_ turn drops follows cuts next after shelf t =
     by (expects-tame machine e.made.asked e.expects some)
   where
     e : IsExpected (machine_of mounted) (begins-unbegun mounted) setup Expects expects-laws NoCall NoShelf NoStory (no-laws (machine_of mounted) setup Expects) h number xid call machine
@@ -83,6 +91,12 @@ size-follows mounted setup f set guard wcc T h old r found known xid call waits 
         (λ k l here same. (lanes-under-way h old known.lanes).apart k at l (record { number = number; state = Busy machine }) here there (same ∙ sym lane)) in
         omega (arith, all, count)
 
+    not-refused : (reply : FileKept) (status : _) (w : Wcc) → came ≡ Ok (replies.File reply) → reply ≡ kept.SetAttrFail status w → ⊥
+    not-refused reply status w said is =
+        let same = its reply said in
+        let no_way : replies.File (kept.SetAttrFail status w) ≡ replies.File (kept.SetAttr wcc) = ap replies.File (sym is) ∙ same in
+        cc
+
     by : IsCut machine e.made.asked ⊎ Tame e.made.asked → T shelf.pages
     by (inl c) =
         let file : f ≡ c.file = file-of-set f c.file set _ guard None (again ∙ c.asks) in
@@ -91,5 +105,5 @@ size-follows mounted setup f set guard wcc T h old r found known xid call waits 
         let pages = took-pages c.m c.m.state c.file c.upto call.purpose.sent turn came old.shelf shelf c.state takes.step.shelf_is in
         subst T (sym (pages ∙ ap (λ (z : List ℕ). truncates.told_pages (truncates.size_told came) z c.m.size (turn.moment - 1) old.shelf.pages) (sym file)))
         (told-so T f wcc c.m.size (turn.moment - 1) old.shelf.pages (truncates.size_told came) (λ w is. wcc-of w wcc (its (kept.SetAttr w) (told-set came w is)))
-        (size-made came sent_) drops (cuts c.m.size))
+        (size-unknown came sent_ none_ not-refused) drops (cuts c.m.size))
     by (inr tame) = absurd (subst Tame (sym again) tame)
