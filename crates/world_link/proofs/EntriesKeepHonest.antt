@@ -1,5 +1,5 @@
 -- What keeps the world honest: each entry that its calls add, and each reply that they make ready or hold.
-use Rattle.std.proofs.Common.{◌≡◌, ◌≤◌, ◌<◌, ℕ, zero, suc, true, List, [], ◌∷◌, ◌++◌, length, take, drop, get_or, Option, Some, None, refl, sym, ap, subst, ◌∙◌, arith, length-append, take-append-drop}
+use Rattle.std.proofs.Common.{◌≡◌, ◌≤◌, ◌<◌, ℕ, zero, suc, true, List, [], ◌∷◌, ◌++◌, length, take, drop, get_or, slice_get, Option, Some, None, refl, sym, ap, subst, ◌∙◌, arith, length-append, take-append-drop}
 use Rattle.std.specs.List.{remove}
 use Rattle.std.proofs.lemmas.Bool.{cond_both}
 use Rattle.xdr_codec.specs.Bytes.{IsBytes}
@@ -59,7 +59,7 @@ pub every_append : {A : Type 0} (P : A → Type 0) (xs ys : List A) → Every P 
 every_append P [] ys e f = f
 every_append P (x ∷ xs) ys e f = (e.0, every_append P xs ys e.1 f)
 
-every_front : {A : Type 0} (P : A → Type 0) (n : ℕ) (xs : List A) → Every P xs → Every P (take n xs)
+pub every_front : {A : Type 0} (P : A → Type 0) (n : ℕ) (xs : List A) → Every P xs → Every P (take n xs)
 every_front P zero xs e = tt
 every_front P (suc n) [] e = tt
 every_front P (suc n) (x ∷ xs) e = (e.0, every_front P n xs e.1)
@@ -258,6 +258,28 @@ honest_delivered start v rec rest is h =
     let k = honest_more start v None (entries.Delivered rec) v.export refl h (delivered_stands start v rec h ready.0) in
     let left : Every (IsAnswer (v.entries ++ entries.Delivered rec ∷ [])) (rec ∷ rest) = subst (Every (IsAnswer (v.entries ++ entries.Delivered rec ∷ []))) is k.ready in
     record { stamped = k.stamped; sound = k.sound; follows = k.follows; lawful = k.lawful; pages = k.pages; sent = k.sent; ready = left.1; held = k.held }
+
+pub every_slice : {A : Type 0} (P : A → Type 0) (xs : List A) (i : ℕ) (x : A) → slice_get xs i ≡ Some x → Every P xs → P x
+every_slice P [] i x at e = absurd cc
+every_slice P (y ∷ xs) zero x at e = let same : y ≡ x = cc in subst P same e.0
+every_slice P (y ∷ xs) (suc i) x at e = every_slice P xs i x at e.1
+
+-- the same of the one at a place
+pub honest_delivered_at : (start : View) (v : ServerView) (place : ℕ) (rec : List ℕ) → slice_get v.ready place ≡ Some rec → IsHonest start v
+    → IsHonest start (record v { entries = v.entries ++ entries.Delivered rec ∷ []; ready = remove v.ready place })
+honest_delivered_at start v place rec is h =
+    let k = honest_more start v None (entries.Delivered rec) v.export refl h (delivered_stands start v rec h (every_slice (IsAnswer v.entries) v.ready place rec is h.ready)) in
+    let more : List Entry = v.entries ++ entries.Delivered rec ∷ [] in
+    record {
+      stamped = k.stamped;
+      sound = k.sound;
+      follows = k.follows;
+      lawful = k.lawful;
+      pages = k.pages;
+      sent = k.sent;
+      ready = every_append (IsAnswer more) (take place v.ready) (drop (suc place) v.ready) (every_front (IsAnswer more) place v.ready k.ready) (every_rest (IsAnswer more) (suc place) v.ready k.ready);
+      held = k.held;
+    }
 
 -- ---- replies
 

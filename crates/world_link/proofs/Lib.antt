@@ -19,3 +19,12 @@ pub mod TurnStaysHonest
 pub mod Bounds
 pub mod WorldBegins
 pub mod WorldKeepsContract
+pub mod Queues
+pub mod EndsStayRight
+pub mod Pushes
+pub mod PairSides
+pub mod PairTells
+pub mod PairHonest
+pub mod PairReceiving
+pub mod NextPairLine
+pub mod PairBegins

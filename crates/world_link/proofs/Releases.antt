@@ -1,7 +1,8 @@
 -- Replies that are released one at a time.
-use Rattle.std.proofs.Common.{◌≡◌, ◌<◌, ◌≤◌, ◌+◌, ℕ, suc, List, [], ◌∷◌, ◌++◌, length, get_or, Bool, true, false, cond, Option, Some, None, position, nat_lt, refl, sym, ap, ◌∙◌, arith}
+use Rattle.std.proofs.Common.{◌≡◌, ◌<◌, ◌≤◌, ◌+◌, ℕ, suc, List, [], ◌∷◌, ◌++◌, length, map, take, drop, get_or, Bool, true, false, not, cond, Option, Some, None, position, nat_lt, refl, sym, ap, ◌∙◌, arith}
 use Rattle.std.specs.List.{remove, position_or_len}
-use Rattle.world_link.specs.Holding.{HeldView, are_past, released_of}
+use Rattle.std.proofs.lemmas.List.{map-append, length-map, get_or-map, take-map, drop-map}
+use Rattle.world_link.specs.Holding.{HeldView, HeldReply, held_view, are_past, released_of}
 use Rattle.world_link.specs.Turning.{released}
 use Rattle.world_link.specs.View.{ServerView}
 
@@ -74,3 +75,35 @@ pub due_there : (turns : List ℕ) (held : List HeldView) (due : Option ℕ) (pl
 due_there turns held due place p d =
     let f : (first turns held < length held) × (first turns held ≡ place) = found (first turns held) (length held) place (nat_lt (first turns held) (length held)) refl (sym p ∙ d) in
     omega (arith, f.0, f.1)
+
+-- ---- the same of replies with their ends
+
+seen_first : (turns : List ℕ) (held : List HeldReply) → position_or_len (λ (x : HeldView). are_past turns x.waits) (map held_view held) ≡ position_or_len (λ (x : HeldReply). are_past turns x.waits) held
+seen_first turns [] = refl
+seen_first turns (h ∷ held) = ap (λ (n : ℕ). cond (not (are_past turns h.waits)) (1 + n) 0) (seen_first turns held)
+
+seen_due : (turns : List ℕ) (held : List HeldReply) → position (λ (x : HeldReply). are_past turns x.waits) held ≡ position (λ (x : HeldView). are_past turns x.waits) (map held_view held)
+seen_due turns held =
+    ap (λ (n : ℕ). cond (nat_lt n (length held)) (Some n) None) (sym (seen_first turns held))
+    ∙ ap (λ (m : ℕ). cond (nat_lt (first turns (map held_view held)) m) (Some (first turns (map held_view held))) None) (sym (length-map held held_view))
+
+pub seen_left : (held : List HeldReply) (place : ℕ) → map held_view (remove held place) ≡ remove (map held_view held) place
+seen_left held place =
+    map-append held_view (take place held) (drop (suc place) held) ∙ ap (λ (t : List HeldView). t ++ map held_view (drop (suc place) held)) (sym (take-map held_view place held))
+    ∙ ap (λ (t : List HeldView). take place (map held_view held) ++ t) (sym (drop-map held_view (suc place) held))
+
+-- the reply that is due is one of those that are held
+pub due_reply : (turns : List ℕ) (held : List HeldReply) (due : Option ℕ) (place : ℕ) → due ≡ position (λ (x : HeldReply). are_past turns x.waits) held → due ≡ Some place → place < length held
+due_reply turns held due place p d = let lt = due_there turns (map held_view held) due place (p ∙ seen_due turns held) d in omega (arith, lt, length-map held held_view)
+
+pub releases_reply : (turns : List ℕ) (v w : ServerView) (held : List HeldReply) (place : ℕ) (h : HeldReply) (due : Option ℕ) → v.held ≡ map held_view held → due ≡ position (λ (x : HeldReply). are_past turns x.waits) held → due ≡ Some place
+    → h ≡ get_or held place h → w.ready ≡ v.ready ++ h.reply.bytes ∷ [] → w.held ≡ map held_view (remove held place) → w ≡ record v { ready = w.ready; held = w.held } → released turns w ≡ released turns v
+releases_reply turns v w held place h due seen p d is r k e =
+    let lt = due_reply turns held due place p d in
+    releases_parts turns v w place (held_view h) due (p ∙ seen_due turns held ∙ ap (λ (t : List HeldView). position (λ (x : HeldView). are_past turns x.waits) t) (sym seen)) d
+    (ap held_view is ∙ sym (get_or-map held_view held place h (held_view h) lt) ∙ ap (λ (t : List HeldView). get_or t place (held_view h)) (sym seen)) r
+    (k ∙ seen_left held place ∙ ap (λ (t : List HeldView). remove t place) (sym seen)) e
+
+pub all_replies_released : (turns : List ℕ) (v : ServerView) (held : List HeldReply) (due : Option ℕ) → v.held ≡ map held_view held → due ≡ position (λ (x : HeldReply). are_past turns x.waits) held → due ≡ None → v ≡ released turns v
+all_replies_released turns v held due seen p d =
+    all_released turns v due (p ∙ seen_due turns held ∙ ap (λ (t : List HeldView). position (λ (x : HeldView). are_past turns x.waits) t) (sym seen)) d

@@ -1,8 +1,9 @@
 -- What the parts of a turn keep of an honest world.
-use Rattle.std.proofs.Common.{◌≡◌, ◌≤◌, ℕ, Bool, true, false, List, [], ◌∷◌, ◌++◌, length, get_or, position, Option, Some, None, Result, Ok, Err, refl, sym, ap, subst, ◌∙◌, arith, if◌then◌else◌, IfOk, ◌==◌}
+use Rattle.std.proofs.Common.{◌≡◌, ◌≤◌, ℕ, Bool, true, false, List, [], ◌∷◌, ◌++◌, length, map, get_or, position, Option, Some, None, Result, Ok, Err, refl, sym, ap, subst, ◌∙◌, arith, if◌then◌else◌, IfOk, ◌==◌}
 use Rattle.std.specs.Prelude.{OnOk, OnErr}
 use Rattle.std.specs.List.{remove}
 use Rattle.std.proofs.lemmas.Bool.{eqb-true}
+use Rattle.std.proofs.lemmas.List.{length-map, get_or-map}
 use Rattle.xdr_codec.specs.Bytes.{IsBytes}
 use Rattle.nfs_types.specs.declared.verf.Verf.{Verf}
 use Rattle.nfs_file_calls.specs.declared.call.FileCall.{FileCall}
@@ -34,13 +35,13 @@ use Rattle.world_link.specs.Going.{Goes}
 use Rattle.world_link.specs.declared.broken.Broken.{Broken}
 use Rattle.world_link.specs.declared.directive.PartialWrite.{PartialWrite}
 use Rattle.world_link.specs.Handling.{kept, handled, readied}
-use Rattle.world_link.specs.Holding.{HeldView, are_past}
+use Rattle.world_link.specs.Holding.{HeldView, HeldReply, held_view, are_past}
 use Rattle.world_link.specs.Honest.{IsSent, IsAsked, IsAnswer, MayAnswer, IsBound, IsHonest, StaysHonest, MayStand}
 use Rattle.world_link.specs.Replay.{stepped, stepped_by, stepped_with}
 use Rattle.world_link.specs.Turning.{held}
 use Rattle.world_link.specs.View.{ServerView}
 use Rattle.world_link.proofs.ServerEntriesOnly.{first_of_two, second_of_two}
-use Rattle.world_link.proofs.Releases.{due_there}
+use Rattle.world_link.proofs.Releases.{due_reply, seen_left}
 use Rattle.world_link.proofs.Replays.{executed_stepped, handled_stepped}
 use Rattle.world_link.proofs.RepliesFit.{handled_replies}
 use Rattle.world_link.proofs.AnswersAreHonest.{MayBreak}
@@ -187,12 +188,16 @@ pub held_result_stays : {T E : Type 0} (old new : ServerView) (bytes : List ℕ)
 held_result_stays old new bytes waits (Err e) done left a = same_stays old new left
 held_result_stays old new bytes waits (Ok x) done left a = held_stays old new (record { bytes = bytes; waits = waits }) done a
 
-pub moved_stays : (turns : List ℕ) (v w : ServerView) (place : ℕ) (d : HeldView) (due : Option ℕ) → due ≡ position (λ (x : HeldView). are_past turns x.waits) v.held → due ≡ Some place → d ≡ get_or v.held place d
-    → w.ready ≡ v.ready ++ d.bytes ∷ [] → w.held ≡ remove v.held place → w ≡ record v { ready = w.ready; held = w.held } → StaysHonest v w
-moved_stays turns v w place d due p q is r k e =
-    let ready : w.ready ≡ v.ready ++ (get_or v.held place d).bytes ∷ [] = r ∙ ap (λ (x : HeldView). v.ready ++ x.bytes ∷ []) is in
-    let all : w ≡ record v { ready = v.ready ++ (get_or v.held place d).bytes ∷ []; held = remove v.held place } = e ∙ ap (λ (t : List (List ℕ)). record v { ready = t; held = w.held }) ready ∙ ap (λ (t : List HeldView). record v { ready = v.ready ++ (get_or v.held place d).bytes ∷ []; held = t }) k in
-    record { stays = λ start h. subst (IsHonest start) (sym all) (honest_moved start v place d (due_there turns v.held due place p q) h) }
+pub moved_stays : (turns : List ℕ) (v w : ServerView) (held : List HeldReply) (place : ℕ) (h : HeldReply) (due : Option ℕ) → v.held ≡ map held_view held → due ≡ position (λ (x : HeldReply). are_past turns x.waits) held → due ≡ Some place
+    → h ≡ get_or held place h → w.ready ≡ v.ready ++ h.reply.bytes ∷ [] → w.held ≡ map held_view (remove held place) → w ≡ record v { ready = w.ready; held = w.held } → StaysHonest v w
+moved_stays turns v w held place h due seen p q is r k e =
+    let lt = due_reply turns held due place p q in
+    let there : held_view h ≡ get_or v.held place (held_view h) = ap held_view is ∙ sym (get_or-map held_view held place h (held_view h) lt) ∙ ap (λ (t : List HeldView). get_or t place (held_view h)) (sym seen) in
+    let ready : w.ready ≡ v.ready ++ (get_or v.held place (held_view h)).bytes ∷ [] = r ∙ ap (λ (x : HeldView). v.ready ++ x.bytes ∷ []) there in
+    let left : w.held ≡ remove v.held place = k ∙ seen_left held place ∙ ap (λ (t : List HeldView). remove t place) (sym seen) in
+    let all : w ≡ record v { ready = v.ready ++ (get_or v.held place (held_view h)).bytes ∷ []; held = remove v.held place } =
+    e ∙ ap (λ (t : List (List ℕ)). record v { ready = t; held = w.held }) ready ∙ ap (λ (t : List HeldView). record v { ready = v.ready ++ (get_or v.held place (held_view h)).bytes ∷ []; held = t }) left in
+    record { stays = λ start known. subst (IsHonest start) (sym all) (honest_moved start v place (held_view h) (omega (arith, lt, ap length seen, length-map held held_view)) known) }
 
 -- ---- from one part of a turn to the next
 

@@ -27,10 +27,10 @@ use Rattle.world_link.proofs.Bounds.{Limits, MayLimit, line_limits, none_bounded
 use Rattle.world_link.proofs.EntriesKeepHonest.{honest_start}
 
 -- What is read so far may begin an honest world.
-record MayBegin (read : ReadView) : Type 0 where
-  stamped : Stamped read.export
-  sound : Sound read.export
-  bounded : IsBounded read.plan
+pub record MayBegin (read : ReadView) : Type 0 where
+  pub stamped : Stamped read.export
+  pub sound : Sound read.export
+  pub bounded : IsBounded read.plan
 
 some_same : (a b : ReadView) → Some a ≡ Some b → a ≡ b
 some_same a b e = cc
@@ -65,7 +65,7 @@ some_begins : (read new : ReadView) (o : Option Directive) → MayLimit o → Ma
 some_begins read new None l h f = absurd (cc)
 some_begins read new (Some d) l h f = directive_begins read new d l h f
 
-line_begins : (read new : ReadView) (line : List ℕ) → MayBegin read → after_line read line ≡ Some new → MayBegin new
+pub line_begins : (read new : ReadView) (line : List ℕ) → MayBegin read → after_line read line ≡ Some new → MayBegin new
 line_begins read new line h f =
     ⊎_elim (λ (a : not (is_utf8 line) ≡ true). let g : None ≡ Some new = simp a at f in absurd (cc))
     (λ (a : not (is_utf8 line) ≡ false).
@@ -83,7 +83,7 @@ lines_begin [] count read new h f = let s : read ≡ new = cc in subst MayBegin 
 lines_begin (line ∷ more) count read new h f =
     after_first read new line (λ r. after_lines (suc count) r more) (suc count) (λ r p g. lines_begin more (suc count) r new p g) h (after_line read line) refl f
 
-nothing_begins : MayBegin nothing_read
+pub nothing_begins : MayBegin nothing_read
 nothing_begins = record { stamped = stamped_new; sound = begins; bounded = none_bounded }
 
 read_begins : (text : List ℕ) (read : ReadView) → read_of text ≡ Ok read → MayBegin read
@@ -92,11 +92,12 @@ read_begins text read e =
     (λ (a : nat_lt 1048576 (length text) ≡ false). let g : after_lines 0 nothing_read (lines text) ≡ Ok read = simp a at e in lines_begin (lines text) 0 nothing_read read nothing_begins g)
     (cases_Bool (nat_lt 1048576 (length text)))
 
+pub may_begin : (read : ReadView) → MayBegin read → IsHonestWorld (world_of read)
+may_begin read h = record { server = honest_start read.export h.stamped h.sound; waiting = tt; plan = h.bounded }
+
 -- the world of a schedule that was read is honest
 pub read_honest : (text : List ℕ) (read : ReadView) → read_of text ≡ Ok read → IsHonestWorld (world_of read)
-read_honest text read e =
-    let h = read_begins text read e in
-    record { server = honest_start read.export h.stamped h.sound; waiting = tt; plan = h.bounded }
+read_honest text read e = may_begin read (read_begins text read e)
 
 by_read : (text : List ℕ) (world : World) (tick : ℕ) (r : Result ReadView ℕ) → read_of text ≡ r → BeginsBy r world tick → IsHonestWorld (seen world)
 by_read text world tick (Err n) q b = absurd b

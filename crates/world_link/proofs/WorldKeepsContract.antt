@@ -1,5 +1,5 @@
 -- What the calls of the world as a link keep: it stays honest, so what it tells is lawful, and always fresh and rising.
-use Rattle.std.proofs.Common.{◌⊎◌, ⊎_elim, ◌≡◌, ◌<◌, ℕ, List, [], ◌∷◌, ◌++◌, length, drop, get_or, Option, Some, None, Result, Ok, Err, sym, ap, subst, ◌∙◌}
+use Rattle.std.proofs.Common.{◌⊎◌, ⊎_elim, ◌≡◌, ◌<◌, ℕ, List, [], ◌∷◌, ◌++◌, length, drop, get_or, slice_get, Option, Some, None, Result, Ok, Err, sym, ap, subst, ◌∙◌}
 use Rattle.outside.specs.declared.link.LinkFault.{LinkFault}
 use Rattle.outside.specs.declared.link.LinkFault.TheVariants as faults
 use Rattle.outside.specs.declared.link.Received.{Received}
@@ -22,11 +22,11 @@ use Rattle.world_link.specs.Going.{Goes}
 use Rattle.world_link.specs.Honest.{Every, IsSent, IsBound, IsBounded, IsHonest, StaysHonest, IsHonestWorld}
 use Rattle.world_link.specs.Plans.{PlanView}
 use Rattle.world_link.specs.Replay.{part_at, told}
-use Rattle.world_link.specs.Steps.{Dials, Sends, Notes, LeftByMemory, noted}
+use Rattle.world_link.specs.Steps.{Dials, Sends, Notes, LeftByMemory, HandsAt, noted, delivered_at}
 use Rattle.world_link.specs.Turning.{Hands, silent, delivered, after_send, after_dial, after_failed_dial, name_of, fate_of, manner_of}
 use Rattle.world_link.specs.View.{ServerView, WorldView}
 use Rattle.world_link.proofs.FreshAndRising.{told_fresh, told_rising}
-use Rattle.world_link.proofs.EntriesKeepHonest.{every_map, every_append, every_rest, every_get, sent_on, honest_noted, honest_failed, honest_dialed, honest_sent, honest_delivered}
+use Rattle.world_link.proofs.EntriesKeepHonest.{every_map, every_append, every_rest, every_get, sent_on, honest_noted, honest_failed, honest_dialed, honest_sent, honest_delivered, honest_delivered_at}
 
 abbrev AllSent : List Entry → List Waiting → Type 0
 AllSent es waiting = Every (λ (next : Waiting). IsSent es next.bytes) waiting
@@ -93,7 +93,7 @@ failed_honest w port h = record {
   plan = h.plan;
 }
 
-silent_honest : (w : WorldView) → IsHonestWorld w → IsHonestWorld (silent w)
+pub silent_honest : (w : WorldView) → IsHonestWorld w → IsHonestWorld (silent w)
 silent_honest w h = record { server = honest_failed w.start w.server h.server; waiting = all_sent_on w.server.entries (entries.Failed ∷ []) w.waiting h.waiting; plan = h.plan }
 
 noted_honest : (w : WorldView) (mark : Mark) → IsHonestWorld w → IsHonestWorld (noted w mark)
@@ -119,6 +119,20 @@ sends_honest old new rec (Err faults.Memory) d h = same_honest old new d h
 pub notes_honest : {T E : Type 0} (old new : WorldView) (mark : Mark) (result : Result T E) → Notes old new mark result → IsHonestWorld old → IsHonestWorld new
 notes_honest old new mark (Ok x) d h = same_honest (noted old mark) new d (noted_honest old mark h)
 notes_honest old new mark (Err e) d h = same_honest old new d h
+
+-- the reply at a place of those that are ready comes
+delivered_at_honest : (w : WorldView) (place : ℕ) (rec : List ℕ) → slice_get w.server.ready place ≡ Some rec → IsHonestWorld w → IsHonestWorld (delivered_at w place rec)
+delivered_at_honest w place rec is h = record {
+  server = honest_delivered_at w.start w.server place rec is h.server;
+  waiting = all_sent_on w.server.entries (entries.Delivered rec ∷ []) w.waiting h.waiting;
+  plan = h.plan;
+}
+
+pub hands_at_honest : (old new : WorldView) (place : ℕ) (rec : List ℕ) (result : Received) → HandsAt old new place rec result → IsHonestWorld old → IsHonestWorld new
+hands_at_honest old new place rec received.Whole d h = same_honest (delivered_at old place rec) new d.1 (delivered_at_honest old place rec d.0 h)
+hands_at_honest old new place rec received.Silent d h = absurd d
+hands_at_honest old new place rec received.Failed d h = absurd d
+hands_at_honest old new place rec received.Memory d h = same_honest old new d h
 
 pub hands_honest : (old new : WorldView) (rec : List ℕ) (result : Received) → Hands old new rec result → LeftByMemory old new result → IsHonestWorld old → IsHonestWorld new
 hands_honest old new rec received.Whole d m h = same_honest (delivered old rec d.0) new d.2 (delivered_honest old rec d.0 d.1 h)

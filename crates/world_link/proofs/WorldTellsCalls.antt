@@ -1,5 +1,6 @@
 -- What the calls of the world add to what it tells.
-use Rattle.std.proofs.Common.{◌≡◌, ℕ, List, [], ◌∷◌, ◌++◌, Result, Ok, Err, refl, sym, ap, ◌∙◌, append_assoc}
+use Rattle.std.proofs.Common.{◌≡◌, ℕ, List, [], ◌∷◌, ◌++◌, length, map, Some, slice_get, Result, Ok, Err, refl, sym, ap, ◌∙◌, append_assoc, arith}
+use Rattle.std.specs.List.{remove}
 use Rattle.std.proofs.lemmas.List.{append-nil}
 use Rattle.outside.specs.declared.link.LinkFault.{LinkFault}
 use Rattle.outside.specs.declared.link.LinkFault.TheVariants as faults
@@ -16,9 +17,10 @@ use Rattle.world_model.proofs.Histories.{adds_then}
 use Rattle.world_link.specs.Going.{GoesOn}
 use Rattle.world_link.specs.declared.broken.Broken.{Broken}
 use Rattle.world_link.specs.Replay.{part_at, told}
-use Rattle.world_link.specs.Steps.{Dials, Sends, Notes, LeftByMemory}
-use Rattle.world_link.specs.Turning.{Hands}
-use Rattle.world_link.specs.View.{WorldView}
+use Rattle.world_link.specs.declared.routed.Routed.{Routed}
+use Rattle.world_link.specs.Steps.{Dials, Sends, Notes, LeftByMemory, HandsAt, Silences}
+use Rattle.world_link.specs.Turning.{Hands, delivered}
+use Rattle.world_link.specs.View.{WorldView, bytes_in}
 use Rattle.world_link.proofs.ServerEntriesOnly.{adds, goes_adds, quiet_goes, on_goes}
 
 same_adds : (old new : WorldView) → new ≡ old → Adds (told old) (told new) []
@@ -58,3 +60,35 @@ hands_adds old new rec received.Memory h m = same_adds old new m
 -- turns, and then the first reply that is ready
 pub receives_adds : (old mid new : WorldView) (rec : List ℕ) (result : Received) → GoesOn old mid → Hands mid new rec result → LeftByMemory mid new result → Adds (told old) (told new) (received_as rec result)
 receives_adds old mid new rec result g h m = adds_then _ _ _ [] _ (goes_adds old mid g) (hands_adds mid new rec result h m)
+
+-- ---- the first reply that is ready
+
+first_of : (xs : List (List ℕ)) (x : List ℕ) → slice_get xs 0 ≡ Some x → (rest : List (List ℕ)) × (xs ≡ x ∷ rest) × (remove xs 0 ≡ rest)
+first_of [] x is = absurd cc
+first_of (y ∷ xs) x is = let same : y ≡ x = cc in (xs, ap (λ (z : List ℕ). z ∷ xs) same, refl)
+
+-- the reply at the first place is the first one
+pub hands_first : (old new : WorldView) (rec : List ℕ) (result : Received) → HandsAt old new 0 rec result → Hands old new rec result
+hands_first old new rec received.Whole h =
+    let f = first_of old.server.ready rec h.0 in
+    (f.0, f.1, h.1 ∙ ap (λ (t : List (List ℕ)). delivered old rec t) f.2)
+hands_first old new rec received.Silent h = absurd h
+hands_first old new rec received.Failed h = absurd h
+hands_first old new rec received.Memory h = tt
+
+pub hands_left : (old new : WorldView) (rec : List ℕ) (place : ℕ) (result : Received) → HandsAt old new place rec result → LeftByMemory old new result
+hands_left old new rec place received.Whole h = tt
+hands_left old new rec place received.Silent h = tt
+hands_left old new rec place received.Failed h = tt
+hands_left old new rec place received.Memory h = h
+
+-- none is ready
+pub none_hands : (old new : WorldView) (rec : List ℕ) (result : Received) → old.server.ready ≡ [] → Silences old new result → Hands old new rec result
+none_hands old new rec received.Whole none s = absurd s
+none_hands old new rec received.Silent none s = (none, s)
+none_hands old new rec received.Failed none s = absurd s
+none_hands old new rec received.Memory none s = tt
+
+pub none_ready : (items : List Routed) → length items ≡ 0 → map bytes_in items ≡ []
+none_ready [] is = refl
+none_ready (r ∷ items) is = absurd (omega (arith, is))

@@ -2,11 +2,20 @@
 use Rattle.std.specs.Prelude.{ℕ, ◌+◌, ◌==◌, List, [], ◌∷◌, ◌++◌, Bool, Option, Some, None, nat_le, slice_index, slice_set, if◌then◌else◌}
 use Rattle.std.specs.List.{list_all}
 use Rattle.world_link.specs.declared.directive.RequestId.{RequestId}
+use Rattle.world_link.specs.declared.routed.Routed.{Routed}
 
 -- a reply, and the transmissions before whose turns it isn't ready
 pub record HeldView : Type 0 where
   pub bytes : List ℕ
   pub waits : List RequestId
+
+-- the same with the end to which the reply goes
+pub record HeldReply : Type 0 where
+  pub reply : Routed
+  pub waits : List RequestId
+
+abbrev pub held_view : HeldReply → HeldView
+held_view held = record { bytes = held.reply.bytes; waits = held.waits }
 
 -- The next sending of a procedure, by the counts of those before it. A schedule can't name one after the last count.
 abbrev pub next_of : List ℕ → ℕ → Option RequestId

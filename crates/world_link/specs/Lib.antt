@@ -17,3 +17,9 @@ pub mod Starting
 pub mod Begins
 pub mod Steps
 pub mod Honest
+pub mod Ends
+pub mod Routes
+pub mod Routing
+pub mod Pairs
+pub mod PairSteps
+pub mod Orders

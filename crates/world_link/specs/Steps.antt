@@ -1,10 +1,12 @@
 -- What each call of the world as a link makes of it.
-use Rattle.std.specs.Prelude.{◌≡◌, ℕ, List, [], ◌∷◌, ◌++◌, true, false, Result, Ok, Err}
+use Rattle.std.specs.Prelude.{◌≡◌, ℕ, List, [], ◌∷◌, ◌++◌, true, false, Some, Result, Ok, Err, slice_get}
+use Rattle.std.specs.List.{remove}
 use Rattle.outside.specs.declared.link.LinkFault.{LinkFault}
 use Rattle.outside.specs.declared.link.LinkFault.TheVariants as faults
 use Rattle.outside.specs.declared.link.Received.{Received}
 use Rattle.outside.specs.declared.link.Received.TheVariants as received
 use Rattle.outside.specs.Link.{entry_of}
+use Rattle.world_model.specs.declared.entry.Entry.TheVariants.{Delivered}
 use Rattle.world_model.specs.declared.entry.Mark.{Mark}
 use Rattle.world_link.specs.declared.waiting.Waiting.{Waiting}
 use Rattle.world_link.specs.View.{WorldView}
@@ -27,6 +29,17 @@ Silences old new received.Memory = Unit {0}
 abbrev pub LeftByMemory : WorldView → WorldView → Received → Type 0
 LeftByMemory old new received.Memory = new ≡ old
 LeftByMemory old new result = Unit {0}
+
+-- the reply at that place of those that are ready came
+abbrev pub delivered_at : WorldView → ℕ → List ℕ → WorldView
+delivered_at w place rec = record w { server = record w.server { entries = w.server.entries ++ Delivered rec ∷ []; ready = remove w.server.ready place } }
+
+-- Out of memory changes nothing.
+abbrev pub HandsAt : WorldView → WorldView → ℕ → List ℕ → Received → Type 0
+HandsAt old new place rec received.Whole = (slice_get old.server.ready place ≡ Some rec) × (new ≡ delivered_at old place rec)
+HandsAt old new place rec received.Silent = ⊥
+HandsAt old new place rec received.Failed = ⊥
+HandsAt old new place rec received.Memory = new ≡ old
 
 -- A dial fails exactly where the plan says so; out of memory changes nothing.
 abbrev pub Dials : {T : Type 0} → WorldView → WorldView → ℕ → Result T LinkFault → Type 0

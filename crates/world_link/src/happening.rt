@@ -1,6 +1,6 @@
 //! Events at the server.
 
-ghost use Rattle.std.specs.Prelude.{◌≡◌, ◌++◌, ◌∷◌, [], None, Some, IfOk, OnOk, OnErr, option_map};
+ghost use Rattle.std.specs.Prelude.{⊤, ◌≡◌, ◌++◌, ◌∷◌, [], None, Some, IfOk, OnOk, OnErr, option_map};
 ghost use Rattle.export_fs.specs.Executed.{executed};
 ghost use Rattle.export_fs.specs.Finding.{found, file_size};
 ghost use Rattle.export_fs.specs.Spelled.{HandlesAreBytes, IsSpelled};
@@ -9,9 +9,12 @@ ghost use Rattle.world_link.specs.declared.event.Event.TheVariants as events;
 ghost use Rattle.world_link.specs.Happening as happenings;
 ghost use Rattle.world_link.specs.Going.{Goes};
 ghost use Rattle.world_link.specs.Honest.{StaysHonest};
+ghost use Rattle.world_link.specs.Ends.{ends_of};
+ghost use Rattle.world_link.specs.Routes.{KeepsEnds};
 ghost use Rattle.world_link.specs.View.{served};
 
 use crate::event::Event;
+use crate::routed::{NO_CLIENT, Told};
 use crate::server::Server;
 use export_fs::handles_fit;
 use nfs_dir_calls::{DirCall, DirKept, Making};
@@ -29,6 +32,7 @@ impl Server {
         ensures ok { OnOk result (served self.new ≡ happenings.all_happened (served self.old) events.now) }
         ensures goes { Goes (served self.old) (served self.new) }
         ensures stays { StaysHonest (served self.old) (served self.new) }
+        ensures ends { KeepsEnds (⊤) (ends_of self.old) (ends_of self.new) }
     {
         for event in events {
             self.happen(event)?;
@@ -41,6 +45,7 @@ impl Server {
         ensures ok { OnOk result (served self.new ≡ happenings.happened (served self.old) event.now) }
         ensures goes { Goes (served self.old) (served self.new) }
         ensures stays { StaysHonest (served self.old) (served self.new) }
+        ensures ends { KeepsEnds (⊤) (ends_of self.old) (ends_of self.new) }
     {
         match event {
             Event::Reboot => self.reboot(),
@@ -61,11 +66,12 @@ impl Server {
         ensures ok { OnOk result (served self.new ≡ happenings.restarted (served self.old)) }
         ensures goes { Goes (served self.old) (served self.new) }
         ensures stays { StaysHonest (served self.old) (served self.new) }
+        ensures ends { KeepsEnds (⊤) (ends_of self.old) (ends_of self.new) }
     {
-        self.entries.reserve(1)?;
+        self.told.reserve(1)?;
         if self.export.reboot() {
             let verf = self.export.verifier();
-            self.entries.push(Entry::Reboot { verf }).unwrap();
+            self.told.push(of_server(Entry::Reboot { verf })).unwrap();
         }
         Ok(())
     }
@@ -74,6 +80,7 @@ impl Server {
         ensures ok { OnOk result (served self.new ≡ happenings.flushed_at (served self.old) (found self.old.export path.now)) }
         ensures goes { Goes (served self.old) (served self.new) }
         ensures stays { StaysHonest (served self.old) (served self.new) }
+        ensures ends { KeepsEnds (⊤) (ends_of self.old) (ends_of self.new) }
     {
         let Some(file) = self.export.find(path.names()) else {
             return Ok(());
@@ -89,13 +96,13 @@ impl Server {
         ensures ok { OnOk result (served self.new ≡ happenings.flushed_of (served self.old) file (Some len)) }
         ensures goes { Goes (served self.old) (served self.new) }
         ensures stays { StaysHonest (served self.old) (served self.new) }
+        ensures ends { KeepsEnds (⊤) (ends_of self.old) (ends_of self.new) }
     {
         holds_bytes(&file);
-        self.entries.reserve(1)?;
+        self.told.reserve(1)?;
         self.export.flush(&file, 0, len)?;
-        self.entries
-            .push(Entry::Flushed { file, from: 0, len })
-            .unwrap();
+        let entry = Entry::Flushed { file, from: 0, len };
+        self.told.push(of_server(entry)).unwrap();
         Ok(())
     }
 
@@ -103,6 +110,7 @@ impl Server {
         ensures ok { OnOk result (served self.new ≡ happenings.written (served self.old) path.now offset bytes.now) }
         ensures goes { Goes (served self.old) (served self.new) }
         ensures stays { StaysHonest (served self.old) (served self.new) }
+        ensures ends { KeepsEnds (⊤) (ends_of self.old) (ends_of self.new) }
     {
         let Some(file) = self.export.find(path.names()) else {
             return Ok(());
@@ -121,6 +129,7 @@ impl Server {
         ensures ok { OnOk result (served self.new ≡ happenings.truncated_at (served self.old) size (found self.old.export path.now)) }
         ensures goes { Goes (served self.old) (served self.new) }
         ensures stays { StaysHonest (served self.old) (served self.new) }
+        ensures ends { KeepsEnds (⊤) (ends_of self.old) (ends_of self.new) }
     {
         let Some(file) = self.export.find(path.names()) else {
             return Ok(());
@@ -137,6 +146,7 @@ impl Server {
         ensures ok { OnOk result (served self.new ≡ happenings.created_at (served self.old) path.now bytes.now (happenings.last_in self.old.export path.now)) }
         ensures goes { Goes (served self.old) (served self.new) }
         ensures stays { StaysHonest (served self.old) (served self.new) }
+        ensures ends { KeepsEnds (⊤) (ends_of self.old) (ends_of self.new) }
     {
         let Some((dir, name)) = self.last_in(path) else {
             return Ok(());
@@ -157,6 +167,7 @@ impl Server {
         ensures ok { OnOk result (served self.new ≡ happenings.happened (served self.old) (events.Remove path.now)) }
         ensures goes { Goes (served self.old) (served self.new) }
         ensures stays { StaysHonest (served self.old) (served self.new) }
+        ensures ends { KeepsEnds (⊤) (ends_of self.old) (ends_of self.new) }
     {
         if self.export.find(path.names()).is_none() {
             return Ok(());
@@ -172,6 +183,7 @@ impl Server {
         ensures ok { OnOk result (served self.new ≡ happenings.happened (served self.old) (events.Rename from.now to.now)) }
         ensures goes { Goes (served self.old) (served self.new) }
         ensures stays { StaysHonest (served self.old) (served self.new) }
+        ensures ends { KeepsEnds (⊤) (ends_of self.old) (ends_of self.new) }
     {
         if self.export.find(from.names()).is_none() {
             return Ok(());
@@ -220,13 +232,25 @@ impl Server {
         ensures made { IfOk result (λ made. made ≡ happenings.is_made (executed self.old.export call).1) }
         ensures goes { Goes (served self.old) (served self.new) }
         ensures stays { StaysHonest (served self.old) (served self.new) }
+        ensures ends { KeepsEnds (⊤) (ends_of self.old) (ends_of self.new) }
     {
-        self.entries.reserve(1)?;
+        self.told.reserve(1)?;
         handles_fit(&call);
         let reply = self.export.execute(&call)?;
         let made = is_made(&reply);
-        self.entries.push(Entry::Foreign { call, reply }).unwrap();
+        let entry = Entry::Foreign { call, reply };
+        self.told.push(of_server(entry)).unwrap();
         Ok(made)
+    }
+}
+
+/// An entry of the server's, which no client caused.
+fn of_server(entry: Entry) -> Told
+    ensures { result ≡ record { end = 2; entry = entry } }
+{
+    Told {
+        end: NO_CLIENT,
+        entry,
     }
 }
 

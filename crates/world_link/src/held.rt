@@ -4,33 +4,34 @@ ghost use Rattle.std.specs.Prelude.{◌≡◌, IfOk};
 ghost use Rattle.world_link.specs.Holding.{are_past};
 
 use crate::directive::RequestId;
+use crate::routed::Routed;
 use crate::tally::RequestCounts;
 use std::alloc::Global;
 use std::marker::Model;
-use xdr_codec::{Blob, Memory};
+use xdr_codec::Memory;
 
 /// A reply that isn't ready before the turns of some transmissions.
 #[derive(Drop)]
 pub(crate) struct Held {
-    bytes: Blob,
+    reply: Routed,
     waits: Vec<RequestId>,
 }
 
 impl Model for Held {
-    ghost use Rattle.world_link.specs.Holding.{HeldView};
+    ghost use Rattle.world_link.specs.Holding.{HeldReply};
 
-    ghost Value = { HeldView };
+    ghost Value = { HeldReply };
 
-    ghost view = { λ h. record { bytes = h.bytes; waits = h.waits.items } };
+    ghost view = { λ h. record { reply = h.reply; waits = h.waits.items } };
 }
 
 impl Held {
     /// The reply, and the transmissions before whose turns it isn't ready.
-    pub(crate) fn new(alloc: Global, bytes: Blob, waits: &[RequestId]) -> Result<Held, Memory>
-        ensures { IfOk result (λ held. held ≡ record { bytes = bytes; waits = waits.now }) }
+    pub(crate) fn new(alloc: Global, reply: Routed, waits: &[RequestId]) -> Result<Held, Memory>
+        ensures { IfOk result (λ held. held ≡ record { reply = reply; waits = waits.now }) }
     {
         Ok(Held {
-            bytes,
+            reply,
             waits: Vec::from_slice(alloc, waits)?,
         })
     }
@@ -43,10 +44,10 @@ impl Held {
     }
 
     /// The reply.
-    pub(crate) fn into_bytes(self) -> Blob
-        ensures { result ≡ self.bytes }
+    pub(crate) fn into_reply(self) -> Routed
+        ensures { result ≡ self.reply }
     {
-        let Held { bytes, waits: _ } = self;
-        bytes
+        let Held { reply, waits: _ } = self;
+        reply
     }
 }

@@ -18,7 +18,7 @@ use world_model::Path;
 use xdr_codec::{Blob, Memory};
 
 /// The most bytes of a schedule.
-const MOST_BYTES: usize = 1_048_576;
+pub(crate) const MOST_BYTES: usize = 1_048_576;
 
 /// What a schedule begins a world with.
 #[derive(Drop)]
@@ -55,7 +55,7 @@ pub fn read_schedule(alloc: Global, text: &[u8]) -> Result<Schedule, ScheduleFau
 
 impl Schedule {
     /// Nothing is planned, and there is the root alone.
-    fn new(alloc: Global) -> Result<Schedule, Memory>
+    pub(crate) fn new(alloc: Global) -> Result<Schedule, Memory>
         ensures { IfOk result (λ s. read_view s ≡ nothing_read) }
     {
         Ok(Schedule {
@@ -65,7 +65,7 @@ impl Schedule {
     }
 
     /// Takes over a line. It is false exactly where the line isn't of the form.
-    fn read_line(&mut self, alloc: Global, line: &[u8]) -> Result<bool, Memory>
+    pub(crate) fn read_line(&mut self, alloc: Global, line: &[u8]) -> Result<bool, Memory>
         ensures { IfOk result (λ formed. Reads (after_line (read_view self.old) line.now) formed (read_view self.new)) }
     {
         if !is_utf8(line) {

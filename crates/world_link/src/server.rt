@@ -1,6 +1,6 @@
 //! The server's side of the simulated world.
 
-ghost use Rattle.std.specs.Prelude.{◌≡◌, ◌≤◌, ◌<◌, ◌++◌, ◌∷◌, [], None, Some, unwrap_or, length, take, IfOk, IfSome, OnOk, OnErr};
+ghost use Rattle.std.specs.Prelude.{⊤, ◌≡◌, ◌≤◌, ◌<◌, ◌++◌, ◌∷◌, [], None, Some, unwrap_or, length, take, IfOk, IfSome, OnOk, OnErr};
 ghost use Rattle.export_fs.specs.Spelling.{HasSpellingReply};
 ghost use Rattle.export_fs.specs.Executed.{executed};
 ghost use Rattle.export_fs.specs.Partial.{IsWrite, partly_executed};
@@ -13,6 +13,8 @@ ghost use Rattle.world_link.specs.Refused as refusals;
 ghost use Rattle.world_link.specs.Handling as handling;
 ghost use Rattle.world_link.specs.Going.{Goes};
 ghost use Rattle.world_link.specs.Honest.{IsAsked, IsBound, IsAnswer, MayAnswer, StaysHonest};
+ghost use Rattle.world_link.specs.Ends.{ends_of};
+ghost use Rattle.world_link.specs.Routes.{AnswersAt, IsAskedBy, KeepsEnds, MayAnswerTo};
 ghost use Rattle.world_link.specs.View.{served};
 
 use crate::broken::Broken;
@@ -21,6 +23,7 @@ use crate::held::Held;
 use crate::kept::Kept;
 use crate::manner::{Manner, PLAIN};
 use crate::refused::refused_by;
+use crate::routed::{Routed, Told};
 use export_fs::{Export, handles_fit};
 use export_serve::{Asked, asked, spelled};
 use nfs_file_calls::FileCall;
@@ -37,25 +40,33 @@ const MOST_BYTES: usize = 131_072;
 pub(crate) struct Server {
     pub(crate) alloc: Global,
     pub(crate) export: Export,
-    pub(crate) entries: Vec<Entry>,
+    /// What is told, each entry with the end that caused it.
+    pub(crate) told: Vec<Told>,
     /// Beside some of the entries, how their WRITEs broke off.
     pub(crate) partials: Vec<Broken>,
     /// The records that were sent, by their names.
     pub(crate) sent: BTreeMap<RequestId, Kept>,
     /// The replies that are ready, the first one first.
-    pub(crate) ready: VecDeque<Blob>,
+    pub(crate) ready: VecDeque<Routed>,
     /// The replies that wait for turns, in order of transmission.
     pub(crate) held: Vec<Held>,
 }
 
 impl Server {
-    /// Handles what a record asks for, and gives the record of the reply, where there is one.
+    /// Handles what a record from that end asks for, and gives the record of the reply, where there is one.
     #[tactic(auto, using(crate::proofs::TurnStaysHonest::asked_serve))]
-    pub(crate) fn handle(&mut self, manner: &Manner, asked: Asked) -> Result<Option<Blob>, Memory>
+    pub(crate) fn handle(
+        &mut self,
+        manner: &Manner,
+        end: u8,
+        asked: Asked,
+    ) -> Result<Option<Blob>, Memory>
         ensures done { IfOk result (λ reply. (served self.new, reply) ≡ handling.done manner.now (served self.old) asked) }
         ensures goes { Goes (served self.old) (served self.new) }
         ensures stays { IsBound manner.now.limit → IsAsked (served self.old).entries asked → StaysHonest (served self.old) (served self.new) }
         ensures answers { IsAsked (served self.old).entries asked → IfOk result (MayAnswer (served self.new).entries) }
+        ensures ends { KeepsEnds (IsAskedBy (ends_of self.old).told end asked) (ends_of self.old) (ends_of self.new) }
+        ensures answers_to { IsAskedBy (ends_of self.old).told end asked → IfOk result (MayAnswerTo (ends_of self.new).told end) }
     {
         match asked {
             Asked::NoCall => Ok(None),
@@ -67,7 +78,7 @@ impl Server {
                 if manner.lost {
                     return Ok(None);
                 }
-                match self.serve(manner, xid, call) {
+                match self.serve(manner, end, xid, call) {
                     Ok(bytes) => Ok(Some(bytes)),
                     Err(memory) => Err(memory),
                 }
@@ -75,23 +86,31 @@ impl Server {
         }
     }
 
-    /// Answers a call, and tells it. When out of memory the call may be executed and told, with its reply lost.
-    fn serve(&mut self, manner: &Manner, xid: u32, call: Call) -> Result<Blob, Memory>
+    /// Answers a call from that end, and tells it. When out of memory the call may be executed and told, with its reply lost.
+    fn serve(&mut self, manner: &Manner, end: u8, xid: u32, call: Call) -> Result<Blob, Memory>
         ensures told { OnOk result (served self.new ≡ handling.tells (served self.old) xid call (handling.breaks manner.now call) (handling.answered_as manner.now self.old.export call)) }
         ensures reply { IfOk result (λ bytes. bytes ≡ reply_bytes xid (handling.answered_as manner.now self.old.export call).1) }
         ensures goes { Goes (served self.old) (served self.new) }
         ensures stays { IsBound manner.now.limit → IsAsked (served self.old).entries (askings.Serve xid call) → StaysHonest (served self.old) (served self.new) }
         ensures answers { IfOk result (IsAnswer (served self.new).entries) }
+        ensures ends { KeepsEnds (IsAskedBy (ends_of self.old).told end (askings.Serve xid call)) (ends_of self.old) (ends_of self.new) }
+        ensures answers_to { IfOk result (λ bytes. AnswersAt (ends_of self.new).told end (length (ends_of self.new).told) bytes) }
     {
         match manner.breaks(&call) {
-            Some(part) => self.serve_part(part, xid, call),
-            None => self.serve_whole(manner, xid, call),
+            Some(part) => self.serve_part(part, end, xid, call),
+            None => self.serve_whole(manner, end, xid, call),
         }
     }
 
     /// Answers a WRITE that breaks off, and tells it with what its entry doesn't say. When out of memory the call may be
     /// executed and told, with its reply lost.
-    fn serve_part(&mut self, part: PartialWrite, xid: u32, call: Call) -> Result<Blob, Memory>
+    fn serve_part(
+        &mut self,
+        part: PartialWrite,
+        end: u8,
+        xid: u32,
+        call: Call,
+    ) -> Result<Blob, Memory>
         requires write { IsWrite call }
         requires fails { 0 < part.status }
         ensures told { OnOk result (served self.new ≡ handling.tells (served self.old) xid call (Some part) (partly_executed self.old.export call part.bytes part.status)) }
@@ -99,36 +118,44 @@ impl Server {
         ensures goes { Goes (served self.old) (served self.new) }
         ensures stays { IsAsked (served self.old).entries (askings.Serve xid call) → StaysHonest (served self.old) (served self.new) }
         ensures answers { IfOk result (IsAnswer (served self.new).entries) }
+        ensures ends { KeepsEnds (IsAskedBy (ends_of self.old).told end (askings.Serve xid call)) (ends_of self.old) (ends_of self.new) }
+        ensures answers_to { IfOk result (λ bytes. AnswersAt (ends_of self.new).told end (length (ends_of self.new).told) bytes) }
     {
         handles_fit(&call);
-        self.entries.reserve(1)?;
+        self.told.reserve(1)?;
         self.partials.reserve(1)?;
         let reply = self.export.execute_partial(&call, part.bytes, part.status)?;
         let bytes = reply_record(self.alloc, xid, &reply);
-        let at = self.entries.len();
+        let at = self.told.len();
         self.partials.push(Broken { at, part }).unwrap();
-        self.entries
-            .push(Entry::Executed { xid, call, reply })
-            .unwrap();
+        let entry = Entry::Executed { xid, call, reply };
+        self.told.push(Told { end, entry }).unwrap();
         bytes
     }
 
     /// Answers a call that doesn't break off, and tells it. When out of memory the call may be executed and told, with
     /// its reply lost.
-    fn serve_whole(&mut self, manner: &Manner, xid: u32, call: Call) -> Result<Blob, Memory>
+    fn serve_whole(
+        &mut self,
+        manner: &Manner,
+        end: u8,
+        xid: u32,
+        call: Call,
+    ) -> Result<Blob, Memory>
         ensures told { OnOk result (served self.new ≡ handling.tells (served self.old) xid call None (handling.handled None manner.now self.old.export call)) }
         ensures reply { IfOk result (λ bytes. bytes ≡ reply_bytes xid (handling.handled None manner.now self.old.export call).1) }
         ensures goes { Goes (served self.old) (served self.new) }
         ensures stays { IsBound manner.now.limit → IsAsked (served self.old).entries (askings.Serve xid call) → StaysHonest (served self.old) (served self.new) }
         ensures answers { IfOk result (IsAnswer (served self.new).entries) }
+        ensures ends { KeepsEnds (IsAskedBy (ends_of self.old).told end (askings.Serve xid call)) (ends_of self.old) (ends_of self.new) }
+        ensures answers_to { IfOk result (λ bytes. AnswersAt (ends_of self.new).told end (length (ends_of self.new).told) bytes) }
     {
         handles_fit(&call);
-        self.entries.reserve(1)?;
+        self.told.reserve(1)?;
         let reply = answer(self.alloc, &mut self.export, manner, &call)?;
         let bytes = reply_record(self.alloc, xid, &reply);
-        self.entries
-            .push(Entry::Executed { xid, call, reply })
-            .unwrap();
+        let entry = Entry::Executed { xid, call, reply };
+        self.told.push(Told { end, entry }).unwrap();
         bytes
     }
 
@@ -138,12 +165,14 @@ impl Server {
         ensures ok { OnOk result (served self.new ≡ handling.copied (served self.old) sending.now) }
         ensures goes { Goes (served self.old) (served self.new) }
         ensures stays { StaysHonest (served self.old) (served self.new) }
+        ensures ends { KeepsEnds (⊤) (ends_of self.old) (ends_of self.new) }
     {
         match self.sent.get(sending) {
             Some(rec) => {
                 let asked = asked(self.alloc, rec.bytes())?;
-                let reply = self.handle(&PLAIN, asked)?;
-                self.make_ready(reply)
+                let end = rec.end();
+                let reply = self.handle(&PLAIN, end, asked)?;
+                self.make_ready(end, reply)
             }
             None => Ok(()),
         }
@@ -154,6 +183,7 @@ impl Server {
         ensures ok { OnOk result (served self.new ≡ handling.all_copied (served self.old) sendings.now) }
         ensures goes { Goes (served self.old) (served self.new) }
         ensures stays { StaysHonest (served self.old) (served self.new) }
+        ensures ends { KeepsEnds (⊤) (ends_of self.old) (ends_of self.new) }
     {
         for sending in sendings {
             self.copy(sending)?;
@@ -161,14 +191,15 @@ impl Server {
         Ok(())
     }
 
-    /// A reply is ready, where there is one. When out of memory nothing is changed.
-    pub(crate) fn make_ready(&mut self, reply: Option<Blob>) -> Result<(), Memory>
+    /// A reply is ready for that end, where there is one. When out of memory nothing is changed.
+    pub(crate) fn make_ready(&mut self, end: u8, reply: Option<Blob>) -> Result<(), Memory>
         ensures ok { OnOk result (served self.new ≡ handling.readied (served self.old) reply) }
         ensures err { OnErr result (served self.new ≡ served self.old) }
         ensures goes { Goes (served self.old) (served self.new) }
+        ensures ends { KeepsEnds (MayAnswerTo (ends_of self.old).told end reply) (ends_of self.old) (ends_of self.new) }
     {
         if let Some(bytes) = reply {
-            self.ready.push_back(bytes)?;
+            self.ready.push_back(Routed { end, bytes })?;
         }
         Ok(())
     }

@@ -1,6 +1,6 @@
 //! The turn of a transmission at the server.
 
-ghost use Rattle.std.specs.Prelude.{◌≡◌, position, IfOk, OnOk, OnErr};
+ghost use Rattle.std.specs.Prelude.{⊤, ◌≡◌, position, IfOk, OnOk, OnErr};
 ghost use Rattle.world_link.specs.Holding.{are_past};
 ghost use Rattle.export_serve.specs.Asking.{asked_at};
 ghost use Rattle.world_link.specs.Fates.{no_fate};
@@ -9,6 +9,8 @@ ghost use Rattle.world_link.specs.Turning as turning;
 ghost use Rattle.world_link.specs.Going.{Goes};
 ghost use Rattle.world_link.specs.Honest.{IsBound, IsSent, MayAnswer, StaysHonest};
 ghost use Rattle.world_link.specs.Shown.{shown};
+ghost use Rattle.world_link.specs.Ends.{ends_of};
+ghost use Rattle.world_link.specs.Routes.{Answers, IsSentBy, KeepsEnds, MayAnswerTo};
 ghost use Rattle.world_link.specs.View.{served};
 
 use crate::directive::RequestId;
@@ -16,6 +18,7 @@ use crate::fate::Fate;
 use crate::held::Held;
 use crate::manner::Manner;
 use crate::plan::Plan;
+use crate::routed::Routed;
 use crate::server::Server;
 use crate::tally::RequestCounts;
 use export_serve::asked;
@@ -49,46 +52,52 @@ pub(crate) fn manner_of(plan: &Plan, fate: &Fate) -> Manner
 }
 
 impl Server {
-    /// The turn of a record, but for the replies that wait for it. When out of memory it may be done in part.
+    /// The turn of a record from that end, but for the replies that wait for it. When out of memory it may be done in part.
     pub(crate) fn turn(
         &mut self,
         fate: &Fate,
         manner: &Manner,
         turns: &RequestCounts,
+        end: u8,
         rec: &[u8],
     ) -> Result<(), Memory>
         ensures ok { OnOk result (served self.new ≡ turning.own_turn manner.now fate.now turns.now.counts (served self.old) rec.now) }
         ensures goes { Goes (served self.old) (served self.new) }
         ensures stays { IsBound manner.now.limit → IsSent (served self.old).entries rec.now → StaysHonest (served self.old) (served self.new) }
+        ensures ends { KeepsEnds (IsSentBy (ends_of self.old).told (record { end = end; bytes = rec.now })) (ends_of self.old) (ends_of self.new) }
     {
         self.copy_all(fate.late())?;
         self.happen_all(fate.before())?;
-        let reply = self.execute_own(manner, rec)?;
+        let reply = self.execute_own(manner, end, rec)?;
         self.happen_all(fate.after())?;
-        self.reply(fate, turns, reply)
+        self.reply(fate, turns, end, reply)
     }
 
     /// The record's own execution, which gives its reply.
-    fn execute_own(&mut self, manner: &Manner, rec: &[u8]) -> Result<Option<Blob>, Memory>
+    fn execute_own(&mut self, manner: &Manner, end: u8, rec: &[u8]) -> Result<Option<Blob>, Memory>
         ensures done { IfOk result (λ reply. (served self.new, reply) ≡ handling.done manner.now (served self.old) (asked_at rec.now)) }
         ensures goes { Goes (served self.old) (served self.new) }
         ensures stays { IsBound manner.now.limit → IsSent (served self.old).entries rec.now → StaysHonest (served self.old) (served self.new) }
         ensures answers { IsSent (served self.old).entries rec.now → IfOk result (MayAnswer (served self.new).entries) }
+        ensures ends { KeepsEnds (IsSentBy (ends_of self.old).told (record { end = end; bytes = rec.now })) (ends_of self.old) (ends_of self.new) }
+        ensures answers_to { IsSentBy (ends_of self.old).told (record { end = end; bytes = rec.now }) → IfOk result (MayAnswerTo (ends_of self.new).told end) }
     {
         let asked = asked(self.alloc, rec)?;
-        self.handle(manner, asked)
+        self.handle(manner, end, asked)
     }
 
-    /// The reply is ready, or it is held, or it never comes.
+    /// The reply is ready for that end, or it is held, or it never comes.
     fn reply(
         &mut self,
         fate: &Fate,
         turns: &RequestCounts,
+        end: u8,
         reply: Option<Blob>,
     ) -> Result<(), Memory>
         ensures ok { OnOk result (served self.new ≡ turning.replied fate.now turns.now.counts (served self.old) reply) }
         ensures goes { Goes (served self.old) (served self.new) }
         ensures stays { MayAnswer (served self.old).entries reply → StaysHonest (served self.old) (served self.new) }
+        ensures ends { KeepsEnds (MayAnswerTo (ends_of self.old).told end reply) (ends_of self.old) (ends_of self.new) }
     {
         let Some(bytes) = reply else {
             return Ok(());
@@ -97,17 +106,18 @@ impl Server {
             return Ok(());
         }
         if turns.are_past(fate.held()) {
-            return self.make_ready(Some(bytes));
+            return self.make_ready(end, Some(bytes));
         }
-        self.hold(bytes, fate.held())
+        self.hold(Routed { end, bytes }, fate.held())
     }
 
-    fn hold(&mut self, bytes: Blob, waits: &[RequestId]) -> Result<(), Memory>
-        ensures ok { OnOk result (served self.new ≡ turning.held (served self.old) bytes waits.now) }
+    fn hold(&mut self, reply: Routed, waits: &[RequestId]) -> Result<(), Memory>
+        ensures ok { OnOk result (served self.new ≡ turning.held (served self.old) reply.bytes waits.now) }
         ensures goes { Goes (served self.old) (served self.new) }
         ensures err { OnErr result (served self.new ≡ served self.old) }
+        ensures ends { KeepsEnds (Answers (ends_of self.old).told reply) (ends_of self.old) (ends_of self.new) }
     {
-        let held = Held::new(self.alloc, bytes, waits)?;
+        let held = Held::new(self.alloc, reply, waits)?;
         self.held.push(held)?;
         Ok(())
     }
@@ -118,11 +128,12 @@ impl Server {
         ensures ok { OnOk result (served self.new ≡ turning.released turns.now.counts (served self.old)) }
         ensures goes { Goes (served self.old) (served self.new) }
         ensures stays { StaysHonest (served self.old) (served self.new) }
+        ensures ends { KeepsEnds (⊤) (ends_of self.old) (ends_of self.new) }
     {
         while let Some(place) = self.first_due(turns) {
             self.ready.reserve(1)?;
             let held = self.held.remove(place);
-            self.ready.push_back_reserved(held.into_bytes());
+            self.ready.push_back_reserved(held.into_reply());
         }
         Ok(())
     }

@@ -10,3 +10,10 @@ pub(crate) struct Waiting {
     pub(crate) name: Option<RequestId>,
     pub(crate) bytes: Blob,
 }
+
+/// A record that waits for its turn, and the end that sent it.
+#[derive(Drop)]
+pub(crate) struct Queued {
+    pub(crate) end: u8,
+    pub(crate) waiting: Waiting,
+}

@@ -2,6 +2,7 @@ use Rattle.std.proofs.Common.{rules, ◌∙◌}
 use Rattle.world_link.proofs.ServerEntriesOnly.{then_goes}
 use Rattle.world_link.proofs.TurnStaysHonest.{then_stays}
 use Rattle.world_link.proofs.StepsInOrder.{copied_next}
+use Rattle.world_link.proofs.EndsStayRight.{ends_then}
 use Rattle.world_link.proofs.server.Server.copy_all.Goals as goal
 
 pub returns-in_err-copy-clause-goes : goal.returns-in_err-copy-clause-goes
@@ -15,4 +16,8 @@ loop-sending-preserved c = record {
   left = copied_next _ _ c.args.sendings.now c.loop-sending.sending-index _ c.in_ok-copy.ensures.ok (search rules) (search rules) ∙ c.loop-sending.invariant.left;
   goes = then_goes _ _ _ c.loop-sending.invariant.goes c.in_ok-copy.ensures.goes;
   stays = then_stays _ _ _ c.loop-sending.invariant.stays c.in_ok-copy.ensures.stays;
+  ends = ends_then _ _ _ _ _ c.loop-sending.invariant.ends c.in_ok-copy.ensures.ends (λ t. t);
 }
+
+pub returns-in_err-copy-clause-ends : goal.returns-in_err-copy-clause-ends
+returns-in_err-copy-clause-ends c = ends_then _ _ _ _ _ c.loop-sending.invariant.ends c.in_err-copy.ensures.ends (λ t. t)

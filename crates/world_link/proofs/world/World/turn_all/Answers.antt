@@ -1,15 +1,18 @@
-use Rattle.std.proofs.Common.{rules, ◌∙◌}
+use Rattle.std.proofs.Common.{◌≡◌, [], rules, ◌∙◌}
 use Rattle.world_link.proofs.ServerEntriesOnly.{then_goes_on}
 use Rattle.world_link.proofs.StepsInOrder.{turns_go_on, turns_done}
 use Rattle.world_link.specs.View.{seen}
+use Rattle.world_link.proofs.Pushes.{no_ready, none_then}
 use Rattle.world_link.proofs.world.World.turn_all.Goals as goal
 
 pub loop-self-preserved : goal.loop-self-preserved
-loop-self-preserved c = record {
-  left = turns_go_on (seen c.loop-self.self) _ (search rules) c.in_ok-turn.ensures.ok ∙ c.loop-self.invariant.left;
-  goes = then_goes_on _ _ _ c.loop-self.invariant.goes c.in_ok-turn.ensures.goes;
-  stays = λ h. c.in_ok-turn.ensures.stays (c.loop-self.invariant.stays h);
-}
+loop-self-preserved c =
+    let none : c.loop-self.self.server.ready.items ≡ [] = search rules in
+    record {
+      left = turns_go_on (seen c.loop-self.self) _ (no_ready c.loop-self.self.server.ready.items none) c.in_ok-turn.ensures.ok ∙ c.loop-self.invariant.left;
+      goes = then_goes_on _ _ _ c.loop-self.invariant.goes c.in_ok-turn.ensures.goes;
+      stays = λ h. c.in_ok-turn.ensures.stays (c.loop-self.invariant.stays h);
+    }
 
 pub returns-in_err-turn-clause-goes : goal.returns-in_err-turn-clause-goes
 returns-in_err-turn-clause-goes c = then_goes_on _ _ _ c.loop-self.invariant.goes c.in_err-turn.ensures.goes
@@ -18,4 +21,5 @@ pub returns-in_err-turn-clause-stays : goal.returns-in_err-turn-clause-stays
 returns-in_err-turn-clause-stays c h = c.in_err-turn.ensures.stays (c.loop-self.invariant.stays h)
 
 pub returns-after-loop-self-clause-ok : goal.returns-after-loop-self-clause-ok
-returns-after-loop-self-clause-ok c = turns_done (seen c.loop-self.self) (search rules) ∙ c.loop-self.invariant.left
+returns-after-loop-self-clause-ok c = let none : c.loop-self.self.server.ready.items ≡ [] → c.loop-self.self.waiting.items ≡ [] = search rules in
+    turns_done (seen c.loop-self.self) (none_then c.loop-self.self.server.ready.items c.loop-self.self.waiting.items none) ∙ c.loop-self.invariant.left
