@@ -3,5 +3,8 @@
 #![tactic(auto)]
 
 mod filling;
+mod planning;
+mod storing;
 
 pub use filling::cache_of;
+pub use storing::store_kept;
