@@ -2,7 +2,6 @@
 use Rattle.core_facts.proofs.Prelude.{◌≡◌, ℕ, suc, List, [], ◌∷◌, ◌++◌, Some, inr, false, refl, sym, ◌∙◌, subst, arith, Refused, Entry, Began, Answered, Dialed, Failed, Clock, Op, At, Shelf, Machine, Over, Setup, IsFresh, lost, counted, View, MaySetUp, IsSetUp, Reaches, begins, goes, loses}
 use Rattle.std.specs.FinMap as map
 use Rattle.attr_cache.specs.Attrs.{nothing_learnt}
-use Rattle.page_cache.specs.Pages.{nothing_kept}
 use Rattle.world_model.specs.declared.answer.Fault.TheVariants as faults
 use Rattle.world_model.specs.declared.op.Op.TheVariants.{Sync}
 use Rattle.world_model.specs.Lost.{FailedDial, IsTraffic, sent, came, dialed, Loses, undialed}
@@ -12,7 +11,7 @@ use Rattle.op_machines.specs.Fits.{Fits}
 
 abbrev pub first_shelf : Setup → Shelf
 first_shelf setup = record {
-  pages = nothing_kept;
+  pages = setup.pages;
   attrs = nothing_learnt setup.lives;
   names = [];
   back = [];

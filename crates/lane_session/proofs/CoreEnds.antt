@@ -15,7 +15,6 @@ use Rattle.world_model.proofs.Places.{At-grow, At-below, At-back}
 use Rattle.nfs_script.specs.declared.script.ScriptLine.{ScriptLine}
 use Rattle.session_words.specs.declared.settings.Settings.{Settings}
 use Rattle.attr_cache.specs.Attrs.{nothing_learnt}
-use Rattle.page_cache.specs.Pages.{nothing_kept}
 use Rattle.client_core.specs.declared.setup.Setup.{Setup}
 use Rattle.client_core.specs.Fresh.{IsFresh}
 use Rattle.client_core.specs.View.{View}
@@ -105,7 +104,7 @@ first_view : Setup → View
 first_view setup = record {
   calls = record { first_xid = setup.first_xid; limit = setup.limit; cred = setup.cred; made = 0; calls = [] };
   shelf = record {
-    pages = nothing_kept;
+    pages = setup.pages;
     attrs = nothing_learnt setup.lives;
     names = [];
     back = [];
