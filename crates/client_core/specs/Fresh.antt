@@ -2,6 +2,7 @@
 use Rattle.std.specs.Prelude.{◌≡◌, ◌≤◌, ◌<◌, ◌*◌, ℕ, [], false}
 use Rattle.std.specs.FinMap as map
 use Rattle.attr_cache.specs.Attrs.{nothing_learnt}
+use Rattle.page_cache.specs.Sound.{IsSound}
 use Rattle.client_core.specs.declared.setup.Setup.{Setup}
 use Rattle.client_core.specs.View.{View}
 
@@ -23,6 +24,7 @@ pub record IsFresh (setup : Setup) (v : View) : Type 0 where
   pub begun : v.begun ≡ 0
   pub lost : v.lost ≡ false
   pub pages : v.shelf.pages ≡ setup.pages
+  pub sound : IsSound setup.pages
   pub attrs : v.shelf.attrs ≡ nothing_learnt setup.lives
   pub names : v.shelf.names ≡ []
   pub back : v.shelf.back ≡ []

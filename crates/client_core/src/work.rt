@@ -86,6 +86,7 @@ impl Work {
         requires last { setup.first_xid + setup.limit ≤ 2 ^ 32 - 1 }
         ensures { IfOk result (IsFresh setup) }
     {
+        setup.pages.is_sound();
         let mut shelf = Shelf::with_pages(alloc, setup.pages)?;
         shelf.attrs = AttrCache::with_lives(alloc, setup.lives);
         Ok(Work {

@@ -130,6 +130,7 @@ fn run_lines<L: Link, C: Clock, K: Sink>(
     ensures later { K.faults out.old ≤ K.faults out.new }
     ensures cause { CausedBy result (Rose (K.faults out.old) (K.faults out.new)) }
 {
+    setup.pages.is_sound();
     let Ok(mut session) = Session::new(alloc, settings, setup, tally) else {
         return Err(Halt::Memory);
     };

@@ -34,8 +34,8 @@ pub record KeepsBriefly (modes : Modes) (setup : Setup) (h : List Entry) : Type 
   pub takes : TakesReadings h
   pub lasts : LastAtMost setup.lives modes.longest
 
--- Each answer to a read is so, where the server is honest and gives each change of a file another stamp, and no page was kept from the start. Opens and reads ask for the file's attributes, or go
--- by what is kept and by what the open showed, as the session may.
+-- Each answer to a read is so, where the server is honest and gives each change of a file another stamp, and no page was kept from the start. Opens and
+-- reads ask for the file's attributes, or go by what is kept and by what the open showed, as the session may.
 abbrev pub ReadsRecent : Type 0
 ReadsRecent = (m : Mounted) (terms : Terms) (setup : Setup) (t : History) (v : View) → GoesWith m terms setup t.entries v → m.noac ≡ terms.modes.noac
     → (terms.modes.nocto ≡ true → KeepsBriefly terms.modes setup t.entries) → Lawful t → Fresh t → setup.pages ≡ nothing_kept

@@ -18,5 +18,6 @@ use Rattle.page_cache.specs.Pages.{nothing_kept}
 -- known and the paths of puts name a file.
 abbrev pub ReadsCurrent : Type 0
 ReadsCurrent = (m : Mounted) (terms : Terms) (setup : Setup) (t : History) (v : View) → GoesWith m terms setup t.entries v → m.noac ≡ terms.modes.noac
-    → (terms.modes.nocto ≡ true → KeepsBriefly terms.modes setup t.entries) → KnowsRoot terms.origin t.entries m.root → PutsNamed t.entries → Lawful t → Fresh t → setup.pages ≡ nothing_kept
+    → (terms.modes.nocto ≡ true → KeepsBriefly terms.modes setup t.entries) → KnowsRoot terms.origin t.entries m.root → PutsNamed t.entries → Lawful t → Fresh t
+    → setup.pages ≡ nothing_kept
     → ReadCurrent terms.modes terms.origin t

@@ -27,7 +27,7 @@ returns-clause-goes g c =
     session-breaks c.args.script.now c.in-Ok.session _ given text h k u (fresh-goes c.args.script.now c.args.settings.now c.args.setup c.in-Ok.session c.in-Ok.ensures.fresh h u) off) c.in-Err.ensures.goes
 
 pub returns-in_default-clause-core : goal.returns-in_default-clause-core
-returns-in_default-clause-core g c = told-none _ c.args.settings.now c.args.setup c.requires.may
+returns-in_default-clause-core g c = told-none _ c.args.settings.now c.args.setup c.requires.may c.is_sound.ensures
 
 pub returns-in-Ok-work-clause-core : goal.returns-in-Ok-work-clause-core
 returns-in-Ok-work-clause-core g c =

@@ -6,10 +6,11 @@ use Rattle.lane_session.proofs.Ending.{broken-none}
 use Rattle.lane_session.proofs.Passing.{passes_same}
 use Rattle.link_dials.proofs.Dialing.{dials_same}
 use Rattle.script_runs.specs.LaneRuns.{setup_of}
+use Rattle.script_runs.proofs.LaneRuns.{nothing-sound}
 use Rattle.script_runs.proofs.lanes.run_ready.Goals as goal
 
 pub returns-in_default-clause-core : goal.returns-in_default-clause-core
-returns-in_default-clause-core g c = told-none _ c.args.settings.now (setup_of c.args.settings.now c.args.ready) c.requires.may
+returns-in_default-clause-core g c = told-none _ c.args.settings.now (setup_of c.args.settings.now c.args.ready) c.requires.may nothing-sound
 
 pub returns-in_default-clause-dials : goal.returns-in_default-clause-dials
 returns-in_default-clause-dials g c = dials_same _ _
