@@ -10,7 +10,7 @@ ghost use Rattle.page_store.specs.Pages.{shows_page};
 ghost use Rattle.page_cache.specs.Pages.{Pages};
 ghost use Rattle.kept_pages.specs.Kept.{KeepsOrKept, IsKept, AreKept, Fills};
 
-use crate::planning::plan;
+use crate::planning::plan_for;
 use nfs_types::KeptPage;
 use page_cache::PageCache;
 use page_store::{Disk, PageStore, StoreFault};
@@ -40,7 +40,7 @@ pub fn store_kept<D: Disk + Drop>(
     ensures goes_on { D.tells store.old.disk → D.tells store.new.disk }
     ensures cause { HasStoreCause (D.faults store.old.disk) (D.faults store.new.disk) result }
 {
-    let Ok(planned) = plan(alloc, cache, store) else {
+    let Ok(planned) = plan_for(alloc, cache, store) else {
         return Err(StoreFault::Memory);
     };
     if planned.slots.is_empty() {

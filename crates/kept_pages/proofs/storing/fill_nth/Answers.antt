@@ -1,5 +1,5 @@
 use Rattle.std.proofs.Common.{sym}
-use Rattle.kept_pages.proofs.Storing.{fills-itself}
+use Rattle.kept_pages.proofs.KeptRounds.{fills-itself}
 use Rattle.kept_pages.proofs.storing.fill_nth.Goals as goal
 
 pub returns-in-Some-clause-kept : goal.returns-in-Some-clause-kept

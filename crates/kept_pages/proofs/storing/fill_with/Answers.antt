@@ -1,6 +1,6 @@
 use Rattle.std.proofs.Common.{ℕ}
 use Rattle.page_store.specs.Pages.{shows_page}
-use Rattle.kept_pages.proofs.Storing.{sound-less, kept-more, round-short, fills-itself}
+use Rattle.kept_pages.proofs.KeptRounds.{sound-less, kept-more, round-short, fills-itself}
 use Rattle.kept_pages.proofs.storing.fill_with.Goals as goal
 
 pub returns-in-Ok-clause-fills : goal.returns-in-Ok-clause-fills

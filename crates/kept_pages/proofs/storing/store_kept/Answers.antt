@@ -2,7 +2,7 @@ use Rattle.std.proofs.Common.{◌≡◌, ◌≤◌, ◌∙◌, ℕ, List, Option
 use Rattle.page_store.specs.Pages.{StoredPage}
 use Rattle.page_store.proofs.InMemory.{cleared-long, all-long}
 use Rattle.kept_pages.specs.Kept.{Fills}
-use Rattle.kept_pages.proofs.Storing.{sound-less, begun-kept, begun-short, ended-long, fills-then, kept-itself, kept-filling, kept-ended}
+use Rattle.kept_pages.proofs.KeptRounds.{sound-less, begun-kept, begun-short, ended-long, fills-then, kept-itself, kept-filling, kept-ended}
 use Rattle.kept_pages.proofs.storing.store_kept.Goals as goal
 
 pub returns-in_default-clause-any_moment : goal.returns-in_default-clause-any_moment
