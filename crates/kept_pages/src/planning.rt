@@ -90,6 +90,14 @@ fn mark(stays: &mut Vec<bool>, slot: usize) {
     }
 }
 
+/// Whether a slot keeps its page.
+fn is_marked(stays: &[bool], slot: u32) -> bool {
+    match stays.get(slot as usize) {
+        Some(stay) => *stay,
+        None => false,
+    }
+}
+
 /// The slots that don't keep their page, in their order: so many, and of the others those that show one.
 fn changing<D: Disk + Drop>(
     alloc: Global,
@@ -98,9 +106,8 @@ fn changing<D: Disk + Drop>(
     most: usize,
 ) -> Result<Vec<u32>, Memory> {
     let mut slots = Vec::new(alloc);
-    for (slot, stay) in stays.iter().enumerate() {
-        let slot = slot as u32;
-        if !*stay && (slots.len() < most || place_in(store, slot).is_some()) {
+    for slot in 0..store.count() {
+        if !is_marked(stays, slot) && (slots.len() < most || place_in(store, slot).is_some()) {
             slots.push(slot)?;
         }
     }
