@@ -1,4 +1,5 @@
-//! Two clients of one server: what the sessions of both show of each other. Nothing here runs: the functions have empty bodies, and their contracts are the theorems.
+//! Two clients of one server: what the sessions of both show of each other. Nothing here runs: the functions have empty bodies, and their contracts are the
+//! theorems.
 #![tactic(auto)]
 
 ghost use Rattle.two_clients.specs.Pair.{RunsKeepPromises};
@@ -11,8 +12,8 @@ pub fn sessions_see_each_other()
     ensures runs { SessionsSeeEachOther }
 {}
 
-/// A run of two scripts by two clients, each of which leaves what a session does (`PairLeaves`), keeps its promises: each client along its side of the history what
-/// one session promises, and each what it shows of the other. No program that runs two clients is proved to leave this yet.
+/// A run of two scripts by two clients, each of which leaves what a session does (`PairLeaves`), keeps its promises: each client along its side of the
+/// history what one session promises, and each what it shows of the other. No program that runs two clients is proved to leave this yet.
 pub fn runs_keep_promises()
     ensures { RunsKeepPromises }
 {}
