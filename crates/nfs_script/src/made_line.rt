@@ -12,6 +12,9 @@ use std::alloc::Global;
 use world_model::{Answer, Value};
 use xdr_codec::{Blob, Memory, Writer};
 
+/// The bytes of a line for which there is room from the beginning: those of a line that shows no bytes and no names are fewer, mostly.
+const ROOM: usize = 128;
+
 /// The line that answers an operation, as `line` appends it. Where it shows bytes, its memory is taken at once.
 pub fn whole_line(alloc: Global, lane: u8, number: u32, answer: &Answer) -> Result<Blob, Memory>
     ensures { IfOk result (λ text. text ≡ line_text lane number answer.now) }
@@ -48,7 +51,7 @@ fn bytes_of(value: &Value) -> Option<&[u8]>
 fn written_line(alloc: Global, lane: u8, number: u32, answer: &Answer) -> Result<Blob, Memory>
     ensures { IfOk result (λ text. text ≡ line_text lane number answer.now) }
 {
-    let mut out = Writer::new(alloc);
+    let mut out = Writer::with_room(alloc, ROOM)?;
     line(&mut out, lane, number, answer)?;
     Ok(out.finish())
 }
@@ -59,7 +62,7 @@ fn bytes_line(alloc: Global, lane: u8, number: u32, bytes: &[u8]) -> Result<Blob
     requires { 0 < length bytes.now }
     ensures { IfOk result (λ text. text ≡ line_text lane number (Done (Bytes bytes.now))) }
 {
-    let mut head = Writer::new(alloc);
+    let mut head = Writer::with_room(alloc, ROOM)?;
     write_head(&mut head, lane, number)?;
     head.raw(b"ok ")?;
     with_digits(alloc, head.finish().bytes(), bytes)

@@ -25,6 +25,9 @@ use xdr_codec::{Blob, Memory, Writer};
 /// How many calls may wait at a time.
 const IN_FLIGHT: usize = 32;
 
+/// The bytes of a record for which there is room from the beginning: those of a call without data are fewer, mostly.
+const ROOM: usize = 512;
+
 /// The calls that wait, in order of making, each for a purpose.
 #[derive(Drop)]
 pub struct Calls<P> {
@@ -150,7 +153,7 @@ impl<P: Drop> Calls<P> {
             vers: PROGRAM_VERSION,
             proc,
         };
-        let mut record = Writer::new(self.alloc);
+        let mut record = Writer::with_room(self.alloc, ROOM)?;
         write_call(&mut record, &head, &self.cred)?;
         Ok(record)
     }

@@ -1,6 +1,6 @@
 //! Appends words and opaques to bytes.
 
-ghost use Rattle.std.specs.Prelude.{◌≡◌, ◌++◌, ◌<◌, ◌≤◌, ◌^◌, ℕ, [], length, take, OnOk, OnErr};
+ghost use Rattle.std.specs.Prelude.{◌≡◌, ◌++◌, ◌<◌, ◌≤◌, ◌^◌, ℕ, [], length, take, IfOk, OnOk, OnErr};
 ghost use Rattle.xdr_codec.specs.Spelling.{u32_bytes, u64_bytes, flag_bytes, fixed_bytes, opaque_bytes, BeginsWith};
 ghost use Rattle.xdr_codec.specs.Spells.{SpellsU32, SpellsU64, SpellsFlag, SpellsFixed, SpellsOpaque, Wrote};
 
@@ -31,6 +31,15 @@ impl Writer {
         Writer {
             bytes: Vec::new(alloc),
         }
+    }
+
+    /// A writer that holds nothing and has room for so many bytes: appending them takes no further memory.
+    pub fn with_room(alloc: Global, room: usize) -> Result<Writer, Memory>
+        ensures { IfOk result (λ w. w ≡ []) }
+    {
+        Ok(Writer {
+            bytes: Vec::with_capacity(alloc, room)?,
+        })
     }
 
     /// Appends bytes as they are. When out of memory it is as it was.
