@@ -272,6 +272,8 @@ fn full_with(full_below: u64, index: u64, bytes: &[u8]) -> u64
     requires { length bytes.now ≤ 4096 }
     ensures bound { result ≤ full_below }
     ensures page { index < result → length bytes.now ≡ 4096 }
+    ensures whole { length bytes.now ≡ 4096 → full_below ≤ result }
+    ensures least { index ≤ full_below → index ≤ result }
 {
     if bytes.len() < Page::SIZE {
         full_below.min(index)
@@ -282,7 +284,8 @@ fn full_with(full_below: u64, index: u64, bytes: &[u8]) -> u64
 
 /// The same once these bytes were written at an offset: where there are any, the pages before them are whole then.
 fn full_after(full_below: u64, offset: u64, bytes: &[u8]) -> u64
-    ensures { (i : ℕ) → i < result → full_below ≤ i → (0 < length bytes.now) × (i < offset / 4096) }
+    ensures below { (i : ℕ) → i < result → full_below ≤ i → (0 < length bytes.now) × (i < offset / 4096) }
+    ensures least { (full_below ≤ result) × (0 < length bytes.now → offset / 4096 ≤ result) }
 {
     if bytes.is_empty() {
         full_below

@@ -13,7 +13,7 @@ write_file-requires c = rw c.full_below-full_below.ensures (full-below (full_bel
 pub invariant_of-self : goal.invariant_of-self
 invariant_of-self c = rw c.write_file.ensures (
   full-written (full_below_of c.self.inside.files) (full_below_of c.change.new.self) c.args.file.now c.full_after-full_below.result c.change.ensures.bound c.args.offset c.args.bytes.now c.self.inside.slots
-      (λ i low from. c.full_after-full_below.ensures i low (subst (λ k. k ≤ i) (sym c.full_below-full_below.ensures) from)) c.self.invariant.0,
+      (λ i low from. c.full_after-full_below.ensures.below i low (subst (λ k. k ≤ i) (sym c.full_below-full_below.ensures) from)) c.self.invariant.0,
   known-changed (states_of c.self.inside.files) (states_of c.change.new.self) c.args.file.now _ c.change.ensures.known c.in-Some-after.known refl (λ index. put_page index c.args.offset c.args.bytes.now) c.self.inside.slots c.self.invariant.1,
 )
 
