@@ -7,3 +7,5 @@ pub mod Decoding
 pub mod Named
 pub mod FormRows
 pub mod Firsts
+pub mod Lanewise
+pub mod Pairwise

@@ -2,3 +2,4 @@ pub mod Lines
 pub mod Numbers
 pub mod Payloads
 pub mod Paths
+pub mod Digits

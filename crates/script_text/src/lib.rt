@@ -4,6 +4,7 @@
 //! say that it is one.
 #![tactic(auto)]
 
+mod digits;
 mod lines;
 mod numbers;
 mod paths;

@@ -1,8 +1,9 @@
 //! Bytes in hex digits.
 
-ghost use Rattle.std.specs.Prelude.{◌≡◌, IfOk};
+ghost use Rattle.std.specs.Prelude.{◌≡◌, ◌≤◌, length, IfOk};
 ghost use Rattle.script_text.specs.Payloads.{payload_of, contents_of, byte_of};
 
+use crate::digits::{BLOCK, read};
 use hex::FromHexError;
 use std::alloc::Global;
 use xdr_codec::{Blob, Memory};
@@ -17,11 +18,42 @@ pub fn payload(alloc: Global, hex: &[u8]) -> Result<Option<Blob>, Memory>
     if hex.is_empty() || hex.len() > 2 * MOST_BYTES {
         return Ok(None);
     }
+    let few = hex.len() < 2 * BLOCK;
+    if few {
+        return short_payload(alloc, hex);
+    }
+    long_payload(alloc, hex)
+}
+
+/// The same of few digits.
+fn short_payload(alloc: Global, hex: &[u8]) -> Result<Option<Blob>, Memory>
+    requires some { 1 ≤ length hex.now }
+    requires most { length hex.now ≤ 131072 }
+    ensures { IfOk result (λ bytes. bytes ≡ payload_of hex.now) }
+{
     match hex::decode(alloc, hex) {
         Ok(bytes) => Ok(Some(Blob::shared(alloc, bytes)?)),
         Err(FromHexError::OutOfMemory) => Err(Memory),
         Err(_) => Ok(None),
     }
+}
+
+/// The same of many digits, by vectors.
+#[tactic(auto, using(crate::proofs::Hexed::odd_payload, crate::proofs::Hexed::untold_payload))]
+fn long_payload(alloc: Global, hex: &[u8]) -> Result<Option<Blob>, Memory>
+    requires some { 32 ≤ length hex.now }
+    requires most { length hex.now ≤ 131072 }
+    ensures { IfOk result (λ bytes. bytes ≡ payload_of hex.now) }
+{
+    if hex.len() % 2 == 1 {
+        return Ok(None);
+    }
+    let mut bytes = vec![in alloc; 0u8; hex.len() / 2]?;
+    let told = read(hex, bytes.as_mut_slice());
+    if !told {
+        return Ok(None);
+    }
+    Ok(Some(Blob::shared(alloc, bytes)?))
 }
 
 /// What a file holds: a payload, or no bytes where the word is `-`. None exactly where it is neither.
