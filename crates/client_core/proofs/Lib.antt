@@ -3,6 +3,7 @@ pub mod Places
 pub mod Numbers
 pub mod Awaiting
 pub mod Stirring
+pub mod Resting
 pub mod Leading
 pub mod Refusing
 pub mod Settling

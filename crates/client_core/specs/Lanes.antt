@@ -11,6 +11,7 @@ use Rattle.world_model.specs.declared.answer.Answer.TheVariants.{Refused}
 use Rattle.world_model.specs.declared.answer.Fault.TheVariants as faults
 use Rattle.op_machines.specs.declared.machine.Machine.{Machine}
 use Rattle.op_machines.specs.Fits.{Fits}
+use Rattle.op_machines.specs.Rests.{rests}
 use Rattle.op_machines.specs.Steps.{Resumes, Takes}
 use Rattle.client_core.specs.declared.lane.Lane.{Lane}
 use Rattle.client_core.specs.declared.lane.State.{State}
@@ -90,6 +91,14 @@ LaneTakes wsize lane sent turn came old next new shelf = StateTakes wsize lane.s
 -- the lane at a place has this number, and has come so far
 abbrev pub IsAt : List Lane → ℕ → ℕ → State → Type 0
 IsAt lanes at number state = slice_get lanes at ≡ Some (record { number = number; state = state })
+
+-- whether its operation waits for the reply to its call, or has its answer
+abbrev pub state_rests : State → Bool
+state_rests (Busy machine) = rests machine
+state_rests (Over answer) = true
+
+abbrev pub lane_rests : Lane → Bool
+lane_rests lane = state_rests lane.state
 
 -- whether a step waits
 abbrev pub waits : Next → Bool

@@ -3,7 +3,7 @@
 ghost use Rattle.std.specs.Prelude.{◌≡◌, position, map};
 ghost use Rattle.client_shelf.specs.Coming.{reply_of};
 ghost use Rattle.op_machines.specs.MayStep.{MayStep};
-ghost use Rattle.client_core.specs.Lanes.{is_busy, is_over, lost_state, lost_lane, StateFits, LaneFits, StateResumes, StateTakes, LaneResumes, LaneTakes};
+ghost use Rattle.client_core.specs.Lanes.{is_busy, is_over, state_rests, lane_rests, lost_state, lost_lane, StateFits, LaneFits, StateResumes, StateTakes, LaneResumes, LaneTakes};
 ghost use Rattle.client_core.specs.declared.lane.State.TheVariants as states;
 
 use client_shelf::{Came, Next, Shelf, Turn};
@@ -41,6 +41,16 @@ pub struct Lane {
 }
 
 impl State {
+    /// Whether it waits for the reply to its call, or has its answer: nothing else lets it go on.
+    fn rests(&self) -> bool
+        ensures { result ≡ state_rests self.now }
+    {
+        match self {
+            State::Busy(machine) => machine.rests(),
+            State::Over(_) => true,
+        }
+    }
+
     /// The operation goes on, as far as it can. One that has its answer waits.
     fn resume(&mut self, alloc: Global, wsize: u32, turn: Turn, shelf: &mut Shelf) -> Next
         requires may { MayStep wsize turn shelf.old }
@@ -75,6 +85,13 @@ impl State {
 }
 
 impl Lane {
+    /// Whether its operation waits for the reply to its call, or has its answer.
+    pub(crate) fn rests(&self) -> bool
+        ensures { result ≡ lane_rests self.now }
+    {
+        self.state.rests()
+    }
+
     /// Its operation goes on, as far as it can.
     pub(crate) fn resume(
         &mut self,

@@ -1,6 +1,7 @@
 //! What the core works on, step by step.
 
 ghost use Rattle.std.specs.Prelude.{◌≡◌, ◌≤◌, ◌<◌, ◌+◌, ◌-◌, ◌++◌, ◌∷◌, [], ◌^◌, true, Ok, length, IfOk, IfErr, IfSome, OnOk, OnErr, option_map, ℕ, List};
+ghost use Rattle.std.specs.Bool.{OnTrue};
 ghost use Rattle.std.specs.Borrow.{sem};
 ghost use Rattle.rpc_retry.specs.Held.{next_xid};
 ghost use Rattle.rpc_retry.specs.Put.{check_of};
@@ -20,7 +21,7 @@ ghost use Rattle.client_core.specs.Lanes.{is_busy_at, IsAt, waits};
 ghost use Rattle.client_core.specs.Numbers.{AreLanes, IsIdle};
 ghost use Rattle.client_core.specs.View.{IsBound, IsSound, turn_at, unmade_turn, has_room};
 ghost use Rattle.client_core.specs.Between.{AwaitsRefusal, AwaitsCall, Awaits};
-ghost use Rattle.client_core.specs.Steps.{IsBusyAt, StartsLane, StirsIf, StirsOne, Leads, Asks, Makes, PutsCall, IsRecordOf, SpellsCall, IsUnmade, Refuses, IsSpent, EndsAs, TakesAt, TakesCall, counted, Moves, Still, Begins, Hears, HearsOwn, IsSaid, SendsBy, FailsBy, AnswersBy, lost};
+ghost use Rattle.client_core.specs.Steps.{IsBusyAt, StartsLane, Rests, StirsIf, StirsOne, Leads, Asks, Makes, PutsCall, IsRecordOf, SpellsCall, IsUnmade, Refuses, IsSpent, EndsAs, TakesAt, TakesCall, counted, Moves, Still, Begins, Hears, HearsOwn, IsSaid, SendsBy, FailsBy, AnswersBy, lost};
 ghost use Rattle.xdr_codec.specs.Spells.{Wrote};
 
 use crate::lane::{Lane, Purpose, State, busy_at, lose_all, over_at};
@@ -33,7 +34,7 @@ use mount_calls::{mount_proc, write_mount_call};
 use nfs_dir_calls::{dir_proc, write_dir_call};
 use nfs_file_calls::{file_proc, write_file_call};
 use nfs_types::NFS_PROGRAM;
-use op_machines::Machine;
+use op_machines::{Machine, resting_is_still};
 use page_cache::PageCache;
 use rpc_retry::{AfterFailure, Calls, Taken};
 use std::alloc::Global;
@@ -337,6 +338,29 @@ impl Work {
 
     /// Goes on with one lane, if it can.
     fn stir(&mut self, at: usize) -> bool
+        requires within { at < length self.old.lanes }
+        requires room { has_room self.old ≡ true }
+        requires sound { IsSound self.old }
+        ensures stirs { StirsIf self.old at result self.new }
+        ensures sound { IsSound self.new }
+    {
+        if self.rests_at(at) {
+            return false;
+        }
+        self.stir_awake(at)
+    }
+
+    /// Whether the operation of the lane at a place waits for the reply to its call, or has its answer. It takes no step to tell.
+    fn rests_at(&self, at: usize) -> bool
+        requires { at < length self.now.lanes }
+        ensures { OnTrue result (Rests self.now at) }
+    {
+        resting_is_still();
+        self.lanes[at].rests()
+    }
+
+    /// The same, by a step of its operation.
+    fn stir_awake(&mut self, at: usize) -> bool
         requires within { at < length self.old.lanes }
         requires room { has_room self.old ≡ true }
         requires sound { IsSound self.old }

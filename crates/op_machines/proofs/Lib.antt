@@ -18,3 +18,4 @@ pub mod Endings
 pub mod NameEnds
 pub mod PathEnds
 pub mod AllEnds
+pub mod RestsStill

@@ -8,5 +8,6 @@ pub mod PathSteps
 pub mod Steps
 pub mod Begun
 pub mod Laws
+pub mod Rests
 pub mod FileEndings
 pub mod Endings
