@@ -112,7 +112,7 @@ pub record TakesOne (wsize lane : ℕ) (sent turn : Turn) (came : Result Reply F
 -- a put that hasn't started
 abbrev pub not_begun : ℕ → Bool → List ℕ → List ℕ → ℕ → List ℕ → PutFile
 not_begun lane nocto dir name offset bytes = record {
-  opening = record { dir = dir; name = name; mode = W; nocto = nocto; moment = 0; step = first_step W; asked = false };
+  opening = record { dir = dir; name = name; mode = W; nocto = nocto; moment = 0; step = first_step W; asked = false; put_off = 0 };
   write = record { lane = lane; slot = 0; offset = offset; text = Given bytes; state = writings.Idle };
   state = Idle;
 }

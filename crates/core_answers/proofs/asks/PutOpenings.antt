@@ -157,7 +157,7 @@ module _ (top : List ℕ) (h : List Entry) (path : List (List ℕ)) where
 
   -- it starts at its directory
   pub first-opening : (dir : List ℕ) (o : Opening) → o.name ≡ last_of path → o.mode ≡ modes.W → LeadsTo top h (front_of path) dir
-      → PutOpening (record { dir = dir; name = o.name; mode = o.mode; nocto = o.nocto; moment = o.moment; step = opening.first_step o.mode; asked = false })
+      → PutOpening (record { dir = dir; name = o.name; mode = o.mode; nocto = o.nocto; moment = o.moment; step = opening.first_step o.mode; asked = false; put_off = 0 })
   first-opening dir o name_is mode_is l =
       record { name_is = name_is; mode_is = mode_is; leads = l; step = subst (λ (k : Mode). PutStep (opening.first_step k)) (sym mode_is) tt }
 
