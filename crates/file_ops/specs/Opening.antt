@@ -223,7 +223,7 @@ abbrev pub may_again : Opening → Led → Bool
 may_again o led = ends_busy led && (not (looks o.step) || nat_lt o.put_off 3)
 
 abbrev pub counted : Opening → Opening
-counted o = if looks o.step then record o { put_off = o.put_off + 1 } else o
+counted o = record o { put_off = if looks o.step then o.put_off + 1 else o.put_off }
 
 -- whether its call is made again
 abbrev pub opening_again : Opening → Turn → Turn → Result Reply Fault → List Repeat → Bool
