@@ -12,6 +12,6 @@ pub mod unmade;
 
 pub use lane_files::{LaneFile, LaneFiles};
 pub use next::Next;
-pub use repeats::{MOST_TIMES, Repeat, Repeats};
+pub use repeats::{Repeat, Repeats};
 pub use shelf::Shelf;
 pub use turn::{Came, Turn};

@@ -11,7 +11,7 @@ use xdr_codec::Memory;
 const CALLS: usize = 32;
 
 /// How often a call is made again.
-pub const MOST_TIMES: u8 = 3;
+const MOST_TIMES: u8 = 3;
 
 /// A call that is made again.
 #[derive(Clone, Copy, Debug, PartialEq, Eq)]

@@ -11,10 +11,11 @@ ghost use Rattle.file_ops.specs.declared.opening.OpeningStep.TheVariants.{Look};
 
 use crate::noting::{note_attr, note_create, note_look_up};
 use crate::open_pages::open_pages;
+use crate::put_off::MOST_TIMES;
 use crate::told::{found_by, got_by, made_by};
 use attr_cache::AttrCache;
 use client_shelf::busy::{again, is_busy};
-use client_shelf::{Came, MOST_TIMES, Shelf, Turn};
+use client_shelf::{Came, Shelf, Turn};
 use name_cache::NameCache;
 use nfs_dir_calls::{DirCall, DirReply, Making};
 use nfs_file_calls::FileCall;

@@ -15,10 +15,11 @@ ghost use Rattle.file_ops.specs.Saves.{answered, told_of, pages_told, pages_afte
 
 use crate::failing::{drop_pages, note_failed};
 use crate::judging::{WriteTold, after_of, commit_told, write_told};
+use crate::put_off::MOST_TIMES;
 use attr_cache::AttrCache;
 use client_shelf::busy::{JUKEBOX, again, fails_busy};
 use client_shelf::learning::learn;
-use client_shelf::{Came, MOST_TIMES, Repeats, Turn};
+use client_shelf::{Came, Repeats, Turn};
 use commit_verf::{Verdict, decide};
 use nfs_file_calls::FileCall;
 use nfs_types::{Handle, Verf};
