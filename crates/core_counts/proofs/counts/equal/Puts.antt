@@ -93,7 +93,7 @@ module _ (P : Call → Type 0) (no_saved : (f : List ℕ) (call : Call) → Save
       → TakesCosts P (opening_left m.opening) sent turn old.repeats next (put_left new) after.repeats
   opening-takes true wsize m sent turn came old took (openings.Send call) next new after is asked again table l f s w =
       repeats_it (table-again true (opening.may_again m.opening (opening.told_led m.opening came)) sent turn old.repeats after.repeats again (ap (λ (q : Shelf). q.repeats) f.2 ∙ table))
-      (let same = ap put_left f.1 ∙ ap (λ (state : Putting). putting_left state m.opening) is in omega (arith, same))
+      (let same = ap put_left f.1 ∙ ap (λ (state : Putting). putting_left state (opening.counted m.opening)) is in omega (arith, same))
   opening-takes true wsize m sent turn came old took openings.Wait next new after is asked again table l f s w = absurd (let no_way : openings.Wait ≡ openings.Send (opening.call_of m.opening m.opening.step) = l.0 in cc)
   opening-takes true wsize m sent turn came old took (openings.Ended r) next new after is asked again table l f s w =
       absurd (let no_way : openings.Ended r ≡ openings.Send (opening.call_of m.opening m.opening.step) = l.0 in cc)
