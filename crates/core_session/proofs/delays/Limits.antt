@@ -1,6 +1,6 @@
 -- P holds of what any operation makes of what came of its call, where that isn't made again: where it may be made again, since it wasn't put off then; and else
 -- where P holds of that too.
-use Rattle.core_session.proofs.Prelude.{◌≡◌, ◌||◌, ◌==◌, inl, inr, ℕ, Bool, true, false, List, length, Option, Some, None, Result, Ok, Err, refl, sym, subst, nat_lt, Wcc, Verf, FileKept, Fault, Call, Reply, Pending, Next, Repeat, Shelf, Turn, fails_busy, goes_again, Closing, Led, PutFile, Putting, Saving, Syncing, Writing, written_by, write_told, commit_told, found_by, FileMachine, Machine, NameMachine, PathMachine, Takes, file_of, FineOption, FineNext, fine-as, CallFaults, FitsWalk, FineLed}
+use Rattle.core_session.proofs.Prelude.{◌≡◌, ◌||◌, ◌&&◌, ◌==◌, inl, inr, ℕ, Bool, true, false, List, length, Option, Some, None, Result, Ok, Err, refl, sym, subst, nat_lt, Wcc, Verf, FileKept, Fault, Call, Reply, Pending, Next, Repeat, Shelf, Turn, fails_busy, goes_again, Closing, Led, PutFile, Putting, Saving, Syncing, Writing, written_by, write_told, commit_told, found_by, FileMachine, Machine, NameMachine, PathMachine, Takes, file_of, FineOption, FineNext, fine-as, CallFaults, FitsWalk, FineLed}
 use Rattle.client_shelf.specs.Busy.{is_busy}
 use Rattle.core_facts.proofs.Faults.{fine-fault, fine-some}
 use Rattle.nfs_file_calls.specs.declared.owned.FileKept.TheVariants as kept
@@ -23,7 +23,7 @@ use Rattle.core_answers.proofs.refusals.FitAll as one
 use Rattle.core_answers.proofs.refusals.FitFiles as one_file
 use Rattle.core_session.proofs.delays.AllSteps.{SendsOr, Ends, FineMachine, FitsFile, FitsPath, FitsMachine, MachineStep, all-takes}
 use Rattle.core_session.proofs.delays.FileSteps.{FitsSync, FitsClose, FitsPut}
-use Rattle.core_session.proofs.delays.Times.{Times, AgainMachine, opening_full, save_full, write_full, sync_full, close_full, put_full, file_full, path_full, is_full, save-low, not-busy}
+use Rattle.core_session.proofs.delays.Times.{Times, AgainMachine, opening_full, save_full, write_full, sync_full, close_full, put_full, file_full, path_full, is_full, save-low, not-put-off}
 use Rattle.core_session.proofs.delays.SaveSteps.{FitsSave}
 use Rattle.core_session.proofs.delays.WriteSteps.{FitsWrite}
 use Rattle.core_session.proofs.delays.Took.{Took, result-calm, not-again}
@@ -142,7 +142,7 @@ module _ (P : Fault → Type 0) (own : CallFaults P) (times : Times) (next : Nex
     put-calm putting.Idle m back low = tt
     put-calm putting.Opens m back low = λ ends.
         led-calm (opening.told_led m.opening came)
-        (not-busy (opening.ends_busy (opening.told_led m.opening came)) (opening.looks m.opening.step) (nat_lt m.opening.put_off 3)
+        (not-put-off (opening.ends_busy (opening.told_led m.opening came)) (opening.looks m.opening.step) (nat_lt m.opening.put_off 3)
         (not-again (opening.may_again m.opening (opening.told_led m.opening came)) sent turn repeats may ends) low)
     put-calm (putting.Adds file) m back low = write-calm m.write.state back low
     put-calm (putting.Saves s) m back low = save-calm s back low

@@ -158,8 +158,8 @@ not-sending true e = absurd (cc)
 not-sending false e = refl
 
 -- a call that may be made again, and isn't, wasn't put off
-pub not-busy : (busy a lt : Bool) → (busy && (not a || lt)) ≡ false → (a && not lt) ≡ false → busy ≡ false
-not-busy false a lt e f = refl
-not-busy true true true e f = absurd (cc)
-not-busy true true false e f = absurd (cc)
-not-busy true false lt e f = absurd (cc)
+pub not-put-off : (busy a lt : Bool) → (busy && (not a || lt)) ≡ false → (a && not lt) ≡ false → busy ≡ false
+not-put-off false a lt e f = refl
+not-put-off true true true e f = absurd (cc)
+not-put-off true true false e f = absurd (cc)
+not-put-off true false lt e f = absurd (cc)

@@ -50,7 +50,7 @@ use Rattle.core_answers.proofs.writes.CallFits.{Fits, commits_save, commits_writ
 use Rattle.core_answers.proofs.refusals.FitAll.{FitsFile, FitsPath, FitsMachine}
 use Rattle.core_answers.proofs.refusals.FitFiles.{FitsSync, FitsClose, FitsCut, FitsPut}
 use Rattle.core_session.proofs.delays.Rests.{Same, same, writes-same, close-follows, put-follows, writes-on, adds-bytes, follows-path}
-use Rattle.core_session.proofs.delays.Times.{opening_full, not-busy}
+use Rattle.core_session.proofs.delays.Times.{opening_full, not-put-off}
 use Rattle.core_session.proofs.delays.SaveSteps.{Gives}
 use Rattle.core_session.proofs.delays.Took.{Took, took-as, fault-busy, result-busy, result-calm, again-busy, again-no}
 use Rattle.core_session.proofs.delays.TookNames.{took-walk, took-name}
@@ -367,7 +367,7 @@ module _ (P : Fault → Type 0) (own : CallFaults P) (sent turn : Turn) (came : 
       fault = λ is. led-busy (opening.told_led m.opening came) (opening-busy m.opening is) fits;
       calm = λ is low.
           led-calm (opening.told_led m.opening came)
-          (not-busy (opening.ends_busy (opening.told_led m.opening came)) (opening.looks m.opening.step) (nat_lt m.opening.put_off 3) is low);
+          (not-put-off (opening.ends_busy (opening.told_led m.opening came)) (opening.looks m.opening.step) (nat_lt m.opening.put_off 3) is low);
     }
 
     -- ---- reads
