@@ -9,6 +9,7 @@ use Rattle.file_ops.specs.declared.opening.Led.TheVariants as leads
 use Rattle.file_ops.specs.declared.opening.OpeningNext.TheVariants as openings
 use Rattle.file_ops.specs.declared.opening.OpeningStep.TheVariants as opening_steps
 use Rattle.file_ops.specs.declared.put_file.Putting.TheVariants as putting
+use Rattle.file_ops.proofs.Openings.{counted-call}
 use Rattle.file_ops.specs.OpenFile as opens
 use Rattle.file_ops.specs.Opening as opening
 use Rattle.file_ops.specs.PutFile as puts
@@ -80,7 +81,7 @@ opening-as to step new is s = subst (λ (n : OpeningNext). OpeningSends n new) (
 
 led-sends : (again : Bool) (o : Opening) (sent turn : Turn) (led : Led) (step : OpeningNext) (pages later : _) → opening.LedIf again o sent turn led step pages later
     → OpeningSends step (opening.opening_after again o turn led)
-led-sends true o sent turn led step pages later l = opening-as (openings.Send (opening.call_of o o.step)) step o l.0 refl
+led-sends true o sent turn led step pages later l = opening-as (openings.Send (opening.call_of o o.step)) step (opening.counted o) l.0 (sym (counted-call o o.step))
 led-sends false o sent turn (leads.Goes to) step pages later l = opening-as (opening.go_next (opening.at_step o to) turn) step _ l.0 (go-sends (opening.at_step o to) turn)
 led-sends false o sent turn (leads.Opens file attr) (openings.Ended result) pages later l = tt
 led-sends false o sent turn (leads.Opens file attr) (openings.Send call) pages later l = absurd l

@@ -176,7 +176,7 @@ module _ (top : List ℕ) (h : List Entry) (x : ℕ) (path : List (List ℕ)) (m
 
   -- it starts at its directory
   first-story : (dir : List ℕ) (o : Opening) → o.name ≡ last_of path → o.mode ≡ mode → LeadsTo top h (front_of path) dir
-      → OpeningStory top h x path mode (record { dir = dir; name = o.name; mode = o.mode; nocto = o.nocto; moment = o.moment; step = opening.first_step o.mode; asked = false })
+      → OpeningStory top h x path mode (record { dir = dir; name = o.name; mode = o.mode; nocto = o.nocto; moment = o.moment; step = opening.first_step o.mode; asked = false; put_off = 0 })
   first-story dir o name_is mode_is l = record { name_is = name_is; mode_is = mode_is; leads = l; step = by o.mode mode_is }
     where
       by : (m : Mode) → m ≡ mode → StepStory top h x path mode dir (opening.first_step m)
@@ -207,7 +207,7 @@ module _ (top : List ℕ) (h : List Entry) (x : ℕ) (path : List (List ℕ)) (m
       by : (w : WalkNext) → WalkStep w walk → NoKind w → paths.Follows w wsize (record { walk = walk; opener = openers.Open o; arrived = false }) turn old next new after → Step next (machines.Path new)
       by (walks.Send call) k z g = then-as OpenRuns Over (nexts.Send call) next (machines.Path new) g.0 (runs g.1)
       by walks.Wait k z g = then-as OpenRuns Over nexts.Wait next (machines.Path new) g.0 (runs g.1)
-      by (walks.At dir) k z g = then-open wsize walk (record o { opening = record { dir = dir; name = o.opening.name; mode = o.opening.mode; nocto = o.opening.nocto; moment = o.opening.moment; step = opening.first_step o.opening.mode; asked = false } })
+      by (walks.At dir) k z g = then-open wsize walk (record o { opening = record { dir = dir; name = o.opening.name; mode = o.opening.mode; nocto = o.opening.nocto; moment = o.opening.moment; step = opening.first_step o.opening.mode; asked = false; put_off = 0 } })
           turn old next new after same (first-story dir o.opening name_is mode_is (subst (λ (d : List ℕ). LeadsTo top h (front_of path) d) (sym k.0) (end-leads top h (front_of path) walk l k.1))) g
       by (walks.Refused fault) k z g = then-as OpenRuns Over (nexts.Done (answers.Refused fault)) next (machines.Path new) g.0 (inr (fault, refl, z))
 

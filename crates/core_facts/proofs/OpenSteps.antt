@@ -7,6 +7,7 @@ use Rattle.file_ops.specs.declared.opening.OpeningNext.TheVariants as openings
 use Rattle.file_ops.specs.declared.opening.OpeningStep.TheVariants as steps
 use Rattle.file_ops.specs.OpenFile as opens
 use Rattle.file_ops.specs.Opening as opening
+use Rattle.file_ops.proofs.Openings.{counted-call}
 use Rattle.core_facts.proofs.Steps.{AskedOf, KeptOf}
 
 abbrev pub OpeningExpects : Opening → Call → Type 0
@@ -60,7 +61,7 @@ goes-send (openings.Ended (Err fault)) call e = absurd (cc)
 
 led-asks : (again : Bool) (o : Opening) (sent turn : Turn) (led : Led) (step : OpeningNext) (pages later : Pages) (call : Call) → opening.LedIf again o sent turn led step pages later
     → step ≡ openings.Send call → OpeningExpects (opening.opening_after again o turn led) call
-led-asks true o sent turn led step pages later call l is = sym (one-call (opening.call_of o o.step) call (sym l.0 ∙ is))
+led-asks true o sent turn led step pages later call l is = sym (one-call (opening.call_of o o.step) call (sym l.0 ∙ is)) ∙ sym (counted-call o o.step)
 led-asks false o sent turn (leads.Goes s) step pages later call l is = go-asks (opening.at_step o s) turn call (sym l.0 ∙ is)
 led-asks false o sent turn (leads.Opens file attr) step pages later call l is =
     absurd (subst (λ (n : OpeningNext). opening.LedTo o sent turn (leads.Opens file attr) n pages later) is l)

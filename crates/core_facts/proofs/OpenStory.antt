@@ -240,6 +240,9 @@ module _ (top : List ℕ) (h : List Entry) (x : ℕ) (path : List (List ℕ)) (m
   same-story : (o : Opening) (asked : Bool) → OpeningStory o → OpeningStory (record o { asked = asked })
   same-story o asked s = record { name_is = s.name_is; mode_is = s.mode_is; leads = s.leads; step = s.step }
 
+  counted-story : (o : Opening) → OpeningStory o → OpeningStory (opening.counted o)
+  counted-story o s = record { name_is = s.name_is; mode_is = s.mode_is; leads = s.leads; step = s.step }
+
   pub go-story : (o : Opening) (turn : Turn) → OpeningStory o → OpeningStory (opening.go_after o turn)
   go-story o turn s = by (opening.waits o turn)
     where
@@ -269,7 +272,7 @@ module _ (top : List ℕ) (h : List Entry) (x : ℕ) (path : List (List ℕ)) (m
 
   pub led-next : (again : Bool) (o : Opening) (sent turn : Turn) (led : Led) (step : OpeningNext) (pages later : _) → OpeningStory o → LedStory o.nocto o.dir led
       → opening.LedIf again o sent turn led step pages later → NextStory step (opening.opening_after again o turn led)
-  led-next true o sent turn led step pages later s d l = next-as (openings.Send (opening.call_of o o.step)) step o l.0 s
+  led-next true o sent turn led step pages later s d l = next-as (openings.Send (opening.call_of o o.step)) step (opening.counted o) l.0 (counted-story o s)
   led-next false o sent turn (leads.Goes to) step pages later s d l =
       next-as (opening.go_next (opening.at_step o to) turn) step _ l.0
       (go-next (opening.at_step o to) turn (record { name_is = s.name_is; mode_is = s.mode_is; leads = s.leads; step = d }))

@@ -219,7 +219,7 @@ module _ (C : Type 0) where
       (others : ℕ) → saves.is_sending s.phase ≡ false → of_saving s ≡ others + 1 → IfAgain s → IfTold told → saves.TakesFirst more wsize turn told s back next new after
       → SaveSteps C others s (syncs.sync_next next) new
   first-steps true told wsize turn s back next new after others sending is again c t =
-      leads-steps others s _ s next new t.0 (record { file = refl; asks = λ idle. refl; stays = λ some. refl; again = again; ended = tt })
+      leads-steps others s _ (saves.put_off_more s) next new t.0 (record { file = refl; asks = λ idle. refl; stays = λ some. refl; again = again; ended = tt })
   first-steps false told wsize turn s back next new after others sending is again c t =
       commit-steps told wsize turn.xid turn.room s (saves.less_waiting s) back next new after others (less-committing s others sending is) refl again c t
 

@@ -119,7 +119,7 @@ module _ (P : Fault → Type 0) (own : OwnFaults P) where
 
   first-commit-fine : (more : Bool) (told : Result Verf Fault) (wsize : ℕ) (turn : Turn) (s : Saving) (back : Pending) (next : _) (new : Saving) (after : Pending) → FineResult P told → FineOption P s.refusal
       → saves.TakesFirst more wsize turn told s back next new after → SaveFine (syncs.sync_next next) new
-  first-commit-fine true told wsize turn s back next new after n f t = leads-fine _ s next new t.0 (tt, f)
+  first-commit-fine true told wsize turn s back next new after n f t = leads-fine _ (saves.put_off_more s) next new t.0 (tt, f)
   first-commit-fine false told wsize turn s back next new after n f t = commit-fine told wsize turn.xid turn.room (saves.less_waiting s) back next new after n f t
 
   last-fine : (more : Bool) (told : Result Verf Fault) (s : Saving) → FineResult P told → FineOption P s.refusal

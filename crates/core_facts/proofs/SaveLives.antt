@@ -108,7 +108,7 @@ commit-live (Err fault) wsize xid room s back next new after t = lead-going _ ne
 
 first-live : (again : Bool) (told : Result Verf Fault) (wsize : ℕ) (turn : Turn) (s : Saving) (back : Pending) (next : _) (new : Saving) (after : Pending)
     → SaveLive s → saves.TakesFirst again wsize turn told s back next new after → SaveGoing (syncs.sync_next next) new
-first-live true told wsize turn s back next new after live t = going-any (syncs.sync_next next) (SaveLive new) (lead-live _ s next new t.0 live)
+first-live true told wsize turn s back next new after live t = going-any (syncs.sync_next next) (SaveLive new) (lead-live _ (saves.put_off_more s) next new t.0 live)
 first-live false told wsize turn s back next new after live t = commit-live told wsize turn.xid turn.room (saves.less_waiting s) back next new after t
 
 last-live : (again : Bool) (told : Result Verf Fault) (s : Saving) → SaveLive s → SaveGoing (syncs.sync_next (saves.last_next again told s)) (saves.last_saving again s)

@@ -159,20 +159,20 @@ module _ (machine_of : ℕ → Op → Machine) (unbegun : (lane : ℕ) (op : Op)
 
   -- The call that waits is one that the machine expects.
   abbrev pub IsExpected : List Entry → ℕ → ℕ → Waiting Purpose → Machine → Type 0
-  IsExpected = telling.IsExpected machine_of unbegun setup Anything Always (λ h v r found lane other. tt) NoSight (λ h v p found may xid w waits made at machine there x op u from out rec. tt) E expected W I S
+  IsExpected = telling.IsExpected machine_of unbegun setup Anything Always (λ h v r found lane other. tt) NoSight S (λ h v p found may xid w waits made at machine there x op u from out story rec. tt) E expected W I
       tell-laws
 
   abbrev pub AllGood : List Entry → View → Type 0
-  AllGood = telling.AllGoodBy machine_of unbegun setup Anything Always (λ h v r found lane other. tt) NoSight (λ h v p found may xid w waits made at machine there x op u from out rec. tt) E expected W I S
+  AllGood = telling.AllGoodBy machine_of unbegun setup Anything Always (λ h v r found lane other. tt) NoSight S (λ h v p found may xid w waits made at machine there x op u from out story rec. tt) E expected W I
       tell-laws
 
   pub reached-good : (h : List Entry) (v : View) → Reaches machine_of setup h v → AllGood h v
-  reached-good h v r = telling.reached-good-by machine_of unbegun setup Anything Always (λ h v r found lane other. tt) NoSight (λ h v p found may xid w waits made at machine there x op u from out rec. tt) E expected W I S
+  reached-good h v r = telling.reached-good-by machine_of unbegun setup Anything Always (λ h v r found lane other. tt) NoSight S (λ h v p found may xid w waits made at machine there x op u from out story rec. tt) E expected W I
       tell-laws h v (passes-any machine_of setup h v r)
 
   pub reached-answered : (h : List Entry) (v : View) → Reaches machine_of setup h v → (lane x : ℕ) (op : Op) (y : ℕ) (answer : Answer) → Ended h lane x op y answer
       → HadStory (λ k z o b. S k z o (Over b)) h x op y answer
-  reached-answered h v r = telling.reached-answered-by machine_of unbegun setup Anything Always (λ h v r found lane other. tt) NoSight (λ h v p found may xid w waits made at machine there x op u from out rec. tt) E expected W I S
+  reached-answered h v r = telling.reached-answered-by machine_of unbegun setup Anything Always (λ h v r found lane other. tt) NoSight S (λ h v p found may xid w waits made at machine there x op u from out story rec. tt) E expected W I
       tell-laws h v (passes-any machine_of setup h v r)
 
   -- ---- records that were sent

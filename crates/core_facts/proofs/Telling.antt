@@ -48,15 +48,15 @@ pub record Did (W : List Entry → ℕ → Op → Call → Type 0) (I : List Ent
   pub then_ : ThenOf (λ m. S h x op (Busy m)) (λ a. S h x op (Over a)) next new
 
 -- As a record comes Q holds of each call that waited, of the operation that is under way in its lane, of its machine, and of the place where the call was first
--- sent; as long as the session isn't lost.
+-- sent; as long as the session isn't lost. S was known of the operation before.
 abbrev pub Sight : Type 1
 Sight = List Entry → ℕ → Op → Machine → ℕ → Turn → Turn → Call → Shelf → Type 0
 
-abbrev pub IsSeenBy : (ℕ → Op → Machine) → Setup → (List Entry → View → Type 0) → Sight → Type 0
-IsSeenBy machine_of setup G Q = (h : List Entry) (v : View) → Passes machine_of setup G h v → v.lost ≡ false → MayHear v → (xid : ℕ) (w : Waiting Purpose)
+abbrev pub IsSeenBy : (ℕ → Op → Machine) → Setup → (List Entry → View → Type 0) → (List Entry → ℕ → Op → State → Type 0) → Sight → Type 0
+IsSeenBy machine_of setup G S Q = (h : List Entry) (v : View) → Passes machine_of setup G h v → v.lost ≡ false → MayHear v → (xid : ℕ) (w : Waiting Purpose)
     → waiting_at xid v.calls.calls ≡ Some w → (made : IsMade setup.cred xid w) → (at : ℕ) (machine : Machine) → slice_get v.lanes at ≡ Some (record { number = w.purpose.lane; state = Busy machine })
     → (x : ℕ) (op : Op) → UnderWay h w.purpose.lane x (length h) op → (from : ℕ) → IsOutstanding h xid w.bytes from
-    → (rec : List ℕ) → Q (h ++ Delivered rec ∷ []) x op machine from w.purpose.sent (turn_at (taken_one v xid)) made.asked v.shelf
+    → S h x op (Busy machine) → (rec : List ℕ) → Q (h ++ Delivered rec ∷ []) x op machine from w.purpose.sent (turn_at (taken_one v xid)) made.asked v.shelf
 
 -- The record at the end answers the call: a reply to it, or a refusal.
 pub record IsHeardNow (h : List Entry) (x : ℕ) (call : Call) (came : Result Reply Fault) : Type 0 where
@@ -167,8 +167,8 @@ quiet-entry e other (Busy machine) = tt
 quiet-entry e other (Over answer) = other
 
 module _ (machine_of : ℕ → Op → Machine) (unbegun : (lane : ℕ) (op : Op) → IsUnbegun (machine_of lane op)) (setup : Setup) (G : List Entry → View → Type 0) (P : List Entry → ℕ → Shelf → Type 0)
-    (given : IsGiven machine_of setup P) (Q : Sight) (sees : IsSeenBy machine_of setup G Q) (E : Machine → Call → Type 0) (expected : ExpectLaws E) (W : List Entry → ℕ → Op → Call → Type 0) (I : List Entry → Shelf → Type 0)
-    (S : List Entry → ℕ → Op → State → Type 0) (laws : TellLaws P Q machine_of setup E W I S) where
+    (given : IsGiven machine_of setup P) (Q : Sight) (S : List Entry → ℕ → Op → State → Type 0) (sees : IsSeenBy machine_of setup G S Q) (E : Machine → Call → Type 0) (expected : ExpectLaws E)
+    (W : List Entry → ℕ → Op → Call → Type 0) (I : List Entry → Shelf → Type 0) (laws : TellLaws P Q machine_of setup E W I S) where
   -- The call that waits is one that the machine expects.
   pub record IsExpected (h : List Entry) (number xid : ℕ) (w : Waiting Purpose) (machine : Machine) : Type 0 where
     pub made : IsMade setup.cred xid w
@@ -540,9 +540,9 @@ module _ (machine_of : ℕ → Op → Machine) (unbegun : (lane : ℕ) (op : Op)
   told-of : (h : List Entry) (old : View) (rec : List ℕ) (new : View) (xid : ℕ) (call : Waiting Purpose) (t : HearsRecord old rec new) → Passes machine_of setup G h old → old.lost ≡ false
       → xid_at rec ≡ Some xid → waiting_at xid old.calls.calls ≡ Some call → (at : ℕ) (machine : Machine)
       → slice_get old.lanes at ≡ Some (record { number = call.purpose.lane; state = Busy machine }) → IsExpected h call.purpose.lane xid call machine
-      → (x : ℕ) (op : Op) → UnderWay h call.purpose.lane x (length h) op
+      → (x : ℕ) (op : Op) → UnderWay h call.purpose.lane x (length h) op → S h x op (Busy machine)
       → IsToldOf Q E W (h ++ Delivered rec ∷ []) x op machine call.purpose.sent (turn_at (taken_one old xid)) (said_of call.purpose.proc rec) old.shelf
-  told-of h old rec new xid call t r found named waits at machine there e x op u = record {
+  told-of h old rec new xid call t r found named waits at machine there e x op u story = record {
     call = e.made.asked;
     expects = e.expects;
     asks = laws.waits h (Delivered rec) x op e.made.asked (e.asks x op u);
@@ -551,7 +551,7 @@ module _ (machine_of : ℕ → Op → Machine) (unbegun : (lane : ℕ) (op : Op)
     proc = call.purpose.proc;
     said_is = refl;
     seen = subst (λ (n : ℕ). Q later x op machine n call.purpose.sent (turn_at (taken_one old xid)) e.made.asked old.shelf) out.now.from_is
-        (sees h old r found t.may xid call waits e.made at machine there x op u out.from out.out rec);
+        (sees h old r found t.may xid call waits e.made at machine there x op u out.from out.out story rec);
   }
     where
       later : List Entry
@@ -655,7 +655,7 @@ module _ (machine_of : ℕ → Op → Machine) (unbegun : (lane : ℕ) (op : Op)
           (heard_of (told-of h old rec new xid call t r found named waits at o.machine
           (o.there ∙ ap (λ (n : ℕ). Some (record { number = n; state = Busy o.machine })) is)
           (subst (λ (n : ℕ). IsExpected h n xid call o.machine) is (own.0 xid call waits (sym is))) x op
-          (subst (λ (n : ℕ). UnderWay h n x (length h) op) is was))) o.takes
+          (subst (λ (n : ℕ). UnderWay h n x (length h) op) is was) (own.1 x op was))) o.takes
 
       busy : IsBusy later o.number (length later)
       busy = (lanes-under-way later (taken_one old xid) lanes).busy at (record { number = o.number; state = Busy o.machine }) o.there

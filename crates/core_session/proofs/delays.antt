@@ -1,6 +1,7 @@
 pub mod Took
 pub mod Tables
 pub mod Puts
+pub mod Times
 pub mod Rests
 pub mod TookNames
 pub mod TookFiles
@@ -8,6 +9,7 @@ pub mod SaveSteps
 pub mod WriteSteps
 pub mod FileSteps
 pub mod AllSteps
+pub mod Again
 pub mod Limits
 pub mod Delays
 pub mod Story

@@ -6,11 +6,13 @@ use Rattle.client_shelf.specs.declared.turn.Turn.{Turn}
 use Rattle.client_shelf.specs.declared.next.Next.{Next}
 use Rattle.file_ops.specs.declared.opening.Opening.{Opening}
 use Rattle.file_ops.specs.declared.opening.OpeningNext.{OpeningNext}
+use Rattle.file_ops.specs.declared.opening.OpeningStep.{OpeningStep}
+use Rattle.file_ops.specs.declared.opening.OpeningStep.TheVariants.{Look, Make, Find, Ask}
 use Rattle.file_ops.specs.declared.opening.OpeningNext.TheVariants.{Send, Wait, Ended}
 use Rattle.file_ops.specs.declared.opening.Led.{Led}
 use Rattle.file_ops.specs.declared.opening.Led.TheVariants.{Goes, Opens, Knows, Ends}
 use Rattle.file_ops.specs.declared.open_file.OpenFile.{OpenFile}
-use Rattle.file_ops.specs.Opening.{waits, go_after, at_step, led_after, opening_after}
+use Rattle.file_ops.specs.Opening.{call_of, waits, go_after, at_step, led_after, counted, opening_after}
 use Rattle.file_ops.specs.OpenFile.{place_of, opened_of, PutsOver, Follows}
 
 pub go-keeps : (o : Opening) (turn : Turn) (file : List ℕ) → opened_of (go_after o turn) file ≡ opened_of o file
@@ -21,6 +23,13 @@ led-keeps o turn (Goes step) file = go-keeps (at_step o step) turn file
 led-keeps o turn (Opens other attr) file = refl
 led-keeps o turn (Knows other stamp) file = refl
 led-keeps o turn (Ends fault) file = refl
+
+-- an opening that was put off once more makes the same calls
+pub counted-call : (o : Opening) (step : OpeningStep) → call_of (counted o) step ≡ call_of o step
+counted-call o Look = refl
+counted-call o Make = refl
+counted-call o Find = refl
+counted-call o (Ask file) = refl
 
 pub after-keeps : (again : Bool) (o : Opening) (turn : Turn) (led : Led) (file : List ℕ) → opened_of (opening_after again o turn led) file ≡ opened_of o file
 after-keeps true o turn led file = refl

@@ -119,7 +119,7 @@ module _ (wsize : ℕ) (turn : Turn) (P : Pending → Type 0) (M : Saving → Pe
   put-takes sent came N v putting.Idle machine old next new after at t h = put-waits next new old after t.next_is t.shelf_is h
   put-takes sent came N v putting.Opens machine old next new after at t h =
       put-opened t.step _ t.took next new after t.follows
-      (took-asks (opening.ends_busy (opening.told_led machine.opening came)) (opening.opening_again machine.opening sent turn came old.repeats) old.repeats
+      (took-asks (opening.may_again machine.opening (opening.told_led machine.opening came)) (opening.opening_again machine.opening sent turn came old.repeats) old.repeats
       machine.opening sent turn (opening.led_on machine.opening turn.now came t.took.attrs old.pages) t.step old.pages t.took.pages refl t.leads)
       at (subst P (sym (ap (λ (s : Shelf). s.back) t.others)) h)
   put-takes sent came N v (putting.Adds file) machine old next new after at t h =

@@ -108,7 +108,7 @@ pub takes-quiet : (wsize : ℕ) (sent turn : Turn) (came : Result Reply Fault) (
 takes-quiet wsize sent turn came repeats s back next new after later none takes = by s.phase takes
   where
     no_more : saves.commit_again (commit_told came) sent turn repeats s ≡ true → ⊥
-    no_more = never (saves.may_again (fails_busy (commit_told came)) s) sent turn repeats none
+    no_more = never (saves.may_commit (commit_told came) s) sent turn repeats none
 
     by : (p : Phase) → saves.TakesIn p wsize sent turn came repeats s back next new after later → NoCall next
     by Sending t = told-quiet wsize sent turn (saves.told_of sent.xid s.file back came) repeats s back next new after later none t

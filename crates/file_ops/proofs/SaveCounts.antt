@@ -92,8 +92,9 @@ refused-save s fault true is = let none = none-waits (saves.is_sending s.phase) 
 refused-save s fault false is = refl
 
 -- nothing is left to send
-committed : (phase : Phase) (file : List ℕ) (upto : ℕ) (refusal : Option Fault) → of_saving (record { file = file; upto = upto; phase = phase; waiting = 1; refusal = refusal }) ≡ 1
-committed phase file upto refusal = one-waits (saves.is_sending phase)
+committed : (phase : Phase) (file : List ℕ) (upto : ℕ) (refusal : Option Fault) (put_off : ℕ)
+    → of_saving (record { file = file; upto = upto; phase = phase; waiting = 1; refusal = refusal; put_off = put_off }) ≡ 1
+committed phase file upto refusal put_off = one-waits (saves.is_sending phase)
 
 sent-save : (by_reply : Bool) (s : Saving) (lt done : Bool) → nat_lt 0 s.waiting ≡ lt
     → SaveCounts (if lt then Wait else if done then Ended (Ok tt) else Send (saves.commit_of s.file)) (of_saving s)
@@ -199,7 +200,7 @@ commit-save (Err fault) wsize xid room s back next new after others none waits t
 first-save : (again : Bool) (told : Result Verf Fault) (wsize : ℕ) (turn : Turn) (s : Saving) (back : Pending) (next : SavingNext) (new : Saving) (after : Pending)
     (others : ℕ) → saves.is_sending s.phase ≡ false → of_saving s ≡ others + 1 → saves.TakesFirst again wsize turn told s back next new after
     → SaveCounts next others (of_saving new)
-first-save true told wsize turn s back next new after others sending is t = leads-save (Send (saves.commit_of s.file)) s next new others t.0 is
+first-save true told wsize turn s back next new after others sending is t = leads-save (Send (saves.commit_of s.file)) (saves.put_off_more s) next new others t.0 is
 first-save false told wsize turn s back next new after others sending is t =
     let one = less-committing s others sending is in
     commit-save told wsize turn.xid turn.room (saves.less_waiting s) back next new after others one.0 one.1 t

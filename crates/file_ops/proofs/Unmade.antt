@@ -232,7 +232,7 @@ first-mine : (again : Bool) (told : Result Verf Fault) (wsize : ℕ) (turn : Tur
     (after : Pending)
     → s.phase ≡ Committing → saves.TakesFirst again wsize turn told s back next new after → IsUnused turn.xid back → LeftMine turn.xid next new after
 first-mine true told wsize turn s back next new after at t free =
-    sends-call turn.xid (saves.commit_of s.file) s next new after t.0.gives_next t.0.keeps
+    sends-call turn.xid (saves.commit_of s.file) (saves.put_off_more s) next new after t.0.gives_next t.0.keeps
     (subst (λ (p : Phase). MineIn p turn.xid s.file after) (sym at) (same-unused turn.xid back after t.1 free))
 first-mine false told wsize turn s back next new after at t free =
     committed-mine told wsize turn.xid turn.room (saves.less_waiting s) back next new after t free
@@ -240,7 +240,7 @@ first-mine false told wsize turn s back next new after at t free =
 last-mine : (again : Bool) (told : Result Verf Fault) (xid : ℕ) (s : Saving) (next : SavingNext) (new : Saving) (after : Pending)
     → s.phase ≡ CommittingAgain → next ≡ saves.last_next again told s → new ≡ saves.last_saving again s → IsUnused xid after → LeftMine xid next new after
 last-mine true told xid s next new after at n k free =
-    sends-call xid (saves.commit_of s.file) s next new after n k (subst (λ (p : Phase). MineIn p xid s.file after) (sym at) free)
+    sends-call xid (saves.commit_of s.file) (saves.put_off_more s) next new after n k (subst (λ (p : Phase). MineIn p xid s.file after) (sym at) free)
 last-mine false (Ok verf) xid s next new after at n k free = quiet-mine xid next new after (ended-quiet (Ok tt) next n) free
 last-mine false (Err fault) xid s next new after at n k free = quiet-mine xid next new after (ended-quiet (Err fault) next n) free
 
@@ -276,7 +276,7 @@ refused-unused wsize sent turn fault repeats s back next new after later none ta
 
     first : (again : Bool) → saves.commit_again (Err fault) sent turn repeats s ≡ again → saves.TakesFirst again wsize turn (Err fault) s back next new after
         → IsUnused sent.xid back → IsUnused sent.xid after
-    first true h t free = absurd (never (saves.may_again (is_busy fault) s) sent turn repeats none h)
+    first true h t free = absurd (never (saves.may_commit (Err fault) s) sent turn repeats none h)
     first false h t free = same-unused sent.xid back after t.1 free
 
     by : (p : Phase) → s.phase ≡ p → saves.TakesIn p wsize sent turn (Err fault) repeats s back next new after later → IsUnused sent.xid after

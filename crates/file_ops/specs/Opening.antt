@@ -1,5 +1,5 @@
 -- How a file is found, or made, and opened: which call each step makes, and what a reply leads to.
-use Rattle.std.specs.Prelude.{◌≡◌, ℕ, Bool, true, false, not, ◌==◌, ◌||◌, ◌&&◌, List, Option, Some, None, Result, Ok, Err, if◌then◌else◌}
+use Rattle.std.specs.Prelude.{◌≡◌, ◌+◌, ℕ, nat_lt, Bool, true, false, not, ◌==◌, ◌||◌, ◌&&◌, List, Option, Some, None, Result, Ok, Err, if◌then◌else◌}
 use Rattle.nfs_types.specs.declared.attr.Attr.{Attr}
 use Rattle.nfs_types.specs.declared.mode.Mode.{Mode}
 use Rattle.nfs_types.specs.declared.mode.Mode.TheVariants.{C, X}
@@ -211,17 +211,31 @@ ends_busy (Opens file attr) = false
 ends_busy (Knows file stamp) = false
 ends_busy (Ends fault) = is_busy fault
 
+-- whether the name is looked up
+abbrev pub looks : OpeningStep → Bool
+looks Look = true
+looks Make = false
+looks Find = true
+looks (Ask file) = false
+
+-- A LOOKUP after a CREATE is the call that was made before it, so both are counted together.
+abbrev pub may_again : Opening → Led → Bool
+may_again o led = ends_busy led && (not (looks o.step) || nat_lt o.put_off 3)
+
+abbrev pub counted : Opening → Opening
+counted o = record o { put_off = if looks o.step then o.put_off + 1 else o.put_off }
+
 -- whether its call is made again
 abbrev pub opening_again : Opening → Turn → Turn → Result Reply Fault → List Repeat → Bool
-opening_again o sent turn reply repeats = goes_again (ends_busy (told_led o reply)) sent turn repeats
+opening_again o sent turn reply repeats = goes_again (may_again o (told_led o reply)) sent turn repeats
 
 -- what it leads to once the reply was learnt of
 abbrev pub led_on : Opening → ℕ → Result Reply Fault → Attrs → Pages → Led
 led_on o now reply attrs pages = known_by o.nocto (told_led o reply) now attrs pages
 
--- An opening whose call is made again stays as it is.
+-- An opening whose call is made again stays as it is, but for the count.
 abbrev pub opening_after : Bool → Opening → Turn → Led → Opening
-opening_after again o turn led = if again then o else led_after o turn led
+opening_after again o turn led = if again then counted o else led_after o turn led
 
 abbrev pub LedIf : Bool → Opening → Turn → Turn → Led → OpeningNext → Pages → Pages → Type 0
 LedIf true o sent turn led next old new = (next ≡ Send (call_of o o.step)) × (new ≡ old)

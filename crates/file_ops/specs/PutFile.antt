@@ -29,7 +29,7 @@ use Rattle.nfs_types.specs.declared.mode.Mode.TheVariants.{W}
 use Rattle.attr_cache.specs.Attrs.{Attrs}
 use Rattle.page_cache.specs.Pages.{Pages}
 use Rattle.client_shelf.specs.Busy.{repeats_after}
-use Rattle.file_ops.specs.Opening.{first_step, go_next, go_after, NotesAttrs, NotesNames, opening_again, opening_after, led_on, LedIf, told_led, ends_busy}
+use Rattle.file_ops.specs.Opening.{first_step, go_next, go_after, NotesAttrs, NotesNames, opening_again, opening_after, led_on, LedIf, told_led, may_again}
 use Rattle.file_ops.specs.OpenFile.{goes_as}
 use Rattle.file_ops.specs.WriteFile.{made_bytes, Writes, TakesIn, ResumesIn}
 use Rattle.file_ops.specs.Closings.{GivesUpBy, closed_answer, refusal_of}
@@ -112,7 +112,7 @@ pub record TakesOne (wsize lane : ℕ) (sent turn : Turn) (came : Result Reply F
 -- a put that hasn't started
 abbrev pub not_begun : ℕ → Bool → List ℕ → List ℕ → ℕ → List ℕ → PutFile
 not_begun lane nocto dir name offset bytes = record {
-  opening = record { dir = dir; name = name; mode = W; nocto = nocto; moment = 0; step = first_step W; asked = false };
+  opening = record { dir = dir; name = name; mode = W; nocto = nocto; moment = 0; step = first_step W; asked = false; put_off = 0 };
   write = record { lane = lane; slot = 0; offset = offset; text = Given bytes; state = writings.Idle };
   state = Idle;
 }
@@ -185,7 +185,7 @@ pub record TakesOpening (wsize : ℕ) (machine : PutFile) (sent turn : Turn) (ca
       (led_on machine.opening turn.now came took.attrs old.pages) step old.pages took.pages
   pub attrs : NotesAttrs machine.opening sent.now came machine.opening.step old.attrs took.attrs
   pub names : NotesNames machine.opening came machine.opening.step old.names took.names
-  pub repeats : took.repeats ≡ repeats_after (ends_busy (told_led machine.opening came)) sent turn old.repeats
+  pub repeats : took.repeats ≡ repeats_after (may_again machine.opening (told_led machine.opening came)) sent turn old.repeats
   pub others : took ≡ record old { pages = took.pages; attrs = took.attrs; names = took.names; repeats = took.repeats }
   pub follows : AfterOpening step wsize (led (opening_again machine.opening sent turn came old.repeats) machine turn came took.attrs old.pages) turn took next
       new after

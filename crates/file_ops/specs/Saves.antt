@@ -36,7 +36,7 @@ use Rattle.file_ops.specs.declared.saving.SavingNext.TheVariants.{Send, Wait, En
 
 -- nothing was sent yet
 abbrev pub begun : List ℕ → ℕ → Saving
-begun file upto = record { file = file; upto = upto; phase = Sending; waiting = 0; refusal = None }
+begun file upto = record { file = file; upto = upto; phase = Sending; waiting = 0; refusal = None; put_off = 0 }
 
 -- whether bytes may be sent, and whether the lost ones are
 abbrev pub is_sending : Phase → Bool
@@ -258,9 +258,16 @@ abbrev pub TakesTold : ℕ → Turn → Turn → WriteTold → List Repeat → S
 TakesTold wsize sent turn told repeats s back next new after later =
     TakesToldIf (may_again (told_busy told) s) wsize sent turn told repeats s back next new after later
 
+-- A further COMMIT is the call that was made before, so both are counted together.
+abbrev pub may_commit : Result Verf Fault → Saving → Bool
+may_commit told s = may_again (fails_busy told) s && nat_lt s.put_off 3
+
+abbrev pub put_off_more : Saving → Saving
+put_off_more s = record s { put_off = s.put_off + 1 }
+
 -- a COMMIT that is made again
 abbrev pub CommitsAgain : Saving → Pending → SavingNext → Saving → Pending → Type 0
-CommitsAgain s back next new after = Leads (Send (commit_of s.file)) s next new × (after ≡ back)
+CommitsAgain s back next new after = Leads (Send (commit_of s.file)) (put_off_more s) next new × (after ≡ back)
 
 -- the reply to the first COMMIT, and to the second one
 abbrev pub TakesFirst : Bool → ℕ → Turn → Result Verf Fault → Saving → Pending → SavingNext → Saving → Pending → Type 0
@@ -271,13 +278,13 @@ abbrev pub last_next : Bool → Result Verf Fault → Saving → SavingNext
 last_next again told s = if again then Send (commit_of s.file) else ended_by told
 
 abbrev pub last_saving : Bool → Saving → Saving
-last_saving again s = if again then s else less_waiting s
+last_saving again s = if again then put_off_more s else less_waiting s
 
 abbrev pub commit_again : Result Verf Fault → Turn → Turn → List Repeat → Saving → Bool
-commit_again told sent turn repeats s = goes_again (may_again (fails_busy told) s) sent turn repeats
+commit_again told sent turn repeats s = goes_again (may_commit told s) sent turn repeats
 
 abbrev pub commit_repeats : Result Verf Fault → Turn → Turn → List Repeat → Saving → List Repeat
-commit_repeats told sent turn repeats s = repeats_after (may_again (fails_busy told) s) sent turn repeats
+commit_repeats told sent turn repeats s = repeats_after (may_commit told s) sent turn repeats
 
 -- A save takes what came of its call, which the step with the turn `sent` made, by its phase.
 abbrev pub TakesIn : Phase → ℕ → Turn → Turn → Result Reply Fault → List Repeat → Saving → Pending → SavingNext → Saving → Pending → List Repeat → Type 0

@@ -18,6 +18,7 @@ mod opening;
 mod opens;
 mod overlaid;
 mod put_file;
+mod put_off;
 mod quiet;
 mod read_file;
 mod read_reply;

@@ -3,7 +3,7 @@
 ghost use Rattle.std.specs.Prelude.{◌≡◌, ◌≤◌, false};
 ghost use Rattle.client_shelf.specs.Coming.{reply_of};
 ghost use Rattle.client_shelf.specs.Busy.{repeats_after};
-ghost use Rattle.file_ops.specs.Opening.{first_step, NotesAttrs, NotesNames, told_led, ends_busy, opening_again};
+ghost use Rattle.file_ops.specs.Opening.{first_step, NotesAttrs, NotesNames, told_led, may_again, opening_again};
 ghost use Rattle.file_ops.specs.OpenFile.{goes_as, gone, start_next, start_after, is_taken, place_of, opened_of, Puts, Follows, took_after, OpenTakes};
 ghost use Rattle.file_ops.specs.Opening.{go_next};
 
@@ -58,7 +58,7 @@ impl OpenFile {
         ensures machine { self.new ≡ took_after (opening_again self.old.opening sent turn (reply_of came.now) shelf.old.repeats) self.old turn (reply_of came.now) shelf.new.attrs shelf.old.pages }
         ensures attrs { NotesAttrs self.old.opening sent.now (reply_of came.now) self.old.opening.step shelf.old.attrs shelf.new.attrs }
         ensures names { NotesNames self.old.opening (reply_of came.now) self.old.opening.step shelf.old.names shelf.new.names }
-        ensures repeats { shelf.new.repeats ≡ repeats_after (ends_busy (told_led self.old.opening (reply_of came.now))) sent turn shelf.old.repeats }
+        ensures repeats { shelf.new.repeats ≡ repeats_after (may_again self.old.opening (told_led self.old.opening (reply_of came.now))) sent turn shelf.old.repeats }
         ensures frame { shelf.new ≡ record shelf.old { pages = shelf.new.pages; attrs = shelf.new.attrs; names = shelf.new.names; opens = shelf.new.opens; repeats = shelf.new.repeats } }
     {
         let step = self.opening.took(sent, came, turn, shelf);

@@ -1,8 +1,8 @@
 //! How a file is found, or made, and opened.
 
-ghost use Rattle.std.specs.Prelude.{◌≡◌, ◌≤◌, Some, false, OnOk, OnErr};
+ghost use Rattle.std.specs.Prelude.{◌≡◌, ◌≤◌, ◌<◌, Some, true, false, OnOk, OnErr};
 ghost use Rattle.client_shelf.specs.Coming.{reply_of};
-ghost use Rattle.file_ops.specs.Opening.{first_step, usual_set, making_of, call_of, waits, go_next, go_after, makes, is_missing, led_to, made, found, got, LookedAttrs, LookedNames, MadeAttrs, GotAttrs, NotesAttrs, NotesNames, FileOpened, at_step, led_after, LedTo, ends_busy, told_led, opening_again, opening_after, led_on, LedIf, known_by, known_led, known_step, known_at};
+ghost use Rattle.file_ops.specs.Opening.{first_step, usual_set, making_of, call_of, waits, go_next, go_after, makes, is_missing, led_to, made, found, got, LookedAttrs, LookedNames, MadeAttrs, GotAttrs, NotesAttrs, NotesNames, FileOpened, at_step, led_after, LedTo, ends_busy, looks, may_again, counted, told_led, opening_again, opening_after, led_on, LedIf, known_by, known_led, known_step, known_at};
 ghost use Rattle.client_shelf.specs.Busy.{repeats_after};
 ghost use Rattle.file_ops.specs.PagesOpened.{opened_pages};
 ghost use Rattle.page_cache.specs.Pages.{opened};
@@ -11,6 +11,7 @@ ghost use Rattle.file_ops.specs.declared.opening.OpeningStep.TheVariants.{Look};
 
 use crate::noting::{note_attr, note_create, note_look_up};
 use crate::open_pages::open_pages;
+use crate::put_off::MOST_TIMES;
 use crate::told::{found_by, got_by, made_by};
 use attr_cache::AttrCache;
 use client_shelf::busy::{again, is_busy};
@@ -77,12 +78,14 @@ pub struct Opening {
     pub step: OpeningStep,
     /// Whether it asked for that call.
     pub asked: bool,
+    /// How often a LOOKUP of the name was put off (RFC 1813, NFS3ERR_JUKEBOX), before a CREATE and after it.
+    pub put_off: u8,
 }
 
 impl Opening {
     /// It made no call yet.
     pub fn new(dir: &Handle, name: &Name, mode: Mode, nocto: bool, moment: u64) -> Opening
-        ensures { result ≡ record { dir = dir.now; name = name.now; mode = mode; nocto = nocto; moment = moment; step = first_step mode; asked = false } }
+        ensures { result ≡ record { dir = dir.now; name = name.now; mode = mode; nocto = nocto; moment = moment; step = first_step mode; asked = false; put_off = 0 } }
     {
         Opening {
             dir: *dir,
@@ -95,6 +98,7 @@ impl Opening {
                 _ => OpeningStep::Look,
             },
             asked: false,
+            put_off: 0,
         }
     }
 
@@ -124,16 +128,34 @@ impl Opening {
         ensures next { LedIf (opening_again self.old sent turn (reply_of came.now) shelf.old.repeats) self.old sent turn (led_on self.old turn.now (reply_of came.now) shelf.new.attrs shelf.old.pages) result shelf.old.pages shelf.new.pages }
         ensures attrs { NotesAttrs self.old sent.now (reply_of came.now) self.old.step shelf.old.attrs shelf.new.attrs }
         ensures names { NotesNames self.old (reply_of came.now) self.old.step shelf.old.names shelf.new.names }
-        ensures repeats { shelf.new.repeats ≡ repeats_after (ends_busy (told_led self.old (reply_of came.now))) sent turn shelf.old.repeats }
+        ensures repeats { shelf.new.repeats ≡ repeats_after (may_again self.old (told_led self.old (reply_of came.now))) sent turn shelf.old.repeats }
         ensures frame { shelf.new ≡ record shelf.old { pages = shelf.new.pages; attrs = shelf.new.attrs; names = shelf.new.names; repeats = shelf.new.repeats } }
     {
         let told = self.led(came);
         self.note(came, sent.now, &mut shelf.attrs, &mut shelf.names);
-        if again(ends_busy(&told), sent, turn, &mut shelf.repeats) {
+        if again(self.may_again(&told), sent, turn, &mut shelf.repeats) {
+            self.count();
             return OpeningNext::Send(self.call());
         }
         let led = self.known(told, turn.now, &shelf.attrs, &shelf.pages);
         self.lead(led, sent, turn, &mut shelf.pages)
+    }
+
+    /// Whether its call may be made again: the server is busy, and a LOOKUP of the name was put off fewer than three times.
+    fn may_again(&self, told: &Led) -> bool
+        ensures { result ≡ may_again self.now told.now }
+    {
+        ends_busy(told) && (!looks(&self.step) || self.put_off < MOST_TIMES)
+    }
+
+    /// A LOOKUP of the name was put off once more.
+    fn count(&mut self)
+        requires few { looks self.old.step ≡ true → self.old.put_off < 3 }
+        ensures { self.new ≡ counted self.old }
+    {
+        if looks(&self.step) {
+            self.put_off += 1;
+        }
     }
 
     /// Goes to where the reply leads.
@@ -339,6 +361,18 @@ fn got(file: Handle, reply: Result<Attr, Fault>) -> Led
             }
         }
         Err(fault) => Led::Ends(fault),
+    }
+}
+
+/// Whether the name is looked up.
+fn looks(step: &OpeningStep) -> bool
+    ensures { result ≡ looks step.now }
+{
+    match step {
+        OpeningStep::Look => true,
+        OpeningStep::Find => true,
+        OpeningStep::Make => false,
+        OpeningStep::Ask(_) => false,
     }
 }
 

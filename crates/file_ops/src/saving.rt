@@ -11,10 +11,11 @@ ghost use Rattle.commit_verf.specs.Decisions.{decided, verdict_of};
 ghost use Rattle.write_back.specs.Changes.{lost};
 ghost use Rattle.file_ops.specs.Judging.{after_of};
 ghost use Rattle.client_shelf.specs.Learning.{Learns};
-ghost use Rattle.file_ops.specs.Saves.{answered, told_of, pages_told, pages_after, counts_all, counts_whole, Lands, LandsWhole, refused_by, ended_by, TakesWrite, TakesVerf, TakesCommit, Takes, TakesTold, TakesBusy, TakesFirst, last_next, last_saving, commit_again, commit_repeats, commit_of, less_waiting, may_again, told_busy, CopiesPiece, begun, is_sending, is_again, commit_phase, refused_next, may_send, CallsWrite, Sends, Goes, next_sent, saving_sent};
+ghost use Rattle.file_ops.specs.Saves.{answered, told_of, pages_told, pages_after, counts_all, counts_whole, Lands, LandsWhole, refused_by, ended_by, TakesWrite, TakesVerf, TakesCommit, Takes, TakesTold, TakesBusy, TakesFirst, last_next, last_saving, commit_again, commit_repeats, commit_of, less_waiting, may_again, may_commit, told_busy, CopiesPiece, begun, is_sending, is_again, commit_phase, refused_next, may_send, CallsWrite, Sends, Goes, next_sent, saving_sent};
 
 use crate::failing::{drop_pages, note_failed};
 use crate::judging::{WriteTold, after_of, commit_told, write_told};
+use crate::put_off::MOST_TIMES;
 use attr_cache::AttrCache;
 use client_shelf::busy::{JUKEBOX, again, fails_busy};
 use client_shelf::learning::learn;
@@ -65,6 +66,8 @@ pub struct Saving {
     pub waiting: u32,
     /// Why it was refused.
     pub refusal: Option<Fault>,
+    /// How often its COMMIT was put off (RFC 1813, NFS3ERR_JUKEBOX), the first one and a further one.
+    pub put_off: u8,
 }
 
 /// The most calls that wait at once.
@@ -81,6 +84,7 @@ impl Saving {
             phase: Phase::Sending,
             waiting: 0,
             refusal: None,
+            put_off: 0,
         }
     }
 
@@ -216,6 +220,13 @@ impl Saving {
         busy && self.refusal.is_none()
     }
 
+    /// Whether a COMMIT is made again: the server is busy, and COMMITs of this save were put off fewer than three times.
+    fn may_commit(&self, told: &Result<Verf, Fault>) -> bool
+        ensures { result ≡ may_commit told.now self.now }
+    {
+        self.may_again(fails_busy(told)) && self.put_off < MOST_TIMES
+    }
+
     /// The WRITE goes on under another xid with the bytes that it has, unless it was made again too often or there is
     /// no memory for them.
     fn take_busy(
@@ -290,7 +301,8 @@ impl Saving {
         ensures step { TakesFirst (commit_again told sent turn repeats.old self.old) wsize turn told self.old back.old result self.new back.new }
         ensures repeats { repeats.new ≡ commit_repeats told sent turn repeats.old self.old }
     {
-        if again(self.may_again(fails_busy(&told)), sent, turn, repeats) {
+        if again(self.may_commit(&told), sent, turn, repeats) {
+            self.put_off += 1;
             return SavingNext::Send(commit_of(&self.file));
         }
         self.take_commit(alloc, wsize, told, turn, back)
@@ -308,7 +320,8 @@ impl Saving {
         ensures saving { self.new ≡ last_saving (commit_again told sent turn repeats.old self.old) self.old }
         ensures repeats { repeats.new ≡ commit_repeats told sent turn repeats.old self.old }
     {
-        if again(self.may_again(fails_busy(&told)), sent, turn, repeats) {
+        if again(self.may_commit(&told), sent, turn, repeats) {
+            self.put_off += 1;
             return SavingNext::Send(commit_of(&self.file));
         }
         self.waiting = self.waiting.saturating_sub(1);

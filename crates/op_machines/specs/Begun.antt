@@ -62,7 +62,7 @@ abbrev pub open_of : Mounted → ℕ → ℕ → Mode → List ℕ → Opener
 open_of m lane slot mode name = openers.Open (record {
   lane = lane;
   slot = slot;
-  opening = record { dir = m.root; name = name; mode = mode; nocto = m.nocto; moment = 0; step = first_step mode; asked = false };
+  opening = record { dir = m.root; name = name; mode = mode; nocto = m.nocto; moment = 0; step = first_step mode; asked = false; put_off = 0 };
 })
 
 abbrev pub put_of : Mounted → ℕ → List ℕ → ℕ → List ℕ → Opener

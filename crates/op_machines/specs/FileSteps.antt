@@ -20,7 +20,7 @@ use Rattle.file_ops.specs.declared.put_file.PutFile.{PutFile}
 use Rattle.file_ops.specs.declared.put_file.Putting.TheVariants.{Opens}
 use Rattle.client_shelf.specs.Busy.{repeats_after}
 use Rattle.client_shelf.specs.Learning.{Learns}
-use Rattle.file_ops.specs.Opening.{go_next, go_after, NotesAttrs, NotesNames, opening_again, told_led, ends_busy}
+use Rattle.file_ops.specs.Opening.{go_next, go_after, NotesAttrs, NotesNames, opening_again, told_led, may_again}
 use Rattle.file_ops.specs.OpenFile as opens
 use Rattle.file_ops.specs.ReadFile as reads
 use Rattle.file_ops.specs.WriteFile as writes
@@ -49,7 +49,7 @@ pub record OpenTakes (m : OpenFile) (sent turn : Turn) (came : Result Reply Faul
   pub machine_is : new ≡ machines.Open (opens.took_after (opening_again m.opening sent turn came old.repeats) m turn came after.attrs old.pages)
   pub attrs : NotesAttrs m.opening sent.now came m.opening.step old.attrs after.attrs
   pub names : NotesNames m.opening came m.opening.step old.names after.names
-  pub repeats : after.repeats ≡ repeats_after (ends_busy (told_led m.opening came)) sent turn old.repeats
+  pub repeats : after.repeats ≡ repeats_after (may_again m.opening (told_led m.opening came)) sent turn old.repeats
   pub others : after ≡ record old { pages = after.pages; attrs = after.attrs; names = after.names; opens = after.opens; repeats = after.repeats }
 
 -- ---- reads

@@ -27,7 +27,7 @@ begun_at moment (openers.Put m) = openers.Put (record m { opening = record m.ope
 
 -- It starts from a directory, and made no call yet.
 abbrev pub opening_in : List ℕ → Opening → Opening
-opening_in dir o = record { dir = dir; name = o.name; mode = o.mode; nocto = o.nocto; moment = o.moment; step = first_step o.mode; asked = false }
+opening_in dir o = record { dir = dir; name = o.name; mode = o.mode; nocto = o.nocto; moment = o.moment; step = first_step o.mode; asked = false; put_off = 0 }
 
 abbrev pub placed : List ℕ → Opener → Opener
 placed dir (openers.Open m) = openers.Open (record m { opening = opening_in dir m.opening })

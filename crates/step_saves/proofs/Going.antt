@@ -29,8 +29,8 @@ use Rattle.step_saves.specs.Saves.{IsClearUpTo, EachUpTo, IsLost, AreAgain, Phas
 use Rattle.step_saves.proofs.Pieces.{none-of, again-append}
 use Rattle.step_saves.proofs.Places.{held-then, clear-then, lost-sent, sent-again}
 
-abbrev pub saving : List ℕ → ℕ → Phase → ℕ → Option Fault → Saving
-saving file upto phase waiting refusal = record { file = file; upto = upto; phase = phase; waiting = waiting; refusal = refusal }
+abbrev pub saving : ℕ → List ℕ → ℕ → Phase → ℕ → Option Fault → Saving
+saving put_off file upto phase waiting refusal = record { file = file; upto = upto; phase = phase; waiting = waiting; refusal = refusal; put_off = put_off }
 
 -- ---- what a step leads to
 
@@ -70,36 +70,36 @@ zero-is n le = omega (arith, le)
 
 -- ---- once all was sent
 
-module _ (file : List ℕ) (upto wsize : ℕ) (back : Pending) (some : 1 ≤ wsize) (none : chosen upto wsize (of_file file back) ≡ []) (waiting : ℕ) where
+module _ (put_off : ℕ) (file : List ℕ) (upto wsize : ℕ) (back : Pending) (some : 1 ≤ wsize) (none : chosen upto wsize (of_file file back) ≡ []) (waiting : ℕ) where
   abbrev SentAll : Bool → Phase → Type 0
   SentAll by_reply phase =
-      Leaves (sync_next (saves.next_sent by_reply (saving file upto phase waiting None))) (saving file upto phase waiting None) (saves.saving_sent by_reply (saving file upto phase waiting None)) back
+      Leaves (sync_next (saves.next_sent by_reply (saving put_off file upto phase waiting None))) (saving put_off file upto phase waiting None) (saves.saving_sent by_reply (saving put_off file upto phase waiting None)) back
 
-  quiet-then : (phase : Phase) → IsUnderWay (saving file upto phase waiting None) back → nat_lt 0 waiting ≡ false → (of_file file back).pieces ≡ []
+  quiet-then : (phase : Phase) → IsUnderWay (saving put_off file upto phase waiting None) back → nat_lt 0 waiting ≡ false → (of_file file back).pieces ≡ []
   quiet-then phase way h = quiet-when phase waiting (of_file file back).pieces way.counts (zero-is waiting (ltb-false 0 waiting h))
 
-  first-sent : (by_reply : Bool) → IsUnderWay (saving file upto Sending waiting None) back → (lt : Bool) → nat_lt 0 waiting ≡ lt → SentAll by_reply Sending
-  first-sent by_reply way true h = rw h (stays-on (saving file upto Sending waiting None) back way)
+  first-sent : (by_reply : Bool) → IsUnderWay (saving put_off file upto Sending waiting None) back → (lt : Bool) → nat_lt 0 waiting ≡ lt → SentAll by_reply Sending
+  first-sent by_reply way true h = rw h (stays-on (saving put_off file upto Sending waiting None) back way)
   first-sent by_reply way false h =
       let quiet = quiet-then Sending way h in
-      let commits : IsUnderWay (saving file upto Committing 1 None) back = record { counts = (refl, quiet); has = held-then upto wsize (of_file file back) some none quiet } in
-      let on : GoesOn (saving file upto Sending waiting None) (saving file upto Committing 1 None) back = record { file = refl; upto = refl; so = commits } in
+      let commits : IsUnderWay (saving put_off file upto Committing 1 None) back = record { counts = (refl, quiet); has = held-then upto wsize (of_file file back) some none quiet } in
+      let on : GoesOn (saving put_off file upto Sending waiting None) (saving put_off file upto Committing 1 None) back = record { file = refl; upto = refl; so = commits } in
       rw h on
 
-  again-sent : (by_reply : Bool) → IsUnderWay (saving file upto Resending waiting None) back → (lt : Bool) → nat_lt 0 waiting ≡ lt → SentAll by_reply Resending
-  again-sent true way true h = rw h (stays-on (saving file upto Resending waiting None) back way)
-  again-sent false way true h = rw h (stays-on (saving file upto Resending waiting None) back way)
+  again-sent : (by_reply : Bool) → IsUnderWay (saving put_off file upto Resending waiting None) back → (lt : Bool) → nat_lt 0 waiting ≡ lt → SentAll by_reply Resending
+  again-sent true way true h = rw h (stays-on (saving put_off file upto Resending waiting None) back way)
+  again-sent false way true h = rw h (stays-on (saving put_off file upto Resending waiting None) back way)
   again-sent true way false h =
       let quiet = quiet-then Resending way h in
-      let saved : IsSaved (saving file upto Resending waiting None) back = record { quiet = quiet; clear = clear-then upto wsize (of_file file back) some none quiet way.has.0 } in
+      let saved : IsSaved (saving put_off file upto Resending waiting None) back = record { quiet = quiet; clear = clear-then upto wsize (of_file file back) some none quiet way.has.0 } in
       rw h saved
   again-sent false way false h =
       let quiet = quiet-then Resending way h in
-      let commits : IsUnderWay (saving file upto CommittingAgain 1 None) back = record { counts = (refl, quiet); has = clear-then upto wsize (of_file file back) some none quiet way.has.0 } in
-      let on : GoesOn (saving file upto Resending waiting None) (saving file upto CommittingAgain 1 None) back = record { file = refl; upto = refl; so = commits } in
+      let commits : IsUnderWay (saving put_off file upto CommittingAgain 1 None) back = record { counts = (refl, quiet); has = clear-then upto wsize (of_file file back) some none quiet way.has.0 } in
+      let on : GoesOn (saving put_off file upto Resending waiting None) (saving put_off file upto CommittingAgain 1 None) back = record { file = refl; upto = refl; so = commits } in
       rw h on
 
-  sent-all : (by_reply : Bool) (phase : Phase) → saves.is_sending phase ≡ true → IsUnderWay (saving file upto phase waiting None) back → SentAll by_reply phase
+  sent-all : (by_reply : Bool) (phase : Phase) → saves.is_sending phase ≡ true → IsUnderWay (saving put_off file upto phase waiting None) back → SentAll by_reply phase
   sent-all by_reply Sending sends way = first-sent by_reply way (nat_lt 0 waiting) refl
   sent-all by_reply Committing sends way = absurd cc
   sent-all by_reply Resending sends way = again-sent by_reply way (nat_lt 0 waiting) refl
@@ -131,54 +131,54 @@ module _ (file : List ℕ) (upto wsize xid : ℕ) (back after : Pending) (e : �
       (again-append (of_file file back).pieces (piece_of xid e (e ∷ es)) all
       (sent-again wsize (piece_of xid e (e ∷ es)) upto (of_file file back) (of_file file after) fits puts.1 lost first flown.0 flown.1))
 
-  sends-on : (phase : Phase) (waiting : ℕ) → saves.is_sending phase ≡ true → IsUnderWay (saving file upto phase waiting None) back → IsUnderWay (saving file upto phase (waiting + 1) None) after
-  sends-on Sending waiting sends way = record { counts = one-more waiting way.counts; has = tt }
-  sends-on Committing waiting sends way = absurd cc
-  sends-on Resending waiting sends way = record {
+  sends-on : (put_off : ℕ) (phase : Phase) (waiting : ℕ) → saves.is_sending phase ≡ true → IsUnderWay (saving put_off file upto phase waiting None) back → IsUnderWay (saving put_off file upto phase (waiting + 1) None) after
+  sends-on put_off Sending waiting sends way = record { counts = one-more waiting way.counts; has = tt }
+  sends-on put_off Committing waiting sends way = absurd cc
+  sends-on put_off Resending waiting sends way = record {
     counts = one-more waiting way.counts;
     has = (lost-sent (piece_of xid e (e ∷ es)) upto upto (of_file file back) (of_file file after) puts.1 way.has.0, again-then way.has.0 way.has.1);
   }
-  sends-on CommittingAgain waiting sends way = absurd cc
+  sends-on put_off CommittingAgain waiting sends way = absurd cc
 
 -- ---- the step
 
-module _ (file : List ℕ) (upto wsize xid : ℕ) (room by_reply : Bool) (some : 1 ≤ wsize) (back : Pending) (sound : IsSound (of_file file back)) where
+module _ (put_off : ℕ) (file : List ℕ) (upto wsize xid : ℕ) (room by_reply : Bool) (some : 1 ≤ wsize) (back : Pending) (sound : IsSound (of_file file back)) where
   sends : (phase : Phase) (waiting : ℕ) (run : Segments) (next : _) (new : Saving) (after : Pending) → saves.is_sending phase ≡ true
-      → IsUnderWay (saving file upto phase waiting None) back → chosen upto wsize (of_file file back) ≡ run
-      → saves.Sends xid by_reply run (saving file upto phase waiting None) back next new after → Leaves (sync_next next) (saving file upto phase waiting None) new after
+      → IsUnderWay (saving put_off file upto phase waiting None) back → chosen upto wsize (of_file file back) ≡ run
+      → saves.Sends xid by_reply run (saving put_off file upto phase waiting None) back next new after → Leaves (sync_next next) (saving put_off file upto phase waiting None) new after
   sends phase waiting run next new after on way is (inr l) =
-      leads-leaves (saves.refused_next waiting Memory) (saving file upto phase waiting None) next (saving file upto phase waiting None) new after l.0
-      (subst (λ (p : Pending). Leaves (sync_next (saves.refused_next waiting Memory)) (saving file upto phase waiting None) (saving file upto phase waiting None) p) (sym l.1)
-      (refused-leaves (saving file upto phase waiting None) back Memory way))
+      leads-leaves (saves.refused_next waiting Memory) (saving put_off file upto phase waiting None) next (saving put_off file upto phase waiting None) new after l.0
+      (subst (λ (p : Pending). Leaves (sync_next (saves.refused_next waiting Memory)) (saving put_off file upto phase waiting None) (saving put_off file upto phase waiting None) p) (sym l.1)
+      (refused-leaves (saving put_off file upto phase waiting None) back Memory way))
   sends phase waiting [] next new after on way is (inl r) =
-      leads-leaves (saves.next_sent by_reply (saving file upto phase waiting None)) (saves.saving_sent by_reply (saving file upto phase waiting None)) next (saving file upto phase waiting None) new after r.0
-      (subst (λ (p : Pending). Leaves (sync_next (saves.next_sent by_reply (saving file upto phase waiting None))) (saving file upto phase waiting None) (saves.saving_sent by_reply (saving file upto phase waiting None)) p) (sym r.1)
-      (sent-all file upto wsize back some is waiting by_reply phase on way))
+      leads-leaves (saves.next_sent by_reply (saving put_off file upto phase waiting None)) (saves.saving_sent by_reply (saving put_off file upto phase waiting None)) next (saving put_off file upto phase waiting None) new after r.0
+      (subst (λ (p : Pending). Leaves (sync_next (saves.next_sent by_reply (saving put_off file upto phase waiting None))) (saving put_off file upto phase waiting None) (saves.saving_sent by_reply (saving put_off file upto phase waiting None)) p) (sym r.1)
+      (sent-all put_off file upto wsize back some is waiting by_reply phase on way))
   sends phase waiting (e ∷ es) next new after on way is (inl r) =
-      leads-leaves _ (saving file upto phase (waiting + 1) None) next (saving file upto phase waiting None) new after r.0
-      (record { file = refl; upto = refl; so = sends-on file upto wsize xid back after e es sound is r.1 phase waiting on way })
+      leads-leaves _ (saving put_off file upto phase (waiting + 1) None) next (saving put_off file upto phase waiting None) new after r.0
+      (record { file = refl; upto = refl; so = sends-on file upto wsize xid back after e es sound is r.1 put_off phase waiting on way })
 
-  sends-if : (phase : Phase) (waiting : ℕ) (b : Bool) (next : _) (new : Saving) (after : Pending) → saves.may_send room (saving file upto phase waiting None) ≡ b
-      → IsUnderWay (saving file upto phase waiting None) back
-      → saves.SendsIf b xid by_reply (chosen upto wsize (of_file file back)) (saving file upto phase waiting None) back next new after → Leaves (sync_next next) (saving file upto phase waiting None) new after
+  sends-if : (phase : Phase) (waiting : ℕ) (b : Bool) (next : _) (new : Saving) (after : Pending) → saves.may_send room (saving put_off file upto phase waiting None) ≡ b
+      → IsUnderWay (saving put_off file upto phase waiting None) back
+      → saves.SendsIf b xid by_reply (chosen upto wsize (of_file file back)) (saving put_off file upto phase waiting None) back next new after → Leaves (sync_next next) (saving put_off file upto phase waiting None) new after
   sends-if phase waiting true next new after may way g =
       let both = and_parts (room && saves.is_sending phase) (nat_lt waiting 32) may in
       sends phase waiting (chosen upto wsize (of_file file back)) next new after (and_parts room (saves.is_sending phase) both.0).1 way refl g
   sends-if phase waiting false next new after may way g =
-      leads-leaves _ (saving file upto phase waiting None) next (saving file upto phase waiting None) new after g.0
-      (subst (λ (p : Pending). GoesOn (saving file upto phase waiting None) (saving file upto phase waiting None) p) (sym g.1) (stays-on (saving file upto phase waiting None) back way))
+      leads-leaves _ (saving put_off file upto phase waiting None) next (saving put_off file upto phase waiting None) new after g.0
+      (subst (λ (p : Pending). GoesOn (saving put_off file upto phase waiting None) (saving put_off file upto phase waiting None) p) (sym g.1) (stays-on (saving put_off file upto phase waiting None) back way))
 
-  goes-over : (phase : Phase) (waiting : ℕ) (refusal : Option Fault) (next : _) (new : Saving) (after : Pending) → IsUnderWay (saving file upto phase waiting refusal) back
-      → saves.GoesOver refusal wsize xid room by_reply (saving file upto phase waiting refusal) back next new after → Leaves (sync_next next) (saving file upto phase waiting refusal) new after
+  goes-over : (phase : Phase) (waiting : ℕ) (refusal : Option Fault) (next : _) (new : Saving) (after : Pending) → IsUnderWay (saving put_off file upto phase waiting refusal) back
+      → saves.GoesOver refusal wsize xid room by_reply (saving put_off file upto phase waiting refusal) back next new after → Leaves (sync_next next) (saving put_off file upto phase waiting refusal) new after
   goes-over phase waiting (Some fault) next new after way g =
-      leads-leaves (saves.refused_next waiting fault) (saving file upto phase waiting (Some fault)) next (saving file upto phase waiting (Some fault)) new after g.0
-      (subst (λ (p : Pending). Leaves (sync_next (saves.refused_next waiting fault)) (saving file upto phase waiting (Some fault)) (saving file upto phase waiting (Some fault)) p) (sym g.1)
-      (refused-leaves (saving file upto phase waiting (Some fault)) back fault way))
-  goes-over phase waiting None next new after way g = sends-if phase waiting (saves.may_send room (saving file upto phase waiting None)) next new after refl way g
+      leads-leaves (saves.refused_next waiting fault) (saving put_off file upto phase waiting (Some fault)) next (saving put_off file upto phase waiting (Some fault)) new after g.0
+      (subst (λ (p : Pending). Leaves (sync_next (saves.refused_next waiting fault)) (saving put_off file upto phase waiting (Some fault)) (saving put_off file upto phase waiting (Some fault)) p) (sym g.1)
+      (refused-leaves (saving put_off file upto phase waiting (Some fault)) back fault way))
+  goes-over phase waiting None next new after way g = sends-if phase waiting (saves.may_send room (saving put_off file upto phase waiting None)) next new after refl way g
 
 pub goes-leaves : (wsize xid : ℕ) (room by_reply : Bool) (s : Saving) (back : Pending) (next : _) (new : Saving) (after : Pending) → 1 ≤ wsize → IsSound (of_file s.file back) → IsUnderWay s back
     → saves.Goes wsize xid room by_reply s back next new after → Leaves (sync_next next) s new after
-goes-leaves wsize xid room by_reply s back next new after some sound way g = goes-over s.file s.upto wsize xid room by_reply some back sound s.phase s.waiting s.refusal next new after way g
+goes-leaves wsize xid room by_reply s back next new after some sound way g = goes-over s.put_off s.file s.upto wsize xid room by_reply some back sound s.phase s.waiting s.refusal next new after way g
 
 -- ---- what is pending stays sound
 

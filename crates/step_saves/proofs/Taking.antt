@@ -115,15 +115,19 @@ module _ (file : List ℕ) (upto asked : ℕ) (back between : Pending) (piece : 
     lands-has (fails fault same on) has = let no_way : None ≡ Some fault = same in absurd cc
     lands-has (refuses fault status same on) has = let no_way : None ≡ Some fault = same in absurd cc
 
-    lands-on : (phase : Phase) (waiting : ℕ) (refusal now : Option Fault) → saves.is_sending phase ≡ true → Outcome asked file piece.how came back between now
-        → IsUnderWay (saving file upto phase waiting refusal) back → IsUnderWay (saves.refused_by now (saving file upto phase (waiting - 1) refusal)) between
-    lands-on Sending waiting refusal None sends outcome way = record { counts = fewer waiting way.counts; has = tt }
-    lands-on Sending waiting refusal (Some fault) sends outcome way = record { counts = fewer waiting way.counts; has = tt }
-    lands-on Resending waiting refusal (Some fault) sends outcome way = record { counts = fewer waiting way.counts; has = tt }
-    lands-on Resending waiting (Some first) None sends outcome way = record { counts = fewer waiting way.counts; has = tt }
-    lands-on Resending waiting None None sends outcome way = record { counts = fewer waiting way.counts; has = lands-has outcome way.has }
-    lands-on Committing waiting refusal now sends outcome way = absurd cc
-    lands-on CommittingAgain waiting refusal now sends outcome way = absurd cc
+    lands-on : (put_off : ℕ) (phase : Phase) (waiting : ℕ) (refusal now : Option Fault) → saves.is_sending phase ≡ true → Outcome asked file piece.how came back between now
+        → IsUnderWay (saving put_off file upto phase waiting refusal) back → IsUnderWay (saves.refused_by now (saving put_off file upto phase (waiting - 1) refusal)) between
+    lands-on put_off Sending waiting refusal None sends outcome way = record { counts = fewer waiting way.counts; has = tt }
+    lands-on put_off Sending waiting refusal (Some fault) sends outcome way = record { counts = fewer waiting way.counts; has = tt }
+    lands-on put_off Resending waiting refusal (Some fault) sends outcome way = record { counts = fewer waiting way.counts; has = tt }
+    lands-on put_off Resending waiting (Some first) None sends outcome way = record { counts = fewer waiting way.counts; has = tt }
+    lands-on put_off Resending waiting None None sends outcome way = record { counts = fewer waiting way.counts; has = lands-has outcome way.has }
+    lands-on put_off Committing waiting refusal now sends outcome way = absurd cc
+    lands-on put_off CommittingAgain waiting refusal now sends outcome way = absurd cc
+
+-- its COMMIT was put off once more
+counts-on : (s : Saving) (back : Pending) → IsUnderWay s back → GoesOn s (saves.put_off_more s) back
+counts-on s back way = record { file = refl; upto = refl; so = record { counts = way.counts; has = way.has } }
 
 pub lands-sound : (asked : ℕ) (file : List ℕ) (how : ℕ) (came : Result Reply Fault) (old new : Pending) (now : Option Fault) → EachSound old → Outcome asked file how came old new now → EachSound new
 lands-sound asked file how came old new now sound (did wcc count firm verf is enough same on) = sound-acked old new file asked count firm verf sound on
@@ -168,7 +172,7 @@ module _ (wsize : ℕ) (turn : Turn) (some : 1 ≤ wsize) (s : Saving) (back : P
         let outcome : Outcome sent.xid s.file piece.how came back t.between t.refusal = outcomes t.between t.refusal t.lands in
         let mid : EachSound t.between = lands-sound sent.xid s.file piece.how came back t.between t.refusal sound outcome in
         let on : IsUnderWay (saves.refused_by t.refusal (saves.less_waiting s)) t.between =
-        lands-on s.file s.upto sent.xid back t.between piece found (sound s.file) came (lands-out sent.xid s.file told back t.between t.refusal t.lands).here s.phase s.waiting s.refusal t.refusal sends outcome way in
+        lands-on s.file s.upto sent.xid back t.between piece found (sound s.file) came (lands-out sent.xid s.file told back t.between t.refusal t.lands).here s.put_off s.phase s.waiting s.refusal t.refusal sends outcome way in
         let same = refused-file t.refusal (saves.less_waiting s) in
         leaves-as (sync_next next) (saves.refused_by t.refusal (saves.less_waiting s)) s new after same.0 same.1
         (goes-leaves wsize turn.xid turn.room t.counts (saves.refused_by t.refusal (saves.less_waiting s)) t.between next new after some (mid (saves.refused_by t.refusal (saves.less_waiting s)).file) on t.goes)
@@ -199,7 +203,7 @@ module _ (wsize : ℕ) (turn : Turn) (some : 1 ≤ wsize) (s : Saving) (back : P
 
 -- ---- a COMMIT's reply
 
-module _ (file : List ℕ) (upto : ℕ) (verf : Verf) (back between : Pending) (sound : IsSound (of_file file back)) (on : OnFile back between file (decided upto verf (of_file file back)))
+module _ (put_off : ℕ) (file : List ℕ) (upto : ℕ) (verf : Verf) (back between : Pending) (sound : IsSound (of_file file back)) (on : OnFile back between file (decided upto verf (of_file file back)))
     (quiet : (of_file file back).pieces ≡ []) (held : EachUpTo upto IsHeld (of_file file back)) where
   rests : (place : ℕ) → rest_at (of_file file between) place ≡ cell_decided upto verf (rest_at (of_file file back) place)
   rests place = ap (λ (of : FilePending). rest_at of place) on.here ∙ rests-decided upto verf (of_file file back) sound place
@@ -207,73 +211,73 @@ module _ (file : List ℕ) (upto : ℕ) (verf : Verf) (back between : Pending) (
   none-then : (of_file file between).pieces ≡ []
   none-then = ap (λ (of : FilePending). of.pieces) on.here ∙ quiet
 
-  all-stable : verdict_of (lost verf upto (of_file file back).segments) ≡ AllStable → IsSaved (saving file upto Committing 0 None) between
+  all-stable : verdict_of (lost verf upto (of_file file back).segments) ≡ AllStable → IsSaved (saving put_off file upto Committing 0 None) between
   all-stable is =
       let under : IsAllUnder upto verf (of_file file back) = (stable-is verf upto (of_file file back) (verdict_of (lost verf upto (of_file file back).segments)) sound refl).0 is in
       record { quiet = none-then; clear = clear-decided upto verf (of_file file back) (of_file file between) rests held under none-then }
 
-  resends : (waiting : ℕ) (refusal : Option Fault) → waiting ≡ 1 → IsUnderWay (saving file upto Resending (waiting - 1) refusal) between
+  resends : (waiting : ℕ) (refusal : Option Fault) → waiting ≡ 1 → IsUnderWay (saving put_off file upto Resending (waiting - 1) refusal) between
   resends waiting None one = record { counts = ap length none-then ∙ omega (arith, one); has = (lost-decided upto verf (of_file file back) (of_file file between) rests held, subst AreAgain (sym none-then) tt) }
   resends waiting (Some fault) one = record { counts = ap length none-then ∙ omega (arith, one); has = tt }
 
-module _ (file : List ℕ) (upto wsize : ℕ) (turn : Turn) (some : 1 ≤ wsize) (waiting : ℕ) (refusal : Option Fault) (back : Pending) (sound : EachSound back)
-    (way : IsUnderWay (saving file upto Committing waiting refusal) back) (next : _) (new : Saving) (after : Pending) where
+module _ (put_off : ℕ) (file : List ℕ) (upto wsize : ℕ) (turn : Turn) (some : 1 ≤ wsize) (waiting : ℕ) (refusal : Option Fault) (back : Pending) (sound : EachSound back)
+    (way : IsUnderWay (saving put_off file upto Committing waiting refusal) back) (next : _) (new : Saving) (after : Pending) where
   decides-leaves : (verf : Verf) (between : Pending) (verdict : Verdict) → OnFile back between file (decided upto verf (of_file file back)) → verdict_of (lost verf upto (of_file file back).segments) ≡ verdict
-      → saves.Decides verdict wsize turn.xid turn.room (saves.less_waiting (saving file upto Committing waiting refusal)) between next new after → Leaves (sync_next next) (saving file upto Committing waiting refusal) new after
+      → saves.Decides verdict wsize turn.xid turn.room (saves.less_waiting (saving put_off file upto Committing waiting refusal)) between next new after → Leaves (sync_next next) (saving put_off file upto Committing waiting refusal) new after
   decides-leaves verf between AllStable on is d =
-      let saved = all-stable file upto verf back between (sound file) on way.counts.1 way.has is in
-      let here : IsSaved (saving file upto Committing waiting refusal) between = record { quiet = saved.quiet; clear = saved.clear } in
-      leads-leaves _ (saves.less_waiting (saving file upto Committing waiting refusal)) next (saving file upto Committing waiting refusal) new after d.0
-      (subst (λ (p : Pending). IsSaved (saving file upto Committing waiting refusal) p) (sym d.1) here)
+      let saved = all-stable put_off file upto verf back between (sound file) on way.counts.1 way.has is in
+      let here : IsSaved (saving put_off file upto Committing waiting refusal) between = record { quiet = saved.quiet; clear = saved.clear } in
+      leads-leaves _ (saves.less_waiting (saving put_off file upto Committing waiting refusal)) next (saving put_off file upto Committing waiting refusal) new after d.0
+      (subst (λ (p : Pending). IsSaved (saving put_off file upto Committing waiting refusal) p) (sym d.1) here)
   decides-leaves verf between (SendAgain count) on is d =
       let mid : EachSound between = sound-heard back between file upto verf sound on in
-      leaves-as (sync_next next) (saving file upto Resending (waiting - 1) refusal) (saving file upto Committing waiting refusal) new after refl refl
-      (goes-leaves wsize turn.xid turn.room false (saving file upto Resending (waiting - 1) refusal) between next new after some (mid file)
-      (resends file upto verf back between (sound file) on way.counts.1 way.has waiting refusal way.counts.0) d)
+      leaves-as (sync_next next) (saving put_off file upto Resending (waiting - 1) refusal) (saving put_off file upto Committing waiting refusal) new after refl refl
+      (goes-leaves wsize turn.xid turn.room false (saving put_off file upto Resending (waiting - 1) refusal) between next new after some (mid file)
+      (resends put_off file upto verf back between (sound file) on way.counts.1 way.has waiting refusal way.counts.0) d)
 
-  commit-leaves : (told : Result Verf Fault) → saves.TakesCommit wsize turn.xid turn.room told (saves.less_waiting (saving file upto Committing waiting refusal)) back next new after
-      → Leaves (sync_next next) (saving file upto Committing waiting refusal) new after
+  commit-leaves : (told : Result Verf Fault) → saves.TakesCommit wsize turn.xid turn.room told (saves.less_waiting (saving put_off file upto Committing waiting refusal)) back next new after
+      → Leaves (sync_next next) (saving put_off file upto Committing waiting refusal) new after
   commit-leaves (Ok verf) t = decides-leaves verf t.between (verdict_of (lost verf upto (of_file file back).segments)) t.decides refl t.goes
   commit-leaves (Err fault) t =
-      leads-leaves _ (saves.less_waiting (saving file upto Committing waiting refusal)) next (saving file upto Committing waiting refusal) new after t.0
+      leads-leaves _ (saves.less_waiting (saving put_off file upto Committing waiting refusal)) next (saving put_off file upto Committing waiting refusal) new after t.0
       (subst (λ (p : Pending). HasNoPiece file p) (sym t.1) way.counts.1)
 
-  first-leaves : (again : Bool) (told : Result Verf Fault) → saves.TakesFirst again wsize turn told (saving file upto Committing waiting refusal) back next new after
-      → Leaves (sync_next next) (saving file upto Committing waiting refusal) new after
+  first-leaves : (again : Bool) (told : Result Verf Fault) → saves.TakesFirst again wsize turn told (saving put_off file upto Committing waiting refusal) back next new after
+      → Leaves (sync_next next) (saving put_off file upto Committing waiting refusal) new after
   first-leaves true told t =
-      leads-leaves _ (saving file upto Committing waiting refusal) next (saving file upto Committing waiting refusal) new after t.0
-      (subst (λ (p : Pending). GoesOn (saving file upto Committing waiting refusal) (saving file upto Committing waiting refusal) p) (sym t.1) (stays-on (saving file upto Committing waiting refusal) back way))
+      leads-leaves _ (saves.put_off_more (saving put_off file upto Committing waiting refusal)) next (saving put_off file upto Committing waiting refusal) new after t.0
+      (subst (λ (p : Pending). GoesOn (saving put_off file upto Committing waiting refusal) (saves.put_off_more (saving put_off file upto Committing waiting refusal)) p) (sym t.1) (counts-on (saving put_off file upto Committing waiting refusal) back way))
   first-leaves false told t = commit-leaves told t
 
 -- the reply to the second COMMIT
 last-leaves : (s : Saving) (back : Pending) (again : Bool) (told : Result Verf Fault) → HasNoPiece s.file back → IsClearUpTo s.upto (of_file s.file back) → IsUnderWay s back
     → Leaves (sync_next (saves.last_next again told s)) s (saves.last_saving again s) back
-last-leaves s back true told quiet clear way = stays-on s back way
+last-leaves s back true told quiet clear way = counts-on s back way
 last-leaves s back false (Ok verf) quiet clear way = record { quiet = quiet; clear = clear }
 last-leaves s back false (Err fault) quiet clear way = quiet
 
 -- ---- the step
 
-module _ (wsize : ℕ) (sent turn : Turn) (came : Result Reply Fault) (repeats : List Repeat) (some : 1 ≤ wsize) (file : List ℕ) (upto waiting : ℕ) (refusal : Option Fault)
+module _ (wsize : ℕ) (sent turn : Turn) (came : Result Reply Fault) (repeats : List Repeat) (some : 1 ≤ wsize) (put_off : ℕ) (file : List ℕ) (upto waiting : ℕ) (refusal : Option Fault)
     (back : Pending) (sound : EachSound back) (next : _) (new : Saving) (after : Pending) (later : List Repeat) where
-  by-phase : (phase : Phase) → IsUnderWay (saving file upto phase waiting refusal) back → IsAwaited (saving file upto phase waiting refusal) sent.xid back
-      → saves.TakesIn phase wsize sent turn came repeats (saving file upto phase waiting refusal) back next new after later → Leaves (sync_next next) (saving file upto phase waiting refusal) new after
-  by-phase Sending way awaited t = told-by wsize turn some (saving file upto Sending waiting refusal) back sound way next new after sent came repeats later refl awaited t
-  by-phase Resending way awaited t = told-by wsize turn some (saving file upto Resending waiting refusal) back sound way next new after sent came repeats later refl awaited t
+  by-phase : (phase : Phase) → IsUnderWay (saving put_off file upto phase waiting refusal) back → IsAwaited (saving put_off file upto phase waiting refusal) sent.xid back
+      → saves.TakesIn phase wsize sent turn came repeats (saving put_off file upto phase waiting refusal) back next new after later → Leaves (sync_next next) (saving put_off file upto phase waiting refusal) new after
+  by-phase Sending way awaited t = told-by wsize turn some (saving put_off file upto Sending waiting refusal) back sound way next new after sent came repeats later refl awaited t
+  by-phase Resending way awaited t = told-by wsize turn some (saving put_off file upto Resending waiting refusal) back sound way next new after sent came repeats later refl awaited t
   by-phase Committing way awaited t =
-      first-leaves file upto wsize turn some waiting refusal back sound way next new after
-      (saves.commit_again (commit_told came) sent turn repeats (saving file upto Committing waiting refusal)) (commit_told came) t.0
+      first-leaves put_off file upto wsize turn some waiting refusal back sound way next new after
+      (saves.commit_again (commit_told came) sent turn repeats (saving put_off file upto Committing waiting refusal)) (commit_told came) t.0
   by-phase CommittingAgain way awaited t =
-      leads-leaves _ (saves.last_saving (saves.commit_again (commit_told came) sent turn repeats (saving file upto CommittingAgain waiting refusal)) (saving file upto CommittingAgain waiting refusal)) next
-      (saving file upto CommittingAgain waiting refusal) new after t.0
-      (subst (λ (p : Pending). Leaves (sync_next (saves.last_next (saves.commit_again (commit_told came) sent turn repeats (saving file upto CommittingAgain waiting refusal)) (commit_told came) (saving file upto CommittingAgain waiting refusal)))
-      (saving file upto CommittingAgain waiting refusal) (saves.last_saving (saves.commit_again (commit_told came) sent turn repeats (saving file upto CommittingAgain waiting refusal)) (saving file upto CommittingAgain waiting refusal)) p) (sym t.1)
-      (last-leaves (saving file upto CommittingAgain waiting refusal) back (saves.commit_again (commit_told came) sent turn repeats (saving file upto CommittingAgain waiting refusal)) (commit_told came) way.counts.1 way.has way))
+      leads-leaves _ (saves.last_saving (saves.commit_again (commit_told came) sent turn repeats (saving put_off file upto CommittingAgain waiting refusal)) (saving put_off file upto CommittingAgain waiting refusal)) next
+      (saving put_off file upto CommittingAgain waiting refusal) new after t.0
+      (subst (λ (p : Pending). Leaves (sync_next (saves.last_next (saves.commit_again (commit_told came) sent turn repeats (saving put_off file upto CommittingAgain waiting refusal)) (commit_told came) (saving put_off file upto CommittingAgain waiting refusal)))
+      (saving put_off file upto CommittingAgain waiting refusal) (saves.last_saving (saves.commit_again (commit_told came) sent turn repeats (saving put_off file upto CommittingAgain waiting refusal)) (saving put_off file upto CommittingAgain waiting refusal)) p) (sym t.1)
+      (last-leaves (saving put_off file upto CommittingAgain waiting refusal) back (saves.commit_again (commit_told came) sent turn repeats (saving put_off file upto CommittingAgain waiting refusal)) (commit_told came) way.counts.1 way.has way))
 
 pub takes-leaves : (wsize : ℕ) (sent turn : Turn) (came : Result Reply Fault) (repeats : List Repeat) (s : Saving) (back : Pending) (next : _) (new : Saving) (after : Pending) (later : List Repeat)
     → 1 ≤ wsize → EachSound back → IsUnderWay s back → IsAwaited s sent.xid back → saves.Takes wsize sent turn came repeats s back next new after later → Leaves (sync_next next) s new after
 takes-leaves wsize sent turn came repeats s back next new after later some sound way awaited t =
-    by-phase wsize sent turn came repeats some s.file s.upto s.waiting s.refusal back sound next new after later s.phase way awaited t
+    by-phase wsize sent turn came repeats some s.put_off s.file s.upto s.waiting s.refusal back sound next new after later s.phase way awaited t
 
 -- ---- what is pending stays sound
 

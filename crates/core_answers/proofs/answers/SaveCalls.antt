@@ -121,11 +121,11 @@ commit-calls (Err fault) wsize xid room s back next new after t = leads-calls _ 
 
 first-calls : (more : Bool) (told : Result Verf Fault) (wsize : ℕ) (turn : Turn) (s : Saving) (back : Pending) (next : _) (new : Saving) (after : Pending) → saves.is_sending s.phase ≡ false
     → saves.TakesFirst more wsize turn told s back next new after → CallSo (syncs.sync_next next) new
-first-calls true told wsize turn s back next new after idle t = leads-calls _ s next new t.0 (a-commit s idle)
+first-calls true told wsize turn s back next new after idle t = leads-calls _ (saves.put_off_more s) next new t.0 (a-commit (saves.put_off_more s) idle)
 first-calls false told wsize turn s back next new after idle t = commit-calls told wsize turn.xid turn.room (saves.less_waiting s) back next new after t
 
 last-calls : (more : Bool) (told : Result Verf Fault) (s : Saving) → saves.is_sending s.phase ≡ false → CallSo (syncs.sync_next (saves.last_next more told s)) (saves.last_saving more s)
-last-calls true told s idle = a-commit s idle
+last-calls true told s idle = a-commit (saves.put_off_more s) idle
 last-calls false (Ok verf) s idle = tt
 last-calls false (Err fault) s idle = tt
 

@@ -42,8 +42,8 @@ module _ (machine_of : ℕ → Op → Machine) (unbegun : (lane : ℕ) (op : Op)
   abbrev Seen_ : Sight
   Seen_ h x op machine from sent turn call shelf = Q h sent call shelf
 
-  pub seen-now : telling.IsSeenBy machine_of setup Anything Seen_
-  seen-now h v p found may xid w waits made at machine there x op u from out rec =
+  pub seen-now : telling.IsSeenBy machine_of setup Anything S Seen_
+  seen-now h v p found may xid w waits made at machine there x op u from out story rec =
       laws.seen h (Delivered rec) w.purpose.sent made.asked v.shelf (sees h v (forget machine_of setup Anything h v p) found may xid w waits made)
 
   told-so : (h : List Entry) (x : ℕ) (op : Op) (machine : Machine) (sent turn : Turn) (came : Result Reply Fault) (shelf : Shelf) → CameOf Seen_ E W h x op machine sent turn came shelf
@@ -69,4 +69,4 @@ module _ (machine_of : ℕ → Op → Machine) (unbegun : (lane : ℕ) (op : Op)
 
   pub reached-answered : (h : List Entry) (v : View) → Reaches machine_of setup h v → (lane x : ℕ) (op : Op) (y : ℕ) (answer : Answer) → Ended h lane x op y answer
       → HadStory (λ k z o b. S k z o (Over b)) h x op y answer
-  reached-answered h v r = telling.reached-answered-by machine_of unbegun setup Anything P given Seen_ seen-now E expected W I S tell-laws h v (passes-any machine_of setup h v r)
+  reached-answered h v r = telling.reached-answered-by machine_of unbegun setup Anything P given Seen_ S seen-now E expected W I tell-laws h v (passes-any machine_of setup h v r)

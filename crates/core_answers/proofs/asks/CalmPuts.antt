@@ -141,7 +141,7 @@ on-calm step wsize walk p turn old next new after none f = by step f
     by walks.Wait g = stays g.1 g.2
     by (walks.At dir) g =
         then-calm wsize walk (record p {
-          opening = record { dir = dir; name = p.opening.name; mode = p.opening.mode; nocto = p.opening.nocto; moment = p.opening.moment; step = opening.first_step p.opening.mode; asked = false };
+          opening = record { dir = dir; name = p.opening.name; mode = p.opening.mode; nocto = p.opening.nocto; moment = p.opening.moment; step = opening.first_step p.opening.mode; asked = false; put_off = 0 };
           state = putting.Opens;
         }) turn old next new after none g
     by (walks.Refused fault) g = stays g.1 g.2

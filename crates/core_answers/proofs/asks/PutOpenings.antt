@@ -112,6 +112,9 @@ module _ (top : List ℕ) (h : List Entry) (path : List (List ℕ)) where
   PutNext (openings.Ended (Ok file)) o = LeadsTo top h path file
   PutNext (openings.Ended (Err fault)) o = Unit {0}
 
+  counted-opening : (o : Opening) → PutOpening o → PutOpening (opening.counted o)
+  counted-opening o s = record { name_is = s.name_is; mode_is = s.mode_is; leads = s.leads; step = s.step }
+
   pub go-opening : (o : Opening) (turn : Turn) → PutOpening o → PutOpening (opening.go_after o turn)
   go-opening o turn s = by (opening.waits o turn)
     where
@@ -136,7 +139,7 @@ module _ (top : List ℕ) (h : List Entry) (path : List (List ℕ)) where
 
   led-next : (again : Bool) (o : Opening) (sent turn : Turn) (led : Led) (step : OpeningNext) (pages later : _) → PutOpening o → PutLed led
       → opening.LedIf again o sent turn led step pages later → PutNext step (opening.opening_after again o turn led)
-  led-next true o sent turn led step pages later s d l = next-as (openings.Send (opening.call_of o o.step)) step o l.0 s
+  led-next true o sent turn led step pages later s d l = next-as (openings.Send (opening.call_of o o.step)) step (opening.counted o) l.0 (counted-opening o s)
   led-next false o sent turn (leads.Goes to) step pages later s d l =
       next-as (opening.go_next (opening.at_step o to) turn) step _ l.0
       (go-next (opening.at_step o to) turn (record { name_is = s.name_is; mode_is = s.mode_is; leads = s.leads; step = d }))
@@ -157,7 +160,7 @@ module _ (top : List ℕ) (h : List Entry) (path : List (List ℕ)) where
 
   -- it starts at its directory
   pub first-opening : (dir : List ℕ) (o : Opening) → o.name ≡ last_of path → o.mode ≡ modes.W → LeadsTo top h (front_of path) dir
-      → PutOpening (record { dir = dir; name = o.name; mode = o.mode; nocto = o.nocto; moment = o.moment; step = opening.first_step o.mode; asked = false })
+      → PutOpening (record { dir = dir; name = o.name; mode = o.mode; nocto = o.nocto; moment = o.moment; step = opening.first_step o.mode; asked = false; put_off = 0 })
   first-opening dir o name_is mode_is l =
       record { name_is = name_is; mode_is = mode_is; leads = l; step = subst (λ (k : Mode). PutStep (opening.first_step k)) (sym mode_is) tt }
 

@@ -91,7 +91,7 @@ module _ (f : List ℕ) where
 
   first-on : (more : Bool) (told : Result Verf Fault) (wsize : ℕ) (turn : Turn) (s : Saving) (back : Pending) (next : _) (new : Saving) (after : Pending) → s.file ≡ f
       → saves.TakesFirst more wsize turn told s back next new after → SavesOn f (syncs.sync_next next) new
-  first-on true told wsize turn s back next new after file t = leads-on _ s next new t.0 (record { file = file; asks = inr (ap saves.commit_of file) })
+  first-on true told wsize turn s back next new after file t = leads-on _ (saves.put_off_more s) next new t.0 (record { file = file; asks = inr (ap saves.commit_of file) })
   first-on false told wsize turn s back next new after file t = commit-on told wsize turn.xid turn.room (saves.less_waiting s) back next new after file t
 
   last-on : (more : Bool) (told : Result Verf Fault) (s : Saving) → s.file ≡ f → SavesOn f (syncs.sync_next (saves.last_next more told s)) (saves.last_saving more s)

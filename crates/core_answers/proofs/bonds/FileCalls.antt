@@ -113,7 +113,7 @@ opening-goes o turn = opening-if (o.asked || not turn.room) o
 
 opening-took : (again : Bool) (o : Opening) (sent turn : Turn) (led : Led) (step : OpeningNext) (old new : Pages) → opening.LedIf again o sent turn led step old new
     → OpeningAsked step (opening.opening_after again o turn led)
-opening-took true o sent turn led step old new l = subst (λ n. OpeningAsked n o) (sym l.0) (step-on o.step o)
+opening-took true o sent turn led step old new l = subst (λ n. OpeningAsked n (opening.counted o)) (sym l.0) (step-on o.step o)
 opening-took false o sent turn (leads.Goes to) step old new l =
     subst (λ n. OpeningAsked n (opening.go_after (opening.at_step o to) turn)) (sym l.0) (opening-goes (opening.at_step o to) turn)
 opening-took false o sent turn (leads.Opens file attr) (openings.Ended result) old new l = tt
@@ -336,7 +336,7 @@ commit-saved (Err fault) wsize xid room was s back gives new after file t = lead
 
 first-saved : (again : Bool) (told : Result Verf Fault) (wsize : ℕ) (turn : Turn) (s : Saving) (back : Pending) (gives : _) (new : Saving) (after : Pending)
     → saves.TakesFirst again wsize turn told s back gives new after → Saved s (syncs.sync_next gives) new
-first-saved true told wsize turn s back gives new after t = leads-saved s _ s gives new t.0 (record { file = refl; asks = refl })
+first-saved true told wsize turn s back gives new after t = leads-saved s _ (saves.put_off_more s) gives new t.0 (record { file = refl; asks = refl })
 first-saved false told wsize turn s back gives new after t = commit-saved told wsize turn.xid turn.room s (saves.less_waiting s) back gives new after refl t
 
 last-saved : (again : Bool) (told : Result Verf Fault) (s : Saving) → Saved s (syncs.sync_next (saves.last_next again told s)) (saves.last_saving again s)

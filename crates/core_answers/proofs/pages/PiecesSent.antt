@@ -209,7 +209,7 @@ module _ (sent turn : Turn) where
   first-sends : (again : Bool) (told : Result Verf Fault) (wsize : ℕ) (s : Saving) (back : Pending) (gives : _) (new : Saving) (after : Pending)
       → saves.is_sending s.phase ≡ false → saves.TakesFirst again wsize turn told s back gives new after → IsUnused turn.xid back → TurnSends (syncs.sync_next gives) new after
   first-sends true told wsize s back gives new after at t free =
-      sends-as turn.xid _ s gives new after t.0 (phase-none turn.xid s.phase at s.file (saves.commit_of s.file) after)
+      sends-as turn.xid _ (saves.put_off_more s) gives new after t.0 (phase-none turn.xid s.phase at s.file (saves.commit_of s.file) after)
   first-sends false told wsize s back gives new after at t free = commit-sends turn.xid told wsize turn.room (saves.less_waiting s) back gives new after t free
 
   last-sends : (again : Bool) (told : Result Verf Fault) (s : Saving) (after : Pending) → saves.is_sending s.phase ≡ false

@@ -97,7 +97,7 @@ told-not false wsize how size sent turn fault repeats s back gives new after lat
 
 first-not : (again : Bool) (wsize : ℕ) (turn : Turn) (fault : Fault) (s : Saving) (back : Pending) (gives : _) (new : Saving) (after : Pending)
     → saves.TakesFirst again wsize turn (Err fault) s back gives new after → EndsSo ⊥ (syncs.sync_next gives)
-first-not true wsize turn fault s back gives new after t = leads-not _ s gives new t.0 tt
+first-not true wsize turn fault s back gives new after t = leads-not _ (saves.put_off_more s) gives new t.0 tt
 first-not false wsize turn fault s back gives new after t = leads-not _ (saves.less_waiting s) gives new t.0 tt
 
 last-not : (again : Bool) (fault : Fault) (s : Saving) → EndsSo ⊥ (syncs.sync_next (saves.last_next again (Err fault) s))

@@ -209,6 +209,9 @@ module _ (most : ℕ) (top : List ℕ) (h : List Entry) (x : ℕ) (path : List (
   same-at : (o : Opening) (asked : Bool) → OpeningAt o → OpeningAt (record o { asked = asked })
   same-at o asked s = record { name_is = s.name_is; led = s.led; step = s.step }
 
+  counted-at : (o : Opening) → OpeningAt o → OpeningAt (opening.counted o)
+  counted-at o s = record { name_is = s.name_is; led = s.led; step = s.step }
+
   pub go-at : (o : Opening) (turn : Turn) → OpeningAt o → OpeningAt (opening.go_after o turn)
   go-at o turn s = by (opening.waits o turn)
     where
@@ -234,7 +237,7 @@ module _ (most : ℕ) (top : List ℕ) (h : List Entry) (x : ℕ) (path : List (
 
   pub led-next : (within : x < length h) (again : Bool) (o : Opening) (sent turn : Turn) (led : Led) (step : OpeningNext) (pages later : _) → OpeningAt o → LedFound o.dir led
       → opening.LedIf again o sent turn led step pages later → NextFound step (opening.opening_after again o turn led)
-  led-next within true o sent turn led step pages later s d l = next-as (openings.Send (opening.call_of o o.step)) step o l.0 s
+  led-next within true o sent turn led step pages later s d l = next-as (openings.Send (opening.call_of o o.step)) step (opening.counted o) l.0 (counted-at o s)
   led-next within false o sent turn (leads.Goes to) step pages later s d l =
       next-as (opening.go_next (opening.at_step o to) turn) step _ l.0
       (go-next (opening.at_step o to) turn (record { name_is = s.name_is; led = s.led; step = now-step o.dir to d }))

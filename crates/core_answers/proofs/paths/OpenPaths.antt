@@ -92,7 +92,7 @@ module _ (most : ℕ) (top : List ℕ) (h : List Entry) (x : ℕ) (path : List (
 
   -- it starts at its directory
   pub first-at : (dir : List ℕ) (o : Opening) → o.name ≡ last_of path → LedBy h most x top (front_of path) dir
-      → OpeningAt most top h x path (record { dir = dir; name = o.name; mode = o.mode; nocto = o.nocto; moment = o.moment; step = opening.first_step o.mode; asked = false })
+      → OpeningAt most top h x path (record { dir = dir; name = o.name; mode = o.mode; nocto = o.nocto; moment = o.moment; step = opening.first_step o.mode; asked = false; put_off = 0 })
   first-at dir o name_is led = record { name_is = name_is; led = led; step = by o.mode }
     where
       by : (m : Mode) → StepFound most top h x path dir (opening.first_step m)
@@ -122,7 +122,7 @@ module _ (most : ℕ) (top : List ℕ) (h : List Entry) (x : ℕ) (path : List (
       by : (w : WalkNext) → WalkStep w walk → paths.Follows w wsize (record { walk = walk; opener = openers.Open o; arrived = false }) turn old next new after → Step next (machines.Path new)
       by (walks.Send call) k g = then-as OpenRuns (OpenAnswer most top h x path) (nexts.Send call) next (machines.Path new) g.0 (runs g.1)
       by walks.Wait k g = then-as OpenRuns (OpenAnswer most top h x path) nexts.Wait next (machines.Path new) g.0 (runs g.1)
-      by (walks.At dir) k g = then-open wsize walk (record o { opening = record { dir = dir; name = o.opening.name; mode = o.opening.mode; nocto = o.opening.nocto; moment = o.opening.moment; step = opening.first_step o.opening.mode; asked = false } })
+      by (walks.At dir) k g = then-open wsize walk (record o { opening = record { dir = dir; name = o.opening.name; mode = o.opening.mode; nocto = o.opening.nocto; moment = o.opening.moment; step = opening.first_step o.opening.mode; asked = false; put_off = 0 } })
           turn old next new after within
           (first-at dir o.opening name_is (subst (λ (d : List ℕ). LedBy h most x top (front_of path) d) (sym k.0) (end-led most top h x within (front_of path) walk l k.1))) g
       by (walks.Refused fault) k g = then-as OpenRuns (OpenAnswer most top h x path) (nexts.Done (answers.Refused fault)) next (machines.Path new) g.0 tt
@@ -213,7 +213,7 @@ module _ (m : Mounted) (most : ℕ) where
         opener = openers.Open (record {
           lane = lane;
           slot = slot;
-          opening = record { dir = m.root; name = last_of path; mode = mode; nocto = m.nocto; moment = 0; step = opening.first_step mode; asked = false };
+          opening = record { dir = m.root; name = last_of path; mode = mode; nocto = m.nocto; moment = 0; step = opening.first_step mode; asked = false; put_off = 0 };
         });
         arrived = false;
       }) turn old next new after → Step most m.root h x path next (machines.Path new)
@@ -223,7 +223,7 @@ module _ (m : Mounted) (most : ℕ) where
       open-resumes most m.root h x path false wsize (walk_of m.root (front_of path)) (record {
         lane = lane;
         slot = slot;
-        opening = record { dir = m.root; name = last_of path; mode = mode; nocto = m.nocto; moment = turn.moment - 1; step = opening.first_step mode; asked = false };
+        opening = record { dir = m.root; name = last_of path; mode = mode; nocto = m.nocto; moment = turn.moment - 1; step = opening.first_step mode; asked = false; put_off = 0 };
       }) turn old next new after within refl (λ is. walk-begins h most x m.root (front_of path)) (λ is. absurd (let no_way : false ≡ true = is in cc)) k late s
 
   pub open-laws : FollowLaws (machine_of m) Both (Kept most) OpensRun OpensOver

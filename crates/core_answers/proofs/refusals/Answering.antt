@@ -64,6 +64,9 @@ module _ (machine_of : ℕ → Op → Machine) (unbegun : (lane : ℕ) (op : Op)
   abbrev Sees : telling.Sight
   Sees h x op machine from sent turn call shelf = Q h x op machine from sent call shelf
 
+  sees-so : telling.IsSeenBy machine_of setup G S Sees
+  sees-so h v p found may xid w waits made at machine there x op u from out story rec = sees h v p found may xid w waits made at machine there x op u from out rec
+
   came-so : (h : List Entry) (x : ℕ) (op : Op) (machine : Machine) (sent turn : Turn) (came : Result Reply Fault) (shelf : Shelf) → telling.CameOf Sees E W h x op machine sent turn came shelf
       → CameOf Q E W h x op machine sent came shelf
   came-so h x op machine sent turn came shelf (telling.heard_of t) =
@@ -84,14 +87,14 @@ module _ (machine_of : ℕ → Op → Machine) (unbegun : (lane : ℕ) (op : Op)
   }
 
   abbrev pub AllGoodBy : List Entry → View → Type 0
-  AllGoodBy = telling.AllGoodBy machine_of unbegun setup G P given Sees sees E expected W I S tell-laws
+  AllGoodBy = telling.AllGoodBy machine_of unbegun setup G P given Sees S sees-so E expected W I tell-laws
 
   pub reached-good-by : (h : List Entry) (v : View) → Passes machine_of setup G h v → AllGoodBy h v
-  reached-good-by = telling.reached-good-by machine_of unbegun setup G P given Sees sees E expected W I S tell-laws
+  reached-good-by = telling.reached-good-by machine_of unbegun setup G P given Sees S sees-so E expected W I tell-laws
 
   pub reached-answered-by : (h : List Entry) (v : View) → Passes machine_of setup G h v → (lane x : ℕ) (op : Op) (y : ℕ) (answer : Answer) → Ended h lane x op y answer
       → HadStory (λ k z o b. S k z o (Over b)) h x op y answer
-  reached-answered-by = telling.reached-answered-by machine_of unbegun setup G P given Sees sees E expected W I S tell-laws
+  reached-answered-by = telling.reached-answered-by machine_of unbegun setup G P given Sees S sees-so E expected W I tell-laws
 
 -- where nothing is said of the views
 module _ (machine_of : ℕ → Op → Machine) (unbegun : (lane : ℕ) (op : Op) → IsUnbegun (machine_of lane op)) (setup : Setup) (P : List Entry → ℕ → Shelf → Type 0)

@@ -415,7 +415,7 @@ module _ (wsize : ℕ) (turn : Turn) (A : List ℕ → ℕ → List ℕ → ℕ 
   put-takes sent came N v putting.Opens machine old next new after a t n p =
       put-opened t.step _ t.took next new after (λ file. subst (λ (k : ℕ). A file machine.write.offset (writes.made_bytes machine.write.text) (k + 1)) (sym (ap (λ (s : Shelf). s.seq) t.others)) (a file))
       t.follows
-      (took-asks (opening.ends_busy (opening.told_led machine.opening came)) (opening.opening_again machine.opening sent turn came old.repeats) old.repeats
+      (took-asks (opening.may_again machine.opening (opening.told_led machine.opening came)) (opening.opening_again machine.opening sent turn came old.repeats) old.repeats
       machine.opening sent turn (opening.led_on machine.opening turn.now came t.took.attrs old.pages) t.step old.pages t.took.pages refl t.leads)
       (subst P (sym (ap (λ (s : Shelf). s.back) t.others)) p)
   put-takes sent came N v (putting.Adds file) machine old next new after a t n p =

@@ -203,12 +203,12 @@ module _ (wsize : ℕ) (sent turn : Turn) where
 
   first-asks : (again : Bool) (told : Result Verf Fault) (s : Saving) (back : Pending) (next : _) (new : Saving) (after : Pending) → saves.is_sending s.phase ≡ false
       → saves.TakesFirst again wsize turn told s back next new after → SaveAsks (syncs.sync_next next) new
-  first-asks true told s back next new after idle g = lead-asks _ s next new g.0 (commit-fits s idle)
+  first-asks true told s back next new after idle g = lead-asks _ (saves.put_off_more s) next new g.0 (commit-fits (saves.put_off_more s) idle)
   first-asks false told s back next new after idle g = commit-asks wsize turn.xid turn.room told (saves.less_waiting s) back next new after g
 
   last-asks : (again : Bool) (told : Result Verf Fault) (s : Saving) → saves.is_sending s.phase ≡ false
       → SaveAsks (syncs.sync_next (saves.last_next again told s)) (saves.last_saving again s)
-  last-asks true told s idle = commit-fits s idle
+  last-asks true told s idle = commit-fits (saves.put_off_more s) idle
   last-asks false (Ok verf) s idle = tt
   last-asks false (Err fault) s idle = tt
 
@@ -481,7 +481,7 @@ module _ (wsize : ℕ) (turn : Turn) where
   put-takes sent came putting.Idle m old next new after at s = waits-asks next _ _ s.next_is
   put-takes sent came putting.Opens m old next new after at s =
       put-opened s.step _ s.took next new after at s.follows
-      (took-asks (opening.ends_busy (opening.told_led m.opening came)) (opening.opening_again m.opening sent turn came old.repeats) old.repeats
+      (took-asks (opening.may_again m.opening (opening.told_led m.opening came)) (opening.opening_again m.opening sent turn came old.repeats) old.repeats
       m.opening sent turn (opening.led_on m.opening turn.now came s.took.attrs old.pages) s.step old.pages s.took.pages refl s.leads)
   put-takes sent came (putting.Adds file) m old next new after at s =
       put-goes m file s.told s.written s.mid next new after s.goes (write-takes sent came m.write.state m.write old s.told s.written s.mid s.takes)

@@ -115,7 +115,7 @@ pub open-takes : (m : OpenFile) (sent turn : Turn) (came : Result Reply Fault) (
 open-takes m sent turn came attrs repeats next pages later old new t = by t.step t.follows asks
   where
     asks : OpeningAsks t.step
-    asks = took-asks (opening.ends_busy (opening.told_led m.opening came)) (opening.opening_again m.opening sent turn came repeats) repeats m.opening sent
+    asks = took-asks (opening.may_again m.opening (opening.told_led m.opening came)) (opening.opening_again m.opening sent turn came repeats) repeats m.opening sent
         turn (opening.led_on m.opening turn.now came attrs pages) t.step pages later refl t.led
 
     put : (found : Option Opened) (place : Place) (of : Opened) → opens.PutsOver found place of next old new → PlainAsks next

@@ -196,7 +196,7 @@ module _ (m : Mounted) where
         opener = openers.Open (record {
           lane = lane;
           slot = slot;
-          opening = record { dir = m.root; name = last_of path; mode = mode; nocto = m.nocto; moment = 0; step = opening.first_step mode; asked = false };
+          opening = record { dir = m.root; name = last_of path; mode = mode; nocto = m.nocto; moment = 0; step = opening.first_step mode; asked = false; put_off = 0 };
         });
         arrived = false;
       }) turn old next new after → Step m.root h x path mode m.nocto next (machines.Path new)
@@ -207,7 +207,7 @@ module _ (m : Mounted) where
       open-resumes m.root h x path mode m.nocto false wsize (walk_of m.root (front_of path)) (record {
         lane = lane;
         slot = slot;
-        opening = record { dir = m.root; name = last_of path; mode = mode; nocto = m.nocto; moment = turn.moment - 1; step = opening.first_step mode; asked = false };
+        opening = record { dir = m.root; name = last_of path; mode = mode; nocto = m.nocto; moment = turn.moment - 1; step = opening.first_step mode; asked = false; put_off = 0 };
       }) turn old next new after refl refl refl (λ is. walk-begins) (λ is. absurd (let no_way : false ≡ true = is in cc)) t s
     where
       walk-begins : WalkLeads m.root h (front_of path) (walk_of m.root (front_of path))

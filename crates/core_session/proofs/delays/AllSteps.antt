@@ -1,6 +1,7 @@
 -- Which faults a step of an operation gives: want of memory, those of its slot, those that it keeps, and what it makes of what came of its call where that isn't made
 -- again. A save that sends no bytes wasn't refused.
-use Rattle.core_session.proofs.Prelude.{◌≡◌, ◌-◌, ◌⊎◌, inl, inr, ℕ, Bool, true, false, List, Option, Some, None, Result, refl, sym, ap, subst, ◌∙◌, Mode, Opened, Fault, Call, Reply, Op, Pending, Next, Repeat, fails_busy, goes_again, Shelf, Turn, Walk, WalkNext, found_by, look_again, Closing, Putting, Saving, Syncing, Writing, file_to_write, file_at, Mounted, FileMachine, Machine, Opener, PathMachine, machine_of, file_of, slot_taken, begun_at, Starts, Resumes, Takes, FineOption, FineNext, fine-as, CallFaults, FitsWalk, FitsOpening}
+use Rattle.core_session.proofs.Prelude.{◌≡◌, ◌-◌, ◌⊎◌, inl, inr, ℕ, Bool, true, false, List, Option, Some, None, Result, refl, sym, ap, subst, ◌∙◌, Mode, Opened, OpenFile, Fault, Call, Reply, Op, Pending, Next, Repeat, fails_busy, goes_again, Shelf, Turn, Walk, WalkNext, found_by, look_again, Closing, Putting, Saving, Syncing, Writing, file_to_write, file_at, Mounted, FileMachine, Machine, Opener, PathMachine, machine_of, last_of, file_of, slot_taken, begun_at, Starts, Resumes, Takes, FineOption, FineNext, fine-as, CallFaults, FitsWalk, FitsOpening}
+use Rattle.std.specs.Prelude.{if◌then◌else◌}
 use Rattle.op_machines.specs.Openers.{placed}
 use Rattle.core_answers.proofs.refusals.FitNames.{FineWalk, FitsName, go-fine, walk-took, name-goes, name-takes}
 use Rattle.core_answers.proofs.refusals.FitReads.{FitsRead, go-opening, opening-next, opening-took, led-on, open-starts, open-follows, read-starts, read-resumes, read-takes}
@@ -15,8 +16,9 @@ use Rattle.file_ops.specs.declared.close_file.Closing.TheVariants as closing
 use Rattle.file_ops.specs.declared.put_file.Putting.TheVariants as putting
 use Rattle.file_ops.specs.declared.sync_file.Syncing.TheVariants as syncing
 use Rattle.file_ops.specs.declared.write_file.Writing.TheVariants as writing
-use Rattle.file_ops.specs.OpenFile.{place_of, is_taken}
+use Rattle.file_ops.specs.OpenFile.{place_of, is_taken, gone, begun}
 use Rattle.file_ops.specs.Opening.{opening_again, led_on, go_next}
+use Rattle.file_ops.specs.PutFile.{opening_at}
 use Rattle.file_ops.specs.TruncateFile.{found_file}
 use Rattle.op_machines.specs.declared.file_machine.FileMachine.TheVariants as files
 use Rattle.op_machines.specs.declared.machine.Machine.TheVariants as machines
@@ -25,6 +27,7 @@ use Rattle.op_machines.specs.FileSteps as steps
 use Rattle.op_machines.specs.PathSteps as paths
 use Rattle.core_answers.proofs.refusals.FitFiles.{FitsCut, of-open, truncate-starts, truncate-resumes, truncate-takes}
 use Rattle.core_session.proofs.delays.FileSteps.{FitsSync, FitsClose, FitsPut, FineSyncing, FineClosing, FinePutting, FinePut, write-starts, sync-starts, sync-resumes, sync-takes, close-starts, close-resumes, close-takes, put-starts, put-resumes, put-takes}
+use Rattle.core_session.proofs.delays.Times.{Times, Looked, go-looked, after-looked, AgainFile, AgainPath, AgainMachine}
 use Rattle.core_session.proofs.delays.SaveSteps.{FineSave}
 use Rattle.core_session.proofs.delays.WriteSteps.{FineWriting, FitsWrite, write-resumes, write-takes}
 
@@ -32,22 +35,22 @@ use Rattle.core_session.proofs.delays.WriteSteps.{FineWriting, FitsWrite, write-
 abbrev pub SendsOr : Next → Type 0 → Type 0
 SendsOr next X = ((call : Call) × (next ≡ nexts.Send call)) ⊎ X
 
-module _ (P : Fault → Type 0) (own : CallFaults P) where
+module _ (P : Fault → Type 0) (own : CallFaults P) (times : Times) where
   sends-or : (next : Next) (X : Type 0) → (X → FineNext P next) → SendsOr next X → FineNext P next
   sends-or next X f (inl s) = fine-as P (nexts.Send s.0) next s.1 tt
   sends-or next X f (inr x) = f x
 
   -- ---- operations on files
 
-  -- no fault that it keeps is that of a lost link
+  -- what it keeps is so
   abbrev pub FineFile : FileMachine → Type 0
-  FineFile (files.Open m) = Unit {0}
+  FineFile (files.Open m) = Looked times m.opening
   FineFile (files.Read m) = Unit {0}
-  FineFile (files.Write m) = FineWriting P own m.state
-  FineFile (files.Sync m) = FineSyncing P own m.state
-  FineFile (files.Close m) = FineClosing P own m.state
+  FineFile (files.Write m) = FineWriting P own times m.state
+  FineFile (files.Sync m) = FineSyncing P own times m.state
+  FineFile (files.Close m) = FineClosing P own times m.state
   FineFile (files.Truncate m) = Unit {0}
-  FineFile (files.Put m) = FinePut P own m
+  FineFile (files.Put m) = FinePut P own times m
 
   abbrev FileStep : Next → FileMachine → Type 0
   FileStep next new = FineNext P next × FineFile new
@@ -81,51 +84,55 @@ module _ (P : Fault → Type 0) (own : CallFaults P) where
   FileEnds (files.Truncate m) old = Unit {0}
   FileEnds (files.Put m) old = Unit {0}
 
+  start-looked : (b : Bool) (m : OpenFile) (turn : Turn) → Looked times m.opening → Looked times (if b then m else gone (begun m turn) turn).opening
+  start-looked true m turn o = o
+  start-looked false m turn o = go-looked times (begun m turn).opening turn o
+
   file-starts : (m : FileMachine) (wsize : ℕ) (turn : Turn) (old : Shelf) (next : Next) (new : FileMachine) (after : Shelf) → FileBegins m old → FineFile m
       → steps.Starts wsize m turn old next new after → FileStep next new
-  file-starts (files.Open m) wsize turn old next new after place f s = file-as (files.Open _) next new s.machine_is (open-starts P own (is_taken m old.opens) m turn next place s.next_is, tt)
+  file-starts (files.Open m) wsize turn old next new after place f s = file-as (files.Open _) next new s.machine_is (open-starts P own (is_taken m old.opens) m turn next place s.next_is, start-looked (is_taken m old.opens) m turn f)
   file-starts (files.Read m) wsize turn old next new after place f s =
       file-as (files.Read s.machine) next new s.machine_is (read-starts P own (finite.get old.opens (m.lane, m.slot)) turn m old.pages old.back next s.machine after.pages place.0 place.1 s.step, tt)
   file-starts (files.Write m) wsize turn old next new after place f s =
       file-as (files.Write s.machine) next new s.machine_is
-      (write-starts P own (file_to_write m.lane m.slot old.opens) wsize m turn old next s.machine after (of-open P own (finite.get old.opens (m.lane, m.slot)) place.0 place.1) s.step)
+      (write-starts P own times (file_to_write m.lane m.slot old.opens) wsize m turn old next s.machine after (of-open P own (finite.get old.opens (m.lane, m.slot)) place.0 place.1) s.step)
   file-starts (files.Sync m) wsize turn old next new after place f s =
-      file-as (files.Sync (record m { state = s.state })) next new s.machine_is (sync-starts P own (file_at m.lane m.slot old.opens) wsize m turn old next s.state after place f s.step)
+      file-as (files.Sync (record m { state = s.state })) next new s.machine_is (sync-starts P own times (file_at m.lane m.slot old.opens) wsize m turn old next s.state after place f s.step)
   file-starts (files.Close m) wsize turn old next new after place f s =
-      file-as (files.Close (record m { state = s.state })) next new s.machine_is (close-starts P own (file_at m.lane m.slot old.opens) wsize m turn old next s.state after place f s.step)
+      file-as (files.Close (record m { state = s.state })) next new s.machine_is (close-starts P own times (file_at m.lane m.slot old.opens) wsize m turn old next s.state after place f s.step)
   file-starts (files.Truncate m) wsize turn old next new after place f s =
       file-as (files.Truncate _) next new s.machine_is (truncate-starts P own (found_file m old) m turn old next (of-open P own (finite.get old.opens (m.lane, m.slot)) place.0 place.1) s.next_is, tt)
-  file-starts (files.Put m) wsize turn old next new after place f s = file-as (files.Put _) next new s.machine_is (put-starts P own m turn next s.next_is, (f.0, tt))
+  file-starts (files.Put m) wsize turn old next new after place f s = file-as (files.Put _) next new s.machine_is (put-starts P own times m turn next s.next_is, (f.0, tt, go-looked times (opening_at turn m) turn f.2))
 
   file-resumes : (m : FileMachine) (wsize : ℕ) (turn : Turn) (old : Shelf) (next : Next) (new : FileMachine) (after : Shelf) → FineFile m
       → steps.Resumes wsize m turn old next new after → FileStep next new
   file-resumes (files.Open m) wsize turn old next new after f s =
-      file-as (files.Open _) next new s.machine_is (fine-as P _ next s.next_is (opening-next P own (go_next m.opening turn) (go-opening P own m.opening turn)), tt)
+      file-as (files.Open _) next new s.machine_is (fine-as P _ next s.next_is (opening-next P own (go_next m.opening turn) (go-opening P own m.opening turn)), go-looked times m.opening turn f)
   file-resumes (files.Read m) wsize turn old next new after f s =
       file-as (files.Read s.machine) next new s.machine_is (read-resumes P own m.reading turn.room m old.pages old.back next s.machine after.pages s.step, tt)
   file-resumes (files.Write m) wsize turn old next new after f s =
-      file-as (files.Write (record m { state = s.state })) next new s.machine_is (write-resumes P own m.state wsize m.lane turn old next s.state after f s.step)
+      file-as (files.Write (record m { state = s.state })) next new s.machine_is (write-resumes P own times m.state wsize m.lane turn old next s.state after f s.step)
   file-resumes (files.Sync m) wsize turn old next new after f s =
-      file-as (files.Sync (record m { state = s.state })) next new s.machine_is (sync-resumes P own m.state wsize m turn old next s.state after f s.step)
+      file-as (files.Sync (record m { state = s.state })) next new s.machine_is (sync-resumes P own times m.state wsize m turn old next s.state after f s.step)
   file-resumes (files.Close m) wsize turn old next new after f s =
-      file-as (files.Close (record m { state = s.state })) next new s.machine_is (close-resumes P own m.state wsize m turn old next s.state after f s.step)
+      file-as (files.Close (record m { state = s.state })) next new s.machine_is (close-resumes P own times m.state wsize m turn old next s.state after f s.step)
   file-resumes (files.Truncate m) wsize turn old next new after f s = file-as (files.Truncate _) next new s.machine_is (truncate-resumes P own m.state m turn old next s.next_is, tt)
   file-resumes (files.Put m) wsize turn old next new after f s =
-      file-as (files.Put s.machine) next new s.machine_is (put-resumes P own m.state wsize m turn old next s.machine after f.0 f.1 refl s.step)
+      file-as (files.Put s.machine) next new s.machine_is (put-resumes P own times m.state wsize m turn old next s.machine after f.0 f.1 f.2 refl s.step)
 
   -- what it makes of what came of its call
   abbrev pub FitsFile : Next → Turn → Turn → Result Reply Fault → List Repeat → FileMachine → Pending → Type 0
   FitsFile next sent turn came repeats (files.Open m) back = SendsOr next (FitsOpening P own m.opening came)
   FitsFile next sent turn came repeats (files.Read m) back = SendsOr next (FitsRead P own m.reading came)
-  FitsFile next sent turn came repeats (files.Write m) back = FitsWrite P own sent turn came repeats m.state back
-  FitsFile next sent turn came repeats (files.Sync m) back = FitsSync P own sent turn came repeats m.state back
-  FitsFile next sent turn came repeats (files.Close m) back = FitsClose P own sent turn came repeats m.state back
+  FitsFile next sent turn came repeats (files.Write m) back = FitsWrite P own times sent turn came repeats m.state back
+  FitsFile next sent turn came repeats (files.Sync m) back = FitsSync P own times sent turn came repeats m.state back
+  FitsFile next sent turn came repeats (files.Close m) back = FitsClose P own times sent turn came repeats m.state back
   FitsFile next sent turn came repeats (files.Truncate m) back = SendsOr next (FitsCut P own m.state came)
-  FitsFile next sent turn came repeats (files.Put m) back = FitsPut P own sent turn came repeats m.state m back
+  FitsFile next sent turn came repeats (files.Put m) back = FitsPut P own times sent turn came repeats m.state m back
 
   file-takes : (m : FileMachine) (wsize : ℕ) (sent turn : Turn) (came : Result Reply Fault) (old : Shelf) (next : Next) (new : FileMachine) (after : Shelf) → FileEnds m old → FitsFile next sent turn came old.repeats m old.back → FineFile m
-      → steps.Takes wsize m sent turn came old next new after → FileStep next new
-  file-takes (files.Open m) wsize sent turn came old next new after place n f s =
+      → AgainFile times sent turn came old.repeats m → steps.Takes wsize m sent turn came old next new after → FileStep next new
+  file-takes (files.Open m) wsize sent turn came old next new after place n f more s =
       let again = opening_again m.opening sent turn came old.repeats in
       file-as (files.Open _) next new s.machine_is (
         sends-or next (FitsOpening P own m.opening came)
@@ -133,19 +140,19 @@ module _ (P : Fault → Type 0) (own : CallFaults P) where
             (opening-took P own again m.opening sent turn (led_on m.opening turn.now came after.attrs old.pages) s.steps.step old.pages after.pages
             (led-on P own m.opening turn.now came after.attrs old.pages f) s.steps.led)
             s.steps.follows) n,
-        tt,
+        after-looked times again m.opening turn (led_on m.opening turn.now came after.attrs old.pages) f more,
       )
-  file-takes (files.Read m) wsize sent turn came old next new after place n f s =
+  file-takes (files.Read m) wsize sent turn came old next new after place n f more s =
       file-as (files.Read s.machine) next new s.machine_is (sends-or next (FitsRead P own m.reading came) (λ f. read-takes P own m.reading sent turn came old.repeats m old.pages old.back next s.machine after.pages f s.step) n, tt)
-  file-takes (files.Write m) wsize sent turn came old next new after place n f s =
-      file-as (files.Write (record m { state = s.state })) next new s.machine_is (write-takes P own m.state wsize m sent turn came old next s.state after n f s.step)
-  file-takes (files.Sync m) wsize sent turn came old next new after place n f s =
-      file-as (files.Sync (record m { state = s.state })) next new s.machine_is (sync-takes P own m.state wsize m sent turn came old next s.state after n f s.step)
-  file-takes (files.Close m) wsize sent turn came old next new after place n f s =
-      file-as (files.Close (record m { state = s.state })) next new s.machine_is (close-takes P own m.state wsize m sent turn came old next s.state after n f s.step)
-  file-takes (files.Truncate m) wsize sent turn came old next new after place n f s = file-as (files.Truncate _) next new s.machine_is (sends-or next (FitsCut P own m.state came) (λ f. truncate-takes P own m.state m came sent turn old.repeats next f s.next_is) n, tt)
-  file-takes (files.Put m) wsize sent turn came old next new after place n f s =
-      file-as (files.Put s.machine) next new s.machine_is (put-takes P own m.state wsize m sent turn came old next s.machine after n f.0 f.1 refl s.step)
+  file-takes (files.Write m) wsize sent turn came old next new after place n f more s =
+      file-as (files.Write (record m { state = s.state })) next new s.machine_is (write-takes P own times m.state wsize m sent turn came old next s.state after n f more s.step)
+  file-takes (files.Sync m) wsize sent turn came old next new after place n f more s =
+      file-as (files.Sync (record m { state = s.state })) next new s.machine_is (sync-takes P own times m.state wsize m sent turn came old next s.state after n f more s.step)
+  file-takes (files.Close m) wsize sent turn came old next new after place n f more s =
+      file-as (files.Close (record m { state = s.state })) next new s.machine_is (close-takes P own times m.state wsize m sent turn came old next s.state after n f more s.step)
+  file-takes (files.Truncate m) wsize sent turn came old next new after place n f more s = file-as (files.Truncate _) next new s.machine_is (sends-or next (FitsCut P own m.state came) (λ f. truncate-takes P own m.state m came sent turn old.repeats next f s.next_is) n, tt)
+  file-takes (files.Put m) wsize sent turn came old next new after place n f more s =
+      file-as (files.Put s.machine) next new s.machine_is (put-takes P own times m.state wsize m sent turn came old next s.machine after n f.0 f.1 f.2 more refl s.step)
 
   -- ---- opens and puts on their way
 
@@ -159,11 +166,11 @@ module _ (P : Fault → Type 0) (own : CallFaults P) where
   path-as to next new is f = (f.0, subst FinePath (sym is) f.1)
 
   placed-fine : (dir : List ℕ) (o : Opener) → FineFile (file_of o) → FineFile (file_of (placed dir o))
-  placed-fine dir (openers.Open m) f = tt
-  placed-fine dir (openers.Put m) f = (f.0, tt)
+  placed-fine dir (openers.Open m) f = times.no_looks dir m.opening.name
+  placed-fine dir (openers.Put m) f = (f.0, tt, times.no_looks dir m.opening.name)
 
   begun-fine : (moment : ℕ) (o : Opener) → FineFile (file_of o) → FineFile (file_of (begun_at moment o))
-  begun-fine moment (openers.Open m) f = tt
+  begun-fine moment (openers.Open m) f = f
   begun-fine moment (openers.Put m) f = f
 
   then-resumes : (wsize : ℕ) (m : PathMachine) (turn : Turn) (old : Shelf) (next : Next) (new : PathMachine) (after : Shelf) → FinePath m
@@ -206,10 +213,10 @@ module _ (P : Fault → Type 0) (own : CallFaults P) where
       by false ends = walk-took P own (Some name) w sent turn came old step new after (n ends) t
 
   path-takes : (b : Bool) (wsize : ℕ) (m : PathMachine) (sent turn : Turn) (came : Result Reply Fault) (old : Shelf) (next : Next) (new : PathMachine) (after : Shelf) → FileEnds (file_of m.opener) old → FitsPath b next sent turn came old.repeats m old.back → FinePath m
-      → paths.PathTakes b wsize m sent turn came old next new after → PathStep next new
-  path-takes true wsize m sent turn came old next new after place n f t =
-      path-as (record m { opener = t.opener }) next new t.machine_is (file-takes (file_of m.opener) wsize sent turn came old next (file_of t.opener) after place n f t.step)
-  path-takes false wsize m sent turn came old next new after place n f t =
+      → AgainPath times sent turn came old.repeats b m → paths.PathTakes b wsize m sent turn came old next new after → PathStep next new
+  path-takes true wsize m sent turn came old next new after place n f more t =
+      path-as (record m { opener = t.opener }) next new t.machine_is (file-takes (file_of m.opener) wsize sent turn came old next (file_of t.opener) after place n f more t.step)
+  path-takes false wsize m sent turn came old next new after place n f more t =
       follows-path t.step wsize t.walked turn t.heard next new after (walk-if (walking.waiting_name m.walk) m.walk sent turn came old t.step t.walked.walk t.heard n t.takes)
       (subst FinePath (sym t.walked_is) f) t.follows
 
@@ -283,20 +290,20 @@ module _ (P : Fault → Type 0) (own : CallFaults P) where
   FitsMachine next sent turn came repeats (machines.Name m) back = SendsOr next (FitsName P own m came)
 
   pub all-takes : (m : Machine) (wsize : ℕ) (sent turn : Turn) (came : Result Reply Fault) (old : Shelf) (next : Next) (new : Machine) (after : Shelf) → Ends m old → FitsMachine next sent turn came old.repeats m old.back → FineMachine m
-      → Takes wsize m sent turn came old next new after → MachineStep next new
-  all-takes (machines.File m) wsize sent turn came old next new after place n f s =
-      all-as (machines.File s.machine) next new s.machine_is (file-takes m wsize sent turn came old next s.machine after place n f s.step)
-  all-takes (machines.Path m) wsize sent turn came old next new after place n f s =
-      all-as (machines.Path s.machine) next new s.machine_is (path-takes m.arrived wsize m sent turn came old next s.machine after place n f s.step)
-  all-takes (machines.Name m) wsize sent turn came old next new after place n f s = all-as (machines.Name s.machine) next new s.machine_is (sends-or next (FitsName P own m came) (λ f. name-takes P own m sent turn came old next s.machine after f s.step) n, tt)
+      → AgainMachine times sent turn came old.repeats m → Takes wsize m sent turn came old next new after → MachineStep next new
+  all-takes (machines.File m) wsize sent turn came old next new after place n f more s =
+      all-as (machines.File s.machine) next new s.machine_is (file-takes m wsize sent turn came old next s.machine after place n f more s.step)
+  all-takes (machines.Path m) wsize sent turn came old next new after place n f more s =
+      all-as (machines.Path s.machine) next new s.machine_is (path-takes m.arrived wsize m sent turn came old next s.machine after place n f more s.step)
+  all-takes (machines.Name m) wsize sent turn came old next new after place n f more s = all-as (machines.Name s.machine) next new s.machine_is (sends-or next (FitsName P own m came) (λ f. name-takes P own m sent turn came old next s.machine after f s.step) n, tt)
 
   -- an operation that begins keeps none
   pub begins-fine : (m : Mounted) (lane : ℕ) (op : Op) → FineMachine (machine_of m lane op)
-  begins-fine m lane (ops.OpenFile slot mode path) = tt
+  begins-fine m lane (ops.OpenFile slot mode path) = times.no_looks m.root (last_of path)
   begins-fine m lane (ops.Read slot offset count) = tt
   begins-fine m lane (ops.Write slot offset bytes) = tt
   begins-fine m lane (ops.Fill slot offset count byte) = tt
-  begins-fine m lane (ops.Put path offset bytes) = (tt, tt)
+  begins-fine m lane (ops.Put path offset bytes) = (tt, tt, times.no_looks m.root (last_of path))
   begins-fine m lane (ops.Sync slot) = tt
   begins-fine m lane (ops.Close slot) = tt
   begins-fine m lane (ops.Truncate slot size) = tt
@@ -312,45 +319,46 @@ module _ (P : Fault → Type 0) (own : CallFaults P) where
   begins-fine m lane (ops.List path) = tt
 
 -- what holds of each fault that is kept goes on holding
-module _ (P : Fault → Type 0) (own : CallFaults P) (Q : Fault → Type 0) (other : CallFaults Q) (more : (fault : Fault) → P fault → Q fault) where
+module _ (P : Fault → Type 0) (own : CallFaults P) (times : Times) (Q : Fault → Type 0) (other : CallFaults Q) (later : Times) (more : (fault : Fault) → P fault → Q fault)
+    (looks-more : (dir name : List ℕ) (k : ℕ) → times.looks dir name k → later.looks dir name k) (commits-more : (file : List ℕ) (k : ℕ) → times.commits file k → later.commits file k) where
   option-more : (o : Option Fault) → FineOption P o → FineOption Q o
   option-more None f = tt
   option-more (Some fault) f = more fault f
 
-  save-more : (s : Saving) → FineSave P own s → FineSave Q other s
-  save-more s f = (option-more s.refusal f.0, f.1)
+  save-more : (s : Saving) → FineSave P own times s → FineSave Q other later s
+  save-more s f = (option-more s.refusal f.0, f.1, commits-more s.file s.put_off f.2)
 
-  writing-more : (w : Writing) → FineWriting P own w → FineWriting Q other w
+  writing-more : (w : Writing) → FineWriting P own times w → FineWriting Q other later w
   writing-more writing.Idle f = tt
   writing-more (writing.Room file saving) f = save-more saving f
 
-  syncing-more : (s : Syncing) → FineSyncing P own s → FineSyncing Q other s
+  syncing-more : (s : Syncing) → FineSyncing P own times s → FineSyncing Q other later s
   syncing-more syncing.Idle f = tt
   syncing-more (syncing.Saves saving) f = save-more saving f
 
-  closing-more : (c : Closing) → FineClosing P own c → FineClosing Q other c
+  closing-more : (c : Closing) → FineClosing P own times c → FineClosing Q other later c
   closing-more closing.Idle f = tt
   closing-more (closing.Queued saving) f = save-more saving f
   closing-more (closing.Saves saving) f = save-more saving f
   closing-more (closing.ToRemove removal) f = option-more removal.refusal f
   closing-more (closing.Removing removal) f = option-more removal.refusal f
 
-  putting-more : (p : Putting) → FinePutting P own p → FinePutting Q other p
+  putting-more : (p : Putting) → FinePutting P own times p → FinePutting Q other later p
   putting-more putting.Idle f = tt
   putting-more putting.Opens f = tt
   putting-more (putting.Adds file) f = tt
   putting-more (putting.Saves saving) f = save-more saving f
 
-  file-more : (m : FileMachine) → FineFile P own m → FineFile Q other m
-  file-more (files.Open m) f = tt
+  file-more : (m : FileMachine) → FineFile P own times m → FineFile Q other later m
+  file-more (files.Open m) f = looks-more m.opening.dir m.opening.name m.opening.put_off f
   file-more (files.Read m) f = tt
   file-more (files.Write m) f = writing-more m.state f
   file-more (files.Sync m) f = syncing-more m.state f
   file-more (files.Close m) f = closing-more m.state f
   file-more (files.Truncate m) f = tt
-  file-more (files.Put m) f = (writing-more m.write.state f.0, putting-more m.state f.1)
+  file-more (files.Put m) f = (writing-more m.write.state f.0, putting-more m.state f.1, looks-more m.opening.dir m.opening.name m.opening.put_off f.2)
 
-  pub fine-more : (m : Machine) → FineMachine P own m → FineMachine Q other m
+  pub fine-more : (m : Machine) → FineMachine P own times m → FineMachine Q other later m
   fine-more (machines.File m) f = file-more m f
   fine-more (machines.Path m) f = file-more (file_of m.opener) f
   fine-more (machines.Name m) f = tt

@@ -55,5 +55,37 @@ puts-more h more x y z call k at wide late here p = record {
   many = let many = p.many in omega (arith, many);
 }
 
+put-wide : (h : List Entry) (x y z : ℕ) (call : Call) (at : ℕ) → y ≤ z → PutOff h x y call at → PutOff h x z call at
+put-wide h x y z call at wide p =
+    let d = p.refused.heard in
+    record {
+      refused = record {
+        xid = p.refused.xid;
+        bytes = p.refused.bytes;
+        heard = record {
+          sent_at = d.sent_at;
+          record_sent = d.record_sent;
+          got_at = d.got_at;
+          sent = d.sent;
+          spells = d.spells;
+          got = d.got;
+          after = d.after;
+          later = d.later;
+          before = let low = d.before in omega (arith, low, wide);
+        };
+        refuses = p.refused.refuses;
+      };
+      here = p.here;
+    }
+
+-- the same where the history is as it was
+pub puts-one : (h : List Entry) (x y z : ℕ) (call : Call) (k at : ℕ) → y ≤ z → y ≤ at → PutOff h x z call at → Puts h x y call k → Puts h x z call (k + 1)
+puts-one h x y z call k at wide late here p = record {
+  places = at ∷ p.places;
+  apart = AllPairs-cons (λ (a b : ℕ). a ≢ b) at p.places (λ i d within same. let low = put-below h x y call _ (p.all i d within) in absurd (omega (arith, low, late, same))) p.apart;
+  all = All-cons (PutOff h x z call) at p.places here (λ i d within. put-wide h x y z call _ wide (p.all i d within));
+  many = let many = p.many in omega (arith, many);
+}
+
 pub not-few : (h : List Entry) (x n : ℕ) (call : Call) (k : ℕ) → 3 ≤ k → Puts h x n call k → FewPutOff h x n call → ⊥
 not-few h x n call k enough p few = let less : length p.places < most_tries - 1 = few p.places p.apart p.all in let many = p.many in omega (arith, less, many, enough)

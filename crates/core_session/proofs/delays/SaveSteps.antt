@@ -3,6 +3,7 @@
 use Rattle.core_session.proofs.Prelude.{◌≡◌, ◌+◌, ◌==◌, ◌&&◌, ℕ, Bool, true, false, List, [], ◌∷◌, Option, Some, None, Result, Ok, Err, inl, inr, refl, sym, ap, subst, ◌∙◌, nat_lt, Verdict, AllStable, SendAgain, Verf, Fault, Memory, Reply, Next, Repeat, Turn, fails_busy, goes_again, chosen, Pending, of_file, Segments, Sending, Committing, Resending, CommittingAgain, Saving, commit_told, FineResult, FineOption, FineNext, CallFaults}
 use Rattle.std.specs.Prelude.{is_none}
 use Rattle.core_facts.proofs.Faults.{fine-some}
+use Rattle.core_session.proofs.delays.Times.{Times, AgainSave}
 use Rattle.file_ops.specs.declared.saving.Phase.{Phase}
 use Rattle.file_ops.specs.Saves as saves
 use Rattle.file_ops.specs.Syncs as syncs
@@ -25,15 +26,16 @@ type-of {T} x = T
 abbrev pub Gives : Type 0
 Gives = type-of (saves.refused_next 0 Memory)
 
-module _ (P : Fault → Type 0) (own : CallFaults P) where
+module _ (P : Fault → Type 0) (own : CallFaults P) (times : Times) where
+  -- its refusal is so, it has none where it waits for a COMMIT, and this was put off as often as it counts
   abbrev pub FineSave : Saving → Type 0
-  FineSave s = FineOption P s.refusal × (saves.is_sending s.phase ≡ false → s.refusal ≡ None)
+  FineSave s = FineOption P s.refusal × (saves.is_sending s.phase ≡ false → s.refusal ≡ None) × times.commits s.file s.put_off
 
-  pub sending-save : (s : Saving) → saves.is_sending s.phase ≡ true → FineOption P s.refusal → FineSave s
-  sending-save s sending f = (f, λ idle. clash (s.refusal ≡ None) (saves.is_sending s.phase) sending idle)
+  pub sending-save : (s : Saving) → saves.is_sending s.phase ≡ true → FineOption P s.refusal → times.commits s.file s.put_off → FineSave s
+  sending-save s sending f c = (f, λ idle. clash (s.refusal ≡ None) (saves.is_sending s.phase) sending idle, c)
 
   pub begun-save : (file : List ℕ) (upto : ℕ) → FineSave (saves.begun file upto)
-  begun-save file upto = sending-save (saves.begun file upto) refl tt
+  begun-save file upto = sending-save (saves.begun file upto) refl tt (times.no_commits file)
 
   -- the step is so, and so is the save
   abbrev pub SaveFine : Next → Saving → Type 0
@@ -56,7 +58,7 @@ module _ (P : Fault → Type 0) (own : CallFaults P) where
       by : (lt done : Bool) → nat_lt 0 s.waiting ≡ lt → (saves.is_again s.phase && by_reply) ≡ done → SaveFine (syncs.sync_next (saves.next_sent by_reply s)) (saves.saving_sent by_reply s)
       by true done is ends = rw is (tt, f)
       by false true is ends = rw (is, ends) (tt, f)
-      by false false is ends = rw (is, ends) (tt, (f.0, λ idle. none))
+      by false false is ends = rw (is, ends) (tt, (f.0, λ idle. none, f.2))
 
   sends-fine : (xid : ℕ) (by_reply : Bool) (run : Segments) (s : Saving) (back : Pending) (next : Gives) (new : Saving) (after : Pending) → FineSave s → s.refusal ≡ None
       → saves.Sends xid by_reply run s back next new after → SaveFine (syncs.sync_next next) new
@@ -103,21 +105,26 @@ module _ (P : Fault → Type 0) (own : CallFaults P) where
   same-sending None s is = is
   same-sending (Some fault) s is = is
 
+  refused-counts : (refusal : Option Fault) (s : Saving) → times.commits s.file s.put_off → times.commits (saves.refused_by refusal s).file (saves.refused_by refusal s).put_off
+  refused-counts None s c = c
+  refused-counts (Some fault) s c = c
+
   takes-write-fine : (wsize asked xid : ℕ) (room : Bool) (told : _) (s : Saving) (back : Pending) (next : Gives) (new : Saving) (after : Pending) → saves.is_sending s.phase ≡ true
+      → times.commits s.file s.put_off
       → ((between : Pending) (refusal : Option Fault) → saves.Lands asked s.file told back between refusal → FineOption P (saves.refused_by refusal s).refusal)
       → saves.TakesWrite wsize asked xid room told s back next new after → SaveFine (syncs.sync_next next) new
-  takes-write-fine wsize asked xid room told s back next new after sending lands t =
+  takes-write-fine wsize asked xid room told s back next new after sending counts lands t =
       goes-fine wsize xid room t.counts (saves.refused_by t.refusal s) t.between next new after
-      (sending-save (saves.refused_by t.refusal s) (same-sending t.refusal s sending) (lands t.between t.refusal t.lands)) t.goes
+      (sending-save (saves.refused_by t.refusal s) (same-sending t.refusal s sending) (lands t.between t.refusal t.lands) (refused-counts t.refusal s counts)) t.goes
 
   -- P holds of the fault that what came makes, where the call isn't made again: where the save sends, of that of a WRITE's piece, else of that of a COMMIT
   pub record FitsSave (sent turn : Turn) (came : Result Reply Fault) (repeats : List Repeat) (s : Saving) (back : Pending) : Type 0 where
     pub lands : saves.is_sending s.phase ≡ true → goes_again (saves.told_busy (saves.told_of sent.xid s.file back came)) sent turn repeats ≡ false → (between : Pending) (refusal : Option Fault)
         → saves.Lands sent.xid s.file (saves.told_of sent.xid s.file back came) back between refusal → FineOption P refusal
-    pub commits : saves.is_sending s.phase ≡ false → goes_again (fails_busy (commit_told came)) sent turn repeats ≡ false → FineResult P (commit_told came)
+    pub commits : saves.is_sending s.phase ≡ false → goes_again (fails_busy (commit_told came) && nat_lt s.put_off 3) sent turn repeats ≡ false → FineResult P (commit_told came)
 
   module _ (wsize : ℕ) (sent turn : Turn) (came : Result Reply Fault) (repeats : List Repeat) (s : Saving) (back : Pending) (next : Gives) (new : Saving) (after : Pending) (later : List Repeat)
-      (n : FitsSave sent turn came repeats s back) (f : FineSave s) where
+      (n : FitsSave sent turn came repeats s back) (f : FineSave s) (more : AgainSave times sent turn came repeats s) where
     -- what the piece comes to is a refusal
     lands-so : saves.is_sending s.phase ≡ true → goes_again (saves.told_busy (saves.told_of sent.xid s.file back came)) sent turn repeats ≡ false → (between : Pending) (refusal : Option Fault)
         → saves.Lands sent.xid s.file (saves.told_of sent.xid s.file back came) back between refusal → FineOption P (saves.refused_by refusal (saves.less_waiting s)).refusal
@@ -126,7 +133,7 @@ module _ (P : Fault → Type 0) (own : CallFaults P) where
     repeats-fine : (c : Bool) → goes_again (saves.told_busy (saves.told_of sent.xid s.file back came)) sent turn repeats ≡ c → saves.is_sending s.phase ≡ true → saves.RepeatsWrite c wsize sent turn (saves.told_of sent.xid s.file back came) s back next new after
         → SaveFine (syncs.sync_next next) new
     repeats-fine true ends sending r = leads-fine _ s next new r.0 (tt, f)
-    repeats-fine false ends sending r = takes-write-fine wsize sent.xid turn.xid turn.room (saves.told_of sent.xid s.file back came) (saves.less_waiting s) back next new after sending (lands-so sending ends) r
+    repeats-fine false ends sending r = takes-write-fine wsize sent.xid turn.xid turn.room (saves.told_of sent.xid s.file back came) (saves.less_waiting s) back next new after sending f.2 (lands-so sending ends) r
 
     ends-by : (free : Bool) → is_none s.refusal ≡ free → (saves.told_busy (saves.told_of sent.xid s.file back came) && free) ≡ false → saves.is_sending s.phase ≡ true → (between : Pending) (refusal : Option Fault)
         → saves.Lands sent.xid s.file (saves.told_of sent.xid s.file back came) back between refusal → FineOption P (saves.refused_by refusal (saves.less_waiting s)).refusal
@@ -139,10 +146,10 @@ module _ (P : Fault → Type 0) (own : CallFaults P) where
     told-fine true is sending (inl t) =
         repeats-fine (goes_again true sent turn repeats) (ap (λ (b : Bool). goes_again b sent turn repeats) (both-busy (saves.told_busy (saves.told_of sent.xid s.file back came)) (is_none s.refusal) is)) sending t.0
     told-fine true is sending (inr t) =
-        takes-write-fine wsize sent.xid turn.xid turn.room _ (saves.less_waiting s) back next new after sending
+        takes-write-fine wsize sent.xid turn.xid turn.room _ (saves.less_waiting s) back next new after sending f.2
         (λ between refusal l. refused-by-fine refusal (saves.less_waiting s) (fine-some P Memory refusal l.0 own.memory) f.0) t.0
     told-fine false is sending t =
-        takes-write-fine wsize sent.xid turn.xid turn.room (saves.told_of sent.xid s.file back came) (saves.less_waiting s) back next new after sending (ends-by (is_none s.refusal) refl is sending) t.0
+        takes-write-fine wsize sent.xid turn.xid turn.room (saves.told_of sent.xid s.file back came) (saves.less_waiting s) back next new after sending f.2 (ends-by (is_none s.refusal) refl is sending) t.0
 
     -- ---- a COMMIT
 
@@ -151,15 +158,17 @@ module _ (P : Fault → Type 0) (own : CallFaults P) where
     decides-fine AllStable back_ g d = leads-fine _ (saves.less_waiting s) next new d.0 (tt, g)
     decides-fine (SendAgain count) back_ g d =
         goes-fine wsize turn.xid turn.room false (record (saves.less_waiting s) { phase = Resending }) back_ next new after
-        (sending-save (record (saves.less_waiting s) { phase = Resending }) refl g.0) d
+        (sending-save (record (saves.less_waiting s) { phase = Resending }) refl g.0 g.2) d
 
     commit-fine : (told : Result Verf Fault) → FineResult P told → saves.TakesCommit wsize turn.xid turn.room told (saves.less_waiting s) back next new after → SaveFine (syncs.sync_next next) new
     commit-fine (Ok verf) k t = decides-fine _ t.between f t.goes
     commit-fine (Err fault) k t = leads-fine _ (saves.less_waiting s) next new t.0 (k, f)
 
     -- it wasn't refused, so that the call is made again as it may be
-    may-be : saves.is_sending s.phase ≡ false → saves.may_again (fails_busy (commit_told came)) s ≡ fails_busy (commit_told came)
-    may-be idle = ap (λ (o : Option Fault). fails_busy (commit_told came) && is_none o) (f.1 idle) ∙ with-true (fails_busy (commit_told came))
+    may-be : saves.is_sending s.phase ≡ false → saves.may_commit (commit_told came) s ≡ (fails_busy (commit_told came) && nat_lt s.put_off 3)
+    may-be idle =
+        ap (λ (o : Option Fault). (fails_busy (commit_told came) && is_none o) && nat_lt s.put_off 3) (f.1 idle)
+        ∙ ap (λ (b : Bool). b && nat_lt s.put_off 3) (with-true (fails_busy (commit_told came)))
       where
         with-true : (b : Bool) → (b && true) ≡ b
         with-true true = refl
@@ -170,7 +179,7 @@ module _ (P : Fault → Type 0) (own : CallFaults P) where
 
     first-commit : (c : Bool) → saves.commit_again (commit_told came) sent turn repeats s ≡ c → saves.is_sending s.phase ≡ false
         → saves.TakesFirst c wsize turn (commit_told came) s back next new after → SaveFine (syncs.sync_next next) new
-    first-commit true ends idle t = leads-fine _ s next new t.0 (tt, f)
+    first-commit true ends idle t = leads-fine _ (saves.put_off_more s) next new t.0 (tt, (f.0, f.1, more idle ends))
     first-commit false ends idle t = commit-fine (commit_told came) (told-commit idle ends) t
 
     ended-fine : (told : Result Verf Fault) → FineResult P told → FineNext P (syncs.sync_next (saves.ended_by told))
@@ -179,7 +188,7 @@ module _ (P : Fault → Type 0) (own : CallFaults P) where
 
     last-commit : (c : Bool) → saves.commit_again (commit_told came) sent turn repeats s ≡ c → saves.is_sending s.phase ≡ false
         → SaveFine (syncs.sync_next (saves.last_next c (commit_told came) s)) (saves.last_saving c s)
-    last-commit true ends idle = (tt, f)
+    last-commit true ends idle = (tt, (f.0, f.1, more idle ends))
     last-commit false ends idle = (ended-fine (commit_told came) (told-commit idle ends), f)
 
     takes-in-fine : (phase : Phase) → s.phase ≡ phase → saves.TakesIn phase wsize sent turn came repeats s back next new after later → SaveFine (syncs.sync_next next) new

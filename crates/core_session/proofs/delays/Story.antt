@@ -4,6 +4,8 @@ use Rattle.core_session.proofs.Prelude.{◌≡◌, ◌≤◌, ◌<◌, ◌+◌, 
 use Rattle.std.proofs.lemmas.Bool.{eq-eqb}
 use Rattle.claims.specs.PageRules.{RefusedSo, refuses}
 use Rattle.client_shelf.specs.Busy.{is_busy}
+use Rattle.claims.specs.GoesOn.{PutOff}
+use Rattle.world_model.specs.Heard.{Refuses}
 use Rattle.core_facts.proofs.Telling.{IsHeardNow, IsSeenBy, IsToldOf, CameOf, heard_of, unmade, TellLaws, reached-answered-by}
 use Rattle.core_facts.proofs.Passing.{Passes, forget}
 use Rattle.world_model.specs.declared.answer.Answer.TheVariants as answers
@@ -20,11 +22,14 @@ use Rattle.core_answers.proofs.refusals.Refused as refused
 use Rattle.core_answers.proofs.refusals.Refused.{IsClose, NoRemoval, SentSo}
 use Rattle.core_answers.proofs.refusals.Replied.{Given}
 use Rattle.core_answers.proofs.refusals.SentCalls.{sent-by-later}
+use Rattle.file_ops.specs.Saves as saves
+use Rattle.core_session.proofs.delays.Again.{Any, any-own, look_up, Often, machine-again, machine-often}
 use Rattle.core_session.proofs.delays.AllSteps as steps
 use Rattle.core_session.proofs.delays.Delays.{Delayed, Calls, calls-laws, Off, off-own, off-given, off-evident, reached-delayed}
 use Rattle.core_session.proofs.delays.Limits.{any-fits, calm-takes}
-use Rattle.core_session.proofs.delays.Puts.{Puts, puts-later}
+use Rattle.core_session.proofs.delays.Puts.{Puts, puts-later, puts-none, puts-one}
 use Rattle.core_session.proofs.delays.Tables.{left, count, ended-is, times-is, IsWaiting, left-apart, left-each, few-repeats, fewer, without-waits}
+use Rattle.core_session.proofs.delays.Times.{Times, AgainMachine, is_full}
 use Rattle.core_session.proofs.delays.Took.{too-often}
 use Rattle.core_session.proofs.delays.TookFiles.{took-any}
 
@@ -42,6 +47,15 @@ module _ (m : Mounted) (setup : Setup) (G : List Entry → View → Type 0) wher
   abbrev pub Shown : List Entry → ℕ → Op → Fault → Type 0
   Shown h x op fault = fault ≡ faults.Nfs jukebox → OffRefusal h x (length h) op
 
+  -- how often a LOOKUP of a name, and a COMMIT of a file, were put off within the operation, before the place n
+  abbrev pub counts : List Entry → ℕ → ℕ → Times
+  counts h x n = record {
+    looks = λ dir name k. Puts h x n (look_up dir name) k;
+    commits = λ file k. Puts h x n (saves.commit_of file) k;
+    no_looks = λ dir name. puts-none h x n (look_up dir name) 0 refl;
+    no_commits = λ file. puts-none h x n (saves.commit_of file) 0 refl;
+  }
+
   -- of each call that waits
   pub record Seen (h : List Entry) (x : ℕ) (op : Op) (machine : Machine) (from : ℕ) (sent turn : Turn) (call : Call) (shelf : Shelf) : Type 0 where
     pub was : SentSo m setup G h from x op call
@@ -50,6 +64,7 @@ module _ (m : Mounted) (setup : Setup) (G : List Entry → View → Type 0) wher
     pub at : ℕ
     pub end : at + 1 ≡ length h
     pub puts : Puts h x at call (times_of sent.xid shelf.repeats)
+    pub counted : steps.FineMachine Any any-own (counts h x at) machine
     pub room : turn.room ≡ true
     pub few : nat_lt (length (ended sent.xid shelf.repeats)) 32 ≡ true
 
@@ -99,7 +114,7 @@ module _ (m : Mounted) (setup : Setup) (G : List Entry → View → Type 0) wher
   AnswerStory h x op (answers.Refused fault) = Shown h x op fault
 
   abbrev StateStory : List Entry → ℕ → Op → State → Type 0
-  StateStory h x op (Busy machine) = steps.FineMachine (Shown h x op) (own h x op) machine
+  StateStory h x op (Busy machine) = steps.FineMachine (Shown h x op) (own h x op) (counts h x (length h)) machine
   StateStory h x op (Over answer) = AnswerStory h x op answer
 
   abbrev Story : List Entry → ℕ → Op → State → Type 0
@@ -115,7 +130,7 @@ module _ (m : Mounted) (setup : Setup) (G : List Entry → View → Type 0) wher
   answer-story h x op (answers.Refused fault) f = f
 
   abbrev StepsSo : List Entry → ℕ → Op → Next → Machine → Type 0
-  StepsSo h x op next new = steps.MachineStep (Shown h x op) (own h x op) next new
+  StepsSo h x op next new = steps.MachineStep (Shown h x op) (own h x op) (counts h x (length h)) next new
 
   did : (h : List Entry) (x : ℕ) (op : Op) (next : Next) (new : Machine) (after : Shelf) → StepsSo h x op next new → Did NoWait NoShelf Story h x op next new after
   did h x op next new after s = record { shelf = tt; asks = asks-none h x op next; then_ = by next s }
@@ -164,60 +179,93 @@ module _ (m : Mounted) (setup : Setup) (G : List Entry → View → Type 0) wher
   close-op (ops.List path) R a b = b (λ n is. absurd (cc))
 
   module _ (h : List Entry) (x : ℕ) (op : Op) (machine : Machine) (wsize : ℕ) (sent turn : Turn) (came : Result Reply Fault) (old : Shelf) (next : Next) (new : Machine) (after : Shelf)
-      (others : ℕ) (story : steps.FineMachine (Shown h x op) (own h x op) machine) (flight : in_flight machine ≡ others + 1) (t : Takes wsize machine sent turn came old next new after) where
-    slots-fine : steps.Ends (Shown h x op) (own h x op) machine old
-    slots-fine = steps.any-ends (Shown h x op) (own h x op) (λ is. absurd (cc)) machine old
+      (others : ℕ) (story : steps.FineMachine (Shown h x op) (own h x op) (counts h x (length h)) machine) (flight : in_flight machine ≡ others + 1) (t : Takes wsize machine sent turn came old next new after) where
+    slots-fine : steps.Ends (Shown h x op) (own h x op) (counts h x (length h)) machine old
+    slots-fine = steps.any-ends (Shown h x op) (own h x op) (counts h x (length h)) (λ is. absurd (cc)) machine old
 
-    any-step : one.FitsMachine (Shown h x op) (own h x op) sent came machine old.back → StepsSo h x op next new
-    any-step n =
-        steps.all-takes (Shown h x op) (own h x op) machine wsize sent turn came old next new after slots-fine
-        (any-fits (Shown h x op) (own h x op) next sent turn came old.repeats machine old.back n) story t
+    -- what is made again was put off once more
+    abbrev CountsOn : Type 0
+    CountsOn = AgainMachine (counts h x (length h)) sent turn came old.repeats machine
+
+    any-step : CountsOn → one.FitsMachine (Shown h x op) (own h x op) sent came machine old.back → StepsSo h x op next new
+    any-step again n =
+        steps.all-takes (Shown h x op) (own h x op) (counts h x (length h)) machine wsize sent turn came old next new after slots-fine
+        (any-fits (Shown h x op) (own h x op) (counts h x (length h)) next sent turn came old.repeats machine old.back n) story again t
 
     -- it waits for such a call
-    call-step : (call : Call) (xid : ℕ) (rec : List ℕ) → Calls machine call → ((reply : Reply) → came ≡ Ok reply → IsPiece sent.xid call old.back) → Given (Shown h x op) (own h x op) xid rec call came
+    call-step : CountsOn → (call : Call) (xid : ℕ) (rec : List ℕ) → Calls machine call → ((reply : Reply) → came ≡ Ok reply → IsPiece sent.xid call old.back) → Given (Shown h x op) (own h x op) xid rec call came
         → StepsSo h x op next new
-    call-step call xid rec e piece g =
-        any-step (machine-fits (Shown h x op) (own h x op) xid rec call came g sent old.back piece machine e.0 e.1 (λ opens is. absurd (cc)) (λ lists is. absurd (cc)))
+    call-step again call xid rec e piece g =
+        any-step again (machine-fits (Shown h x op) (own h x op) xid rec call came g sent old.back piece machine e.0 e.1 (λ opens is. absurd (cc)) (λ lists is. absurd (cc)))
+
+    -- what came, as it puts the call off
+    off-fits : (k : IsToldOf Seen Calls NoWait h x op machine sent turn came old) → one.FitsMachine (Off k.now.xid k.call k.now.rec) (off-own k.now.xid k.call k.now.rec) sent came machine old.back
+    off-fits k =
+        machine-fits (Off k.now.xid k.call k.now.rec) (off-own k.now.xid k.call k.now.rec) k.now.xid k.now.rec k.call came (off-given k.now.xid k.call k.now.rec came k.now.says) sent old.back
+        (λ reply ok. k.seen.piece) machine k.expects.0 k.expects.1 (λ opens is. absurd (cc)) (λ lists is. absurd (cc))
+
+    seen-here : (k : IsToldOf Seen Calls NoWait h x op machine sent turn came old) → k.seen.at ≡ k.now.heard.got_at
+    seen-here k = let a = k.seen.end in let b = k.now.end in omega (arith, a, b)
+
+    put-off : (k : IsToldOf Seen Calls NoWait h x op machine sent turn came old) → Refuses k.now.xid k.call k.now.rec (faults.Nfs jukebox) → PutOff h x (length h) k.call k.now.heard.got_at
+    put-off k r = record { refused = record { xid = k.now.xid; bytes = k.now.rec; heard = k.now.heard; refuses = r }; here = refl }
+
+    told-again : IsToldOf Seen Calls NoWait h x op machine sent turn came old → CountsOn
+    told-again k =
+        machine-again (Off k.now.xid k.call k.now.rec) (off-own k.now.xid k.call k.now.rec) (counts h x k.seen.at) (counts h x (length h)) sent turn came old.repeats k.call
+        (λ dir name many is off puts. once_more (look_up dir name) many is off puts) (λ file many is off puts. once_more (saves.commit_of file) many is off puts)
+        machine old.back k.expects.0 k.expects.1 (off-fits k) k.seen.counted
+      where
+        once_more : (call : Call) (many : ℕ) → k.call ≡ call → Off k.now.xid k.call k.now.rec (faults.Nfs jukebox) → Puts h x k.seen.at call many → Puts h x (length h) call (many + 1)
+        once_more call many is off puts =
+            let same = seen-here k in
+            let end = k.seen.end in
+            puts-one h x k.seen.at (length h) call many k.now.heard.got_at (omega (arith, end)) (omega (arith, same))
+            (subst (λ (c : Call). PutOff h x (length h) c k.now.heard.got_at) is (put-off k (off refl))) puts
 
     -- as often as may be
-    limit-step : (k : IsToldOf Seen Calls NoWait h x op machine sent turn came old) → 3 ≤ times_of sent.xid old.repeats → StepsSo h x op next new
-    limit-step k enough = close-op op (StepsSo h x op next new)
+    limit-step : (k : IsToldOf Seen Calls NoWait h x op machine sent turn came old) (many : ℕ) → 3 ≤ many → Puts h x k.seen.at k.call many → StepsSo h x op next new
+    limit-step k many enough puts = close-op op (StepsSo h x op next new)
         (λ slot is.
         let c = k.seen.runs slot is in
         let e = subst (λ (n : Machine). Calls n k.call) c.is k.expects in
         let count_ = subst (λ (n : Machine). in_flight n ≡ others + 1) c.is flight in
         close-case c.of k.call others (StepsSo h x op next new) e.0.1 count_
-        (λ removal at. any-step (subst (λ (n : Machine). one.FitsMachine (Shown h x op) (own h x op) sent came n old.back) (sym c.is)
+        (λ removal at. any-step (told-again k) (subst (λ (n : Machine). one.FitsMachine (Shown h x op) (own h x op) sent came n old.back) (sym c.is)
         (subst (λ (s : Closing). FitsClose (Shown h x op) (own h x op) sent came s old.back) (sym at) tt)))
-        (λ no_removal. call-step k.call k.now.xid k.now.rec k.expects (λ reply ok. k.seen.piece) (gave (λ n same r. no_removal r))))
-        (λ not. call-step k.call k.now.xid k.now.rec k.expects (λ reply ok. k.seen.piece) (gave (λ n same r. not n same)))
+        (λ no_removal. call-step (told-again k) k.call k.now.xid k.now.rec k.expects (λ reply ok. k.seen.piece) (gave (λ n same r. no_removal r))))
+        (λ not. call-step (told-again k) k.call k.now.xid k.now.rec k.expects (λ reply ok. k.seen.piece) (gave (λ n same r. not n same)))
       where
-        here : k.seen.at ≡ k.now.heard.got_at
-        here = let a = k.seen.end in let b = k.now.end in omega (arith, a, b)
-
         gave : NoRemoval op k.call → Given (Shown h x op) (own h x op) k.now.xid k.now.rec k.call came
-        gave stays = given h x op k.call came k.now k.seen.was stays (times_of sent.xid old.repeats) enough
-            (subst (λ (n : ℕ). Puts h x n k.call (times_of sent.xid old.repeats)) here k.seen.puts)
+        gave stays = given h x op k.call came k.now k.seen.was stays many enough (subst (λ (n : ℕ). Puts h x n k.call many) (seen-here k) puts)
 
     -- it may be made again
-    again-step : IsToldOf Seen Calls NoWait h x op machine sent turn came old → goes_again true sent turn old.repeats ≡ true → StepsSo h x op next new
-    again-step k may =
-        calm-takes (Shown h x op) (own h x op) next sent turn came old.repeats (other h x op) outer may (Off k.now.xid k.call k.now.rec) after.repeats k.call machine wsize old new after refl slots-fine story
+    again-step : IsToldOf Seen Calls NoWait h x op machine sent turn came old → goes_again true sent turn old.repeats ≡ true → is_full machine ≡ false → StepsSo h x op next new
+    again-step k may low =
+        calm-takes (Shown h x op) (own h x op) (counts h x (length h)) next sent turn came old.repeats (other h x op) outer may (Off k.now.xid k.call k.now.rec) after.repeats k.call machine wsize old new after refl slots-fine story (told-again k) low
         (took-any (Off k.now.xid k.call k.now.rec) (off-own k.now.xid k.call k.now.rec) sent turn came k.call (off-evident k.now.xid k.call k.now.rec came k.now.says) (Shown h x op) (own h x op) (other h x op)
-        machine wsize old next new after (omega (arith, flight)) k.expects.0 k.expects.1 (λ reply ok. k.seen.piece)
-        (machine-fits (Off k.now.xid k.call k.now.rec) (off-own k.now.xid k.call k.now.rec) k.now.xid k.now.rec k.call came (off-given k.now.xid k.call k.now.rec came k.now.says) sent old.back
-        (λ reply ok. k.seen.piece) machine k.expects.0 k.expects.1 (λ opens is. absurd (cc)) (λ lists is. absurd (cc))) t) t
+        machine wsize old next new after (omega (arith, flight)) k.expects.0 k.expects.1 (λ reply ok. k.seen.piece) (off-fits k) t) t
       where
         outer : (fault : Fault) → came ≡ Err fault → Shown h x op fault
         outer fault is same = absurd (k.read jukebox (subst (λ (f : Fault). came ≡ Err f) same is))
 
     told-step : IsToldOf Seen Calls NoWait h x op machine sent turn came old → StepsSo h x op next new
-    told-step k = by (goes_again true sent turn old.repeats) refl
+    told-step k = by (goes_again true sent turn old.repeats) refl (is_full machine) refl
       where
-        by : (b : Bool) → goes_again true sent turn old.repeats ≡ b → StepsSo h x op next new
-        by true may = again-step k may
-        by false ends = limit-step k
-            (ltb-false (times_of sent.xid old.repeats) 3 (too-often (true && turn.room) (times_of sent.xid old.repeats) (length (ended sent.xid old.repeats)) ends k.seen.room k.seen.few))
+        -- it was put off three times, one after another or in two of its steps
+        as-call : (call : Call) (many : ℕ) → k.call ≡ call → Puts h x k.seen.at call many → Puts h x k.seen.at k.call many
+        as-call call many is puts = subst (λ (c : Call). Puts h x k.seen.at c many) (sym is) puts
+
+        in_steps : is_full machine ≡ true → Often (Puts h x k.seen.at k.call)
+        in_steps high =
+            machine-often (counts h x k.seen.at) k.call (Puts h x k.seen.at k.call) (λ dir name many is puts. as-call (look_up dir name) many is puts)
+            (λ file many is puts. as-call (saves.commit_of file) many is puts) machine k.expects.0 k.expects.1 k.seen.counted high
+
+        by : (b : Bool) → goes_again true sent turn old.repeats ≡ b → (c : Bool) → is_full machine ≡ c → StepsSo h x op next new
+        by true may false low = again-step k may low
+        by true may true high = let o = in_steps high in limit-step k o.many o.enough o.so
+        by false ends c is = limit-step k (times_of sent.xid old.repeats)
+            (ltb-false (times_of sent.xid old.repeats) 3 (too-often (true && turn.room) (times_of sent.xid old.repeats) (length (ended sent.xid old.repeats)) ends k.seen.room k.seen.few)) k.seen.puts
 
     one-fault : (a b : Fault) → ◌≡◌ {A = Result Reply Fault} (Err a) (Err b) → a ≡ b
     one-fault a b e = cc
@@ -234,9 +282,39 @@ module _ (m : Mounted) (setup : Setup) (G : List Entry → View → Type 0) wher
     unmade-shown faults.Kind u is = absurd (cc)
     unmade-shown faults.Many u is = absurd (cc)
 
+    -- a call that isn't made wasn't put off
+    abbrev NotOff : Fault → Type 0
+    NotOff fault = fault ≡ faults.Nfs jukebox → ⊥
+
+    not-own : CallFaults NotOff
+    not-own = record { memory = λ is. absurd (cc) }
+
+    unmade-not : (fault : Fault) → IsUnmadeFault fault → NotOff fault
+    unmade-not faults.Spent u is = absurd (cc)
+    unmade-not faults.Memory u is = absurd (cc)
+    unmade-not faults.Lost u is = absurd (cc)
+    unmade-not (faults.Nfs status) u is = absurd u
+    unmade-not (faults.Rpc n) u is = absurd (cc)
+    unmade-not (faults.Bad rule) u is = absurd (cc)
+    unmade-not faults.Slot u is = absurd (cc)
+    unmade-not faults.Mode u is = absurd (cc)
+    unmade-not faults.Kind u is = absurd (cc)
+    unmade-not faults.Many u is = absurd (cc)
+
+    unmade-again : (call : Call) → Calls machine call → (fault : Fault) → came ≡ Err fault → IsUnmadeFault fault → CountsOn
+    unmade-again call e fault is u =
+        machine-again NotOff not-own (counts h x (length h)) (counts h x (length h)) sent turn came old.repeats call
+        (λ dir name many same off puts. absurd (off refl)) (λ file many same off puts. absurd (off refl)) machine old.back e.0 e.1
+        (machine-fits NotOff not-own 0 [] call came (record {
+          ok = λ reply ok. absurd (let no_way : ◌≡◌ {A = Result Reply Fault} (Err fault) (Ok reply) = sym is ∙ ok in cc);
+          err = λ made same. let which : fault ≡ made = one-fault fault made (sym is ∙ same) in subst NotOff which (unmade-not fault u);
+          give = λ reply ok. absurd (let no_way : ◌≡◌ {A = Result Reply Fault} (Err fault) (Ok reply) = sym is ∙ ok in cc);
+        }) sent old.back (λ reply ok. absurd (let no_way : ◌≡◌ {A = Result Reply Fault} (Err fault) (Ok reply) = sym is ∙ ok in cc)) machine e.0 e.1 (λ opens same. absurd (cc)) (λ lists same. absurd (cc)))
+        (steps.fine-more (Shown h x op) (own h x op) (counts h x (length h)) Any any-own (counts h x (length h)) (λ made p. tt) (λ dir name many p. p) (λ file many p. p) machine story)
+
     took-step : CameOf Seen Calls NoWait h x op machine sent turn came old → StepsSo h x op next new
     took-step (heard_of k) = told-step k
-    took-step (unmade call e fault is u asked_) = call-step call 0 [] e (λ reply ok. absurd (let no_way : ◌≡◌ {A = Result Reply Fault} (Err fault) (Ok reply) = sym is ∙ ok in cc)) (record {
+    took-step (unmade call e fault is u asked_) = call-step (unmade-again call e fault is u) call 0 [] e (λ reply ok. absurd (let no_way : ◌≡◌ {A = Result Reply Fault} (Err fault) (Ok reply) = sym is ∙ ok in cc)) (record {
       ok = λ reply ok. absurd (let no_way : ◌≡◌ {A = Result Reply Fault} (Err fault) (Ok reply) = sym is ∙ ok in cc);
       err = λ made same. let which : fault ≡ made = one-fault fault made (sym is ∙ same) in subst (Shown h x op) which (unmade-shown fault u);
       give = λ reply ok. absurd (let no_way : ◌≡◌ {A = Result Reply Fault} (Err fault) (Ok reply) = sym is ∙ ok in cc);
@@ -280,7 +358,9 @@ module _ (m : Mounted) (setup : Setup) (G : List Entry → View → Type 0) wher
 
   state-later : (h : List Entry) (e : Entry) (x : ℕ) (op : Op) (state : State) → StateStory h x op state → StateStory (h ++ e ∷ []) x op state
   state-later h e x op (Busy machine) s =
-      steps.fine-more (Shown h x op) (own h x op) (Shown (h ++ e ∷ []) x op) (own (h ++ e ∷ []) x op) (shown-later h e x op) machine s
+      steps.fine-more (Shown h x op) (own h x op) (counts h x (length h)) (Shown (h ++ e ∷ []) x op) (own (h ++ e ∷ []) x op) (counts (h ++ e ∷ []) x (length (h ++ e ∷ []))) (shown-later h e x op)
+      (λ dir name k p. puts-later h (e ∷ []) x (length h) (length (h ++ e ∷ [])) (look_up dir name) k (last-wide h e) p)
+      (λ file k p. puts-later h (e ∷ []) x (length h) (length (h ++ e ∷ [])) (saves.commit_of file) k (last-wide h e) p) machine s
   state-later h e x op (Over (answers.Done value)) s = tt
   state-later h e x op (Over (answers.Refused fault)) s = shown-later h e x op fault s
 
@@ -289,11 +369,11 @@ module _ (m : Mounted) (setup : Setup) (G : List Entry → View → Type 0) wher
     fresh = λ h v up fresh. tt;
     starts = λ h lane line op wsize turn old next new after given_ kept s.
         let later = h ++ Began lane line op ∷ [] in
-        did later (length h) op next new after (steps.all-starts (Shown later (length h) op) (own later (length h) op) (machine_of m lane op) wsize turn old next new after
-        (steps.any-begins (Shown later (length h) op) (own later (length h) op) (λ is. absurd (cc)) (λ is. absurd (cc)) (machine_of m lane op) old)
-        (steps.begins-fine (Shown later (length h) op) (own later (length h) op) m lane op) s);
+        did later (length h) op next new after (steps.all-starts (Shown later (length h) op) (own later (length h) op) (counts later (length h) (length later)) (machine_of m lane op) wsize turn old next new after
+        (steps.any-begins (Shown later (length h) op) (own later (length h) op) (counts later (length h) (length later)) (λ is. absurd (cc)) (λ is. absurd (cc)) (machine_of m lane op) old)
+        (steps.begins-fine (Shown later (length h) op) (own later (length h) op) (counts later (length h) (length later)) m lane op) s);
     resumes = λ h x op machine wsize turn old next new after kept story r.
-        did h x op next new after (steps.all-resumes (Shown h x op) (own h x op) machine wsize turn old next new after story r);
+        did h x op next new after (steps.all-resumes (Shown h x op) (own h x op) (counts h x (length h)) machine wsize turn old next new after story r);
     takes = λ h x op machine wsize sent turn came old next new after others kept story flight k t.
         did h x op next new after (took-step h x op machine wsize sent turn came old next new after others story flight t k);
     still = λ h e shelf kept. tt;
@@ -304,8 +384,8 @@ module _ (m : Mounted) (setup : Setup) (G : List Entry → View → Type 0) wher
 
   -- ---- of each call that waits
 
-  sees : (modes : Modes) → m.nocto ≡ modes.nocto → IsSeenBy (machine_of m) setup G Seen
-  sees modes same h v p found may xid w waits made at machine there x op u from o rec = record {
+  sees : (modes : Modes) → m.nocto ≡ modes.nocto → IsSeenBy (machine_of m) setup G Story Seen
+  sees modes same h v p found may xid w waits made at machine there x op u from o story rec = record {
     was = known.was;
     runs = known.runs;
     piece = known.piece;
@@ -315,6 +395,10 @@ module _ (m : Mounted) (setup : Setup) (G : List Entry → View → Type 0) wher
         subst (λ (n : ℕ). Puts (h ++ Delivered rec ∷ []) x (length h) made.asked (times_of n v.shelf.repeats)) (sym sent_xid)
         (subst (λ (n : ℕ). Puts (h ++ Delivered rec ∷ []) x (length h) made.asked n) (sym (times-is xid v.shelf.repeats))
         (puts-later h (Delivered rec ∷ []) x (length h) (length h) made.asked (count xid v.shelf.repeats) (omega arith) (delayed.counted xid w waits made x op u)));
+    counted =
+        steps.fine-more (Shown h x op) (own h x op) (counts h x (length h)) Any any-own (counts (h ++ Delivered rec ∷ []) x (length h)) (λ fault q. tt)
+        (λ dir name many q. puts-later h (Delivered rec ∷ []) x (length h) (length h) (look_up dir name) many (omega arith) q)
+        (λ file many q. puts-later h (Delivered rec ∷ []) x (length h) (length h) (saves.commit_of file) many (omega arith) q) machine story;
     room = lt-ltb (length (without xid v.calls.calls)) 32 less;
     few = lt-ltb (length (ended w.purpose.sent.xid v.shelf.repeats)) 32 (let same_length = ap length table in omega (arith, same_length, no_more, less));
   }
@@ -349,7 +433,7 @@ module _ (m : Mounted) (setup : Setup) (G : List Entry → View → Type 0) wher
   pub off-refused : (modes : Modes) → m.nocto ≡ modes.nocto → (h : List Entry) (v : View) → Passes (machine_of m) setup G h v → (lane x y : ℕ) (op : Op)
       → Ended h lane x op y (answers.Refused (faults.Nfs jukebox)) → OffRefusal h x y op
   off-refused modes same h v r lane x y op ended_ =
-      let s = reached-answered-by (machine_of m) (begins-unbegun m) setup G NoLane (λ k w q found number idle. tt) Seen (sees modes same) Calls calls-laws NoWait NoShelf Story off-laws
+      let s = reached-answered-by (machine_of m) (begins-unbegun m) setup G NoLane (λ k w q found number idle. tt) Seen Story (sees modes same) Calls calls-laws NoWait NoShelf off-laws
       h v r lane x op y (answers.Refused (faults.Nfs jukebox)) ended_ in
       let there = s.there in
       subst (λ (k : List Entry). OffRefusal k x y op) (sym s.is) (off-later s.before s.after x (length s.before) y op (omega (arith, there)) (s.story refl))

@@ -50,6 +50,7 @@ use Rattle.core_answers.proofs.writes.CallFits.{Fits, commits_save, commits_writ
 use Rattle.core_answers.proofs.refusals.FitAll.{FitsFile, FitsPath, FitsMachine}
 use Rattle.core_answers.proofs.refusals.FitFiles.{FitsSync, FitsClose, FitsCut, FitsPut}
 use Rattle.core_session.proofs.delays.Rests.{Same, same, writes-same, close-follows, put-follows, writes-on, adds-bytes, follows-path}
+use Rattle.core_session.proofs.delays.Times.{opening_full, not-put-off}
 use Rattle.core_session.proofs.delays.SaveSteps.{Gives}
 use Rattle.core_session.proofs.delays.Took.{Took, took-as, fault-busy, result-busy, result-calm, again-busy, again-no}
 use Rattle.core_session.proofs.delays.TookNames.{took-walk, took-name}
@@ -113,7 +114,7 @@ commits-file s call (inl w) k is = absurd (
 -- What an operation makes of what came where that doesn't put its call off; nothing is said here of a save.
 module _ (Q : Fault → Type 0) (fine : CallFaults Q) (came : Result Reply Fault) where
   abbrev pub CalmFile : FileMachine → Type 0
-  CalmFile (files.Open m) = FitsOpening Q fine m.opening came
+  CalmFile (files.Open m) = opening_full m.opening ≡ false → FitsOpening Q fine m.opening came
   CalmFile (files.Read m) = FitsRead Q fine m.reading came
   CalmFile (files.Write m) = Unit {0}
   CalmFile (files.Sync m) = Unit {0}
@@ -164,8 +165,10 @@ module _ (P : Fault → Type 0) (own : CallFaults P) (sent turn : Turn) (came : 
     told-took true is sending (inr t) = not-busy t.1
     told-took false is sending t = not-busy t.1
 
-    commit-busy : saves.is_sending s.phase ≡ false → saves.may_again (fails_busy (commit_told came)) s ≡ true → P (faults.Nfs jukebox)
-    commit-busy idle is = result-busy P (commit_told came) (and-left (fails_busy (commit_told came)) (is_none s.refusal) is) (fits.commits idle)
+    commit-busy : saves.is_sending s.phase ≡ false → saves.may_commit (commit_told came) s ≡ true → P (faults.Nfs jukebox)
+    commit-busy idle is =
+        result-busy P (commit_told came)
+        (and-left (fails_busy (commit_told came)) (is_none s.refusal) (and-left (saves.may_again (fails_busy (commit_told came)) s) (nat_lt s.put_off 3) is)) (fits.commits idle)
 
     first-send : (c : Bool) → saves.TakesFirst c wsize turn (commit_told came) s back gives new after → c ≡ true → syncs.sync_next gives ≡ nexts.Send (saves.commit_of s.file)
     first-send true t is = ap syncs.sync_next t.0.gives_next
@@ -174,7 +177,7 @@ module _ (P : Fault → Type 0) (own : CallFaults P) (sent turn : Turn) (came : 
     commit-took : saves.is_sending s.phase ≡ false → later ≡ saves.commit_repeats (commit_told came) sent turn repeats s
         → (saves.commit_again (commit_told came) sent turn repeats s ≡ true → syncs.sync_next gives ≡ nexts.Send (saves.commit_of s.file)) → TookSave
     commit-took idle is sends = record {
-      busy = saves.may_again (fails_busy (commit_told came)) s;
+      busy = saves.may_commit (commit_told came) s;
       later_is = is;
       again = λ a. sends a ∙ ap (λ (c : Call). nexts.Send c) (sym (commits-file s call e k idle));
       fault = commit-busy idle;
@@ -282,6 +285,9 @@ module _ (P : Fault → Type 0) (own : CallFaults P) (sent turn : Turn) (came : 
   led-busy (leads.Knows file stamp) is f = absurd (cc)
   led-busy (leads.Ends fault) is f = fault-busy P fault is f
 
+  opening-busy : (o : Opening) → opening.may_again o (opening.told_led o came) ≡ true → opening.ends_busy (opening.told_led o came) ≡ true
+  opening-busy o is = and-left (opening.ends_busy (opening.told_led o came)) _ is
+
   put-opening-same : (step : OpeningNext) (wsize : ℕ) (m : PutFile) (old : Shelf) (next : Next) (new : PutFile) (after : Shelf) → puts.AfterOpening step wsize m turn old next new after → Same after old
   put-opening-same (openings.Send asked) wsize m old next new after a = same after old a.2
   put-opening-same openings.Wait wsize m old next new after a = same after old a.shelf_is
@@ -314,12 +320,12 @@ module _ (P : Fault → Type 0) (own : CallFaults P) (sent turn : Turn) (came : 
       → FitsPut P own sent came at m old.back → puts.Takes at wsize m sent turn came old next new after → TookTo old after (next ≡ nexts.Send call) (Unit {0})
   took-put putting.Idle wsize m old next new after some a e k piece fits t = absurd (omega (arith, some))
   took-put putting.Opens wsize m old next new after some a e k piece fits t = record {
-    busy = opening.ends_busy (opening.told_led m.opening came);
+    busy = opening.may_again m.opening (opening.told_led m.opening came);
     later_is = put-opening-same t.step wsize _ t.took next new after t.follows ∙ t.repeats;
     again = λ go.
         put-opening-send t.step (opening.call_of m.opening m.opening.step) wsize _ t.took next new after t.follows
         (led-send (opening.opening_again m.opening sent turn came old.repeats) m.opening _ t.step old.pages t.took.pages t.leads go) ∙ ap (λ (c : Call). nexts.Send c) (sym a);
-    fault = λ is. led-busy (opening.told_led m.opening came) is fits;
+    fault = λ is. led-busy (opening.told_led m.opening came) (opening-busy m.opening is) fits;
     calm = λ none. tt;
   }
   took-put (putting.Adds file) wsize m old next new after some a e k piece fits t =
@@ -351,15 +357,17 @@ module _ (P : Fault → Type 0) (own : CallFaults P) (sent turn : Turn) (came : 
     follows-open m (openings.Ended (Err fault)) asked next old new f is = absurd (cc)
 
     took-open : (m : OpenFile) (old : Shelf) (next : Next) (new : FileMachine) (after : Shelf) → call ≡ opening.call_of m.opening m.opening.step → FitsOpening P own m.opening came
-        → steps.OpenTakes m sent turn came old next new after → TookTo old after (next ≡ nexts.Send call) (FitsOpening Q fine m.opening came)
+        → steps.OpenTakes m sent turn came old next new after → TookTo old after (next ≡ nexts.Send call) (opening_full m.opening ≡ false → FitsOpening Q fine m.opening came)
     took-open m old next new after e fits t = record {
-      busy = opening.ends_busy (opening.told_led m.opening came);
+      busy = opening.may_again m.opening (opening.told_led m.opening came);
       later_is = t.repeats;
       again = λ go.
           follows-open m t.steps.step (opening.call_of m.opening m.opening.step) next old.opens after.opens t.steps.follows
           (led-send (opening.opening_again m.opening sent turn came old.repeats) m.opening _ t.steps.step old.pages after.pages t.steps.led go) ∙ ap (λ (c : Call). nexts.Send c) (sym e);
-      fault = λ is. led-busy (opening.told_led m.opening came) is fits;
-      calm = λ is. led-calm (opening.told_led m.opening came) is;
+      fault = λ is. led-busy (opening.told_led m.opening came) (opening-busy m.opening is) fits;
+      calm = λ is low.
+          led-calm (opening.told_led m.opening came)
+          (not-put-off (opening.ends_busy (opening.told_led m.opening came)) (opening.looks m.opening.step) (nat_lt m.opening.put_off 3) is low);
     }
 
     -- ---- reads

@@ -46,6 +46,9 @@ module _ (file : List ℕ) (upto : ℕ) where
         → IsSave file upto new
     goes-save s back next new after is g = over-save s.refusal s back next new after is g
 
+  more-save : (s : Saving) → IsSave file upto s → IsSave file upto (saves.put_off_more s)
+  more-save s is = record { file_is = is.file_is; upto_is = is.upto_is }
+
   less-save : (s : Saving) → IsSave file upto s → IsSave file upto (saves.less_waiting s)
   less-save s is = record { file_is = is.file_is; upto_is = is.upto_is }
 
@@ -86,11 +89,11 @@ module _ (file : List ℕ) (upto : ℕ) where
 
   first-save : (again : Bool) (told : Result Verf Fault) (wsize : ℕ) (turn : Turn) (s : Saving) (back : Pending) (next : _) (new : Saving) (after : Pending) → IsSave file upto s
       → saves.TakesFirst again wsize turn told s back next new after → IsSave file upto new
-  first-save true told wsize turn s back next new after is t = lead-save _ s next new t.0 is
+  first-save true told wsize turn s back next new after is t = lead-save _ (saves.put_off_more s) next new t.0 (more-save s is)
   first-save false told wsize turn s back next new after is t = commit-save told wsize turn.xid turn.room (saves.less_waiting s) back next new after (less-save s is) t
 
   last-save : (again : Bool) (s : Saving) → IsSave file upto s → IsSave file upto (saves.last_saving again s)
-  last-save true s is = is
+  last-save true s is = more-save s is
   last-save false s is = less-save s is
 
   module _ (wsize : ℕ) (sent turn : Turn) (came : Result Reply Fault) where

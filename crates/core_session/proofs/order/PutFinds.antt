@@ -186,7 +186,7 @@ module _ (top : List ℕ) (h : List Entry) (path : List (List ℕ)) where
       by walks.Wait k g = runs g.1
       by (walks.At dir) k g =
           then-put wsize walk (record p {
-            opening = record { dir = dir; name = p.opening.name; mode = p.opening.mode; nocto = p.opening.nocto; moment = p.opening.moment; step = opening.first_step p.opening.mode; asked = false };
+            opening = record { dir = dir; name = p.opening.name; mode = p.opening.mode; nocto = p.opening.nocto; moment = p.opening.moment; step = opening.first_step p.opening.mode; asked = false; put_off = 0 };
             state = putting.Opens;
           }) turn old next new after
           (first-opening top h path dir p.opening way.name_is way.mode_is

@@ -56,7 +56,7 @@ follows-unwell : (step : WalkNext) (wsize : ℕ) (walk : Walk) (o : OpenFile) (t
 follows-unwell (walks.Send call) wsize walk o turn old next new after f = unwell-as (nexts.Send call) next f.0 (sends-unwell call)
 follows-unwell walks.Wait wsize walk o turn old next new after f = unwell-as nexts.Wait next f.0 waits-unwell
 follows-unwell (walks.At dir) wsize walk o turn old next new after f =
-    then-unwell wsize walk (record o { opening = record { dir = dir; name = o.opening.name; mode = o.opening.mode; nocto = o.opening.nocto; moment = o.opening.moment; step = opening.first_step o.opening.mode; asked = false } })
+    then-unwell wsize walk (record o { opening = record { dir = dir; name = o.opening.name; mode = o.opening.mode; nocto = o.opening.nocto; moment = o.opening.moment; step = opening.first_step o.opening.mode; asked = false; put_off = 0 } })
     true turn old next new after f
 follows-unwell (walks.Refused fault) wsize walk o turn old next new after f = unwell-as (nexts.Done (answers.Refused fault)) next f.0 (refused-unwell fault)
 

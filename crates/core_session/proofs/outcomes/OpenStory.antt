@@ -215,7 +215,7 @@ module _ (m : Mounted) (most : ℕ) where
           let o : OpenFile = record {
             lane = lane;
             slot = slot;
-            opening = record { dir = m.root; name = last_of path; mode = mode; nocto = m.nocto; moment = 0; step = opening.first_step mode; asked = false };
+            opening = record { dir = m.root; name = last_of path; mode = mode; nocto = m.nocto; moment = 0; step = opening.first_step mode; asked = false; put_off = 0 };
           } in
           never-well later (length h) path mode next answer
           (starts-unwell (slot_taken (openers.Open o) old.opens) wsize (walk_of m.root (front_of path)) o turn old next k.machine after k.step) done);

@@ -181,7 +181,7 @@ module _ (sent turn : Turn) where
 
   first-has : (again : Bool) (told : Result Verf Fault) (wsize : ℕ) (s : Saving) (back : Pending) (next : _) (new : Saving) (after : Pending)
       → saves.TakesFirst again wsize turn told s back next new after → Free turn.xid back → After (Free turn.xid) (Has turn.xid) (syncs.sync_next next) after
-  first-has true told wsize s back next new after g free = lead-has turn.xid _ s next new back after g.0 g.1 (commit-has turn.xid s.file back)
+  first-has true told wsize s back next new after g free = lead-has turn.xid _ (saves.put_off_more s) next new back after g.0 g.1 (commit-has turn.xid s.file back)
   first-has false told wsize s back next new after g free = commit-takes turn.xid told wsize turn.room (saves.less_waiting s) back next new after g free
 
   in-has : (phase : Phase) (wsize : ℕ) (came : Result Reply Fault) (repeats : List Repeat) (s : Saving) (back : Pending) (next : _) (new : Saving) (after : Pending)

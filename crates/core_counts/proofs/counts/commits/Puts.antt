@@ -185,7 +185,7 @@ module _ (f : List ℕ) where
     opening-of (steps.Send call) step_is false goes_ l k =
         goes (ap (λ (z : Shelf). z.repeats) k.2 ∙ table-as false goes_)
         (plain-step f had next (PutLeft new.state) (opening-plain (steps.Send call) next k.0
-        (took-asks (opening.ends_busy (opening.told_led machine.opening came)) false old.repeats machine.opening sent turn (opening.led_on machine.opening turn.now came t.took.attrs old.pages) (steps.Send call) old.pages
+        (took-asks (opening.may_again machine.opening (opening.told_led machine.opening came)) false old.repeats machine.opening sent turn (opening.led_on machine.opening turn.now came t.took.attrs old.pages) (steps.Send call) old.pages
         t.took.pages goes_ l))
         (put-as putting.Opens new.state had (ap (λ (z : PutFile). z.state) k.1 ∙ is) le))
     opening-of steps.Wait step_is true goes_ l k = absurd (let e = l.0 in cc)

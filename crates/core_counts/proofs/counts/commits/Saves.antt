@@ -164,7 +164,7 @@ module _ (f : List ℕ) where
       by : (b : Bool) → saves.commit_again (commit_told came) sent turn repeats s ≡ b → Took sent turn repeats later s (syncs.sync_next gives) new
       by true goes =
           let kept = k.0.keeps in
-          let same_as : saves.last_saving (saves.commit_again (commit_told came) sent turn repeats s) s ≡ s = ap (λ (b : Bool). saves.last_saving b s) goes in
+          let same_as : saves.last_saving (saves.commit_again (commit_told came) sent turn repeats s) s ≡ saves.put_off_more s = ap (λ (b : Bool). saves.last_saving b s) goes in
           again (k.2 ∙ ap (λ (b : Bool). answered b sent.xid turn.xid repeats) goes) (let same = ap left_to (kept ∙ same_as) in omega (arith, same))
       by false goes =
           on (k.2 ∙ ap (λ (b : Bool). answered b sent.xid turn.xid repeats) goes)

@@ -177,7 +177,7 @@ module _ (P : Call → Type 0) where
   pub open-takes : (m : OpenFile) (sent turn : Turn) (came : Result Reply Fault) (old : Shelf) (next : Next) (new : FileMachine) (after : Shelf) (others : ℕ) → of_file (files.Open m) ≡ others + 1
       → stepping.OpenTakes m sent turn came old next new after → TakesCosts P (opening_left m.opening) sent turn old.repeats next (file_left new) after.repeats
   open-takes m sent turn came old next new after others flight t =
-      own-takes P (opening_left m.opening) (opening.opening_again m.opening sent turn came old.repeats) (opening.ends_busy (opening.told_led m.opening came)) sent turn old.repeats next (file_left new) after.repeats
+      own-takes P (opening_left m.opening) (opening.opening_again m.opening sent turn came old.repeats) (opening.may_again m.opening (opening.told_led m.opening came)) sent turn old.repeats next (file_left new) after.repeats
       refl t.repeats (few (opening.opening_again m.opening sent turn came old.repeats) refl) (λ calm. rest calm)
     where
       asked : m.opening.asked ≡ true

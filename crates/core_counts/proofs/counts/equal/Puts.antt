@@ -87,26 +87,26 @@ module _ (P : Call → Type 0) (no_saved : (f : List ℕ) (call : Call) → Save
 
   opening-takes : (b : Bool) (wsize : ℕ) (m : PutFile) (sent turn : Turn) (came : Result Reply Fault) (old took : Shelf) (step : OpeningNext) (next : Next) (new : PutFile) (after : Shelf) → m.state ≡ putting.Opens
       → m.opening.asked ≡ true → opening.opening_again m.opening sent turn came old.repeats ≡ b
-      → took.repeats ≡ repeats_after (opening.ends_busy (opening.told_led m.opening came)) sent turn old.repeats
+      → took.repeats ≡ repeats_after (opening.may_again m.opening (opening.told_led m.opening came)) sent turn old.repeats
       → opening.LedIf b m.opening sent turn (opening.led_on m.opening turn.now came took.attrs old.pages) step old.pages took.pages
       → puts.AfterOpening step wsize (puts.led b m turn came took.attrs old.pages) turn took next new after → SendsOf next (files.Put new) → Tabled sent turn old.repeats next after.repeats
       → TakesCosts P (opening_left m.opening) sent turn old.repeats next (put_left new) after.repeats
   opening-takes true wsize m sent turn came old took (openings.Send call) next new after is asked again table l f s w =
-      repeats_it (table-again true (opening.ends_busy (opening.told_led m.opening came)) sent turn old.repeats after.repeats again (ap (λ (q : Shelf). q.repeats) f.2 ∙ table))
-      (let same = ap put_left f.1 ∙ ap (λ (state : Putting). putting_left state m.opening) is in omega (arith, same))
+      repeats_it (table-again true (opening.may_again m.opening (opening.told_led m.opening came)) sent turn old.repeats after.repeats again (ap (λ (q : Shelf). q.repeats) f.2 ∙ table))
+      (let same = ap put_left f.1 ∙ ap (λ (state : Putting). putting_left state (opening.counted m.opening)) is in omega (arith, same))
   opening-takes true wsize m sent turn came old took openings.Wait next new after is asked again table l f s w = absurd (let no_way : openings.Wait ≡ openings.Send (opening.call_of m.opening m.opening.step) = l.0 in cc)
   opening-takes true wsize m sent turn came old took (openings.Ended r) next new after is asked again table l f s w =
       absurd (let no_way : openings.Ended r ≡ openings.Send (opening.call_of m.opening m.opening.step) = l.0 in cc)
   opening-takes false wsize m sent turn came old took (openings.Send call) next new after is asked again table l f s w =
       let led : Led = opening.led_on m.opening turn.now came took.attrs old.pages in
-      goes_on (table-again false (opening.ends_busy (opening.told_led m.opening came)) sent turn old.repeats after.repeats again (ap (λ (q : Shelf). q.repeats) f.2 ∙ table))
+      goes_on (table-again false (opening.may_again m.opening (opening.told_led m.opening came)) sent turn old.repeats after.repeats again (ap (λ (q : Shelf). q.repeats) f.2 ∙ table))
       (costs-as P (opening_left m.opening) (nexts.Send call) next (opening_left (opening.led_after m.opening turn led)) (put_left new) f.0
       (ap put_left f.1 ∙ ap (λ (state : Putting). putting_left state (opening.led_after m.opening turn led)) is)
       (subst (λ (n : ℕ). Costs P n (nexts.Send call) (opening_left (opening.led_after m.opening turn led))) (ap (rank m.opening.step) (sym asked))
       (led-costs P m.opening sent turn led (openings.Send call) old.pages took.pages (rank m.opening.step true) (led-fits m.opening turn.now came took.attrs old.pages) l (λ r e. absurd (cc)))))
   opening-takes false wsize m sent turn came old took openings.Wait next new after is asked again table l f s w =
       let led : Led = opening.led_on m.opening turn.now came took.attrs old.pages in
-      goes_on (table-again false (opening.ends_busy (opening.told_led m.opening came)) sent turn old.repeats after.repeats again (ap (λ (q : Shelf). q.repeats) f.shelf_is ∙ table))
+      goes_on (table-again false (opening.may_again m.opening (opening.told_led m.opening came)) sent turn old.repeats after.repeats again (ap (λ (q : Shelf). q.repeats) f.shelf_is ∙ table))
       (costs-as P (opening_left m.opening) nexts.Wait next (opening_left (opening.led_after m.opening turn led)) (put_left new) f.next_is
       (ap put_left f.machine_is ∙ ap (λ (state : Putting). putting_left state (opening.led_after m.opening turn led)) is)
       (subst (λ (n : ℕ). Costs P n nexts.Wait (opening_left (opening.led_after m.opening turn led))) (ap (rank m.opening.step) (sym asked))
@@ -114,7 +114,7 @@ module _ (P : Call → Type 0) (no_saved : (f : List ℕ) (call : Call) → Save
   opening-takes false wsize m sent turn came old took (openings.Ended (Ok file)) next new after is asked again table l f s w =
       tabled-quiet (opening_left m.opening) sent turn old.repeats next new after.repeats (after-quiet f.told wsize m.write.lane file turn f.mid next new.state after f.goes.follows) s w
   opening-takes false wsize m sent turn came old took (openings.Ended (Err fault)) next new after is asked again table l f s w =
-      goes_on (table-again false (opening.ends_busy (opening.told_led m.opening came)) sent turn old.repeats after.repeats again (ap (λ (q : Shelf). q.repeats) f.2 ∙ table))
+      goes_on (table-again false (opening.may_again m.opening (opening.told_led m.opening came)) sent turn old.repeats after.repeats again (ap (λ (q : Shelf). q.repeats) f.2 ∙ table))
       (costs-as P (opening_left m.opening) (nexts.Done (answers.Refused fault)) next (put_left new) (put_left new) f.0 refl tt)
 
   pub put-takes : (at : Putting) (wsize : ℕ) (m : PutFile) (sent turn : Turn) (came : Result Reply Fault) (old : Shelf) (next : Next) (new : PutFile) (after : Shelf) (others : ℕ) → m.state ≡ at
