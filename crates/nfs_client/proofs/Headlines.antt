@@ -64,7 +64,7 @@ clocked status ms rest before h u n timed = record {
 
 -- ---- a session that was set up
 
-ready-promises : (s : Settings) (first : ℕ) (v : SetUp) (before h : List Entry) → RunShows s first v before h → (t : History) → t.entries ≡ h → Promises s first t
+pub ready-promises : (s : Settings) (first : ℕ) (v : SetUp) (before h : List Entry) → RunShows s first v before h → (t : History) → t.entries ≡ h → Promises s first t
 ready-promises s first v before h shows t is = record {
   completes = (shows.complete t is).completes;
   settled = λ lawful once. (shows.stable t is lawful once).settled;
@@ -96,7 +96,7 @@ ready-headline s lines first ms rest v before h status text some unmarked is sho
 
 -- ---- a session without an operation of its own
 
-quiet-promises : (s : Settings) (first : ℕ) (h : List Entry) → IsQuiet (terms_by s first) h → (t : History) → t.entries ≡ h → Promises s first t
+pub quiet-promises : (s : Settings) (first : ℕ) (h : List Entry) → IsQuiet (terms_by s first) h → (t : History) → t.entries ≡ h → Promises s first t
 quiet-promises s first h quiet t is =
     let q : IsQuiet (terms_by s first) t.entries = subst (IsQuiet (terms_by s first)) (sym is) quiet in
     record {

@@ -1,11 +1,12 @@
 -- A session that was lost in its set-up, or had no lines begun, made calls of its set-up alone.
 use Rattle.std.proofs.Common.{inl, inr, ◌≡◌, ◌<◌, ◌+◌, ◌⊎◌, ℕ, zero, suc, List, [], ◌∷◌, ◌++◌, length, Result, Err, subst, arith}
 use Rattle.std.proofs.lemmas.List.{append-nil}
+use Rattle.world_model.specs.declared.answer.Answer.{Answer}
 use Rattle.world_model.specs.declared.entry.Entry.{Entry}
-use Rattle.world_model.specs.declared.entry.Entry.TheVariants.{Began, Answered, Sent, Delivered}
+use Rattle.world_model.specs.declared.entry.Entry.TheVariants.{Began, Answered, Sent, Delivered, Clock}
 use Rattle.world_model.specs.declared.message.Call.{Call}
 use Rattle.world_model.specs.declared.tally.Tally.{Tally}
-use Rattle.world_model.specs.Entries.{At}
+use Rattle.world_model.specs.Entries.{At, ours}
 use Rattle.world_model.specs.Waiting.{Answers}
 use Rattle.world_model.proofs.Growth.{Rooted-grow, Waits-back}
 use Rattle.world_model.proofs.Places.{At-back, At-below}
@@ -18,9 +19,9 @@ use Rattle.session_setup.specs.declared.opening.SetUpFault.{SetUpFault}
 use Rattle.session_setup.specs.declared.opening.SetUpFault.TheVariants.{Lost}
 use Rattle.session_setup.specs.Origins.{origin_of, terms_by}
 use Rattle.session_setup.specs.Outcomes.{SetsUp}
-use Rattle.session_setup.specs.Sendings.{IsSetUpCall, mounts, informs}
+use Rattle.session_setup.specs.Sendings.{IsSetUpCall, IsUnmarked, mounts, informs}
 use Rattle.lane_session.proofs.CoreEnds.{loses-more}
-use Rattle.nfs_client.proofs.Hushed.{IsHushed}
+use Rattle.nfs_client.proofs.Hushed.{IsHushed, unseen-at, unseen-hushed}
 use Rattle.nfs_client.proofs.Quiet.{IsQuiet, IsSetUpRecord}
 use Rattle.nfs_client.proofs.Quiet as quiet
 
@@ -100,6 +101,38 @@ lost-quiet s first tally before more so each = record {
   ];
 }
 
+unanswered : (more : List Entry) → ours more ≡ [] → (i lane line : ℕ) (answer : Answer) → At more i (Answered lane line answer) → ⊥
+unanswered more none i lane line answer at = let own : Answered lane line answer ∷ [] ≡ [] = unseen-at more none i (Answered lane line answer) at in cc
+
+-- what isn't the client's own leaves a history unmarked
+pub unseen-unmarked : (before more : List Entry) → ours more ≡ [] → IsUnmarked before → IsUnmarked (before ++ more)
+unseen-unmarked before more none u = record {
+  began = λ i lane line op at. elim (split-at before more i (Began lane line op) at) [
+    | inl old ↦ u.began i lane line op old
+    | inr new ↦ absurd (let own : Began lane line op ∷ [] ≡ [] = unseen-at more none new.0 (Began lane line op) new.2 in cc)
+  ];
+  answered = λ i lane line answer at. elim (split-at before more i (Answered lane line answer) at) [
+    | inl old ↦ u.answered i lane line answer old
+    | inr new ↦ absurd (unanswered more none new.0 lane line answer new.2)
+  ];
+  clock = λ i ms at. elim (split-at before more i (Clock ms) at) [
+    | inl old ↦ u.clock i ms old
+    | inr new ↦ absurd (let own : Clock ms ∷ [] ≡ [] = unseen-at more none new.0 (Clock ms) new.2 in cc)
+  ];
+}
+
+-- no line was begun, and the server alone went on
+pub unready-quiet : (s : Settings) (first : ℕ) (result : Result SetUp SetUpFault) (before more : List Entry) → SetsUp s first result before → ours more ≡ []
+    → IsQuiet (terms_by s first) (before ++ more)
+unready-quiet s first result before more so none = record {
+  asked = asked-so s first result before more so (unseen-hushed more none);
+  set_up = set-up-so s first result before more so (unseen-hushed more none);
+  lost = λ j lane line answer at. elim (split-at before more j (Answered lane line answer) at) [
+    | inl old ↦ absurd (so.unmarked.answered j lane line answer old)
+    | inr new ↦ absurd (unanswered more none new.0 lane line answer new.2)
+  ];
+}
+
 -- no line was begun
 pub early-quiet : (s : Settings) (first : ℕ) (result : Result SetUp SetUpFault) (h : List Entry) → SetsUp s first result h → IsQuiet (terms_by s first) h
 early-quiet s first result h so = subst (IsQuiet (terms_by s first)) (append-nil h) (record {
@@ -107,6 +140,23 @@ early-quiet s first result h so = subst (IsQuiet (terms_by s first)) (append-nil
   set_up = set-up-so s first result h [] so none-more;
   lost = λ j lane line answer at. absurd (so.unmarked.answered j lane line answer (subst (λ (k : List Entry). At k j (Answered lane line answer)) (append-nil h) at));
 })
+
+-- nothing was done
+pub unseen-quiet : (terms : Terms) (h : List Entry) → ours h ≡ [] → IsQuiet terms h
+unseen-quiet terms h none = record {
+  asked = record {
+    caused = λ i sent at. absurd (unsent i sent at);
+    among = λ i xid sent at has. absurd (unsent i sent at);
+    equal = λ i j xid a b at other has same. absurd (unsent i a at);
+    single = λ i j x y a b call other at its s t are. absurd (unsent i a at);
+    unrepeated = λ g i xid reply sent answers at has. absurd (unsent i sent at);
+  };
+  set_up = λ i sent at. absurd (unsent i sent at);
+  lost = λ j lane line answer at. absurd (unanswered h none j lane line answer at);
+}
+  where
+    unsent : (i : ℕ) (sent : List ℕ) → At h i (Sent sent) → ⊥
+    unsent i sent at = unseen-hushed h none i (Sent sent) at
 
 -- nothing was noted
 pub empty-quiet : (terms : Terms) → IsQuiet terms []
