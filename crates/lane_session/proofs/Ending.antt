@@ -39,7 +39,7 @@ use Rattle.lane_session.proofs.Together.{together-none, together-fresh, together
 -- ---- all lines were begun and answered
 
 -- a lane is one of 1 to 16, or another
-which : (lane : ℕ) → ((n : ℕ) × (n < 16) × (lane ≡ suc n)) ⊎ ((lane ≡ 0) ⊎ (16 < lane))
+pub which : (lane : ℕ) → ((n : ℕ) × (n < 16) × (lane ≡ suc n)) ⊎ ((lane ≡ 0) ⊎ (16 < lane))
 which zero = inr (inl refl)
 which (suc n) = by n (nat_lt n 16) refl
   where
@@ -63,7 +63,7 @@ out-differs : (lane other : ℕ) → 1 ≤ other → other ≤ 16 → (lane ≡ 
 out-differs lane other least most (inl is) same = omega (arith, least, is, same)
 out-differs lane other least most (inr over) same = omega (arith, most, over, same)
 
-none-out : (script : List ScriptLine) (lane : ℕ) → All IsAskedLine script → (lane ≡ 0) ⊎ (16 < lane) → begun lane (entries_of script) ≡ []
+pub none-out : (script : List ScriptLine) (lane : ℕ) → All IsAskedLine script → (lane ≡ 0) ⊎ (16 < lane) → begun lane (entries_of script) ≡ []
 none-out [] lane asked out = refl
 none-out (l ∷ ls) lane asked out =
     let one : IsAskedLine l = asked 0 l (omega arith) in

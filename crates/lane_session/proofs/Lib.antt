@@ -20,8 +20,9 @@ pub mod Sendings
 pub mod Stepping
 pub mod Outcomes
 pub mod LostLaws
-pub mod LostLines
 pub mod Ending
+pub mod LaneOrder
+pub mod LostLines
 pub mod Closing
 pub mod Redialing
 pub mod LaneNumbers
