@@ -6,6 +6,7 @@ pub mod LaneLaws
 pub mod Cores
 pub mod Sounds
 pub mod Placing
+pub mod Since
 pub mod Beginnings
 pub mod Asking
 pub mod Alive

@@ -36,7 +36,7 @@ use Rattle.nfs_client.proofs.SetUpAlone.{lost-quiet, early-quiet, empty-quiet}
 
 -- ---- readings of the clock
 
-no-clocks : (h : List Entry) → IsUnmarked h → clocks h ≡ []
+pub no-clocks : (h : List Entry) → IsUnmarked h → clocks h ≡ []
 no-clocks [] u = refl
 no-clocks (Clock ms ∷ h) u = absurd (u.clock 0 ms refl)
 no-clocks (Began lane line op ∷ h) u = no-clocks h (fewer (Began lane line op) h u)
@@ -51,7 +51,7 @@ no-clocks (Delivered bytes ∷ h) u = no-clocks h (fewer (Delivered bytes) h u)
 no-clocks (Failed ∷ h) u = no-clocks h (fewer Failed h u)
 
 -- the first reading, and those that a session noted after its set-up
-clocked : (status ms : ℕ) (rest : List ℕ) (before h : List Entry) → IsUnmarked before → NotesAll status rest before h → AllTimed h → IsClocked status (ms ∷ rest) h
+pub clocked : (status ms : ℕ) (rest : List ℕ) (before h : List Entry) → IsUnmarked before → NotesAll status rest before h → AllTimed h → IsClocked status (ms ∷ rest) h
 clocked status ms rest before h u n timed = record {
   first = ms ∷ [];
   last = n.last;
@@ -64,7 +64,7 @@ clocked status ms rest before h u n timed = record {
 
 -- ---- a session that was set up
 
-ready-promises : (s : Settings) (first : ℕ) (v : SetUp) (before h : List Entry) → RunShows s first v before h → (t : History) → t.entries ≡ h → Promises s first t
+pub ready-promises : (s : Settings) (first : ℕ) (v : SetUp) (before h : List Entry) → RunShows s first v before h → (t : History) → t.entries ≡ h → Promises s first t
 ready-promises s first v before h shows t is = record {
   completes = (shows.complete t is).completes;
   settled = λ lawful once. (shows.stable t is lawful once).settled;
@@ -96,7 +96,7 @@ ready-headline s lines first ms rest v before h status text some unmarked is sho
 
 -- ---- a session without an operation of its own
 
-quiet-promises : (s : Settings) (first : ℕ) (h : List Entry) → IsQuiet (terms_by s first) h → (t : History) → t.entries ≡ h → Promises s first t
+pub quiet-promises : (s : Settings) (first : ℕ) (h : List Entry) → IsQuiet (terms_by s first) h → (t : History) → t.entries ≡ h → Promises s first t
 quiet-promises s first h quiet t is =
     let q : IsQuiet (terms_by s first) t.entries = subst (IsQuiet (terms_by s first)) (sym is) quiet in
     record {
