@@ -1,5 +1,5 @@
 -- A session goes on to another script.
-use Rattle.std.proofs.Common.{◌≡◌, ◌≤◌, ◌<◌, ◌+◌, ◌*◌, ◌^◌, ℕ, zero, suc, List, [], ◌∷◌, ◌++◌, length, replicate, slice_get, Some, None, refl, sym, ap, subst, ◌∙◌, arith, append-nil}
+use Rattle.std.proofs.Common.{◌≡◌, ◌≤◌, ◌<◌, ◌+◌, ◌*◌, ◌^◌, ℕ, zero, suc, List, [], ◌∷◌, ◌++◌, length, replicate, slice_get, ◌⊎◌, inl, Some, None, refl, sym, ap, subst, ◌∙◌, arith, append-nil}
 use Rattle.world_model.specs.declared.entry.Entry.{Entry}
 use Rattle.world_model.specs.Follows.{begun}
 use Rattle.nfs_script.specs.declared.script.ScriptLine.{ScriptLine}
@@ -15,6 +15,7 @@ use Rattle.lane_session.specs.Running.{first_place}
 use Rattle.lane_session.proofs.Ending.{lane-at-end, replicate-get}
 use Rattle.lane_session.proofs.Reaching.{core-like}
 use Rattle.lane_session.proofs.Seating.{begun-most}
+use Rattle.lane_session.proofs.Since.{since-none}
 use Rattle.lane_session.proofs.Together.{together-fresh}
 
 replicate-in : (m n : ℕ) (q p : Place) → slice_get (replicate m q) n ≡ Some p → n < m
@@ -34,7 +35,7 @@ passed-none (suc m) = ap (λ (n : ℕ). 0 + n) (passed-none m)
 
 -- the session at its next script
 abbrev after : Session → ℕ → Session
-after s earlier = record s { lanes = replicate 16 first_place; earlier = earlier }
+after s earlier = record s { lanes = replicate 16 first_place; earlier = earlier; status = 0 }
 
 module _ (script : List ScriptLine) (s : Session) (earlier : ℕ) (held : IsHeld script s) (idle : AreIdle s.lanes) (quiet : AreQuiet script s) where
   first : (n : ℕ) (p : Place) → slice_get (replicate 16 first_place) n ≡ Some p → p ≡ first_place
@@ -58,7 +59,7 @@ module _ (script : List ScriptLine) (s : Session) (earlier : ℕ) (held : IsHeld
       begun = let b = begun-most script s held in let p = passed-none 16 in omega (arith, b, p, is);
       room = omega (arith, room, is);
     };
-    status = held.status;
+    status = inl refl;
     alive = record {
       story = λ found. let st = held.alive.story found in
           record { setup = st.setup; h = st.h; reaches = st.reaches; lines = λ n line p there own. absurd (busy-none n line p there own) };
@@ -78,12 +79,13 @@ module _ (script : List ScriptLine) (s : Session) (earlier : ℕ) (held : IsHeld
           begins = ended.0 ∙ ap (λ (t : List ScriptLine). begun (suc n) (entries_of t)) (sym (append-nil (done ++ script)));
           open_line = ended.1;
         });
-    status = g.status;
+    within = omega arith;
+    status = since-none h;
     timed = g.timed;
     together = together-fresh (entries_of next) h;
   }
 
-  module _ (mid : Session) (lanes : List Place) (passed_is : mid ≡ record s { earlier = earlier }) (first_are : lanes ≡ replicate 16 first_place) where
+  module _ (mid : Session) (lanes : List Place) (passed_is : mid ≡ record s { earlier = earlier; status = 0 }) (first_are : lanes ≡ replicate 16 first_place) where
     pub next-held : earlier ≡ s.earlier + 16 * length script → (next : List ScriptLine) → HasRoom script next s → IsHeld next (record mid { lanes = lanes })
     next-held is next room =
         subst (λ (ps : List Place). IsHeld next (record mid { lanes = ps })) (sym first_are)

@@ -1,5 +1,5 @@
 -- What a session comes to, whose lines were all begun and answered, or that was cut off.
-use Rattle.std.proofs.Common.{Bool, ◌≡◌, ◌≢◌, ◌≤◌, ◌<◌, ◌⊎◌, inl, inr, ℕ, zero, suc, List, [], ◌∷◌, ◌++◌, length, take, replicate, slice_get, All, true, false, nat_lt, Some, None, refl, sym, ap, subst, ◌∙◌, arith, append-nil}
+use Rattle.std.proofs.Common.{Bool, ◌≡◌, ◌≢◌, ◌≤◌, ◌<◌, ◌⊎◌, inl, inr, ℕ, zero, suc, List, [], ◌∷◌, ◌++◌, length, take, drop, replicate, slice_get, All, true, false, nat_lt, Some, None, refl, sym, ap, subst, ◌∙◌, arith, append-nil}
 use Rattle.world_model.specs.declared.entry.Entry.{Entry}
 use Rattle.world_model.specs.declared.entry.Entry.TheVariants.{Began}
 use Rattle.world_model.specs.Follows.{begun}
@@ -31,15 +31,16 @@ use Rattle.lane_session.specs.Statuses.{HasStatus}
 use Rattle.lane_session.specs.Running.{IsFreshFor, first_place}
 use Rattle.lane_session.proofs.LaneLaws.{resting-alternates}
 use Rattle.lane_session.proofs.Labels.{told-plain}
-use Rattle.lane_session.proofs.LostLaws.{Gone, none-gone, untold}
+use Rattle.lane_session.proofs.LostLaws.{Gone, never-answered, none-gone, untold}
 use Rattle.lane_session.proofs.Placing.{begun-other}
 use Rattle.lane_session.proofs.Pushes.{begun-append}
+use Rattle.lane_session.proofs.Since.{since-none, since-whole}
 use Rattle.lane_session.proofs.Together.{together-none, together-fresh, together-whole}
 
 -- ---- all lines were begun and answered
 
 -- a lane is one of 1 to 16, or another
-which : (lane : ℕ) → ((n : ℕ) × (n < 16) × (lane ≡ suc n)) ⊎ ((lane ≡ 0) ⊎ (16 < lane))
+pub which : (lane : ℕ) → ((n : ℕ) × (n < 16) × (lane ≡ suc n)) ⊎ ((lane ≡ 0) ⊎ (16 < lane))
 which zero = inr (inl refl)
 which (suc n) = by n (nat_lt n 16) refl
   where
@@ -63,7 +64,7 @@ out-differs : (lane other : ℕ) → 1 ≤ other → other ≤ 16 → (lane ≡ 
 out-differs lane other least most (inl is) same = omega (arith, least, is, same)
 out-differs lane other least most (inr over) same = omega (arith, most, over, same)
 
-none-out : (script : List ScriptLine) (lane : ℕ) → All IsAskedLine script → (lane ≡ 0) ⊎ (16 < lane) → begun lane (entries_of script) ≡ []
+pub none-out : (script : List ScriptLine) (lane : ℕ) → All IsAskedLine script → (lane ≡ 0) ⊎ (16 < lane) → begun lane (entries_of script) ≡ []
 none-out [] lane asked out = refl
 none-out (l ∷ ls) lane asked out =
     let one : IsAskedLine l = asked 0 l (omega arith) in
@@ -100,7 +101,7 @@ module _ (script : List ScriptLine) (h k : List Entry) (s : Session) (asked : Al
       begins = λ lane. record { rest = []; is = sym (at-end lane).0 ∙ sym (append-nil (begun lane k)) };
     };
     finishes = record { all = λ lane. (at-end lane).0; answered = λ x lane line op at. (at-end lane).1.answered x line op at };
-    status = subst (HasStatus k) (sym status) g.status;
+    status = subst (HasStatus k) (sym status) (since-whole h on.grown.0 (λ n lane line a at. never-answered lane h n line a at (u lane)) k s.status on.grown.1 g.status);
     shown = sym (on.shown ∙ ap (λ (t : List ℕ). t ++ text) (untold [] h u)) ∙ told-plain k;
     grown = on.grown;
     clocked = on.clocked;
@@ -177,7 +178,8 @@ module _ (script : List ScriptLine) (settings : Settings) (setup : Setup) (s : S
       record {
         others = λ lane out. (g.begins lane, g.resting lane);
         placed = λ n p there. subst (IsPlaced [] script h (suc n)) (sym (first-place n p there)) (record { begins = g.begins (suc n); open_line = g.resting (suc n) });
-        status = subst (HasStatus h) (sym f.status) g.status;
+        within = omega arith;
+        status = subst (HasStatus (drop (length h) h)) (sym f.status) (since-none h);
         timed = g.all_timed;
         together = together-fresh (entries_of script) h;
       }

@@ -6,6 +6,7 @@ pub mod LaneLaws
 pub mod Cores
 pub mod Sounds
 pub mod Placing
+pub mod Since
 pub mod Beginnings
 pub mod Asking
 pub mod Alive
@@ -20,8 +21,9 @@ pub mod Sendings
 pub mod Stepping
 pub mod Outcomes
 pub mod LostLaws
-pub mod LostLines
 pub mod Ending
+pub mod LaneOrder
+pub mod LostLines
 pub mod Closing
 pub mod Redialing
 pub mod LaneNumbers

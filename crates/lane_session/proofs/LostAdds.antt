@@ -70,10 +70,14 @@ loses-only label script (Err halt) given text h k (n, l, there, (es, part, is, l
 
 -- ---- where the link tells its history
 
-pub told-loses : (a b : Option History) (label : List ℕ) (script : List ScriptLine) (result : Result (Unit {0}) Halt) (given text : List ℕ) → Relates a b (λ h k. LosesBy label script result given text h k)
-    → Relates a b (LosesOnly script)
-told-loses a b label script result given text p =
-    relates_less a b (λ h k. LosesBy label script result given text h k) (LosesOnly script) (λ h k l. loses-only label script result given text h k l) p
+-- of lines in this order, of which there are none where the script has none
+pub told-loses : (a b : Option History) (label : List ℕ) (order script : List ScriptLine) (result : Result (Unit {0}) Halt) (given text : List ℕ) → (script ≡ [] → order ≡ [])
+    → Relates a b (λ h k. LosesBy label order result given text h k) → Relates a b (LosesOnly script)
+told-loses a b label order script result given text none p =
+    relates_less a b (λ h k. LosesBy label order result given text h k) (LosesOnly script) (λ h k l. of-script h k (loses-only label order result given text h k l)) p
+  where
+    of-script : (h k : List Entry) → LosesOnly order h k → LosesOnly script h k
+    of-script h k o = record { more = o.more; is = o.is; each = o.each; none = λ empty. o.none (none empty) }
 
 -- a session with a set-up has others to say it
 pub told-set-up : (a b : Option History) (setup : Setup) (script : List ScriptLine) (R : List Entry → List Entry → Type 0) → Relates a b R → Relates a b (LosesAll (Some setup) script)

@@ -26,7 +26,7 @@ use Rattle.lane_session.specs.Labels.{told_by, IsCutIn}
 use Rattle.lane_session.specs.Sessions.{IsUnmarked, IsDone, IsBroken}
 use Rattle.lane_session.specs.Statuses.{HasStatus, well, IsSessionStatus}
 use Rattle.lane_session.proofs.LaneLaws.{running-alternates, resting-alternates, resting-grow, begins-now, answers-now}
-use Rattle.lane_session.proofs.Placing.{status-quiet, status-answer, timed-quiet, timed-begin}
+use Rattle.lane_session.proofs.Placing.{status-quiet, status-answer, timed-quiet, timed-begin, begun-own}
 use Rattle.lane_session.proofs.Labels.{told-append, told-plain, cut-behind}
 use Rattle.lane_session.proofs.Pushes.{clocks-append, begun-append}
 use Rattle.lane_session.proofs.Together.{begun-back}
@@ -153,7 +153,7 @@ clocked-gone front h ms g = record {
   none_came = none-came-on h (Clock ms) (λ bytes is. absurd cc) g.none_came;
 }
 
-entries-both : (a b : List ScriptLine) → entries_of (a ++ b) ≡ entries_of a ++ entries_of b
+pub entries-both : (a b : List ScriptLine) → entries_of (a ++ b) ≡ entries_of a ++ entries_of b
 entries-both [] b = refl
 entries-both (x ∷ a) b = ap (λ (t : List Entry). Began x.lane x.line x.op ∷ t) (entries-both a b)
 
@@ -231,7 +231,7 @@ going-alternates front l h lane g = (elim (nat_eq lane l.lane) as (λ b. nat_eq 
   | false ↦ λ is. resting-alternates h lane (g.others lane (eqb-false lane l.lane is))
 ]) refl
 
-pub take-more : (script : List ScriptLine) (n : ℕ) (l : ScriptLine) → slice_get script n ≡ Some l → take (suc n) script ≡ take n script ++ l ∷ []
+take-more : (script : List ScriptLine) (n : ℕ) (l : ScriptLine) → slice_get script n ≡ Some l → take (suc n) script ≡ take n script ++ l ∷ []
 take-more [] n l there = absurd (cc)
 take-more (x ∷ xs) zero l there = let is : x ≡ l = cc in ap (λ (z : ScriptLine). z ∷ []) is
 take-more (x ∷ xs) (suc n) l there = ap (λ (t : List ScriptLine). x ∷ t) (take-more xs n l there)
@@ -254,44 +254,63 @@ part-cut script n l h part there g (part_answered ms is) = subst (λ (t : List E
 
 -- ---- what all lines come to
 
+-- two lists of lines, in each lane the same ones in the same order
+abbrev pub SameLanes : List ScriptLine → List ScriptLine → Type 0
+SameLanes order script = (lane : ℕ) → begun lane (entries_of order) ≡ begun lane (entries_of script)
+
+some-line : (l : ScriptLine) (ls : List ScriptLine) → begun l.lane (entries_of (l ∷ ls)) ≡ [] → ⊥
+some-line l ls none =
+    let first : Began l.lane l.line l.op ∷ begun l.lane (entries_of ls) ≡ [] =
+        ap (λ (t : List Entry). t ++ begun l.lane (entries_of ls)) (sym (begun-own l.lane l.line l.op)) ∙ sym (begun-append l.lane (Began l.lane l.line l.op ∷ []) (entries_of ls)) ∙ none in
+    absurd cc
+
+-- there are lines in the one where there are in the other
+status-same : (order script : List ScriptLine) → SameLanes order script → status_of order ≡ status_of script
+status-same [] [] same = refl
+status-same (l ∷ ls) (x ∷ xs) same = refl
+status-same [] (x ∷ xs) same = absurd (some-line x xs (sym (same x.lane)))
+status-same (l ∷ ls) [] same = absurd (some-line l ls (same l.lane))
+
 shown-of : (h es k : List Entry) → IsUnmarked h → k ≡ h ++ es → told_by [] k ≡ told_by [] es
 shown-of h es k u is = ap (told_by []) is ∙ told-append [] h es ∙ ap (λ (t : List ℕ). t ++ told_by [] es) (untold [] h u)
 
-pub lost-ends : (script : List ScriptLine) (end : End) (given text : List ℕ) (h k es : List Entry) → end.status ≡ status_of script → IsUnmarked h → k ≡ h ++ es → LostLines script es → given ≡ clocks es → text ≡ told_by [] es
-    → IsDone script end given text h k
-lost-ends script end given text h k es status u is lines given_is text_is =
-    let g : Gone script k = subst (Gone script) (sym is) (lines-gone h script es lines u) in
-    record {
-      follows = record {
-        alternates = λ lane. resting-alternates k lane (g.resting lane);
-        begins = λ lane. record { rest = []; is = sym (g.begins lane) ∙ sym (append-nil (begun lane k)) };
-      };
-      finishes = record { all = g.begins; answered = λ x lane line op at. (g.resting lane).answered x line op at };
-      status = subst (HasStatus k) (sym status) g.status;
-      shown = text_is ∙ sym (shown-of h es k u is) ∙ told-plain k;
-      grown = (es, is);
-      clocked = ap clocks is ∙ clocks-append h es ∙ ap (λ (t : List ℕ). clocks h ++ t) (sym given_is);
-      timed = g.all_timed;
-      together = λ n bytes at b k lane line op of. absurd (g.none_came n bytes at b);
-    }
+module _ (order script : List ScriptLine) (same : SameLanes order script) where
+  pub lost-ends : (end : End) (given text : List ℕ) (h k es : List Entry) → end.status ≡ status_of script → IsUnmarked h → k ≡ h ++ es → LostLines order es → given ≡ clocks es → text ≡ told_by [] es
+      → IsDone script end given text h k
+  lost-ends end given text h k es status u is lines given_is text_is =
+      let g : Gone order k = subst (Gone order) (sym is) (lines-gone h order es lines u) in
+      record {
+        follows = record {
+          alternates = λ lane. resting-alternates k lane (g.resting lane);
+          begins = λ lane. record { rest = []; is = sym (same lane) ∙ sym (g.begins lane) ∙ sym (append-nil (begun lane k)) };
+        };
+        finishes = record { all = λ lane. g.begins lane ∙ same lane; answered = λ x lane line op at. (g.resting lane).answered x line op at };
+        status = subst (HasStatus k) (status-same order script same ∙ sym status) g.status;
+        shown = text_is ∙ sym (shown-of h es k u is) ∙ told-plain k;
+        grown = (es, is);
+        clocked = ap clocks is ∙ clocks-append h es ∙ ap (λ (t : List ℕ). clocks h ++ t) (sym given_is);
+        timed = g.all_timed;
+        together = λ n bytes at b k lane line op of. absurd (g.none_came n bytes at b);
+      }
 
-pub lost-breaks : (script : List ScriptLine) (halt : Halt) (given text : List ℕ) (h k : List Entry) → IsUnmarked h → LosesBy [] script (Err halt) given text h k → IsBroken script halt given text h k
-lost-breaks script halt given text h k u p = by p.0 p.1 p.2 p.3.0 p.3.1 p.3.2 p.3.3 p.3.4 p.3.5
-  where
-    by : (n : ℕ) (l : ScriptLine) → slice_get script n ≡ Some l → (es part : List Entry) → k ≡ h ++ (es ++ part) → LostLines (take n script) es → LostPart l part → IsToldOf [] halt given text (es ++ part) → IsBroken script halt given text h k
-    by n l there es part is lines cut told =
-        let c : Cut script k = subst (Cut script) (append_assoc h es part ∙ sym is) (part-cut script n l (h ++ es) part there (lines-gone h (take n script) es lines u) cut) in
-        record {
-          follows = record { alternates = c.alternates; begins = c.begins };
-          shown = subst (λ (t : List Entry). IsCutIn [] t text) (sym is) (cut-behind [] h (es ++ part) text (untold [] h u) told.shown);
-          last = told.last;
-          grown = (es ++ part, is);
-          clocked = ap (λ (t : List ℕ). clocks h ++ t) told.clocked ∙ sym (append_assoc (clocks h) (clocks (es ++ part)) told.last)
-              ∙ ap (λ (t : List ℕ). t ++ told.last) (sym (ap clocks is ∙ clocks-append h (es ++ part)));
-          left = told.left;
-          timed = c.all_timed;
-          together = λ n bytes at b k lane line op of. absurd (c.none_came n bytes at b);
-        }
+  pub lost-breaks : (halt : Halt) (given text : List ℕ) (h k : List Entry) → IsUnmarked h → LosesBy [] order (Err halt) given text h k → IsBroken script halt given text h k
+  lost-breaks halt given text h k u p = by p.0 p.1 p.2 p.3.0 p.3.1 p.3.2 p.3.3 p.3.4 p.3.5
+    where
+      by : (n : ℕ) (l : ScriptLine) → slice_get order n ≡ Some l → (es part : List Entry) → k ≡ h ++ (es ++ part) → LostLines (take n order) es → LostPart l part → IsToldOf [] halt given text (es ++ part)
+          → IsBroken script halt given text h k
+      by n l there es part is lines cut told =
+          let c : Cut order k = subst (Cut order) (append_assoc h es part ∙ sym is) (part-cut order n l (h ++ es) part there (lines-gone h (take n order) es lines u) cut) in
+          record {
+            follows = record { alternates = c.alternates; begins = λ lane. let f = c.begins lane in record { rest = f.rest; is = sym (same lane) ∙ f.is } };
+            shown = subst (λ (t : List Entry). IsCutIn [] t text) (sym is) (cut-behind [] h (es ++ part) text (untold [] h u) told.shown);
+            last = told.last;
+            grown = (es ++ part, is);
+            clocked = ap (λ (t : List ℕ). clocks h ++ t) told.clocked ∙ sym (append_assoc (clocks h) (clocks (es ++ part)) told.last)
+                ∙ ap (λ (t : List ℕ). t ++ told.last) (sym (ap clocks is ∙ clocks-append h (es ++ part)));
+            left = told.left;
+            timed = c.all_timed;
+            together = λ n bytes at b k lane line op of. absurd (c.none_came n bytes at b);
+          }
 
 pub empty-status : (script : List ScriptLine) (n : ℕ) → n ≡ length script → nat_eq n 0 ≡ true → 0 ≡ status_of script
 empty-status [] n is e = refl

@@ -28,7 +28,8 @@ use Rattle.lane_session.specs.Places.{IsOpen, IsPlaced, Seeks, Ends}
 use Rattle.lane_session.specs.Running.{LineIs}
 use Rattle.lane_session.specs.Statuses.{after_answer, IsLeft}
 use Rattle.lane_session.proofs.LaneLaws.{resting-grow, begins-now, answers-now}
-use Rattle.lane_session.proofs.Placing.{status-quiet, status-answer, timed-quiet, timed-begin, get-set, begun-other, begun-own, passed-after, one-after, placed-grow}
+use Rattle.lane_session.proofs.Since.{since-quiet, since-answer, within-grow}
+use Rattle.lane_session.proofs.Placing.{timed-quiet, timed-begin, get-set, begun-other, begun-own, passed-after, one-after, placed-grow}
 use Rattle.lane_session.proofs.Labels.{told-append}
 use Rattle.lane_session.proofs.Pushes.{clocks-append, begun-append}
 use Rattle.lane_session.proofs.Reaching.{core-then-cut, core-cut, core-like, core-begins, core-unbegun, core-answers}
@@ -42,7 +43,8 @@ pub clock-goes : (done : List ScriptLine) (from : ℕ) (script : List ScriptLine
 clock-goes done from script h ms s g = record {
   others = λ lane out. let o = g.others lane out in (begun-append lane h (Clock ms ∷ []) ∙ append-nil (begun lane h) ∙ o.0, resting-grow h (Clock ms) lane refl o.1);
   placed = λ n p there. placed-grow done script h (Clock ms) (suc n) p refl refl (g.placed n p there);
-  status = status-quiet h (Clock ms) s.status (λ fault l m is. absurd cc) g.status;
+  within = within-grow from h (Clock ms) g.within;
+  status = since-quiet from h (Clock ms) s.status g.within (λ fault l m is. absurd cc) g.status;
   timed = timed-quiet h (Clock ms) (λ l m op is. absurd cc) g.timed;
   together = together-on from (entries_of script) h (Clock ms) (λ bytes is. absurd cc) g.together;
 }
@@ -83,7 +85,8 @@ module _ (done : List ScriptLine) (from : ℕ) (script : List ScriptLine) (h : L
       | inl is ↦ subst (IsPlaced done script (h ++ e ∷ []) (suc n)) (sym is.1) (subst (λ (m : ℕ). IsPlaced done script (h ++ e ∷ []) m q) (let i = is.0 in omega (arith, i, least)) own)
       | inr is ↦ placed-grow done script h e (suc n) p (answered-other (suc n) lane line a (λ same. is.0 (omega (arith, same)))) refl (g.placed n p is.1)
     ];
-    status = status-answer h lane line s.status a g.status;
+    within = within-grow from h e g.within;
+    status = since-answer from h lane line s.status a g.within g.status;
     timed = timed-quiet h e (λ l m op is. absurd cc) g.timed;
     together = together-on from (entries_of script) h e (λ bytes is. absurd cc) g.together;
   }
@@ -185,7 +188,8 @@ module _ (done : List ScriptLine) (from : ℕ) (script : List ScriptLine) (h : L
       | inr is ↦ let differs : lane ≢ suc n = λ same. is.0 (omega (arith, same)) in
           placed-grow done script h began (suc n) p (began-other (suc n) lane l.line l.op differs) (begun-other (suc n) lane l.line l.op differs) (g.placed n p is.1)
     ];
-    status = status-quiet h began s.status (λ fault m n is. absurd cc) g.status;
+    within = within-grow from h began g.within;
+    status = since-quiet from h began s.status g.within (λ fault m n is. absurd cc) g.status;
     timed = timed;
     together = together-on from (entries_of script) h began (λ bytes is. absurd cc) g.together;
   }

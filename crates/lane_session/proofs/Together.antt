@@ -158,7 +158,7 @@ together-on from script h e none t = together-step h e from script t (λ bytes i
 
 -- ---- no line has begun
 
-none-began : (h : List Entry) (i lane line : ℕ) (op : Op) → At h i (Began lane line op) → begun lane h ≡ [] → ⊥
+pub none-began : (h : List Entry) (i lane line : ℕ) (op : Op) → At h i (Began lane line op) → begun lane h ≡ [] → ⊥
 none-began h i lane line op at none =
     let a = own-begun lane line op h i at in
     let here : At [] a.at (Began lane line op) = subst (λ (es : List Entry). At es a.at (Began lane line op)) none a.here in cc

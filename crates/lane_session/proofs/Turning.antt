@@ -21,7 +21,8 @@ use Rattle.lane_session.specs.Places.{IsOpen, IsPlaced}
 use Rattle.lane_session.specs.Running.{marks, Quietly}
 use Rattle.lane_session.specs.Statuses.{IsLeft, HasStatus}
 use Rattle.lane_session.proofs.LaneLaws.{resting-grow, running-alternates, resting-alternates}
-use Rattle.lane_session.proofs.Placing.{silent, no-mark, marks-none, status-quiet, timed-quiet, placed-grow, begun-after}
+use Rattle.lane_session.proofs.Placing.{silent, no-mark, marks-none, timed-quiet, placed-grow, begun-after}
+use Rattle.lane_session.proofs.Since.{since-quiet, within-grow}
 use Rattle.lane_session.proofs.Labels.{told-append}
 use Rattle.lane_session.proofs.Pushes.{clocks-append, begun-append, marks-append, quiet_by}
 use Rattle.lane_session.proofs.Reaching.{core-then, core-then-cut}
@@ -40,7 +41,8 @@ goes-one done from script h e s w q g = record {
   others = λ lane out. let o = g.others lane out in let m = silent e q lane in
       (begun-append lane h (e ∷ []) ∙ ap (λ (t : List Entry). begun lane h ++ t) m.1 ∙ append-nil (begun lane h) ∙ o.0, resting-grow h e lane m.0 o.1);
   placed = λ n p there. let m = silent e q (suc n) in placed-grow done script h e (suc n) p m.0 m.1 (g.placed n p there);
-  status = status-quiet h e s.status (λ fault l m is. (no-mark e q).0 l m (Refused fault) is) g.status;
+  within = within-grow from h e g.within;
+  status = since-quiet from h e s.status g.within (λ fault l m is. (no-mark e q).0 l m (Refused fault) is) g.status;
   timed = timed-quiet h e (no-mark e q).1 g.timed;
   together = together-quiet done script h s w.asked w.sixteen w.quiet g.placed from e g.together;
 }
@@ -50,7 +52,8 @@ goes-like : (done : List ScriptLine) (from : ℕ) (script : List ScriptLine) (h 
 goes-like done from script h s t lanes status g = record {
   others = g.others;
   placed = λ n p there. g.placed n p (subst (λ (ps : List Place). slice_get ps n ≡ Some p) lanes there);
-  status = subst (HasStatus h) (sym status) g.status;
+  within = g.within;
+  status = subst (HasStatus (drop from h)) (sym status) g.status;
   timed = g.timed;
   together = g.together;
 }

@@ -11,7 +11,8 @@ use Rattle.lane_session.specs.Going.{Goes}
 use Rattle.lane_session.specs.Endings.{entries_of}
 use Rattle.lane_session.specs.Running.{marks}
 use Rattle.lane_session.proofs.LaneLaws.{resting-grow}
-use Rattle.lane_session.proofs.Placing.{silent, no-mark, status-quiet, timed-quiet, placed-grow}
+use Rattle.lane_session.proofs.Placing.{silent, no-mark, timed-quiet, placed-grow}
+use Rattle.lane_session.proofs.Since.{since-quiet, within-grow}
 use Rattle.lane_session.proofs.Pushes.{begun-append, marks-ours}
 use Rattle.lane_session.proofs.Together.{together-on}
 
@@ -26,7 +27,8 @@ goes-one-unseen done from script h e s u g = record {
   others = λ lane out. let o = g.others lane out in let m = silent e (unseen-mark e u) lane in
       (begun-append lane h (e ∷ []) ∙ ap (λ (t : List Entry). begun lane h ++ t) m.1 ∙ append-nil (begun lane h) ∙ o.0, resting-grow h e lane m.0 o.1);
   placed = λ n p there. let m = silent e (unseen-mark e u) (suc n) in placed-grow done script h e (suc n) p m.0 m.1 (g.placed n p there);
-  status = status-quiet h e s.status (λ fault l m is. (no-mark e (unseen-mark e u)).0 l m (Refused fault) is) g.status;
+  within = within-grow from h e g.within;
+  status = since-quiet from h e s.status g.within (λ fault l m is. (no-mark e (unseen-mark e u)).0 l m (Refused fault) is) g.status;
   timed = timed-quiet h e (no-mark e (unseen-mark e u)).1 g.timed;
   together = together-on from (entries_of script) h e (λ bytes is. unseen-record e bytes u is) g.together;
 }

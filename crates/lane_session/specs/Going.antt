@@ -1,5 +1,5 @@
 -- How a session goes along its history.
-use Rattle.std.specs.Prelude.{◌≡◌, ◌<◌, ◌⊎◌, ℕ, suc, List, [], ◌∷◌, ◌++◌, length, slice_get, Some, Result, Ok, Err}
+use Rattle.std.specs.Prelude.{◌≡◌, ◌≤◌, ◌<◌, ◌⊎◌, ℕ, suc, List, [], ◌∷◌, ◌++◌, length, drop, slice_get, Some, Result, Ok, Err}
 use Rattle.xdr_codec.specs.declared.blob.Memory.{Memory}
 use Rattle.world_model.specs.declared.entry.Entry.{Entry}
 use Rattle.world_model.specs.declared.entry.Entry.TheVariants.{Began, Answered, Clock}
@@ -27,11 +27,12 @@ abbrev pub AllTimed : List Entry → Type 0
 AllTimed h = (x lane line : ℕ) (op : Op) → At h x (Began lane line op) → IsTimed h x
 
 -- The lines of the scripts that are done were begun and answered, each lane is at its place in the script that followed them at the place `from` of the
--- history, and the status is that of all answers. Whenever a record came since that place, each lane that had a line left had one under way.
+-- history, and the status is that of the answers since then. Whenever a record came since that place, each lane that had a line left had one under way.
 pub record Goes (done : List ScriptLine) (from : ℕ) (script : List ScriptLine) (h : List Entry) (s : Session) : Type 0 where
   pub others : (lane : ℕ) → (lane ≡ 0) ⊎ (16 < lane) → (begun lane h ≡ []) × IsResting h lane
   pub placed : (n : ℕ) (p : Place) → slice_get s.lanes n ≡ Some p → IsPlaced done script h (suc n) p
-  pub status : HasStatus h s.status
+  pub within : from ≤ length h
+  pub status : HasStatus (drop from h) s.status
   pub timed : AllTimed h
   pub together : TogetherFrom from (entries_of script) h
 

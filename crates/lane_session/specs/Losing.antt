@@ -1,5 +1,5 @@
 -- The lines of a session that was lost before any began.
-use Rattle.std.specs.Prelude.{◌≡◌, ℕ, List, [], ◌∷◌, ◌++◌, take, slice_get, Some, Result, Ok, Err}
+use Rattle.std.specs.Prelude.{◌≡◌, ◌==◌, ℕ, zero, suc, List, [], ◌∷◌, ◌++◌, filter, take, slice_get, Some, Result, Ok, Err}
 use Rattle.world_model.specs.declared.answer.Answer.TheVariants as answers
 use Rattle.world_model.specs.declared.answer.Fault.TheVariants as faults
 use Rattle.world_model.specs.declared.entry.Entry.{Entry}
@@ -11,11 +11,20 @@ use Rattle.lane_session.specs.declared.halt.Halt.{Halt}
 use Rattle.lane_session.specs.Labels.{told_by, IsCutIn}
 use Rattle.lane_session.specs.Statuses.{IsLeft}
 
+-- the lines of a lane, in the order of the script
+abbrev pub of_lane : ℕ → List ScriptLine → List ScriptLine
+of_lane lane script = filter (λ (l : ScriptLine). l.lane == lane) script
+
+-- the lines of the lanes from 1 to this one, lane after lane
+unfoldable pub by_lanes : ℕ → List ScriptLine → List ScriptLine
+by_lanes zero script = []
+by_lanes (suc n) script = by_lanes n script ++ of_lane (suc n) script
+
 -- a line began at the reading, and was answered that the session is lost
 abbrev pub lost_line : ScriptLine → ℕ → List Entry
 lost_line l ms = Clock ms ∷ Began l.lane l.line l.op ∷ Answered l.lane l.line (answers.Refused faults.Lost) ∷ []
 
--- each line did, in their order
+-- each of these lines did, in their order
 pub data LostLines : List ScriptLine → List Entry → Type 0 where
   no_line : (script : List ScriptLine) (es : List Entry) → script ≡ [] → es ≡ [] → LostLines script es
   one_line : (script before : List ScriptLine) (es more : List Entry) (l : ScriptLine) (ms : ℕ) → script ≡ before ++ l ∷ [] → es ≡ more ++ lost_line l ms
@@ -41,7 +50,7 @@ LosesLine label script at (Ok u) given text h k =
 LosesLine label script at (Err halt) given text h k =
     (l : ScriptLine) × (slice_get script at ≡ Some l) × ((es : List Entry) × (k ≡ h ++ es) × LostPart l es × IsToldOf label halt given text es)
 
--- All lines were begun and answered so; or the first ones, and then a front of what a further one adds.
+-- All these lines were begun and answered so, in their order; or the first ones, and then a front of what a further one adds.
 abbrev pub LosesBy : List ℕ → List ScriptLine → Result (Unit {0}) Halt → List ℕ → List ℕ → List Entry → List Entry → Type 0
 LosesBy label script (Ok u) given text h k = (es : List Entry) × (k ≡ h ++ es) × LostLines script es × (given ≡ clocks es) × (text ≡ told_by label es)
 LosesBy label script (Err halt) given text h k = (n : ℕ) × (l : ScriptLine) × (slice_get script n ≡ Some l)

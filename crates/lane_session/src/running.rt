@@ -61,7 +61,7 @@ pub struct Session {
     lanes: Lanes,
     /// The calls that were sent.
     pub(crate) counts: Counts,
-    /// The status by the answers so far.
+    /// The status by the answers to this script so far.
     pub(crate) status: u8,
     /// How many attempts may still end in a row before a reply comes; none in a lost session.
     attempts: u32,
@@ -116,7 +116,7 @@ impl Session {
         })
     }
 
-    /// The status by the answers so far: 0 if all are `ok`, 6 if one is that the session is lost, else 1.
+    /// The status by the answers to this script so far: 0 if all are `ok`, 6 if one is that the session is lost, else 1.
     pub fn status(&self) -> u8
         ensures { result ≡ self.now.status }
     {
@@ -157,12 +157,13 @@ impl Session {
         self.lanes.restart();
     }
 
-    /// The lines of a script are done.
+    /// The lines of a script are done, and nothing is answered of the next one.
     fn pass(&mut self, lines: usize)
         requires { self.old.earlier + 16 * lines < 2 ^ 32 }
-        ensures { self.new ≡ record self.old { earlier = self.old.earlier + 16 * lines } }
+        ensures { self.new ≡ record self.old { earlier = self.old.earlier + 16 * lines; status = 0 } }
     {
         self.earlier += 16 * lines as u64;
+        self.status = status::WELL;
     }
 
     /// Works until each line of the script has its answer: a loop of turns.

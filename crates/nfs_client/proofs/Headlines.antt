@@ -36,7 +36,7 @@ use Rattle.nfs_client.proofs.SetUpAlone.{lost-quiet, early-quiet, empty-quiet}
 
 -- ---- readings of the clock
 
-no-clocks : (h : List Entry) → IsUnmarked h → clocks h ≡ []
+pub no-clocks : (h : List Entry) → IsUnmarked h → clocks h ≡ []
 no-clocks [] u = refl
 no-clocks (Clock ms ∷ h) u = absurd (u.clock 0 ms refl)
 no-clocks (Began lane line op ∷ h) u = no-clocks h (fewer (Began lane line op) h u)
@@ -51,7 +51,7 @@ no-clocks (Delivered bytes ∷ h) u = no-clocks h (fewer (Delivered bytes) h u)
 no-clocks (Failed ∷ h) u = no-clocks h (fewer Failed h u)
 
 -- the first reading, and those that a session noted after its set-up
-clocked : (status ms : ℕ) (rest : List ℕ) (before h : List Entry) → IsUnmarked before → NotesAll status rest before h → AllTimed h → IsClocked status (ms ∷ rest) h
+pub clocked : (status ms : ℕ) (rest : List ℕ) (before h : List Entry) → IsUnmarked before → NotesAll status rest before h → AllTimed h → IsClocked status (ms ∷ rest) h
 clocked status ms rest before h u n timed = record {
   first = ms ∷ [];
   last = n.last;

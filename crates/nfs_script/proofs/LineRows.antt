@@ -13,6 +13,7 @@ use Rattle.world_model.specs.declared.answer.Value.TheVariants as values
 use Rattle.world_model.specs.Counts.{item_text, tally_text}
 use Rattle.world_model.specs.Transcript.{shown, names_text, mode_text, attr_text, line_text, mount_text}
 use Rattle.nfs_script.specs.RefusalText.{refusal_text}
+use Rattle.nfs_script.specs.DoneText.{done_text}
 
 -- the answer to line 2 of lane 1
 abbrev done : Value → List ℕ
@@ -141,3 +142,7 @@ of_counts : tally_text (record { calls = 9; getattr = 2; lookup = 3; read = 1; w
     ≡ with_feed (codes "calls 9 getattr 2 lookup 3 read 1 write 4294967295 commit 0")
 unfolding item_text tally_text digits
 of_counts = refl
+
+of_batches : done_text 1 0 ++ done_text 4294967295 6 ≡ with_feed (codes "done 1 0") ++ with_feed (codes "done 4294967295 6")
+unfolding done_text digits
+of_batches = refl

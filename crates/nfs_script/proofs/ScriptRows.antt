@@ -10,7 +10,7 @@ use Rattle.world_model.specs.declared.op.Op.TheVariants as ops
 use Rattle.nfs_script.specs.declared.fault.ScriptFault.{ScriptFault}
 use Rattle.nfs_script.specs.declared.script.ScriptLine.{ScriptLine}
 use Rattle.nfs_script.specs.Commands.{open_of, read_of, write_of, fill_of, sync_of, close_of, truncate_of, put_of, stat_of, access_of, make_dir_of, remove_dir_of, remove_of, rename_of, link_of, sym_link_of, read_link_of, list_of}
-use Rattle.nfs_script.specs.Script.{script_of, asked_of}
+use Rattle.nfs_script.specs.Script.{script_of, script_from, last_line, asked_of}
 use lib.Utf8.{encode}
 
 abbrev asks : ℕ → ℕ → Op → ScriptLine
@@ -165,3 +165,15 @@ left_to_right : map script_of (codes "0 opne" ∷ codes "1 sync x y" ∷ codes "
     ≡ kinds (4 ∷ 5 ∷ 9 ∷ 5 ∷ 9 ∷ 9 ∷ 6 ∷ 6 ∷ 8 ∷ 6 ∷ 8 ∷ 9 ∷ [])
 unfolding is_utf8 chars encode lines words asked_of open_of read_of write_of fill_of sync_of truncate_of put_of access_of decoded decode_pairs
 left_to_right = refl
+
+-- ---- lines that are numbered on
+
+of_further_lines : map (script_from 16384) (codes "1 sync 4" ∷ text (codes "#" ∷ codes "2 sync 4" ∷ []) ∷ codes "0 sync 4" ∷ [])
+    ≡ Ok (asks 1 16385 (ops.Sync 4) ∷ []) ∷ Ok (asks 2 16386 (ops.Sync 4) ∷ []) ∷ refused 16385 4 ∷ []
+unfolding is_utf8 chars encode lines words asked_of sync_of last_line
+of_further_lines = refl
+
+-- no line has a number past 268,435,455
+of_last_lines : map (script_from 268435454) (codes "1 sync 4" ∷ text (codes "1 sync 4" ∷ codes "1 sync 4" ∷ []) ∷ []) ≡ Ok (asks 1 268435455 (ops.Sync 4) ∷ []) ∷ refused 268435456 3 ∷ []
+unfolding is_utf8 chars encode lines words asked_of sync_of last_line
+of_last_lines = refl

@@ -55,8 +55,8 @@ IsAsked (ops.SymLink path target) = IsNamed path × IsTarget target
 IsAsked (ops.ReadLink path) = IsNamed path
 IsAsked (ops.List path) = IsPath path
 
--- an operation of a script, its lane and its line are within bounds
+-- an operation of a script, its lane and its line are within bounds; the greatest number of a line is 2 ^ 28 - 1
 pub record IsAskedLine (asked : ScriptLine) : Type 0 where
   pub lane : IsFrom 1 16 asked.lane
-  pub line : IsFrom 1 16384 asked.line
+  pub line : IsFrom 1 268435455 asked.line
   pub op : IsAsked asked.op

@@ -3,3 +3,4 @@ pub mod Commands
 pub mod Asked
 pub mod Script
 pub mod RefusalText
+pub mod DoneText

@@ -1,5 +1,5 @@
 -- What a text says as a script.
-use Rattle.std.specs.Prelude.{◌≡◌, ℕ, suc, ok_or, List, [], ◌∷◌, ◌++◌, length, nat_lt, Option, Some, None, Result, Ok, Err, if◌then◌else◌}
+use Rattle.std.specs.Prelude.{◌≡◌, ◌+◌, ℕ, suc, min, ok_or, List, [], ◌∷◌, ◌++◌, length, nat_lt, Option, Some, None, Result, Ok, Err, if◌then◌else◌}
 use Rattle.std.specs.Option.{option_map_or}
 use Rattle.std.specs.Str.{is_utf8}
 use Rattle.script_text.specs.Lines.{lines, words, is_skipped}
@@ -48,18 +48,30 @@ abbrev pub after_lines : ℕ → List ScriptLine → List (List ℕ) → Result 
 after_lines count before [] = Ok before
 after_lines count before (line ∷ more) = after_line (suc count) before line >>= λ asked. after_lines (suc count) asked more
 
--- After so many lines and then more: the first that isn't UTF-8, or else that there are more than 16,384.
-abbrev pub lines_fault : ℕ → List (List ℕ) → Option ScriptFault
-lines_fault count [] = if nat_lt 16384 count then Some (fault_at 16385 causes.ManyLines) else None
-lines_fault count (line ∷ more) = if is_utf8 line then lines_fault (suc count) more else Some (fault_at (suc count) causes.Utf8)
+-- After so many lines and then more: the first that isn't UTF-8, or else that there are lines after the last one that there may be.
+abbrev pub lines_fault : ℕ → ℕ → List (List ℕ) → Option ScriptFault
+lines_fault last count [] = if nat_lt last count then Some (fault_at (last + 1) causes.ManyLines) else None
+lines_fault last count (line ∷ more) = if is_utf8 line then lines_fault last (suc count) more else Some (fault_at (suc count) causes.Utf8)
 
--- the fault of a text as a whole
-abbrev pub text_fault : List ℕ → Option ScriptFault
-text_fault text = if nat_lt 1048576 (length text) then Some (fault_at 0 causes.Long) else lines_fault 0 (lines text)
+-- the fault of a text as a whole, after so many lines
+abbrev pub text_fault : ℕ → ℕ → List ℕ → Option ScriptFault
+text_fault last before text = if nat_lt 1048576 (length text) then Some (fault_at 0 causes.Long) else lines_fault last before (lines text)
 
--- what a text asks for, or its fault
+-- what a text asks for after so many lines, or its fault
+abbrev pub script_by : ℕ → ℕ → List ℕ → Result (List ScriptLine) ScriptFault
+script_by last before text = option_map_or (λ fault. Err fault) (text_fault last before text) (after_lines before [] (lines text))
+
+-- what a text asks for, or its fault: it has 16,384 lines at most
 abbrev pub script_of : List ℕ → Result (List ScriptLine) ScriptFault
-script_of text = option_map_or (λ fault. Err fault) (text_fault text) (after_lines 0 [] (lines text))
+script_of text = script_by 16384 0 text
+
+-- The last line that a text may have whose lines are numbered on: it has 16,384 lines at most, and no number is above 2 ^ 28 - 1.
+unfoldable pub last_line : ℕ → ℕ
+last_line before = min (before + 16384) 268435455
+
+-- what a text asks for whose lines are numbered on from so many, or its fault
+abbrev pub script_from : ℕ → List ℕ → Result (List ScriptLine) ScriptFault
+script_from before text = script_by (last_line before) before text
 
 -- What came of a text is what it asks for, or its fault. Out of memory may come at any text.
 abbrev pub IsParsed : Result (List ScriptLine) ScriptFault → Result (List ScriptLine) ParseFault → Type 0

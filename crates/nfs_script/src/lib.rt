@@ -5,6 +5,7 @@
 mod answer_line;
 mod asked;
 mod attr_text;
+mod batch_end;
 mod commands;
 mod fault;
 mod file_commands;
@@ -20,9 +21,10 @@ mod value_text;
 mod words;
 
 pub use answer_line::line;
+pub use batch_end::done_line;
 pub use fault::{ParseFault, ScriptFault};
 pub use made_line::whole_line;
 pub use refused_mount::mount_line;
 pub use refused_script::refusal_line;
-pub use script::{Script, ScriptLine, parse};
+pub use script::{Script, ScriptLine, parse, parse_from};
 pub use tally::tally_line;

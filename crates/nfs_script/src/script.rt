@@ -1,9 +1,9 @@
 //! Scripts: the operations that are asked for, each with its lane and its line.
 
-ghost use Rattle.std.specs.Prelude.{◌≡◌, ◌≤◌, ◌<◌, ◌++◌, [], ◌∷◌, length, slice_get, All, IfNone, IfOk, OnOk};
+ghost use Rattle.std.specs.Prelude.{◌≡◌, ◌≤◌, ◌<◌, ◌+◌, ◌++◌, [], ◌∷◌, length, slice_get, All, IfNone, IfOk, OnOk};
 ghost use Rattle.script_text.specs.Lines.{lines};
 ghost use Rattle.nfs_script.specs.Asked.{IsAskedLine};
-ghost use Rattle.nfs_script.specs.Script.{after_line, after_lines, lines_fault, text_fault, script_of, IsParsed, Takes};
+ghost use Rattle.nfs_script.specs.Script.{after_line, after_lines, last_line, lines_fault, script_by, script_from, script_of, text_fault, IsParsed, Takes};
 ghost use Rattle.nfs_script.specs.declared.script.ScriptLine.{ScriptLine};
 
 use crate::asked::asked;
@@ -19,6 +19,9 @@ const MOST_BYTES: usize = 1_048_576;
 
 /// The most lines of a script.
 const MOST_LINES: u32 = 16_384;
+
+/// The greatest number of a line, where lines are numbered on from script to script.
+const LAST_LINE: u32 = 268_435_455;
 
 /// An operation of a script.
 #[derive(Debug, Drop)]
@@ -102,31 +105,70 @@ impl Script {
 pub fn parse(alloc: Global, text: &[u8]) -> Result<Script, ParseFault>
     ensures read { IsParsed (script_of text.now) result }
     ensures asked { IfOk result (All IsAskedLine) }
+    ensures few { IfOk result (λ script. length script ≤ 16384) }
 {
-    if let Some(fault) = text_fault(text) {
+    read_by(alloc, MOST_LINES, 0, text)
+}
+
+/// Reads a script as `parse` does, but its lines are numbered on from so many lines before it. The greatest number is
+/// 268,435,455: a script whose lines go beyond it has too many.
+pub fn parse_from(alloc: Global, before: u32, text: &[u8]) -> Result<Script, ParseFault>
+    requires { before ≤ 268435456 }
+    ensures read { IsParsed (script_from before text.now) result }
+    ensures asked { IfOk result (All IsAskedLine) }
+    ensures few { IfOk result (λ script. length script ≤ 16384) }
+{
+    let last = last_line(before);
+    read_by(alloc, last, before, text)
+}
+
+/// The last line that a script may have after so many lines.
+fn last_line(before: u32) -> u32
+    requires { before ≤ 268435456 }
+    ensures is { result ≡ last_line before }
+    ensures within { result ≤ 268435455 }
+    ensures near { result ≤ before + 16384 }
+{
+    (before + MOST_LINES).min(LAST_LINE)
+}
+
+/// Reads a script after so many lines, none of which is behind the last one.
+fn read_by(alloc: Global, last: u32, before: u32, text: &[u8]) -> Result<Script, ParseFault>
+    requires before { before ≤ 268435456 }
+    requires within { last ≤ 268435455 }
+    requires near { last ≤ before + 16384 }
+    ensures read { IsParsed (script_by last before text.now) result }
+    ensures asked { IfOk result (All IsAskedLine) }
+    ensures few { IfOk result (λ script. length script ≤ 16384) }
+{
+    if let Some(fault) = text_fault(last, before, text) {
         return Err(ParseFault::Script(fault));
     }
-    read_lines(alloc, text)
+    read_lines(alloc, before, text)
 }
 
 /// The fault of a text as a whole.
-fn text_fault(text: &[u8]) -> Option<ScriptFault>
-    ensures fault { result ≡ text_fault text.now }
+fn text_fault(last: u32, before: u32, text: &[u8]) -> Option<ScriptFault>
+    requires before { before ≤ 268435456 }
+    requires within { last ≤ 268435455 }
+    ensures fault { result ≡ text_fault last before text.now }
     ensures length { IfNone result (length text.now ≤ 1048576) }
 {
     if text.len() > MOST_BYTES {
         return Some(Cause::Long.at(0));
     }
-    lines_fault(text)
+    lines_fault(last, before, text)
 }
 
 /// The first line that isn't UTF-8, or else that there are too many.
-fn lines_fault(text: &[u8]) -> Option<ScriptFault>
-    requires { length text.now ≤ 1048576 }
-    ensures { result ≡ lines_fault 0 (lines text.now) }
+fn lines_fault(last: u32, before: u32, text: &[u8]) -> Option<ScriptFault>
+    requires before { before ≤ 268435456 }
+    requires within { last ≤ 268435455 }
+    requires short { length text.now ≤ 1048576 }
+    ensures { result ≡ lines_fault last before (lines text.now) }
 {
     let mut rest = text;
-    let mut number = 0u32;
+    let mut number = before;
     while !rest.is_empty() {
         let (line, after) = first_line(rest);
         number += 1;
@@ -135,20 +177,21 @@ fn lines_fault(text: &[u8]) -> Option<ScriptFault>
         }
         rest = after;
     }
-    if number > MOST_LINES {
-        return Some(Cause::ManyLines.at(MOST_LINES + 1));
+    if number > last {
+        return Some(Cause::ManyLines.at(last + 1));
     }
     None
 }
 
-/// What the lines ask for.
-fn read_lines(alloc: Global, text: &[u8]) -> Result<Script, ParseFault>
-    requires { length text.now ≤ 1048576 }
-    ensures { IsParsed (after_lines 0 [] (lines text.now)) result }
+/// What the lines ask for, after so many lines.
+fn read_lines(alloc: Global, before: u32, text: &[u8]) -> Result<Script, ParseFault>
+    requires before { before ≤ 268435456 }
+    requires short { length text.now ≤ 1048576 }
+    ensures { IsParsed (after_lines before [] (lines text.now)) result }
 {
     let mut script = Script::new(alloc);
     let mut rest = text;
-    let mut number = 0u32;
+    let mut number = before;
     while !rest.is_empty() {
         let (line, after) = first_line(rest);
         number += 1;

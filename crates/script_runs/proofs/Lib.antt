@@ -1,5 +1,4 @@
 pub mod Readings
 pub mod StreamLaws
-pub mod ScriptLines
 pub mod LaneRuns
 pub mod Runs

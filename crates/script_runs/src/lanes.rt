@@ -113,7 +113,7 @@ fn end_early<L: Link, C: Clock, K: Sink>(
 }
 
 /// The xid of the first call: the one that is wanted, or one by the time.
-fn first_xid<C: Clock>(wanted: Option<u32>, clock: &mut C) -> u32
+pub fn first_xid<C: Clock>(wanted: Option<u32>, clock: &mut C) -> u32
     requires { IsXidOption wanted }
     ensures range { (1 ≤ result) × (result ≤ 2 ^ 31) }
     ensures read { ReadsOnce (C.readings clock.old) (C.readings clock.new) (λ ms. IsFirst (ms ∷ []) wanted result) }

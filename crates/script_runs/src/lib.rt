@@ -10,5 +10,7 @@ mod status;
 mod top;
 
 pub use input::{ReadFault, read_script};
+pub use lanes::first_xid;
+pub use mount::refuse_mount;
 pub use output::write_all;
 pub use top::{run, run_with};

@@ -1,21 +1,22 @@
-use Rattle.std.proofs.Common.{arith, Ok}
-use Rattle.lane_session.specs.Losing.{LosesLine}
-use Rattle.lane_session.proofs.LostLines.{LostSo, lost-none, lost-more, lost-off}
+use Rattle.std.proofs.Common.{arith, ◌+◌, Ok, rules}
+use Rattle.lane_session.specs.Losing.{of_lane, LosesBy}
+use Rattle.lane_session.proofs.LostLines.{LanesSo, lanes-none, lanes-more, lanes-off}
 use Rattle.lane_session.proofs.Passing.{passes_same, passes_then}
 use Rattle.lane_session.proofs.lost_lines.lose_lines.Goals as goal
 
-pub loop-at-init : goal.loop-at-init
-loop-at-init g c = record { goes = passes_same _ _ _ _ (lost-none c.args.label.now c.args.script.now); stays = λ first s. s; honest = λ h. h; later = omega arith }
+pub loop-index-init : goal.loop-index-init
+loop-index-init g c = record { goes = passes_same _ _ _ _ (lanes-none c.args.label.now c.args.script.now); stays = λ first s. s; honest = λ h. h; later = omega arith }
 
-pub loop-at-preserved : goal.loop-at-preserved
-loop-at-preserved g c = record {
-  goes = passes_then _ _ _ _ _ _ _ _ _ (LostSo c.args.label.now c.args.script.now c.loop-at.at) (LosesLine c.args.label.now c.args.script.now c.loop-at.at (Ok tt)) _
-      (λ f i t u h k m x y. lost-more c.args.label.now c.args.script.now c.loop-at.at f i t u h k m x y) c.loop-at.invariant.goes c.in-Ok.ensures.goes;
-  stays = λ first s. c.in-Ok.ensures.stays first (c.loop-at.invariant.stays first s);
-  honest = λ h. c.in-Ok.ensures.honest (c.loop-at.invariant.honest h);
-  later = let a = c.loop-at.invariant.later in let b = c.in-Ok.ensures.later in omega (arith, a, b);
+pub loop-index-preserved : goal.loop-index-preserved
+loop-index-preserved g c = record {
+  goes = passes_then _ _ _ _ _ _ _ _ _ (LanesSo c.args.label.now c.args.script.now c.loop-index.index) (LosesBy c.args.label.now (of_lane (c.loop-index.index + 1) c.args.script.now) (Ok tt)) _
+      (λ f i t u h k m x y. lanes-more c.args.label.now c.args.script.now c.loop-index.index f i t u h k m x y) c.loop-index.invariant.goes c.in-Ok.ensures.goes;
+  stays = λ first s. c.in-Ok.ensures.stays first (c.loop-index.invariant.stays first s);
+  honest = λ h. c.in-Ok.ensures.honest (c.loop-index.invariant.honest h);
+  later = let a = c.loop-index.invariant.later in let b = c.in-Ok.ensures.later in omega (arith, a, b);
 }
 
 pub returns-in-Err-clause-goes : goal.returns-in-Err-clause-goes
 returns-in-Err-clause-goes g c =
-    passes_then _ _ _ _ _ _ _ _ _ (LostSo c.args.label.now c.args.script.now c.loop-at.at) _ _ (λ f i t u h k m x y. lost-off c.args.label.now c.args.script.now c.loop-at.at _ f i t u h k m x y) c.loop-at.invariant.goes c.in-Err.ensures.goes
+    passes_then _ _ _ _ _ _ _ _ _ (LanesSo c.args.label.now c.args.script.now c.loop-index.index) _ _
+    (λ f i t u h k m x y. lanes-off c.args.label.now c.args.script.now c.loop-index.index _ f i t u h k m ? x y) c.loop-index.invariant.goes c.in-Err.ensures.goes

@@ -5,8 +5,8 @@ use Rattle.nfs_script.proofs.script.lines_fault.Given as goal
 
 abbrev pub invariant-loop-rest : goal.invariant-loop-rest
 invariant-loop-rest l = record {
-  bound : l.number + length l.rest ≤ length l.fn.text;
-  fault : lines_fault 0 (lines l.fn.text) ≡ lines_fault l.number (lines l.rest);
+  bound : l.number + length l.rest ≤ l.fn.before + length l.fn.text;
+  fault : lines_fault l.fn.last l.fn.before (lines l.fn.text) ≡ lines_fault l.fn.last l.number (lines l.rest);
 }
 
 abbrev pub decreases-loop-rest : goal.decreases-loop-rest

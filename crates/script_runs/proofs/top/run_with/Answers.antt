@@ -1,7 +1,6 @@
 use Rattle.std.proofs.Common.{inr, refl}
 use Rattle.script_runs.specs.Run.{no_source, cut_before}
 use Rattle.script_runs.proofs.Runs.{unscripted, scripted, faulty, spells, read_for, run_says, refuse_says, none_says, refused_text}
-use Rattle.script_runs.proofs.ScriptLines.{few_lines}
 use Rattle.script_runs.proofs.top.run_with.Goals as goal
 
 pub returns-in-Ok-parse-clause-unspelled : goal.returns-in-Ok-parse-clause-unspelled
@@ -12,7 +11,7 @@ returns-in-Ok-parse-clause-shown g c =
     run_says _ _ _ _ _ _ _ _ _ _ (read_for _ _ _ _ c.in-Ok-parse.ensures.read c.as_slice.ensures.value c.in-Ok.ensures.text) c.run_lanes.ensures.shown
 
 pub run_lanes-requires-clause-few : goal.run_lanes-requires-clause-few
-run_lanes-requires-clause-few g c = few_lines _ _ c.in-Ok-parse.ensures.read
+run_lanes-requires-clause-few g c = c.in-Ok-parse.ensures.few
 
 pub returns-in-Err-Script-clause-script : goal.returns-in-Err-Script-clause-script
 returns-in-Err-Script-clause-script g c =
