@@ -1,3 +1,12 @@
 pub mod Options
 pub mod BothStatuses
 pub mod Endings
+pub mod Alone
+pub mod Sayings
+pub mod Passages
+pub mod Adding
+pub mod Apart
+pub mod Cutting
+pub mod Sessions
+pub mod Both
+pub mod Openings

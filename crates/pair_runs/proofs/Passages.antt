@@ -7,8 +7,7 @@ use Rattle.outside.specs.Pairs.{PairTold, seen_by, side}
 use Rattle.pair_ends.specs.Ends.{AddsAlone, Spares}
 use Rattle.lane_session.specs.Streams.{Passes}
 use Rattle.lane_session.specs.Streams.{Appends as LaneAppends, ReadsAll as LaneReadsAll}
-use Rattle.script_runs.specs.Readings.{ReadsAll, Reads}
-use Rattle.script_runs.specs.Run.{Says}
+use Rattle.script_runs.specs.Readings.{ReadsAll}
 use Rattle.script_runs.specs.Streams.{Appends}
 use Rattle.pair_runs.specs.PairGoing.{PairPasses}
 use Rattle.pair_runs.specs.PairRuns.{PairRelates}
@@ -98,6 +97,22 @@ module _ (r0 r1 r2 : Option (List ℕ)) (t0 t1 t2 : Option PairTold) (w0 w1 w2 :
     told = both-then t0 t1 t2 (λ h k. R p.given p.text h k) (λ h k. S q.given q.text h k) (λ h k. T (p.given ++ q.given) (p.text ++ q.text) h k)
         (λ h k l x y. join p.given q.given p.text q.text h k l x y) p.told q.told;
   }
+
+module _ (r0 r1 : Option (List ℕ)) (t0 t1 t2 : Option PairTold) (w0 w1 : Option (List ℕ)) (R : PairTold → PairTold → Type 0) (S T : List ℕ → List ℕ → PairTold → PairTold → Type 0) where
+  -- the link alone, and then all three
+  pub passes-behind : ((g t : List ℕ) (h k l : PairTold) → R h k → S g t k l → T g t h l) → PairRelates t0 t1 R → PairPasses r0 r1 t1 t2 w0 w1 S → PairPasses r0 r1 t0 t2 w0 w1 T
+  passes-behind join o p = record {
+    given = p.given;
+    read = p.read;
+    text = p.text;
+    added = p.added;
+    told = both-then t0 t1 t2 R (λ h k. S p.given p.text h k) (λ h k. T p.given p.text h k) (λ h k l x y. join p.given p.text h k l x y) o p.told;
+  }
+
+-- the link alone
+pub passes-link : (r : Option (List ℕ)) (t0 t1 : Option PairTold) (w : Option (List ℕ)) (R : PairTold → PairTold → Type 0) (S : List ℕ → List ℕ → PairTold → PairTold → Type 0)
+    → ((h k : PairTold) → R h k → S [] [] h k) → PairRelates t0 t1 R → PairPasses r r t0 t1 w w S
+passes-link r t0 t1 w R S less p = record { given = []; read = reads-same r; text = []; added = appends-same w; told = both-less t0 t1 R (λ h k. S [] [] h k) less p }
 
 -- ---- from one end
 

@@ -4,7 +4,6 @@ use Rattle.world_model.specs.Follows.{IsFront}
 use Rattle.outside.specs.Pairs.{PairStep, PairTold}
 use Rattle.lane_session.specs.declared.halt.Halt.{Halt}
 use Rattle.pair_runs.specs.PairGoing.{PairAdds, PairBreaks}
-use Rattle.pair_runs.specs.PairRuns.{IsCutAt, all_said, last_cut}
 use Rattle.pair_runs.specs.Texts.{step_text, pair_transcript, step_clock, pair_clocks}
 
 pub transcripts-append : (xs ys : List PairStep) → pair_transcript (xs ++ ys) ≡ pair_transcript xs ++ pair_transcript ys
@@ -35,16 +34,12 @@ adds-then given text read said h k l p q = record {
   shown = ap (λ (t : List ℕ). t ++ said) p.shown ∙ ap (λ (t : List ℕ). pair_transcript p.more ++ t) q.shown ∙ sym (transcripts-append p.more q.more);
 }
 
--- a front of the last line, behind lines that were written whole
-pub cut-behind : (xs ys : List PairStep) (text said : List ℕ) → text ≡ pair_transcript xs → IsCutAt ys said → IsCutAt (xs ++ ys) (text ++ said)
-cut-behind xs ys text said is (all_said all) = all_said (ap (λ (t : List ℕ). t ++ said) is ∙ ap (λ (t : List ℕ). pair_transcript xs ++ t) all ∙ sym (transcripts-append xs ys))
-cut-behind xs ys text said is (last_cut before after s front split silent all within) =
-    last_cut (xs ++ before) after s front
-    (ap (λ (t : List PairStep). xs ++ t) split ∙ sym (append_assoc xs before (s ∷ after)))
-    silent
-    (ap (λ (t : List ℕ). t ++ said) is ∙ ap (λ (t : List ℕ). pair_transcript xs ++ t) all ∙ sym (append_assoc (pair_transcript xs) (pair_transcript before) front)
-    ∙ ap (λ (t : List ℕ). t ++ front) (sym (transcripts-append xs before)))
-    within
+-- a front of a text, behind one that was written whole
+pub front-behind : (all text more said : List ℕ) → text ≡ all → IsFront said more → IsFront (text ++ said) (all ++ more)
+front-behind all text more said is f = record {
+  rest = f.rest;
+  is = ap (λ (t : List ℕ). all ++ t) f.is ∙ sym (append_assoc all said f.rest) ∙ ap (λ (t : List ℕ). (t ++ said) ++ f.rest) (sym is);
+}
 
 pub breaks-then : (halt : Halt) (given text read said : List ℕ) (h k l : PairTold) → PairAdds given text h k → PairBreaks halt read said k l → PairBreaks halt (given ++ read) (text ++ said) h l
 breaks-then halt given text read said h k l p q = record {
@@ -54,5 +49,5 @@ breaks-then halt given text read said h k l p q = record {
   clocked = ap (λ (t : List ℕ). t ++ read) p.clocked ∙ ap (λ (t : List ℕ). pair_clocks p.more ++ t) q.clocked ∙ sym (append_assoc (pair_clocks p.more) (pair_clocks q.more) q.last)
       ∙ ap (λ (t : List ℕ). t ++ q.last) (sym (readings-append p.more q.more));
   left = q.left;
-  shown = cut-behind p.more q.more text said p.shown q.shown;
+  shown = subst (IsFront (text ++ said)) (sym (transcripts-append p.more q.more)) (front-behind (pair_transcript p.more) text (pair_transcript q.more) said p.shown q.shown);
 }

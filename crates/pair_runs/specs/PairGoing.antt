@@ -4,6 +4,7 @@ use Rattle.xdr_codec.specs.declared.blob.Memory.{Memory}
 use Rattle.world_model.specs.declared.entry.Entry.{Entry}
 use Rattle.world_model.specs.declared.tally.Tally.{Tally}
 use Rattle.world_model.specs.Entries.{ours}
+use Rattle.world_model.specs.Follows.{IsFront}
 use Rattle.link_dials.specs.Dials.{Dials}
 use Rattle.nfs_script.specs.declared.script.ScriptLine.{ScriptLine}
 use Rattle.outside.specs.Pairs.{PairStep, PairTold, seen_by}
@@ -27,7 +28,7 @@ use Rattle.pair_runs.specs.declared.client.State.{State}
 use Rattle.pair_runs.specs.declared.client.State.TheVariants as states
 use Rattle.pair_runs.specs.declared.turns.Pair.{Pair}
 use Rattle.pair_runs.specs.Given.{pair_settings}
-use Rattle.pair_runs.specs.PairRuns.{ClientRan, LosesAmong, RunsLines, IsCutAt, PairRelates}
+use Rattle.pair_runs.specs.PairRuns.{ClientRan, LosesAmong, RunsLines, PairRelates}
 use Rattle.pair_runs.specs.Texts.{pair_transcript, pair_clocks}
 
 -- What calls lead from and to: readings were given, a text was written, and by them the history of both goes on.
@@ -48,14 +49,14 @@ pub record PairAdds (given text : List ℕ) (h k : PairTold) : Type 0 where
   pub clocked : given ≡ pair_clocks more
   pub shown : text ≡ pair_transcript more
 
--- The same of a turn that was cut off.
+-- The same of a turn that was cut off: the readings were noted but perhaps the last, and a front of the text was written.
 pub record PairBreaks (halt : Halt) (given text : List ℕ) (h k : PairTold) : Type 0 where
   pub more : List PairStep
   pub grown : k ≡ record { start = h.start; steps = h.steps ++ more }
   pub last : List ℕ
   pub clocked : given ≡ pair_clocks more ++ last
   pub left : IsLeft halt last
-  pub shown : IsCutAt more text
+  pub shown : IsFront text (pair_transcript more)
 
 -- ---- a client, whose first xid is this one, along its side
 
@@ -81,14 +82,14 @@ pub record GoesLost (first : ℕ) (h : List Entry) : Type 0 where
   pub unseen : ours more ≡ []
 
 -- Its session goes so; or its set-up lost the session, and each answer says so.
-pub data HasBegun (first : ℕ) (script : List ScriptLine) (h : List Entry) : Type 0 where
-  by_session : (s : Session) → GoesOpen first script h s → HasBegun first script h
+pub data HasGone (first : ℕ) (script : List ScriptLine) (h : List Entry) : Type 0 where
+  by_session : (s : Session) → GoesOpen first script h s → HasGone first script h
   by_loss : (tally : Tally) (before more : List Entry) → h ≡ before ++ more → SetsUp pair_settings first (Err (Lost tally)) before → LosesAmong script more
-      → HasBegun first script h
+      → HasGone first script h
 
 -- Each line has its answer.
 pub record GoesDone (first : ℕ) (script : List ScriptLine) (h : List Entry) (status : ℕ) : Type 0 where
-  pub began : HasBegun first script h
+  pub began : HasGone first script h
   pub lines : RunsLines script h status
 
 abbrev pub StateGoes : ℕ → List ScriptLine → List Entry → State → Type 0
