@@ -58,29 +58,5 @@ pub hushed-since : (before more own : List Entry) → ours (before ++ more) ≡ 
 hushed-since before more own is each =
     hushed-among more (subst (λ (l : List Entry). (i : ℕ) (e : Entry) → At l i e → IsLosing e) (append_cancel_left (ours before) own (ours more) (sym is ∙ ours-append before more)) each)
 
--- where nothing is the client's own
-pub unseen-hushed : (more : List Entry) → ours more ≡ [] → AreHushed more
-unseen-hushed more none = hushed-among more (λ i e at. absurd (let at_none : At [] i e = subst (λ (l : List Entry). At l i e) none at in cc))
-
--- ---- what isn't the client's own
-
-unseen-one : (e : Entry) (more : List Entry) → ours (e ∷ more) ≡ [] → (ours (e ∷ []) ≡ []) × (ours more ≡ [])
-unseen-one (Executed xid call reply) more none = (refl, none)
-unseen-one (Foreign call reply) more none = (refl, none)
-unseen-one (Flushed file from len) more none = (refl, none)
-unseen-one (Reboot verf) more none = (refl, none)
-unseen-one (Began lane line op) more none = absurd cc
-unseen-one (Answered lane line answer) more none = absurd cc
-unseen-one (Dialed port) more none = absurd cc
-unseen-one (Sent bytes) more none = absurd cc
-unseen-one (Delivered bytes) more none = absurd cc
-unseen-one Failed more none = absurd cc
-unseen-one (Clock ms) more none = absurd cc
-
-pub unseen-at : (more : List Entry) → ours more ≡ [] → (i : ℕ) (e : Entry) → At more i e → ours (e ∷ []) ≡ []
-unseen-at [] none i e at = absurd cc
-unseen-at (d ∷ more) none zero e at = subst (λ (x : Entry). ours (x ∷ []) ≡ []) (let is : d ≡ e = cc in is) (unseen-one d more none).0
-unseen-at (d ∷ more) none (suc i) e at = unseen-at more (unseen-one d more none).1 i e at
-
 pub all-losing : (more : List Entry) → ((i : ℕ) (e : Entry) → At more i e → IsLosing e) → AreHushed more
 all-losing more each = λ i e at. losing-hushed e (each i e at)

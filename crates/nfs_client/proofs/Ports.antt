@@ -82,6 +82,7 @@ all-dials : (port : ℕ) (more : List Entry) → AreHushed more → AreDialsOf p
 all-dials port [] each = tt
 all-dials port (e ∷ more) each = (hushed-dials port e (each 0 e refl), all-dials port more (λ i d at. each (suc i) d at))
 
+-- since the set-up nothing was dialed, sent or received
 pub hushed-ports : (s : Settings) (first : ℕ) (result : Result SetUp SetUpFault) (before more h : List Entry) → SetsUp s first result before → h ≡ before ++ more → AreHushed more
     → GoesToPorts s.mount_port s.nfs_port h
 hushed-ports s first result before more h so is each =

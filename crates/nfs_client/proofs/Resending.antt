@@ -20,6 +20,7 @@ use Rattle.nfs_client.proofs.Hushed.{AreHushed}
 pub early-resends : (h : List Entry) → IsUnmarked h → Resends h
 early-resends h u i j xid waits begun fi fj early less = absurd (u.began begun.at begun.lane begun.line begun.op begun.began)
 
+-- since the set-up nothing was dialed, sent or received
 pub hushed-resends : (s : Settings) (first : ℕ) (result : Result SetUp SetUpFault) (before more h : List Entry) → SetsUp s first result before → h ≡ before ++ more → AreHushed more → Resends h
 hushed-resends s first result before more h so is each i j xid waits begun fi fj early less = by (cases_lt begun.at (length before))
   where

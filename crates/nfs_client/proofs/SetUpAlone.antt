@@ -1,12 +1,11 @@
 -- A session that was lost in its set-up, or had no lines begun, made calls of its set-up alone.
 use Rattle.std.proofs.Common.{inl, inr, ◌≡◌, ◌<◌, ◌+◌, ◌⊎◌, ℕ, zero, suc, List, [], ◌∷◌, ◌++◌, length, Result, Err, subst, arith}
 use Rattle.std.proofs.lemmas.List.{append-nil}
-use Rattle.world_model.specs.declared.answer.Answer.{Answer}
 use Rattle.world_model.specs.declared.entry.Entry.{Entry}
-use Rattle.world_model.specs.declared.entry.Entry.TheVariants.{Began, Answered, Sent, Delivered, Clock}
+use Rattle.world_model.specs.declared.entry.Entry.TheVariants.{Began, Answered, Sent, Delivered}
 use Rattle.world_model.specs.declared.message.Call.{Call}
 use Rattle.world_model.specs.declared.tally.Tally.{Tally}
-use Rattle.world_model.specs.Entries.{At, ours}
+use Rattle.world_model.specs.Entries.{At}
 use Rattle.world_model.specs.Waiting.{Answers}
 use Rattle.world_model.proofs.Growth.{Rooted-grow, Waits-back}
 use Rattle.world_model.proofs.Places.{At-back, At-below}
@@ -19,14 +18,14 @@ use Rattle.session_setup.specs.declared.opening.SetUpFault.{SetUpFault}
 use Rattle.session_setup.specs.declared.opening.SetUpFault.TheVariants.{Lost}
 use Rattle.session_setup.specs.Origins.{origin_of, terms_by}
 use Rattle.session_setup.specs.Outcomes.{SetsUp}
-use Rattle.session_setup.specs.Sendings.{IsSetUpCall, IsUnmarked, mounts, informs}
+use Rattle.session_setup.specs.Sendings.{IsSetUpCall, mounts, informs}
 use Rattle.lane_session.proofs.CoreEnds.{loses-more}
-use Rattle.nfs_client.proofs.Hushed.{IsHushed, unseen-at, unseen-hushed}
+use Rattle.nfs_client.proofs.Hushed.{IsHushed}
 use Rattle.nfs_client.proofs.Quiet.{IsQuiet, IsSetUpRecord}
 use Rattle.nfs_client.proofs.Quiet as quiet
 
 -- an entry of two lists together is one of the first, or of the second
-split-at : (h more : List Entry) (i : ℕ) (e : Entry) → At (h ++ more) i e → At h i e ⊎ ((k : ℕ) × (i ≡ length h + k) × At more k e)
+pub split-at : (h more : List Entry) (i : ℕ) (e : Entry) → At (h ++ more) i e → At h i e ⊎ ((k : ℕ) × (i ≡ length h + k) × At more k e)
 split-at [] more i e at = inr (i, omega arith, at)
 split-at (d ∷ h) more zero e at = inl at
 split-at (d ∷ h) more (suc i) e at = elim (split-at h more i e at) [
@@ -62,7 +61,7 @@ module _ (s : Settings) (first : ℕ) (result : Result SetUp SetUpFault) (before
       by call xid (mounts path is c x) = causes.mounts path is c (none-began i (At-below before i (Sent sent) at))
       by call xid (informs root rooted c x) = causes.informs root (Rooted-grow (origin_of s.export) before more i root rooted) c (none-began i (At-below before i (Sent sent) at))
 
-  asked-so : CallsAsked (terms_by s first) whole
+  pub asked-so : CallsAsked (terms_by s first) (before ++ more)
   asked-so = record {
     caused = λ i sent at. caused-so i sent (sent-before i sent at);
     among = λ i xid sent at has.
@@ -80,7 +79,7 @@ module _ (s : Settings) (first : ℕ) (result : Result SetUp SetUpFault) (before
   set-up-call call i xid (mounts path is c x) = quiet.mounts path c
   set-up-call call i xid (informs root rooted c x) = quiet.informs root c
 
-  set-up-so : (i : ℕ) (sent : List ℕ) → At whole i (Sent sent) → IsSetUpRecord sent
+  pub set-up-so : (i : ℕ) (sent : List ℕ) → At (before ++ more) i (Sent sent) → IsSetUpRecord sent
   set-up-so i sent at = let r = so.sent.caused i sent (sent-before i sent at) in record { xid = r.xid; call = r.call; spells = r.made.spells; is = set-up-call r.call i r.xid r.is }
 
 none-more : (i : ℕ) (e : Entry) → At [] i e → IsHushed e
@@ -101,38 +100,6 @@ lost-quiet s first tally before more so each = record {
   ];
 }
 
-unanswered : (more : List Entry) → ours more ≡ [] → (i lane line : ℕ) (answer : Answer) → At more i (Answered lane line answer) → ⊥
-unanswered more none i lane line answer at = let own : Answered lane line answer ∷ [] ≡ [] = unseen-at more none i (Answered lane line answer) at in cc
-
--- what isn't the client's own leaves a history unmarked
-pub unseen-unmarked : (before more : List Entry) → ours more ≡ [] → IsUnmarked before → IsUnmarked (before ++ more)
-unseen-unmarked before more none u = record {
-  began = λ i lane line op at. elim (split-at before more i (Began lane line op) at) [
-    | inl old ↦ u.began i lane line op old
-    | inr new ↦ absurd (let own : Began lane line op ∷ [] ≡ [] = unseen-at more none new.0 (Began lane line op) new.2 in cc)
-  ];
-  answered = λ i lane line answer at. elim (split-at before more i (Answered lane line answer) at) [
-    | inl old ↦ u.answered i lane line answer old
-    | inr new ↦ absurd (unanswered more none new.0 lane line answer new.2)
-  ];
-  clock = λ i ms at. elim (split-at before more i (Clock ms) at) [
-    | inl old ↦ u.clock i ms old
-    | inr new ↦ absurd (let own : Clock ms ∷ [] ≡ [] = unseen-at more none new.0 (Clock ms) new.2 in cc)
-  ];
-}
-
--- no line was begun, and the server alone went on
-pub unready-quiet : (s : Settings) (first : ℕ) (result : Result SetUp SetUpFault) (before more : List Entry) → SetsUp s first result before → ours more ≡ []
-    → IsQuiet (terms_by s first) (before ++ more)
-unready-quiet s first result before more so none = record {
-  asked = asked-so s first result before more so (unseen-hushed more none);
-  set_up = set-up-so s first result before more so (unseen-hushed more none);
-  lost = λ j lane line answer at. elim (split-at before more j (Answered lane line answer) at) [
-    | inl old ↦ absurd (so.unmarked.answered j lane line answer old)
-    | inr new ↦ absurd (unanswered more none new.0 lane line answer new.2)
-  ];
-}
-
 -- no line was begun
 pub early-quiet : (s : Settings) (first : ℕ) (result : Result SetUp SetUpFault) (h : List Entry) → SetsUp s first result h → IsQuiet (terms_by s first) h
 early-quiet s first result h so = subst (IsQuiet (terms_by s first)) (append-nil h) (record {
@@ -140,23 +107,6 @@ early-quiet s first result h so = subst (IsQuiet (terms_by s first)) (append-nil
   set_up = set-up-so s first result h [] so none-more;
   lost = λ j lane line answer at. absurd (so.unmarked.answered j lane line answer (subst (λ (k : List Entry). At k j (Answered lane line answer)) (append-nil h) at));
 })
-
--- nothing was done
-pub unseen-quiet : (terms : Terms) (h : List Entry) → ours h ≡ [] → IsQuiet terms h
-unseen-quiet terms h none = record {
-  asked = record {
-    caused = λ i sent at. absurd (unsent i sent at);
-    among = λ i xid sent at has. absurd (unsent i sent at);
-    equal = λ i j xid a b at other has same. absurd (unsent i a at);
-    single = λ i j x y a b call other at its s t are. absurd (unsent i a at);
-    unrepeated = λ g i xid reply sent answers at has. absurd (unsent i sent at);
-  };
-  set_up = λ i sent at. absurd (unsent i sent at);
-  lost = λ j lane line answer at. absurd (unanswered h none j lane line answer at);
-}
-  where
-    unsent : (i : ℕ) (sent : List ℕ) → At h i (Sent sent) → ⊥
-    unsent i sent at = unseen-hushed h none i (Sent sent) at
 
 -- nothing was noted
 pub empty-quiet : (terms : Terms) → IsQuiet terms []

@@ -1,25 +1,22 @@
 -- Two clients that ran keep, each along its side, what one session keeps.
 use Rattle.std.proofs.Common.{inl, inr, ◌≡◌, ℕ, List, [], ◌∷◌, ◌++◌, Option, Some, None, Ok, Err, Result, refl, sym, ap, subst, ◌∙◌}
 use Rattle.world_model.specs.declared.entry.Entry.{Entry}
-use Rattle.world_model.specs.declared.entry.Entry.TheVariants.{Failed}
-use Rattle.world_model.specs.Entries.{At, ours}
 use Rattle.nfs_script.specs.declared.script.ScriptLine.{ScriptLine}
 use Rattle.outside.specs.Pairs.{PairTold, seen_by, side}
 use Rattle.session_words.specs.declared.settings.Settings.{Settings}
 use Rattle.session_setup.specs.Origins.{origin_of, modes_of, terms_by}
-use Rattle.session_setup.specs.Sendings.{IsUnmarked as SetUnmarked}
 use Rattle.lane_session.specs.Endings.{cut, entries_of}
 use Rattle.lane_session.specs.Sessions.{IsUnmarked}
 use Rattle.lane_session.proofs.Ending.{broken-none}
 use Rattle.script_runs.proofs.LaneRuns.{fresh}
 use Rattle.nfs_client.specs.Headline.{Promises}
 use Rattle.nfs_client.proofs.Headlines.{ready-promises, quiet-promises}
-use Rattle.nfs_client.proofs.Hushed.{hushed-among, unseen-hushed}
+use Rattle.nfs_client.proofs.Hushed.{hushed-among}
 use Rattle.nfs_client.proofs.Ports.{hushed-ports}
 use Rattle.nfs_client.proofs.Quiet.{IsQuiet, quiet-caused, quiet-thrifty, quiet-evident}
 use Rattle.nfs_client.proofs.Resending.{hushed-resends}
 use Rattle.nfs_client.proofs.ScriptAsked.{script-asked}
-use Rattle.nfs_client.proofs.SetUpAlone.{lost-quiet, unready-quiet, unseen-quiet, unseen-unmarked}
+use Rattle.nfs_client.proofs.SetUpAlone.{lost-quiet}
 use Rattle.nfs_client.proofs.Showing.{run-shows}
 use Rattle.link_dials.specs.Sendings.{GoesToPorts, Resends}
 use Rattle.link_dials.proofs.Ports.{ports-none}
@@ -29,6 +26,7 @@ use Rattle.two_clients.specs.Pair.{SideKeeps, PairHeadline, PairSees, PairIs}
 use Rattle.two_clients.specs.Pair as pairs
 use Rattle.two_clients.specs.Sees.{AreAlike}
 use Rattle.two_clients.proofs.Sees.{one-sees}
+use Rattle.two_clients.proofs.Unready.{unseen-hushed, unseen-unmarked, unready-quiet, unseen-quiet, unseen-resends, empty-unmarked}
 
 -- ---- one client
 
@@ -79,14 +77,8 @@ side-keeps first lines h status (unready result before more is so none seven) =
     (hushed-ports pair_settings first result before more h so is hushed) (hushed-resends pair_settings first result before more h so is hushed)
     (unmarked-runs lines h status (subst IsUnmarked (sym is) (fresh (before ++ more) (unseen-unmarked before more none so.unmarked))) seven)
 side-keeps first lines h status (unbegun none seven) =
-    quietly pair_settings first lines status h (unseen-quiet (terms_by pair_settings first) h none) (ports-none pair_settings.mount_port pair_settings.nfs_port h none) (unseen-resends h none)
+    quietly pair_settings first lines status h (unseen-quiet h none (terms_by pair_settings first)) (ports-none pair_settings.mount_port pair_settings.nfs_port h none) (unseen-resends h none)
     (unmarked-runs lines h status (fresh h (unseen-unmarked [] h none empty-unmarked)) seven)
-  where
-    empty-unmarked : SetUnmarked []
-    empty-unmarked = record { began = λ i lane line op at. cc; answered = λ i lane line answer at. cc; clock = λ i ms at. cc }
-
-    unseen-resends : (h : List Entry) → ours h ≡ [] → Resends h
-    unseen-resends h none i j xid waits begun fi fj early less = absurd (unseen-hushed h none i Failed fi)
 
 -- ---- both
 
