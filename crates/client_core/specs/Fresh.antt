@@ -2,7 +2,7 @@
 use Rattle.std.specs.Prelude.{◌≡◌, ◌≤◌, ◌<◌, ◌*◌, ℕ, [], false}
 use Rattle.std.specs.FinMap as map
 use Rattle.attr_cache.specs.Attrs.{nothing_learnt}
-use Rattle.page_cache.specs.Pages.{nothing_kept}
+use Rattle.page_cache.specs.Sound.{IsSound}
 use Rattle.client_core.specs.declared.setup.Setup.{Setup}
 use Rattle.client_core.specs.View.{View}
 
@@ -14,7 +14,7 @@ pub record AreSizes (setup : Setup) : Type 0 where
   pub write : 1 ≤ setup.wsize
   pub most_write : setup.wsize ≤ 65536
 
--- no call was made, no operation has begun, and nothing is kept
+-- no call was made, no operation has begun, and nothing is kept but the pages of the set-up
 pub record IsFresh (setup : Setup) (v : View) : Type 0 where
   pub calls : v.calls ≡ record { first_xid = setup.first_xid; limit = setup.limit; cred = setup.cred; made = 0; calls = [] }
   pub lanes : v.lanes ≡ []
@@ -23,7 +23,8 @@ pub record IsFresh (setup : Setup) (v : View) : Type 0 where
   pub moments : v.moments ≡ 0
   pub begun : v.begun ≡ 0
   pub lost : v.lost ≡ false
-  pub pages : v.shelf.pages ≡ nothing_kept
+  pub pages : v.shelf.pages ≡ setup.pages
+  pub sound : IsSound setup.pages
   pub attrs : v.shelf.attrs ≡ nothing_learnt setup.lives
   pub names : v.shelf.names ≡ []
   pub back : v.shelf.back ≡ []

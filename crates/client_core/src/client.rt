@@ -12,6 +12,7 @@ ghost use Rattle.client_core.specs.Steps.{Begins, Hears, WereSent, SendsBy, Fail
 use crate::setup::Setup;
 use crate::work::Work;
 use op_machines::Machine;
+use page_cache::PageCache;
 use std::alloc::Global;
 use std::marker::Model;
 use world_model::Answer;
@@ -37,12 +38,13 @@ impl Model for Core {
 }
 
 impl Core {
-    /// No operation is under way. Both sizes are 1 to 65,536, and one of READ above 4,096 is whole pages.
-    pub fn new(alloc: Global, setup: &Setup) -> Result<Core, Memory>
-        requires first { 1 ≤ setup.now.first_xid }
-        requires last { setup.now.first_xid + setup.now.limit ≤ 2 ^ 32 - 1 }
-        requires sizes { AreSizes setup.now }
-        ensures { IfOk result (IsFresh setup.now) }
+    /// No operation is under way, and nothing is kept but the pages of the set-up. Both sizes are 1 to 65,536, and one of READ
+    /// above 4,096 is whole pages.
+    pub fn new(alloc: Global, setup: Setup) -> Result<Core, Memory>
+        requires first { 1 ≤ setup.first_xid }
+        requires last { setup.first_xid + setup.limit ≤ 2 ^ 32 - 1 }
+        requires sizes { AreSizes setup }
+        ensures { IfOk result (IsFresh setup) }
     {
         let work = Work::new(alloc, setup)?;
         Ok(Core { work })
@@ -103,5 +105,12 @@ impl Core {
         ensures { AnswersBy self.old lane result self.new }
     {
         self.work.answer(lane)
+    }
+
+    /// The pages that are kept at the end.
+    pub fn into_pages(self) -> PageCache
+        ensures { result ≡ self.shelf.pages }
+    {
+        self.work.into_pages()
     }
 }

@@ -2,6 +2,7 @@
 
 use attr_cache::Lives;
 use nfs_types::Handle;
+use page_cache::PageCache;
 use rpc_message::Cred;
 
 /// What a session is set up with.
@@ -21,4 +22,6 @@ pub struct Setup {
     pub cred: Cred,
     /// How long attributes are believed.
     pub lives: Lives,
+    /// The pages that are kept from the start, each under a stamp of its file.
+    pub pages: PageCache,
 }

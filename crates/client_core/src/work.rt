@@ -34,6 +34,7 @@ use nfs_dir_calls::{dir_proc, write_dir_call};
 use nfs_file_calls::{file_proc, write_file_call};
 use nfs_types::NFS_PROGRAM;
 use op_machines::Machine;
+use page_cache::PageCache;
 use rpc_retry::{AfterFailure, Calls, Taken};
 use std::alloc::Global;
 use std::marker::Model;
@@ -80,12 +81,13 @@ impl Model for Work {
 
 impl Work {
     /// No operation is under way.
-    pub(crate) fn new(alloc: Global, setup: &Setup) -> Result<Work, Memory>
-        requires first { 1 ≤ setup.now.first_xid }
-        requires last { setup.now.first_xid + setup.now.limit ≤ 2 ^ 32 - 1 }
-        ensures { IfOk result (IsFresh setup.now) }
+    pub(crate) fn new(alloc: Global, setup: Setup) -> Result<Work, Memory>
+        requires first { 1 ≤ setup.first_xid }
+        requires last { setup.first_xid + setup.limit ≤ 2 ^ 32 - 1 }
+        ensures { IfOk result (IsFresh setup) }
     {
-        let mut shelf = Shelf::new(alloc)?;
+        setup.pages.is_sound();
+        let mut shelf = Shelf::with_pages(alloc, setup.pages)?;
         shelf.attrs = AttrCache::with_lives(alloc, setup.lives);
         Ok(Work {
             alloc,
@@ -175,6 +177,13 @@ impl Work {
             return None;
         };
         Some(answer)
+    }
+
+    /// The pages that are kept.
+    pub(crate) fn into_pages(self) -> PageCache
+        ensures { result ≡ self.shelf.pages }
+    {
+        self.shelf.pages
     }
 
     /// Whether the session is lost.

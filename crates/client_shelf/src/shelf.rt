@@ -58,12 +58,29 @@ impl Shelf {
         ensures seq { IfOk result (λ s. s.seq ≡ 0) }
         ensures counter { IfOk result (λ s. s.counter ≡ 0) }
     {
-        // What may fail comes first, so that a failure has no caches to drop.
+        let pages = PageCache::new(alloc)?;
+        Shelf::with_pages(alloc, pages)
+    }
+
+    /// Nothing is kept but these pages. It takes the memory of all names at once.
+    pub fn with_pages(alloc: Global, pages: PageCache) -> Result<Shelf, Memory>
+        ensures pages { IfOk result (λ s. s.pages ≡ pages) }
+        ensures attrs { IfOk result (λ s. s.attrs ≡ nothing_learnt usual_lives) }
+        ensures names { IfOk result (λ s. s.names ≡ []) }
+        ensures back { IfOk result (λ s. s.back ≡ []) }
+        ensures opens { IfOk result (λ s. s.opens ≡ map.empty) }
+        ensures silly { IfOk result (λ s. s.silly ≡ map.empty) }
+        ensures order { IfOk result (λ s. s.order ≡ []) }
+        ensures puts { IfOk result (λ s. s.puts ≡ []) }
+        ensures repeats { IfOk result (λ s. s.repeats ≡ []) }
+        ensures seq { IfOk result (λ s. s.seq ≡ 0) }
+        ensures counter { IfOk result (λ s. s.counter ≡ 0) }
+    {
+        // What may fail comes first, so that a failure has no caches but the pages to drop.
         let repeats = Repeats::new(alloc)?;
         let puts = LaneFiles::new(alloc)?;
         let order = LaneFiles::new(alloc)?;
         let names = NameCache::new(alloc)?;
-        let pages = PageCache::new(alloc)?;
         Ok(Shelf {
             pages,
             attrs: AttrCache::new(alloc),

@@ -2,7 +2,7 @@
 use Rattle.core_facts.proofs.Prelude.{◌≡◌, ℕ, suc, List, [], ◌∷◌, ◌++◌, Some, inr, false, refl, sym, ◌∙◌, subst, arith, Refused, Entry, Began, Answered, Dialed, Failed, Clock, Op, At, Shelf, Machine, Over, Setup, IsFresh, lost, counted, View, MaySetUp, IsSetUp, Reaches, begins, goes, loses}
 use Rattle.std.specs.FinMap as map
 use Rattle.attr_cache.specs.Attrs.{nothing_learnt}
-use Rattle.page_cache.specs.Pages.{nothing_kept}
+use Rattle.page_cache.specs.Sound.{IsSound}
 use Rattle.world_model.specs.declared.answer.Fault.TheVariants as faults
 use Rattle.world_model.specs.declared.op.Op.TheVariants.{Sync}
 use Rattle.world_model.specs.Lost.{FailedDial, IsTraffic, sent, came, dialed, Loses, undialed}
@@ -12,7 +12,7 @@ use Rattle.op_machines.specs.Fits.{Fits}
 
 abbrev pub first_shelf : Setup → Shelf
 first_shelf setup = record {
-  pages = nothing_kept;
+  pages = setup.pages;
   attrs = nothing_learnt setup.lives;
   names = [];
   back = [];
@@ -37,8 +37,8 @@ first_view setup = record {
   lost = false;
 }
 
-first_is_fresh : (setup : Setup) → IsFresh setup (first_view setup)
-first_is_fresh setup = record {
+first_is_fresh : (setup : Setup) → IsSound setup.pages → IsFresh setup (first_view setup)
+first_is_fresh setup sound = record {
   calls = refl;
   lanes = refl;
   wsize = refl;
@@ -47,6 +47,7 @@ first_is_fresh setup = record {
   begun = refl;
   lost = refl;
   pages = refl;
+  sound = sound;
   attrs = refl;
   names = refl;
   back = refl;
@@ -97,7 +98,7 @@ fails at dial failure = record {
 dials_lose : Loses four_dials 8
 dials_lose = undialed 0 2 4 6 (fails 0 refl refl) (fails 2 refl refl) (fails 4 refl refl) (fails 6 refl refl)
 
-module _ (machine_of : ℕ → Op → Machine) (setup : Setup) (may : MaySetUp setup) where
+module _ (machine_of : ℕ → Op → Machine) (setup : Setup) (may : MaySetUp setup) (sound : IsSound setup.pages) where
   dial : (h : List Entry) (v : View) → Reaches machine_of setup h v → Reaches machine_of setup (h ++ Dialed 2049 ∷ []) v
   dial h v r = goes (h ++ Dialed 2049 ∷ []) h v v (Dialed 2049) r refl refl
 
@@ -109,7 +110,7 @@ module _ (machine_of : ℕ → Op → Machine) (setup : Setup) (may : MaySetUp s
 
   dialed_in_vain : Reaches machine_of setup four_dials (first_view setup)
   dialed_in_vain =
-      let first : Reaches machine_of setup [] (first_view setup) = begins [] (first_view setup) may (nothing_set_up setup) (first_is_fresh setup) in
+      let first : Reaches machine_of setup [] (first_view setup) = begins [] (first_view setup) may (nothing_set_up setup) (first_is_fresh setup sound) in
       twice (Dialed 2049 ∷ Failed ∷ Dialed 2049 ∷ Failed ∷ Dialed 2049 ∷ Failed ∷ []) (twice (Dialed 2049 ∷ Failed ∷ Dialed 2049 ∷ Failed ∷ []) (twice (Dialed 2049 ∷ Failed ∷ []) (twice [] first)))
 
   lost_core : Reaches machine_of setup four_dials (lost (first_view setup))

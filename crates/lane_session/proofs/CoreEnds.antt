@@ -15,7 +15,7 @@ use Rattle.world_model.proofs.Places.{At-grow, At-below, At-back}
 use Rattle.nfs_script.specs.declared.script.ScriptLine.{ScriptLine}
 use Rattle.session_words.specs.declared.settings.Settings.{Settings}
 use Rattle.attr_cache.specs.Attrs.{nothing_learnt}
-use Rattle.page_cache.specs.Pages.{nothing_kept}
+use Rattle.page_cache.specs.Sound.{IsSound as AreSoundPages}
 use Rattle.client_core.specs.declared.setup.Setup.{Setup}
 use Rattle.client_core.specs.Fresh.{IsFresh}
 use Rattle.client_core.specs.View.{View}
@@ -105,7 +105,7 @@ first_view : Setup → View
 first_view setup = record {
   calls = record { first_xid = setup.first_xid; limit = setup.limit; cred = setup.cred; made = 0; calls = [] };
   shelf = record {
-    pages = nothing_kept;
+    pages = setup.pages;
     attrs = nothing_learnt setup.lives;
     names = [];
     back = [];
@@ -125,9 +125,9 @@ first_view setup = record {
   lost = false;
 }
 
-first-fresh : (setup : Setup) → IsFresh setup (first_view setup)
+first-fresh : (setup : Setup) → AreSoundPages setup.pages → IsFresh setup (first_view setup)
 unfolding first_view
-first-fresh setup = record {
+first-fresh setup sound = record {
   calls = refl;
   lanes = refl;
   wsize = refl;
@@ -136,6 +136,7 @@ first-fresh setup = record {
   begun = refl;
   lost = refl;
   pages = refl;
+  sound = sound;
   attrs = refl;
   names = refl;
   back = refl;
@@ -148,13 +149,13 @@ first-fresh setup = record {
   counter = refl;
 }
 
-none-with : (settings : Settings) (setup : Setup) (h : List Entry) → MaySetUp setup → IsOpened (Some setup) h → EndsWith settings (Some setup) h h
-none-with settings setup h may o = record { core = first_view setup; notes = notes_fresh h (first_view setup) may o.0 (first-fresh setup); since = since-none h; takes = takes-earlier h h (takes-none h); stays = unmarked-stays h o.0.unmarked; resends = resends-none h o.0.unbegun }
+none-with : (settings : Settings) (setup : Setup) (h : List Entry) → MaySetUp setup → AreSoundPages setup.pages → IsOpened (Some setup) h → EndsWith settings (Some setup) h h
+none-with settings setup h may sound o = record { core = first_view setup; notes = notes_fresh h (first_view setup) may o.0 (first-fresh setup sound); since = since-none h; takes = takes-earlier h h (takes-none h); stays = unmarked-stays h o.0.unmarked; resends = resends-none h o.0.unbegun }
 
 -- ---- where the link tells its history
 
-pub told-none : (t : Option History) (settings : Settings) (setup : Setup) → MaySetUp setup → Relates t t (λ h k. IsOpened (Some setup) h → EndsWith settings (Some setup) h k)
-told-none t settings setup may = relates_same t (λ h k. IsOpened (Some setup) h → EndsWith settings (Some setup) h k) (λ h o. none-with settings setup h may o)
+pub told-none : (t : Option History) (settings : Settings) (setup : Setup) → MaySetUp setup → AreSoundPages setup.pages → Relates t t (λ h k. IsOpened (Some setup) h → EndsWith settings (Some setup) h k)
+told-none t settings setup may sound = relates_same t (λ h k. IsOpened (Some setup) h → EndsWith settings (Some setup) h k) (λ h o. none-with settings setup h may sound o)
 
 module _ (a b : Option History) (label : List ℕ) (script : List ScriptLine) (given text : List ℕ) where
   pub told-lost : (result : Result (Unit {0}) Halt) → Relates a b (λ h k. LosesBy label script result given text h k) → Relates a b (λ h k. IsLost h (length h) → IsLost k (length k))

@@ -21,7 +21,7 @@ use Rattle.lane_session.specs.Running.{dues, one_where}
 
 -- a set-up by which the calls may have been begun
 like : View → Setup
-like v = record { root = []; rsize = 0; wsize = 0; first_xid = v.calls.first_xid; limit = 0; cred = v.calls.cred; lives = usual_lives }
+like v = record { root = []; rsize = 0; wsize = 0; first_xid = v.calls.first_xid; limit = 0; cred = v.calls.cred; lives = usual_lives; pages = v.shelf.pages }
 
 sound-of : (v : View) → IsSound v.calls → Sound (like v) v
 unfolding like

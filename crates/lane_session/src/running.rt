@@ -86,29 +86,28 @@ impl Session {
     pub fn new(
         alloc: Global,
         settings: &Settings,
-        setup: &Setup,
+        setup: Setup,
         tally: Tally,
     ) -> Result<Session, Memory>
-        requires may { MaySetUp setup.now }
-        ensures fresh { IfOk result (IsFreshFor settings.now setup.now) }
+        requires may { MaySetUp setup }
+        ensures fresh { IfOk result (IsFreshFor settings.now setup) }
         ensures port { IfOk result (λ s. s.port ≡ settings.now.nfs_port) }
-        ensures counts { IfOk result (λ s. s.counts ≡ record { tally = tally; next = setup.now.first_xid }) }
+        ensures counts { IfOk result (λ s. s.counts ≡ record { tally = tally; next = setup.first_xid }) }
     {
+        let mounted = Mounted {
+            root: setup.root,
+            rsize: setup.rsize,
+            noac: settings.noac,
+            nocto: !settings.noac && settings.nocto,
+        };
+        let next = setup.first_xid;
         Ok(Session {
             alloc,
-            mounted: Mounted {
-                root: setup.root,
-                rsize: setup.rsize,
-                noac: settings.noac,
-                nocto: !settings.noac && settings.nocto,
-            },
+            mounted,
             port: settings.nfs_port,
             core: Core::new(alloc, setup)?,
             lanes: Lanes::new(alloc)?,
-            counts: Counts {
-                tally,
-                next: setup.first_xid,
-            },
+            counts: Counts { tally, next },
             status: status::WELL,
             attempts: ATTEMPTS,
             dropped: 0,

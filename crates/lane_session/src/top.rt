@@ -1,6 +1,6 @@
 //! The session as a whole.
 
-ghost use Rattle.std.specs.Prelude.{◌≡◌, ◌≤◌, ℕ, All, None, Some, length, IfOk, option_map};
+ghost use Rattle.std.specs.Prelude.{◌≡◌, ◌≤◌, ℕ, All, None, Some, length, IfOk};
 ghost use Rattle.outside.specs.Causes.{Rose};
 ghost use Rattle.nfs_script.specs.Asked.{IsAskedLine};
 ghost use Rattle.world_model.specs.Counts.{tally_of};
@@ -41,27 +41,27 @@ pub fn session<L: Link, C: Clock, K: Sink>(
     alloc: Global,
     settings: &Settings,
     script: &Script,
-    setup: Option<&Setup>,
+    setup: Option<Setup>,
     tally: Tally,
     link: &mut L,
     clock: &mut C,
     out: &mut K,
 ) -> u8
-    requires may { MayGo (option_map (λ s. s.now) setup) }
+    requires may { MayGo setup }
     requires asked { All IsAskedLine script.now }
     requires few { length script.now ≤ 16384 }
     ensures ending { IsEnding result }
     ensures sink { result ≡ 5 → Rose (K.faults out.old) (K.faults out.new) }
     ensures core { Relates (L.told link.old) (L.told link.new)
-        (λ h k. IsOpened (option_map (λ s. s.now) setup.entry) h → EndsWith settings.now (option_map (λ s. s.now) setup.entry) h k) }
-    ensures stays_lost { Relates (L.told link.old) (L.told link.new) (λ h k. IsUnmarked h → IsOpened (option_map (λ s. s.now) setup.entry) h → StaysLost k) }
-    ensures loses { Relates (L.told link.old) (L.told link.new) (LosesAll (option_map (λ s. s.now) setup.entry) script.now) }
+        (λ h k. IsOpened setup h → EndsWith settings.now setup h k) }
+    ensures stays_lost { Relates (L.told link.old) (L.told link.new) (λ h k. IsUnmarked h → IsOpened setup h → StaysLost k) }
+    ensures loses { Relates (L.told link.old) (L.told link.new) (LosesAll setup script.now) }
     ensures dials { DialsOnly settings.now.nfs_port (L.told link.old) (L.told link.new) }
     ensures stays { (first : L) → L.stays first link.old → L.stays first link.new }
     ensures honest { L.honest link.old → L.honest link.new }
     ensures shown { Passes (C.readings clock.old) (C.readings clock.new) (L.told link.old) (L.told link.new) (K.written out.old) (K.written out.new)
         (λ given text h k. IsUnmarked h
-        → SessionCounts (CanCount (option_map (λ s. s.now) setup.entry) h) tally settings.now.count script.now given h k result text) }
+        → SessionCounts (CanCount setup h) tally settings.now.count script.now given h k result text) }
 {
     match all_lines(alloc, settings, script, setup, tally, link, clock, out) {
         Ok(end) => finish(alloc, &end, settings.count, out),
@@ -74,24 +74,24 @@ fn all_lines<L: Link, C: Clock, K: Sink>(
     alloc: Global,
     settings: &Settings,
     script: &Script,
-    setup: Option<&Setup>,
+    setup: Option<Setup>,
     tally: Tally,
     link: &mut L,
     clock: &mut C,
     out: &mut K,
 ) -> Result<End, Halt>
-    requires may { MayGo (option_map (λ s. s.now) setup) }
+    requires may { MayGo setup }
     requires asked { All IsAskedLine script.now }
     requires few { length script.now ≤ 16384 }
     ensures ending { IfOk result (λ end. IsSessionStatus end.status) }
     ensures goes { Passes (C.readings clock.old) (C.readings clock.new) (L.told link.old) (L.told link.new) (K.written out.old) (K.written out.new)
         (λ given text h k. IsUnmarked h → EndsBy script.now result given text h k) }
     ensures core { Relates (L.told link.old) (L.told link.new)
-        (λ h k. IsOpened (option_map (λ s. s.now) setup.entry) h → EndsWith settings.now (option_map (λ s. s.now) setup.entry) h k) }
-    ensures stays_lost { Relates (L.told link.old) (L.told link.new) (λ h k. IsUnmarked h → IsOpened (option_map (λ s. s.now) setup.entry) h → StaysLost k) }
-    ensures loses { Relates (L.told link.old) (L.told link.new) (LosesAll (option_map (λ s. s.now) setup.entry) script.now) }
+        (λ h k. IsOpened setup h → EndsWith settings.now setup h k) }
+    ensures stays_lost { Relates (L.told link.old) (L.told link.new) (λ h k. IsUnmarked h → IsOpened setup h → StaysLost k) }
+    ensures loses { Relates (L.told link.old) (L.told link.new) (LosesAll setup script.now) }
     ensures counted { Relates (L.told link.old) (L.told link.new)
-        (λ h k. CanCount (option_map (λ s. s.now) setup.entry) h → tally ≡ tally_of h → AreCounted result k) }
+        (λ h k. CanCount setup h → tally ≡ tally_of h → AreCounted result k) }
     ensures dials { DialsOnly settings.now.nfs_port (L.told link.old) (L.told link.new) }
     ensures stays { (first : L) → L.stays first link.old → L.stays first link.new }
     ensures honest { L.honest link.old → L.honest link.new }
@@ -109,27 +109,28 @@ fn run_lines<L: Link, C: Clock, K: Sink>(
     alloc: Global,
     settings: &Settings,
     script: &Script,
-    setup: &Setup,
+    setup: Setup,
     tally: Tally,
     link: &mut L,
     clock: &mut C,
     out: &mut K,
 ) -> Result<End, Halt>
-    requires may { MaySetUp setup.now }
+    requires may { MaySetUp setup }
     requires asked { All IsAskedLine script.now }
     requires few { length script.now ≤ 16384 }
     ensures ending { IfOk result (λ end. IsSessionStatus end.status) }
     ensures goes { Passes (C.readings clock.old) (C.readings clock.new) (L.told link.old) (L.told link.new) (K.written out.old) (K.written out.new)
         (λ given text h k. IsUnmarked h → EndsBy script.now result given text h k) }
     ensures core { Relates (L.told link.old) (L.told link.new)
-        (λ h k. IsOpened (Some setup.now) h → EndsWith settings.now (Some setup.now) h k) }
-    ensures counted { Relates (L.told link.old) (L.told link.new) (λ h k. IsOpened (Some setup.now) h → tally ≡ tally_of h → AreCounted result k) }
+        (λ h k. IsOpened (Some setup) h → EndsWith settings.now (Some setup) h k) }
+    ensures counted { Relates (L.told link.old) (L.told link.new) (λ h k. IsOpened (Some setup) h → tally ≡ tally_of h → AreCounted result k) }
     ensures dials { DialsOnly settings.now.nfs_port (L.told link.old) (L.told link.new) }
     ensures stays { (first : L) → L.stays first link.old → L.stays first link.new }
     ensures honest { L.honest link.old → L.honest link.new }
     ensures later { K.faults out.old ≤ K.faults out.new }
     ensures cause { CausedBy result (Rose (K.faults out.old) (K.faults out.new)) }
 {
+    setup.pages.is_sound();
     let Ok(mut session) = Session::new(alloc, settings, setup, tally) else {
         return Err(Halt::Memory);
     };

@@ -6,6 +6,8 @@ use Rattle.world_link.specs.declared.schedule.ScheduleFault.{ScheduleFault}
 use Rattle.world_link.specs.declared.schedule.ScheduleFault.TheVariants as schedules
 use Rattle.net_edge.specs.declared.stand_ins.StandardStream.{StandardStream}
 use Rattle.net_edge.specs.declared.stand_ins.StandardStream.TheVariants as streams
+use Rattle.page_store.specs.declared.fault.StoreFault.{StoreFault}
+use Rattle.page_store.specs.declared.fault.StoreFault.TheVariants as faults
 use Rattle.nfs3.specs.declared.ending.Ending.{Ending}
 use Rattle.nfs3.specs.declared.ending.Ending.TheVariants as endings
 
@@ -16,6 +18,8 @@ status_of endings.Memory = 7
 status_of (endings.Schedule line) = 9
 status_of (endings.Ran status) = status
 status_of endings.Served = 0
+status_of endings.Made = 0
+status_of endings.Store = 9
 status_of endings.Lost = 6
 status_of endings.ReadFault = 4
 status_of endings.WriteFault = 5
@@ -24,6 +28,11 @@ status_of endings.WriteFault = 5
 abbrev pub refused_as : ScheduleFault → Ending
 refused_as (schedules.Line line) = endings.Schedule line
 refused_as schedules.Memory = endings.Memory
+
+-- a store that failed: its file can't be used, or out of memory
+abbrev pub unformatted_as : StoreFault → Ending
+unformatted_as faults.Fault = endings.Store
+unformatted_as faults.Memory = endings.Memory
 
 -- a standard stream that is closed, where nothing can be opened in its place: input can't be read, and the others can't be written
 abbrev pub closed_as : StandardStream → Ending

@@ -20,6 +20,10 @@ pub enum Ending {
     Ran(u8),
     /// As many calls were answered as were asked for.
     Served,
+    /// The file of kept pages was made.
+    Made,
+    /// The file of kept pages can't be used.
+    Store,
     /// No more connections are taken, though calls are still to be answered.
     Lost,
     /// Standard input failed outside a session.
@@ -39,6 +43,8 @@ impl Ending {
             Ending::Schedule(_) => 9,
             Ending::Ran(status) => status,
             Ending::Served => 0,
+            Ending::Made => 0,
+            Ending::Store => 9,
             Ending::Lost => 6,
             Ending::ReadFault => 4,
             Ending::WriteFault => 5,

@@ -1,7 +1,7 @@
 //! A user-space client of NFS version 3. `nfs3 run HOST WORDS` runs the script on standard input with the server at HOST over
 //! TCP, `nfs3 run --udp HOST WORDS` over UDP, and `nfs3 replay SCHEDULE WORDS` over a simulated server, which the file SCHEDULE
 //! describes. `nfs3 make N WORDS` runs a script that is made over such a server without a file. `nfs3 export PORT CALLS`, with or
-//! without a SCHEDULE, serves a test export, over UDP with `--udp` before the port.
+//! without a SCHEDULE, serves a test export, over UDP with `--udp` before the port. `nfs3 fsc-make FILE` makes a file of kept pages.
 #![tactic(auto)]
 
 mod connections;
@@ -9,6 +9,7 @@ mod ending;
 mod export;
 mod make;
 mod pair;
+mod page_file;
 mod replay;
 mod run;
 mod schedule_file;
@@ -68,6 +69,7 @@ fn command(rt: &HostRuntime, mut words: Vec<String>) -> Ending {
             run::run(rt, host.as_str(), words.as_slice())
         }
         [name, words @ ..] if name.as_str() == "export" => export::export(rt, words),
+        [name, words @ ..] if name.as_str() == "fsc-make" => page_file::make(rt, words),
         _ => Ending::Usage,
     }
 }
@@ -76,6 +78,7 @@ fn command(rt: &HostRuntime, mut words: Vec<String>) -> Ending {
 fn report(rt: &HostRuntime, ending: Ending) {
     let _ = match ending {
         Ending::Schedule(line) => eprintln!(rt; "nfs3: schedule {line}"),
+        Ending::Store => eprintln!(rt; "nfs3: store"),
         _ => match message(ending.status()) {
             Some(text) => eprintln!(rt; "nfs3: {text}"),
             None => Ok(()),

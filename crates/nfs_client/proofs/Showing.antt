@@ -119,6 +119,7 @@ use Rattle.nfs_client.proofs.AllOks.{all-oks}
 use Rattle.nfs_client.proofs.Causes.{all-caused}
 use Rattle.nfs_client.proofs.Ports.{ready-ports}
 use Rattle.nfs_client.proofs.Spent.{ended-sent}
+use Rattle.page_cache.specs.Pages.{nothing_kept}
 
 -- ---- the root
 
@@ -155,9 +156,9 @@ module _ (m : Mounted) (setup : Setup) (h : List Entry) (core : View) (r : Reach
   goes-with : (terms : Terms) → m.nocto ≡ terms.modes.nocto → GoesWith m terms setup h core
   goes-with terms nocto = record { nocto = nocto; reaches = r }
 
-  kept-shown : (terms : Terms) → m.nocto ≡ terms.modes.nocto → KnowsRoot terms.origin h m.root → PutsNamed h → KeptShown terms setup h core
-  kept-shown terms nocto root named = record {
-    pages = pages-shown m setup h core r;
+  kept-shown : setup.pages ≡ nothing_kept → (terms : Terms) → m.nocto ≡ terms.modes.nocto → KnowsRoot terms.origin h m.root → PutsNamed h → KeptShown terms setup h core
+  kept-shown bare terms nocto root named = record {
+    pages = pages-shown m setup h core r bare;
     pending = pending-written m terms setup h core (goes-with terms nocto);
     held_back = λ found told. pending-held m terms setup h core (goes-with terms nocto) found root named told;
     carried = pieces-carried m setup h core r;
@@ -166,11 +167,11 @@ module _ (m : Mounted) (setup : Setup) (h : List Entry) (core : View) (r : Reach
     saved = puts-written m setup h core r;
   }
 
-  slots-shown : (terms : Terms) → m.nocto ≡ terms.modes.nocto → SlotsShown terms h
-  slots-shown terms nocto =
+  slots-shown : setup.pages ≡ nothing_kept → (terms : Terms) → m.nocto ≡ terms.modes.nocto → SlotsShown terms h
+  slots-shown bare terms nocto =
       let g : GoesWith m terms setup h core = goes-with terms nocto in
       record {
-        reads = reads-given m terms setup h core g;
+        reads = reads-given m terms setup h core g bare;
         held = slots-hold-opens m terms setup h core g;
         places = places-exact m terms setup h core g;
         caused = places-caused m terms setup h core g;
@@ -269,16 +270,16 @@ module _ (s : Settings) (first : ℕ) (v : SetUp) (t : History) (core : View) (l
   honest-shown : HonestShown s v.root core t
   honest-shown = record {
     stats = stats-led m (setup_of s v) (longest_of s.lives) t core (longest-last s.lives) lawful fresh r;
-    reads = reads-from m (terms_by s first) (setup_of s v) t core (record { nocto = refl; reaches = r }) lawful fresh;
+    reads = reads-from m (terms_by s first) (setup_of s v) t core (record { nocto = refl; reaches = r }) lawful fresh refl;
     recent =
         reads-recent m (terms_by s first) (setup_of s v) t core (record { nocto = refl; reaches = r }) refl
-        (λ may. record { takes = takes; lasts = longest-last s.lives }) lawful fresh;
+        (λ may. record { takes = takes; lasts = longest-last s.lives }) lawful fresh refl;
     read_true =
         reads-current m (terms_by s first) (setup_of s v) t core (record { nocto = refl; reaches = r }) refl
-        (λ may. record { takes = takes; lasts = longest-last s.lives }) root (puts-named t.entries asked) lawful fresh;
-    read_back = λ asks. stable-read m (terms_by s first) (setup_of s v) t core (record { nocto = refl; reaches = r }) refl asks lawful fresh;
+        (λ may. record { takes = takes; lasts = longest-last s.lives }) root (puts-named t.entries asked) lawful fresh refl;
+    read_back = λ asks. stable-read m (terms_by s first) (setup_of s v) t core (record { nocto = refl; reaches = r }) refl asks lawful fresh refl;
     stood = names-stood m (setup_of s v) (longest_of s.lives) t core (longest-last s.lives) lawful fresh r;
-    pages = pages-true m (setup_of s v) t core lawful fresh r;
+    pages = pages-true m (setup_of s v) t core lawful fresh r refl;
     ages = attrs-aged m (setup_of s v) (modes_of s) (origin_of s.export) t core (longest-last s.lives) lawful fresh takes root r;
     names = names-held m (setup_of s v) (modes_of s) (origin_of s.export) t core goes-honestly;
     lists = lists-whole m (setup_of s v) (modes_of s) (origin_of s.export) t core goes-honestly;
@@ -308,11 +309,11 @@ module _ (s : Settings) (first : ℕ) (v : SetUp) (t : History) (core : View) (l
         settled = settled-stay mount (terms_by s first) (setup_of s v) t core with-core root named only lawful once;
         cuts_stay = cuts-stay mount (terms_by s first) (setup_of s v) t core refl notes root named only lawful once;
         reads = λ fresh. record {
-          current = reads-current mount (terms_by s first) (setup_of s v) t core with-core refl briefly root named lawful fresh;
-          own = own-bytes-read mount (terms_by s first) (setup_of s v) t core with-core refl briefly root named only lawful fresh once;
-          cut = cuts-read mount (terms_by s first) (setup_of s v) t core refl refl notes briefly root named only lawful fresh once;
+          current = reads-current mount (terms_by s first) (setup_of s v) t core with-core refl briefly root named lawful fresh refl;
+          own = own-bytes-read mount (terms_by s first) (setup_of s v) t core with-core refl briefly root named only lawful fresh refl once;
+          cut = cuts-read mount (terms_by s first) (setup_of s v) t core refl refl notes briefly root named only lawful fresh refl once;
         };
-        ends = λ fresh. reads-end-rightly mount (terms_by s first) (setup_of s v) t core with-core refl briefly root named only lawful fresh once;
+        ends = λ fresh. reads-end-rightly mount (terms_by s first) (setup_of s v) t core with-core refl briefly root named only lawful fresh refl once;
       }
 
 -- ---- complete sessions
@@ -354,7 +355,7 @@ module _ (s : Settings) (first : ℕ) (v : SetUp) (before h : List Entry) (so : 
         hidden = hidden-few mounted terms (setup_of s v) before h has.core from has.notes script follows;
       } in
       let oks : OksShown terms h = all-oks mounted terms (setup_of s v) h has.core (record { nocto = refl; reaches = reaches }) root asked in
-      let slots : SlotsShown terms h = slots-shown mounted (setup_of s v) h has.core reaches terms refl in
+      let slots : SlotsShown terms h = slots-shown mounted (setup_of s v) h has.core reaches refl terms refl in
       let rows : AllRowed terms h = refusals-all-rowed mounted terms (setup_of s v) before h has.core from has.notes in
       record {
         has = has;
@@ -362,8 +363,8 @@ module _ (s : Settings) (first : ℕ) (v : SetUp) (before h : List Entry) (so : 
         counts = counts;
         ports = ready-ports s first v before h so has dials;
         thrift = record {
-          reads = reads-long mounted terms (setup_of s v) before h has.core from;
-          pages = kept-once mounted terms (setup_of s v) before h has.core from;
+          reads = reads-long mounted terms (setup_of s v) before h has.core from refl;
+          pages = kept-once mounted terms (setup_of s v) before h has.core from refl;
           writes = long-writes mounted terms (setup_of s v) before h has.core from has.notes;
         };
         writes = λ i xid offset how file bytes rec at spells late.
@@ -384,7 +385,7 @@ module _ (s : Settings) (first : ℕ) (v : SetUp) (before h : List Entry) (so : 
             calls-sent mounted (setup_of s v) h has.core reaches before has.since terms calls sent-early fits.total lane x op y ended
             (ended-sent mounted (setup_of s v) h has.core reaches lines status ends by_itself));
         evidence = settled-evident mounted terms (setup_of s v) h has.core (record { nocto = refl; reaches = reaches }) root (puts-named h asked);
-        kept = kept-shown mounted (setup_of s v) h has.core reaches terms refl root (puts-named h asked);
+        kept = kept-shown mounted (setup_of s v) h has.core reaches refl terms refl root (puts-named h asked);
         complete = λ t is. complete-shown mounted terms (setup_of s v) before t has.core (subst (λ (k : List Entry). GoesFrom mounted terms (setup_of s v) before k has.core) (sym is) from)
             (subst (λ (k : List Entry). Notes (machine_of mounted) (setup_of s v) k has.core) (sym is) has.notes);
         stable = λ t is lawful once.

@@ -123,6 +123,7 @@ pub fn parse_from(alloc: Global, before: u32, text: &[u8]) -> Result<Script, Par
 }
 
 /// The last line that a script may have after so many lines.
+#[tactic(auto, unfolding(crate::specs::Script::last_line))]
 fn last_line(before: u32) -> u32
     requires { before ≤ 268435456 }
     ensures is { result ≡ last_line before }

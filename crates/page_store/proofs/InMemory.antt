@@ -14,7 +14,7 @@ use Rattle.page_store.proofs.PageLemmas.{same-body, is-body, page-stays}
 -- ---- lists
 
 -- what stands at a place of a list that was set at one place
-get-set : {A : Type 0} (xs : List A) (i k : ℕ) (y z : A) → slice_get (set xs i y) k ≡ Some z → ((k ≡ i) × (z ≡ y)) ⊎ ((k ≡ i → ⊥) × (slice_get xs k ≡ Some z))
+pub get-set : {A : Type 0} (xs : List A) (i k : ℕ) (y z : A) → slice_get (set xs i y) k ≡ Some z → ((k ≡ i) × (z ≡ y)) ⊎ ((k ≡ i → ⊥) × (slice_get xs k ≡ Some z))
 get-set [] i k y z there = absurd (cc)
 get-set (x ∷ xs) zero zero y z there = inl (refl, cc)
 get-set (x ∷ xs) zero (suc k) y z there = inr (λ e. absurd (omega (arith, e)), there)
@@ -27,7 +27,7 @@ some-some a b e = cc
 none-some : (a : StoredPage) → None ≡ Some a → ⊥
 none-some a e = cc
 
-no-entry : (n k : ℕ) (entry : Option StoredPage) → slice_get (replicate n None) k ≡ Some (Some entry) → ⊥
+pub no-entry : (n k : ℕ) (entry : Option StoredPage) → slice_get (replicate n None) k ≡ Some (Some entry) → ⊥
 no-entry zero k entry there = absurd (cc)
 no-entry (suc n) zero entry there = absurd (cc)
 no-entry (suc n) (suc k) entry there = no-entry n k entry there
@@ -58,7 +58,7 @@ cleared-less (j ∷ slots) pages k page there = elim (get-set pages j k None (So
   | inr e ↦ e.1
 ]
 
-none-filled : (slots : List ℕ) (round : Round) → ((k : ℕ) (page : StoredPage) → IsFilled round k page → ⊥) → (k : ℕ) (page : StoredPage) → IsFilled (taken_in slots round) k page → ⊥
+pub none-filled : (slots : List ℕ) (round : Round) → ((k : ℕ) (page : StoredPage) → IsFilled round k page → ⊥) → (k : ℕ) (page : StoredPage) → IsFilled (taken_in slots round) k page → ⊥
 none-filled [] round none k page there = none k page there
 none-filled (j ∷ slots) round none k page there = none-filled slots (set round j (Some None)) (λ i p is. one i p is) k page there
   where

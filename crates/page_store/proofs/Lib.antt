@@ -7,3 +7,4 @@ pub mod PageLemmas
 pub mod Zeros
 pub mod RoundLemmas
 pub mod InMemory
+pub mod LabelLemmas

@@ -44,15 +44,15 @@ impl FileDisk<File> {
         }
     }
 
-    /// Opens a file and locks it, or makes it where it isn't there, so that only its owner may read or write it. Its name is
-    /// on stable storage then. `Failed` where the system refuses that, or another program holds the lock.
+    /// Opens a file, locks it and takes its bytes away, or makes it where it isn't there, so that only its owner may read or
+    /// write it. Its name is on stable storage then. `Failed` where the system refuses that, or another program holds the lock.
     pub fn make<R: Files<File = File>>(files: &R, path: &str) -> Result<FileDisk<File>, Failed>
         ensures { IfOk result (λ d. d ≡ 0) }
     {
         let mut how = OpenOptions::new();
         how.read(true).write(true).create(true).mode(OWNER_ONLY);
         match opened(files, &how, path) {
-            Ok(file) => match name_kept(files, &file, path) {
+            Ok(file) => match emptied(files, &file, path) {
                 Ok(()) => Ok(FileDisk::over(file)),
                 Err(_) => Err(Failed),
             },
@@ -90,8 +90,9 @@ fn opened<R: Files<File = File>>(files: &R, how: &OpenOptions, path: &str) -> io
     Ok(file)
 }
 
-/// Waits until the file and its name are on stable storage.
-fn name_kept<R: Files<File = File>>(files: &R, file: &File, path: &str) -> io::Result<()> {
+/// Takes the file's bytes away, and waits until this and its name are on stable storage.
+fn emptied<R: Files<File = File>>(files: &R, file: &File, path: &str) -> io::Result<()> {
+    file.set_len(0)?;
     file.sync_all()?;
     let folder = match Path::new(path).parent() {
         Some(folder) if !folder.as_os_str().is_empty() => folder,

@@ -14,14 +14,14 @@ use std::alloc::Global;
 use xdr_codec::Memory;
 
 /// The bytes of one write.
-const PIECE: u64 = 65_536;
+const PIECE: u64 = 65_600;
 
-/// So many writes cover 1,024 slots.
+/// So many writes cover 1,024 slots and the label behind them.
 const PIECES: u32 = 66;
 
-/// Writes zeros over 1,024 slots in few writes, and syncs.
+/// Writes zeros over 1,024 slots and the label in few writes, and syncs.
 pub(crate) fn write_zeros<D: Disk>(alloc: Global, disk: &mut D) -> Result<(), StoreFault>
-    ensures empty { D.tells disk.old → OnOk result (Every (D.may_leave disk.new) (HasZeros 4325376)) }
+    ensures empty { D.tells disk.old → OnOk result (Every (D.may_leave disk.new) (HasZeros 4329600)) }
     ensures goes_on { D.tells disk.old → D.tells disk.new }
     ensures cause { HasStoreCause (D.faults disk.old) (D.faults disk.new) result }
 {
@@ -34,7 +34,7 @@ pub(crate) fn write_zeros<D: Disk>(alloc: Global, disk: &mut D) -> Result<(), St
     }
 }
 
-/// Writes zeros over so many slots, and syncs.
+/// Writes zeros over so many places, and syncs.
 pub(crate) fn write_sized<D: Disk>(
     alloc: Global,
     disk: &mut D,
@@ -62,11 +62,11 @@ fn zeros(alloc: Global, count: usize) -> Result<Vec<u8>, Memory>
     Ok(vec![in alloc; 0; count]?)
 }
 
-/// Writes the piece over 1,024 slots, time after time, and syncs.
+/// Writes the piece over 1,024 slots and the label, time after time, and syncs.
 fn write_pieces<D: Disk>(disk: &mut D, zeros: &[u8]) -> Result<(), LinkFault>
-    requires length { length zeros.now ≡ 65536 }
-    requires zeros { HasZeros 65536 zeros.now }
-    ensures empty { D.tells disk.old → OnOk result (Every (D.may_leave disk.new) (HasZeros 4325376)) }
+    requires length { length zeros.now ≡ 65600 }
+    requires zeros { HasZeros 65600 zeros.now }
+    ensures empty { D.tells disk.old → OnOk result (Every (D.may_leave disk.new) (HasZeros 4329600)) }
     ensures goes_on { D.tells disk.old → D.tells disk.new }
     ensures cause { HasCause (D.faults disk.old) (D.faults disk.new) result }
 {
@@ -79,7 +79,7 @@ fn write_pieces<D: Disk>(disk: &mut D, zeros: &[u8]) -> Result<(), LinkFault>
     disk.sync()
 }
 
-/// Writes the zeros of a slot over so many, one after the other, and syncs.
+/// Writes the zeros of a slot over so many places, one after the other, and syncs.
 fn write_slots<D: Disk>(disk: &mut D, count: u32, zeros: &[u8]) -> Result<(), LinkFault>
     requires length { length zeros.now ≡ 4224 }
     requires zeros { HasZeros 4224 zeros.now }

@@ -6,6 +6,7 @@ mod disk;
 mod fault;
 mod file_disk;
 mod format;
+mod label;
 mod mem_disk;
 mod opening;
 mod put;

@@ -5,16 +5,42 @@ ghost use Rattle.page_store.specs.Disk.{Only};
 ghost use Rattle.page_store.specs.Pages.{page_of};
 ghost use Rattle.page_store.specs.declared.fault.StoreFault.TheVariants as faults;
 ghost use Rattle.page_store.specs.Faults.{HasStoreCause};
+ghost use Rattle.page_store.specs.Labels.{IsLabelled};
 ghost use Rattle.page_store.specs.Store.{AreShown, IsShown, StaysAs};
 
 use crate::fault::store_fault;
+use crate::label::read_label;
 use crate::record::{Stored, read_page};
 use crate::slots::{BODY, GATE, SLOT, reads_open};
 use crate::{Disk, StoreFault};
 use std::alloc::Global;
 
+/// Syncs, and reads the pages of so many slots and the label behind them.
+pub(crate) fn read_all<D: Disk>(
+    alloc: Global,
+    disk: &mut D,
+    count: u32,
+) -> Result<(Vec<Option<Stored>>, Option<Stored>), StoreFault>
+    ensures shown { D.tells disk.old → IfOk result (λ all. AreShown (D.seen disk.new) count all.0.items) }
+    ensures labelled { D.tells disk.old → IfOk result (λ all. IsLabelled (D.seen disk.new) count all.1) }
+    ensures only { D.tells disk.old → OnOk result (Only (D.seen disk.new) (D.may_leave disk.new)) }
+    ensures stays { D.tells disk.old → StaysAs D.seen D.may_leave D.moment D.left_since disk.old disk.new }
+    ensures length { IfOk result (λ all. length all.0.items ≡ count) }
+    ensures goes_on { D.tells disk.old → D.tells disk.new }
+    ensures cause { HasStoreCause (D.faults disk.old) (D.faults disk.new) result }
+{
+    let slots = match sync_and_read(alloc, disk, count) {
+        Ok(slots) => slots,
+        Err(fault) => return Err(fault),
+    };
+    match read_label(alloc, disk, count) {
+        Ok(label) => Ok((slots, label)),
+        Err(fault) => Err(fault),
+    }
+}
+
 /// Syncs, and reads the pages of so many slots.
-pub(crate) fn sync_and_read<D: Disk>(
+fn sync_and_read<D: Disk>(
     alloc: Global,
     disk: &mut D,
     count: u32,
@@ -60,7 +86,11 @@ fn read_slots<D: Disk>(
 }
 
 /// The page of a slot, where it is open.
-fn read_slot<D: Disk>(alloc: Global, disk: &mut D, slot: u32) -> Result<Option<Stored>, StoreFault>
+pub(crate) fn read_slot<D: Disk>(
+    alloc: Global,
+    disk: &mut D,
+    slot: u32,
+) -> Result<Option<Stored>, StoreFault>
     ensures shown { D.tells disk.old → IfOk result (λ page. IsShown (D.seen disk.old) slot page) }
     ensures stays { D.tells disk.old → StaysAs D.seen D.may_leave D.moment D.left_since disk.old disk.new }
     ensures goes_on { D.tells disk.old → D.tells disk.new }

@@ -2,16 +2,30 @@
 
 ghost use Rattle.std.specs.Prelude.{◌≡◌, ◌≤◌, ◌<◌, ◌^◌, ◌%◌, ◌++◌, ℕ, List, Some, Ok, length, option_map, replicate, IfOk, OnOk, true, ◌↔◌};
 ghost use Rattle.xdr_codec.specs.Reading.{Reads};
+ghost use Rattle.page_store.specs.Labels.{IsLabel};
 ghost use Rattle.page_store.specs.Store.{IsOf};
 ghost use Rattle.page_store.specs.Pages.{page_of, page_at, body_bytes, field_at, field_bytes, stored_page, shows_page};
 
-use nfs_types::{Handle, KeptPage, Stamp, read_stamp, stamp_read_back, write_stamp};
+use nfs_types::{Handle, KeptPage, Stamp, Time, read_stamp, stamp_read_back, write_stamp};
 use std::alloc::Global;
 use std::marker::Model;
 use xdr_codec::{Blob, Memory, Reader, Writer, XdrFault, fits_u64};
 
 /// The most bytes of a page.
 pub(crate) const PAGE: usize = 4096;
+
+/// The stamp of a label.
+pub(crate) const NO_STAMP: Stamp = Stamp {
+    size: 0,
+    mtime: NO_TIME,
+    ctime: NO_TIME,
+};
+
+/// The times in it.
+const NO_TIME: Time = Time {
+    seconds: 0,
+    nanos: 0,
+};
 
 /// The bytes behind the last field, which are zeros.
 const LEFT: usize = 20;
@@ -76,6 +90,20 @@ impl Stored {
         ensures { (result ≡ true) ↔ IsOf file.now stamp.now index (Some self.now) }
     {
         self.index == index && self.stamp == *stamp && self.file == *file
+    }
+
+    /// Its file.
+    pub(crate) fn file(&self) -> Handle
+        ensures { result ≡ self.now.file }
+    {
+        self.file
+    }
+
+    /// Whether it is the label of a store of so many slots.
+    pub(crate) fn is_label(&self, slots: u32) -> bool
+        ensures { (result ≡ true) ↔ IsLabel slots self.now }
+    {
+        self.index == slots as u64 && self.stamp == NO_STAMP
     }
 }
 

@@ -1,6 +1,7 @@
 //! What a round does to the pages in memory.
 
-ghost use Rattle.std.specs.Prelude.{◌≡◌, ◌≤◌, ℕ, List, None, length, set, replicate, true, ◌↔◌, IfOk};
+ghost use Rattle.std.specs.Prelude.{◌≡◌, ◌≤◌, ℕ, List, None, Some, length, set, replicate, true, ◌↔◌, IfOk};
+ghost use Rattle.page_store.specs.Labels.{AreNone};
 ghost use Rattle.page_store.specs.Store.{shown_at};
 ghost use Rattle.page_store.specs.Rounds.{IsIn, cleared, taken_in, shown_after, entry_at};
 
@@ -15,6 +16,28 @@ pub(crate) fn clear_slots(pages: &mut Vec<Option<Stored>>, slots: &[u32])
     for slot in slots {
         clear_one(pages, *slot as usize);
     }
+}
+
+/// All slots count as closed.
+pub(crate) fn clear_all(pages: &mut Vec<Option<Stored>>)
+    ensures none { AreNone pages.new.items }
+    ensures length { length pages.new.items ≡ length pages.old.items }
+{
+    for slot in 0..pages.len() {
+        clear_one(pages, slot);
+    }
+}
+
+/// Whether no slot shows a page.
+pub(crate) fn are_none(pages: &[Option<Stored>]) -> bool
+    ensures { (result ≡ true) ↔ AreNone pages.now }
+{
+    for page in pages {
+        if page.is_some() {
+            return false;
+        }
+    }
+    true
 }
 
 /// A slot counts as closed.
@@ -49,6 +72,20 @@ fn empty_round(alloc: Global, count: usize) -> Result<Vec<Option<Option<Stored>>
     let mut round = Vec::new(alloc);
     for slot in 0..count {
         round.push(None)?;
+    }
+    Ok(round)
+}
+
+/// A round of so many slots, from the first on.
+pub(crate) fn whole_round(
+    alloc: Global,
+    count: usize,
+) -> Result<Vec<Option<Option<Stored>>>, Memory>
+    ensures { IfOk result (λ round. round.items ≡ replicate count (Some None)) }
+{
+    let mut round = Vec::new(alloc);
+    for slot in 0..count {
+        round.push(Some(None))?;
     }
     Ok(round)
 }

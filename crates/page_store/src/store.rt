@@ -4,16 +4,18 @@ ghost use Rattle.std.specs.Prelude.{◌≡◌, ◌<◌, ◌≤◌, ◌+◌, ◌*
 ghost use Rattle.std.specs.Prelude.{MatchOption, IfOk, IfErr, OnOk, OnErr};
 ghost use Rattle.page_store.specs.Disk.{Every, LeavesOnly};
 ghost use Rattle.page_store.specs.Slots.{IsSound};
+ghost use Rattle.page_store.specs.Labels.{AreNone, IsLabelled, IsRelabelled, Relabels, label_after, label_for};
 ghost use Rattle.page_store.specs.Pages.{KeepsOnly, StoredPage, page_of, shows_page, stored_page};
 ghost use Rattle.page_store.specs.Store.{IsOpened, IsStored, Stands, HasZeros, shown_at, pages_after, IsOf};
 ghost use Rattle.page_store.specs.Rounds.{IsIn, IsUnderWay, IsEnded, KeepsAll, KeepsOrFills, ArePagesAfter, cleared, taken_in, round_after};
 ghost use Rattle.page_store.specs.Faults.{HasStoreCause, IsFault};
 
 use crate::format::{write_sized, write_zeros};
-use crate::opening::sync_and_read;
+use crate::label::put_label;
+use crate::opening::read_all;
 use crate::put::{end_round, fill_page, put_page, shut_round};
-use crate::record::{Stored, body_of};
-use crate::round_pages::{clear_slots, is_in, round_of, show_filled};
+use crate::record::{NO_STAMP, Stored, body_of};
+use crate::round_pages::{are_none, clear_all, clear_slots, is_in, round_of, show_filled};
 use crate::{Disk, StoreFault};
 use nfs_types::{Handle, KeptPage, Stamp};
 use std::alloc::Global;
@@ -32,7 +34,7 @@ pub struct OpenFault<D: Disk> {
     pub fault: StoreFault,
 }
 
-/// Pages in the slots of a disk, and a copy of each in memory.
+/// Pages in the slots of a disk, and a copy of each in memory. Behind the slots stands a label: what they are for.
 #[derive(Drop)]
 pub struct PageStore<D: Disk> {
     alloc: Global,
@@ -40,6 +42,8 @@ pub struct PageStore<D: Disk> {
     slots: Vec<Option<Stored>>,
     /// None for a slot outside of the round, Some(None) for one whose gate is closed, and then its page.
     round: Vec<Option<Option<Stored>>>,
+    /// It stands in the place behind the slots.
+    label: Option<Stored>,
 }
 
 impl<D: Disk> Model for PageStore<D> {
@@ -48,15 +52,16 @@ impl<D: Disk> Model for PageStore<D> {
 
     ghost Value = { StoreView D };
 
-    ghost view = { λ s. record { disk = s.disk; pages = s.slots.items; round = s.round.items } };
+    ghost view = { λ s. record { disk = s.disk; pages = s.slots.items; round = s.round.items; label = s.label } };
 
     ghost invariant = { λ s. AreHeld s.slots.items s.round.items };
 }
 
 impl<D: Disk + Drop> PageStore<D> {
-    /// Writes zeros over 1,024 slots and syncs, so that each is closed. Nothing is claimed of a crash before that.
+    /// Writes zeros over 1,024 slots and the place of the label, and syncs: each slot is closed, and there is no label. Nothing is
+    /// claimed of a crash before that.
     pub fn format(alloc: Global, disk: &mut D) -> Result<(), StoreFault>
-        ensures empty { D.tells disk.old → OnOk result (Every (D.may_leave disk.new) (HasZeros 4325376)) }
+        ensures empty { D.tells disk.old → OnOk result (Every (D.may_leave disk.new) (HasZeros 4329600)) }
         ensures goes_on { D.tells disk.old → D.tells disk.new }
         ensures cause { HasStoreCause (D.faults disk.old) (D.faults disk.new) result }
     {
@@ -67,18 +72,19 @@ impl<D: Disk + Drop> PageStore<D> {
     pub fn format_sized(alloc: Global, disk: &mut D, slots: u32) -> Result<(), StoreFault>
         requires least { 1024 ≤ slots }
         requires most { slots ≤ 65536 }
-        ensures empty { D.tells disk.old → OnOk result (Every (D.may_leave disk.new) (HasZeros (4224 * slots))) }
+        ensures empty { D.tells disk.old → OnOk result (Every (D.may_leave disk.new) (HasZeros (4224 * (slots + 1)))) }
         ensures goes_on { D.tells disk.old → D.tells disk.new }
         ensures cause { HasStoreCause (D.faults disk.old) (D.faults disk.new) result }
     {
-        write_sized(alloc, disk, slots)
+        write_sized(alloc, disk, slots + 1)
     }
 
-    /// Syncs, and reads 1,024 slots. An open slot that breaks a rule of its fields counts as closed. On an error the disk is
-    /// handed back.
+    /// Syncs, and reads 1,024 slots and the label. An open slot that breaks a rule of its fields counts as closed. On an error the
+    /// disk is handed back.
     pub fn open(alloc: Global, disk: D) -> Result<PageStore<D>, OpenFault<D>>
         ensures opened { D.tells disk → IfOk result (λ s. IsOpened 1024 (D.may_leave disk) (D.seen s.disk) (D.may_leave s.disk) s.pages) }
         ensures count { IfOk result (λ s. length s.pages ≡ 1024) }
+        ensures labelled { D.tells disk → IfOk result (λ s. IsLabelled (D.seen s.disk) 1024 s.label) }
         ensures any_moment { D.tells disk → IfOk result (λ s. LeavesOnly D.moment D.left_since disk s.disk (D.may_leave disk)) }
         ensures goes_on { D.tells disk → IfOk result (λ s. D.tells s.disk) }
         ensures handed_back { D.tells disk → IfErr result (λ e. D.tells e.disk × Every (D.may_leave e.disk) (D.may_leave disk)) }
@@ -94,6 +100,7 @@ impl<D: Disk + Drop> PageStore<D> {
         requires most { slots ≤ 65536 }
         ensures opened { D.tells disk → IfOk result (λ s. IsOpened slots (D.may_leave disk) (D.seen s.disk) (D.may_leave s.disk) s.pages) }
         ensures count { IfOk result (λ s. length s.pages ≡ slots) }
+        ensures labelled { D.tells disk → IfOk result (λ s. IsLabelled (D.seen s.disk) slots s.label) }
         ensures any_moment { D.tells disk → IfOk result (λ s. LeavesOnly D.moment D.left_since disk s.disk (D.may_leave disk)) }
         ensures goes_on { D.tells disk → IfOk result (λ s. D.tells s.disk) }
         ensures handed_back { D.tells disk → IfErr result (λ e. D.tells e.disk × Every (D.may_leave e.disk) (D.may_leave disk)) }
@@ -101,12 +108,13 @@ impl<D: Disk + Drop> PageStore<D> {
         ensures cause { IfErr result (λ e. IsFault (D.faults disk) (D.faults e.disk) e.fault) }
     {
         let mut disk = disk;
-        match sync_and_read(alloc, &mut disk, slots) {
-            Ok(slots) => Ok(PageStore {
+        match read_all(alloc, &mut disk, slots) {
+            Ok((slots, label)) => Ok(PageStore {
                 alloc,
                 disk,
                 slots,
                 round: Vec::new(alloc),
+                label,
             }),
             Err(fault) => Err(OpenFault { disk, fault }),
         }
@@ -126,6 +134,69 @@ impl<D: Disk + Drop> PageStore<D> {
         ensures most { length self.now.pages ≤ 65536 }
     {
         self.slots.len() as u32
+    }
+
+    /// The words of the label; None exactly where there is no label.
+    pub fn words(&self) -> Option<&[u8]>
+        ensures { option_map (λ words. words.now) result ≡ option_map (λ (page : StoredPage). page.bytes) self.now.label }
+    {
+        bytes_in(&self.label)
+    }
+
+    /// The handle of the root in the label; None exactly where there is no label.
+    pub fn root(&self) -> Option<Handle>
+        ensures { result ≡ option_map (λ (page : StoredPage). page.file) self.now.label }
+    {
+        match &self.label {
+            Some(label) => Some(label.file()),
+            None => None,
+        }
+    }
+
+    /// Whether no slot shows a page.
+    pub fn is_empty(&self) -> bool
+        ensures { (result ≡ true) ↔ AreNone self.now.pages }
+    {
+        are_none(self.slots.as_slice())
+    }
+
+    /// Closes all slots, and puts a label of at most 4,096 bytes behind them. A crash at any moment leaves pages and a label that
+    /// stood there before, or this label and no page. After an error there is no label in memory. A round that is under way is
+    /// dropped.
+    pub fn set_label(&mut self, root: &Handle, words: &[u8]) -> Result<(), StoreFault>
+        requires { length words.now ≤ 4096 }
+        ensures safe { D.tells self.old.disk → (n : ℕ) → length self.old.pages < n → IsSound n (D.may_leave self.old.disk)
+            → IsSound n (D.may_leave self.new.disk) }
+        ensures leaves { D.tells self.old.disk → (n : ℕ) → length self.old.pages < n → IsSound n (D.may_leave self.old.disk)
+            → Every (D.may_leave self.new.disk)
+            (Relabels (length self.old.pages) (label_for (length self.old.pages) root.now words.now) (D.may_leave self.old.disk)) }
+        ensures any_moment { D.tells self.old.disk → (n : ℕ) → length self.old.pages < n → IsSound n (D.may_leave self.old.disk)
+            → LeavesOnly D.moment D.left_since self.old.disk self.new.disk
+            (Relabels (length self.old.pages) (label_for (length self.old.pages) root.now words.now) (D.may_leave self.old.disk)) }
+        ensures labelled { D.tells self.old.disk → (n : ℕ) → length self.old.pages < n → IsSound n (D.may_leave self.old.disk)
+            → OnOk result (IsRelabelled (length self.old.pages) (label_for (length self.old.pages) root.now words.now)
+            (D.seen self.new.disk) (D.may_leave self.new.disk)) }
+        ensures none { AreNone self.new.pages }
+        ensures count { length self.new.pages ≡ length self.old.pages }
+        ensures round { self.new.round ≡ [] }
+        ensures label { self.new.label ≡ label_after (label_for (length self.old.pages) root.now words.now) result }
+        ensures goes_on { D.tells self.old.disk → D.tells self.new.disk }
+        ensures cause { HasStoreCause (D.faults self.old.disk) (D.faults self.new.disk) result }
+    {
+        let slots = self.slots.len() as u32;
+        self.round.truncate(0);
+        self.label = None;
+        clear_all(&mut self.slots);
+        let Ok((label, body)) = prepared(self.alloc, root, &NO_STAMP, slots as u64, words) else {
+            return Err(StoreFault::Memory);
+        };
+        match put_label(self.alloc, &mut self.disk, slots, body.bytes()) {
+            Ok(()) => {
+                self.label = Some(label);
+                Ok(())
+            }
+            Err(fault) => Err(fault),
+        }
     }
 
     /// The page of a slot; None exactly where the slot counts as closed, or isn't below the number of slots.
@@ -176,6 +247,7 @@ impl<D: Disk + Drop> PageStore<D> {
             → Stands (D.may_leave self.new.disk) self.new.pages }
         ensures pages { self.new.pages ≡ pages_after slot (stored_page file.now stamp.now index bytes.now) result self.old.pages }
         ensures round { self.new.round ≡ [] }
+        ensures label { self.new.label ≡ self.old.label }
         ensures goes_on { D.tells self.old.disk → D.tells self.new.disk }
         ensures cause { HasStoreCause (D.faults self.old.disk) (D.faults self.new.disk) result }
     {
@@ -210,6 +282,7 @@ impl<D: Disk + Drop> PageStore<D> {
         ensures pages { self.new.pages ≡ cleared slots.now self.old.pages }
         ensures round { OnOk result (self.new.round ≡ taken_in slots.now (replicate (length self.old.pages) None)) }
         ensures none { OnErr result (self.new.round ≡ []) }
+        ensures label { self.new.label ≡ self.old.label }
         ensures goes_on { D.tells self.old.disk → D.tells self.new.disk }
         ensures cause { HasStoreCause (D.faults self.old.disk) (D.faults self.new.disk) result }
     {
@@ -254,6 +327,7 @@ impl<D: Disk + Drop> PageStore<D> {
         ensures is_in { IfOk result (λ yes. (yes ≡ true) ↔ IsIn self.old.round slot) }
         ensures pages { self.new.pages ≡ self.old.pages }
         ensures round { self.new.round ≡ round_after slot (stored_page file.now stamp.now index bytes.now) result self.old.round }
+        ensures label { self.new.label ≡ self.old.label }
         ensures goes_on { D.tells self.old.disk → D.tells self.new.disk }
         ensures cause { HasStoreCause (D.faults self.old.disk) (D.faults self.new.disk) result }
     {
@@ -296,6 +370,7 @@ impl<D: Disk + Drop> PageStore<D> {
             → Stands (D.may_leave self.old.disk) self.old.pages → Stands (D.may_leave self.new.disk) self.new.pages }
         ensures pages { ArePagesAfter self.old.round result self.old.pages self.new.pages }
         ensures round { self.new.round ≡ [] }
+        ensures label { self.new.label ≡ self.old.label }
         ensures goes_on { D.tells self.old.disk → D.tells self.new.disk }
         ensures cause { HasStoreCause (D.faults self.old.disk) (D.faults self.new.disk) result }
     {

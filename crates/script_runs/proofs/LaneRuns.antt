@@ -1,5 +1,9 @@
 -- A session is what its set-up and its lines came to.
 use Rattle.std.proofs.Common.{inl, inr, ◌≡◌, ◌≢◌, ◌≤◌, ◌+◌, ◌-◌, ◌^◌, ◌∙◌, ℕ, suc, List, [], ◌∷◌, ◌++◌, length, All, Option, Some, None, Ok, Err, refl, sym, ap, subst, arith}
+use Rattle.std.specs.List.{IsDistinct}
+use Rattle.std.proofs.lemmas.List.Elements.{All-nil}
+use Rattle.page_cache.specs.Pages.{nothing_kept}
+use Rattle.page_cache.specs.Sound.{IsSound}
 use Rattle.world_model.specs.declared.answer.Fault.{Fault}
 use Rattle.world_model.specs.declared.entry.Entry.{Entry}
 use Rattle.world_model.specs.declared.entry.Entry.TheVariants.{Began, Answered, Dialed, Sent, Executed, Foreign, Flushed, Reboot, Delivered, Failed, Clock}
@@ -93,6 +97,11 @@ may_set_up s first v setup one most f a b c d = record {
     most_write = omega (arith, d, f.most_write);
   };
 }
+
+-- no page is kept
+pub nothing-sound : IsSound nothing_kept
+unfolding IsDistinct
+nothing-sound = record { fits = All-nil _; few = omega arith; apart = tt; known = All-nil _ }
 
 -- ---- what a session says, once its set-up came to something
 

@@ -21,10 +21,11 @@ use Rattle.lane_session.specs.Endings.{TextOf}
 use Rattle.lane_session.specs.Statuses.{IsCutOff}
 use Rattle.script_runs.specs.Ends.{TellsMount}
 use Rattle.script_runs.specs.Run.{IsFirst, RunOf, RunWith}
+use Rattle.page_cache.specs.Pages.{nothing_kept}
 
--- what the core goes by after its set-up
+-- what the core goes by after its set-up: nothing is kept
 abbrev pub setup_of : Settings → SetUp → Setup
-setup_of s v = record { root = v.root; rsize = v.rsize; wsize = v.wsize; first_xid = v.next_xid; limit = v.left; cred = s.cred; lives = s.lives }
+setup_of s v = record { root = v.root; rsize = v.rsize; wsize = v.wsize; first_xid = v.next_xid; limit = v.left; cred = s.cred; lives = s.lives; pages = nothing_kept }
 
 -- Of a session that was set up with the history before: a core goes with the whole history, which was so set up; each line of its script may be run; and after
 -- the set-up only the port of NFS is dialed.

@@ -1,12 +1,17 @@
 //! A session: what comes before the first line of its script, and its lanes.
 
-ghost use Rattle.std.specs.Prelude.{◌≡◌, ◌≤◌, ◌<◌, ◌^◌, ℕ, [], ◌∷◌, All, Err, length};
+ghost use Rattle.std.specs.Prelude.{◌≡◌, ◌≤◌, ◌<◌, ◌^◌, ℕ, [], ◌∷◌, All, Some, Err, length};
 ghost use Rattle.world_model.specs.Told.{Relates};
 ghost use Rattle.outside.specs.Causes.{Rose};
+ghost use Rattle.link_dials.specs.Dials.{DialsOnly};
 ghost use Rattle.nfs_script.specs.Asked.{IsAskedLine};
+ghost use Rattle.core_facts.specs.Reaches.{MaySetUp};
+ghost use Rattle.lane_session.specs.Bonds.{CanCount, EndsWith, IsOpened};
+ghost use Rattle.lane_session.specs.Sessions.{IsUnmarked, SessionCounts};
+ghost use Rattle.lane_session.specs.Streams.{Passes};
 ghost use Rattle.session_setup.specs.Outcomes.{IsOptions, SetsUp};
 ghost use Rattle.script_runs.specs.Readings.{Reads, ReadsOnce};
-ghost use Rattle.script_runs.specs.LaneRuns.{IsEnding, Leaves, SetUpAndRun, SessionBy};
+ghost use Rattle.script_runs.specs.LaneRuns.{IsEnding, Leaves, SetUpAndRun, SessionBy, setup_of};
 ghost use Rattle.script_runs.specs.Run.{IsFirst, IsXidOption, Says};
 
 use crate::mount::refuse_mount;
@@ -15,7 +20,8 @@ use client_core::Setup;
 use lane_session::session;
 use nfs_script::Script;
 use outside::{Clock, Link, Sink};
-use session_setup::{SetUpFault, set_up};
+use page_cache::PageCache;
+use session_setup::{SetUp, SetUpFault, set_up};
 use session_words::Settings;
 use std::alloc::Global;
 use world_model::Tally;
@@ -57,29 +63,58 @@ pub fn run_lanes<L: Link, C: Clock, K: Sink>(
     }
     let first = first_xid(settings.xid, clock);
     match set_up(alloc, settings, first, link) {
-        Ok(ready) => {
-            let setup = Setup {
-                root: ready.root,
-                rsize: ready.rsize,
-                wsize: ready.wsize,
-                first_xid: ready.next_xid,
-                limit: ready.left,
-                cred: settings.cred,
-                lives: settings.lives,
-            };
-            session(
-                alloc,
-                settings,
-                script,
-                Some(&setup),
-                ready.tally,
-                link,
-                clock,
-                out,
-            )
-        }
+        Ok(ready) => run_ready(alloc, settings, script, ready, link, clock, out),
         Err(fault) => end_early(alloc, settings, script, fault, link, clock, out),
     }
+}
+
+/// Runs each line of the script in a session that is set up.
+fn run_ready<L: Link, C: Clock, K: Sink>(
+    alloc: Global,
+    settings: &Settings,
+    script: &Script,
+    ready: SetUp,
+    link: &mut L,
+    clock: &mut C,
+    out: &mut K,
+) -> u8
+    requires may { MaySetUp (setup_of settings.now ready) }
+    requires asked { All IsAskedLine script.now }
+    requires few { length script.now ≤ 16384 }
+    ensures ending { IsEnding result }
+    ensures sink { result ≡ 5 → Rose (K.faults out.old) (K.faults out.new) }
+    ensures core { Relates (L.told link.old) (L.told link.new)
+        (λ h k. IsOpened (Some (setup_of settings.now ready)) h → EndsWith settings.now (Some (setup_of settings.now ready)) h k) }
+    ensures dials { DialsOnly settings.now.nfs_port (L.told link.old) (L.told link.new) }
+    ensures stays { (first : L) → L.stays first link.old → L.stays first link.new }
+    ensures honest { L.honest link.old → L.honest link.new }
+    ensures shown { Passes (C.readings clock.old) (C.readings clock.new) (L.told link.old) (L.told link.new) (K.written out.old) (K.written out.new)
+        (λ given text h k. IsUnmarked h
+        → SessionCounts (CanCount (Some (setup_of settings.now ready)) h) ready.tally settings.now.count script.now given h k result text) }
+{
+    let Ok(pages) = PageCache::new(alloc) else {
+        return status::NO_MEMORY;
+    };
+    let setup = Setup {
+        root: ready.root,
+        rsize: ready.rsize,
+        wsize: ready.wsize,
+        first_xid: ready.next_xid,
+        limit: ready.left,
+        cred: settings.cred,
+        lives: settings.lives,
+        pages,
+    };
+    session(
+        alloc,
+        settings,
+        script,
+        Some(setup),
+        ready.tally,
+        link,
+        clock,
+        out,
+    )
 }
 
 /// Ends a session that can't be set up: where it is lost each line is answered so, and else none begins.

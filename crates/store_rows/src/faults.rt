@@ -9,7 +9,7 @@ use std::io;
 const MANY: u32 = 2000;
 
 /// The calls of `open` over an empty disk, and of a store into a closed slot.
-const BEFORE: u32 = 1025 + 6;
+const BEFORE: u32 = 1026 + 6;
 
 /// Prints at how many calls in a row the disk's failure is a fault, and what the next number gives.
 pub fn row(rt: &HostRuntime, alloc: Global, rest: &str) -> io::Result<()> {

@@ -1,7 +1,8 @@
 //! A disk in memory, or a store over it.
 
 use crate::words::{
-    fill, handle, last, numbers, show_bytes, show_done, show_slot, slots, small, stamp, store,
+    fill, handle, label, last, numbers, show_bytes, show_done, show_label, show_slot, slots, small,
+    stamp, store,
 };
 use page_store::{Disk, DiskCall, MemDisk, OpenFault, PageStore, StoreFault};
 use std::alloc::Global;
@@ -128,6 +129,12 @@ fn on_store(
             None => println!(rt; "= no such page")?,
         },
         "finish" => show_done(rt, pages.finish())?,
+        "empty" => println!(rt; "= {}", pages.is_empty())?,
+        "label" if rest.is_empty() => show_label(rt, alloc, &pages)?,
+        "label" => match label(&mut pages, a, last(rest)) {
+            Some(result) => show_done(rt, result)?,
+            None => println!(rt; "= no such label")?,
+        },
         "page" => show_slot(rt, alloc, &pages, small(a))?,
         "find" => match pages.find(&handle(a), &stamp(b), c) {
             Some(bytes) => show_bytes(rt, alloc, bytes)?,

@@ -7,10 +7,12 @@
 //! - `format N`, `open N`: the same for so many slots
 //! - `store SLOT FILE SIZE INDEX TEXT`, `page SLOT`, `find FILE SIZE INDEX`
 //! - `begin SLOT SLOT ..`, `fill SLOT FILE SIZE INDEX TEXT`, `finish`: a round
+//! - `label ROOT WORDS`, `label`, `empty`: puts a label, shows it, tells whether no slot shows a page
 //! - `write AT HEX`, `bytes AT COUNT`, `last COUNT`: writes to the disk, shows bytes of it, and the last calls that it recorded
 //! - `stops OLD NEW`: for each call of a store of the text NEW, over OLD where that isn't `-`: the call fails, the disk
 //!   crashes, and what `open` finds
 //! - `round OLD NEW`: for each call of a round that stores NEW over OLD in a slot, and NEW in the next slot: the same
+//! - `relabel`: for calls of a label that is put over another one and a page: the same
 //! - `faults format`, `faults open`: at each of its calls in turn the disk fails
 //! - `file PATH`, `chopped`: stores pages in a file of the system, and in one that gives and takes few bytes at a time
 #![tactic(auto)]
@@ -32,6 +34,7 @@ fn row(rt: &HostRuntime, alloc: Global, held: Held, line: &str) -> io::Result<He
     match word {
         "stops" => stops::row(rt, alloc, rest)?,
         "round" => stops::round(rt, alloc, rest)?,
+        "relabel" => stops::relabel(rt, alloc)?,
         "faults" => faults::row(rt, alloc, rest)?,
         "file" => files::row(rt, alloc, rest)?,
         "chopped" => chopped::row(rt, alloc)?,

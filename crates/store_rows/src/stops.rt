@@ -1,6 +1,6 @@
 //! A store that a crash stops at each of its calls.
 
-use crate::words::{fill, show_slot, store};
+use crate::words::{fill, handle, show_label, show_slot, store};
 use page_store::{Disk, MemDisk, PageStore, StoreFault};
 use std::alloc::Global;
 use std::io;
@@ -8,17 +8,23 @@ use std::io;
 /// The slot that is stored into.
 const SLOT: u32 = 5;
 
-/// The last byte of all slots.
-const LAST: u64 = 1024 * 4224 - 1;
+/// The last byte of all slots and the label.
+const LAST: u64 = 1025 * 4224 - 1;
 
 /// A store or a round of two slots makes at most this many calls of its disk, and one more doesn't fail.
 const MOST_CALLS: u32 = 12;
 
-/// Before the store that is stopped: a write and a sync, and 1,025 calls of `open`.
-const BEFORE: u32 = 2 + 1025;
+/// Before the store that is stopped: a write and a sync, and 1,026 calls of `open`.
+const BEFORE: u32 = 2 + 1026;
 
 /// And 6 of a first store, which finds the gate closed.
 const FIRST: u32 = 6;
+
+/// The calls of a first label: 1,024 gates are read, and a sync; then as many as of a first store.
+const LABEL: u32 = 1024 + 1 + 6;
+
+/// Calls of a second label at which it is stopped: the write of the slot's gate, all behind the last slot's, and one that isn't made.
+const WRITES: [u32; 10] = [7, 1026, 1027, 1028, 1029, 1030, 1031, 1032, 1033, 1034];
 
 /// Stops a store of the second text at each of its calls, over the first text where that isn't `-`.
 pub fn row(rt: &HostRuntime, alloc: Global, rest: &str) -> io::Result<()> {
@@ -51,6 +57,37 @@ pub fn round(rt: &HostRuntime, alloc: Global, rest: &str) -> io::Result<()> {
         }
     }
     Ok(())
+}
+
+/// Stops the writing of a label at its calls, over another label and a page in the slot.
+pub fn relabel(rt: &HostRuntime, alloc: Global) -> io::Result<()> {
+    for call in WRITES {
+        let Some(disk) = stopped_label(alloc, BEFORE + LABEL + FIRST + call) else {
+            return println!(rt; "= call {call}: the label is written");
+        };
+        println!(rt; "= call {call}")?;
+        match PageStore::open(alloc, disk) {
+            Ok(pages) => {
+                show_slot(rt, alloc, &pages, SLOT)?;
+                show_label(rt, alloc, &pages)?;
+            }
+            Err(refused) => println!(rt; "= {:?}", refused.fault)?,
+        }
+    }
+    Ok(())
+}
+
+/// The disk after a crash behind the call of that number, while a label was written; None where no call fails.
+fn stopped_label(alloc: Global, fails: u32) -> Option<MemDisk> {
+    let mut pages = with_page(alloc, "-", fails)?;
+    pages.set_label(&handle(1), b"old").ok()?;
+    store(&mut pages, SLOT, 1, 6, 0, "old")?.ok()?;
+    if pages.set_label(&handle(2), b"new").is_ok() {
+        return None;
+    }
+    let mut disk = pages.into_disk();
+    disk.crash().ok()?;
+    Some(disk)
 }
 
 /// The disk after a crash behind the call of that number; None where no call fails.

@@ -89,6 +89,35 @@ pub fn fill<D: Disk + Drop>(
     Some(store.fill(slot, &handle(file), &stamp(size), index, bytes))
 }
 
+/// Puts a label: the number of the root's file, and a text. None where the text is beyond its bound.
+pub fn label<D: Disk + Drop>(
+    store: &mut PageStore<D>,
+    root: u64,
+    text: &str,
+) -> Option<Result<(), StoreFault>> {
+    let words = text.as_bytes();
+    if words.len() > 4096 {
+        return None;
+    }
+    Some(store.set_label(&handle(root), words))
+}
+
+/// Prints a store's label: the root's handle in hex, and the words.
+pub fn show_label<D: Disk + Drop>(
+    rt: &impl Print,
+    alloc: Global,
+    pages: &PageStore<D>,
+) -> io::Result<()> {
+    let (Some(root), Some(words)) = (pages.root(), pages.words()) else {
+        return println!(rt; "= no label");
+    };
+    let Ok(root) = hex::encode(alloc, root.bytes()) else {
+        return println!(rt; "= memory");
+    };
+    let words = str::from_utf8(words).unwrap_or("?");
+    println!(rt; "= root {} words {words}", root.as_str())
+}
+
 /// Prints what a call gave.
 pub fn show_done(rt: &impl Print, outcome: Result<(), StoreFault>) -> io::Result<()> {
     match outcome {

@@ -1,5 +1,5 @@
 -- Each page that is kept was read, and follows what the client wrote and cut since.
-use Rattle.core_answers.proofs.Prelude.{◌≡◌, ℕ, List, [], ◌∷◌, ◌++◌, length, Option, Some, None, Result, Ok, refl, sym, subst, arith, All-nil, Stamp, Pages, known_of, page_of, Fault, Entry, Began, Call, Reply, Heard-wide, Next, Send, Wait, Done, Shelf, Turn, machine_of, Mounted, Machine, Takes, Setup, View, Reaches, ThenOf, IsAnswered, WasRead, WasWritten, WasCut, IsPage}
+use Rattle.core_answers.proofs.Prelude.{◌≡◌, ℕ, List, [], ◌∷◌, ◌++◌, length, Option, Some, None, Result, Ok, refl, sym, ◌∙◌, subst, arith, All-nil, Stamp, Pages, known_of, page_of, Fault, Entry, Began, Call, Reply, Heard-wide, Next, Send, Wait, Done, Shelf, Turn, machine_of, Mounted, Machine, Takes, Setup, View, Reaches, ThenOf, IsAnswered, WasRead, WasWritten, WasCut, IsPage}
 use Rattle.std.proofs.Common.{IsSome}
 use Rattle.std.proofs.lemmas.List.Elements.{All-weaker}
 use Rattle.page_cache.specs.Pages.{nothing_kept}
@@ -88,10 +88,10 @@ page-laws m setup = record {
 pub none-good : (h : List Entry) (c : Pages) → c ≡ nothing_kept → Good h c
 none-good h c is = subst (Good h) (sym is) (All-nil (λ p. IsSome (known_of p.0.file nothing_kept)), All-nil (IsTrueUnder (IsPage h) nothing_kept))
 
-pub good-pages : (m : Mounted) (setup : Setup) (h : List Entry) (v : View) → Reaches (machine_of m) setup h v → Good h v.shelf.pages
-good-pages m setup h v r =
+pub good-pages : (m : Mounted) (setup : Setup) (h : List Entry) (v : View) → Reaches (machine_of m) setup h v → setup.pages ≡ nothing_kept → Good h v.shelf.pages
+good-pages m setup h v r bare =
     (reached-known m setup Both both-asks (λ k lane shelf. Unit {0}) GoodShelf (λ k x op state. Unit {0}) (page-laws m setup) (λ k w lane reached found idle. tt)
-    (λ k w fresh. none-good k w.shelf.pages fresh.pages) h v r).kept
+    (λ k w fresh. none-good k w.shelf.pages (fresh.pages ∙ bare)) h v r).kept
 
 kept-so : (h : List Entry) (c : Pages) (file : List ℕ) (index : ℕ) (bytes : List ℕ) → Good h c → page_of file index c ≡ Some bytes → (o : Option Stamp) → known_of file c ≡ o → IsSome o
     → IsKept h c file index bytes
@@ -103,4 +103,4 @@ kept-of h c file index bytes found g =
     kept-so h c file index bytes g found (known_of file c) refl (All-page (λ p. IsSome (known_of p.0.file c)) file index c.pages bytes g.0 found)
 
 pub pages-shown : PagesShown
-pages-shown m setup h v r file index bytes found = kept-of h v.shelf.pages file index bytes found (good-pages m setup h v r)
+pages-shown m setup h v r bare file index bytes found = kept-of h v.shelf.pages file index bytes found (good-pages m setup h v r bare)

@@ -94,7 +94,7 @@ module _ (t : History) (l : Lawful t) (fresh : Fresh t) (numbered : Numbered t.e
       subst (IsPageOf s index) (sym is) (cut-true old s index size page w (true-page-of old index page had))
 
 pub pages-true : PagesTrue
-pages-true m setup t v lawful fresh r file stamp index bytes found known =
-    let g = good-pages m setup t.entries v r in
+pages-true m setup t v lawful fresh r bare file stamp index bytes found known =
+    let g = good-pages m setup t.entries v r bare in
     true-page-of t lawful fresh (reached-rows (machine_of m) setup t.entries v r).numbered file stamp index bytes
     (true-page (IsPage t.entries) file index v.shelf.pages bytes stamp g.1 found known)

@@ -165,8 +165,8 @@ module _ (t : History) (l : Lawful t) (fresh : Fresh t) (numbered : Numbered t.e
       })
 
 pub reads-held : ReadsHeld
-reads-held m terms setup t v g lawful fresh lane x slot offset count y bytes ended =
-    let s = had-read m terms setup t.entries v g lane x slot offset count y bytes ended in
+reads-held m terms setup t v g lawful fresh bare lane x slot offset count y bytes ended =
+    let s = had-read m terms setup t.entries v g bare lane x slot offset count y bytes ended in
     let numbered = (reached-rows (machine_of m) setup t.entries v g.reaches).numbered in
     let part = sym (until t.entries s.before s.after y s.is s.there) in
     let r = s.shown in

@@ -23,6 +23,7 @@ use Rattle.core_answers.proofs.pages.PageCalls.{PageAwaits, ReadAwaits, PartAwai
 use Rattle.core_answers.proofs.pages.PageLaws.{Good, quiet-good, told-good-laws}
 use Rattle.core_answers.proofs.pages.PagesShown.{GoodShelf, page-grows, good-grows, from-start, takes-good, none-good}
 use Rattle.core_answers.proofs.pages.ReadStory.{AlignedIn, ReadAt, Answered, from-settled, takes-read, framed-begins}
+use Rattle.page_cache.specs.Pages.{nothing_kept}
 
 -- ---- one entry more
 
@@ -296,12 +297,12 @@ pub record HadRead (mo : ℕ → Op → Machine) (setup : Setup) (modes_ : Modes
   pub there : length before ≡ y
   pub shown : ReadShown mo setup modes_ before x op offset bytes
 
-pub had-read : (m : Mounted) (terms : Terms) (setup : Setup) (h : List Entry) (v : View) → GoesWith m terms setup h v → (lane x slot offset count y : ℕ) (bytes : List ℕ)
+pub had-read : (m : Mounted) (terms : Terms) (setup : Setup) (h : List Entry) (v : View) → GoesWith m terms setup h v → setup.pages ≡ nothing_kept → (lane x slot offset count y : ℕ) (bytes : List ℕ)
     → Ended h lane x (ops.Read slot offset count) y (answers.Done (values.Bytes bytes))
     → HadRead (machine_of m) setup terms.modes h x y (ops.Read slot offset count) offset bytes
-had-read m terms setup h v g lane x slot offset count y bytes ended =
+had-read m terms setup h v g bare lane x slot offset count y bytes ended =
     let s = reached-answered m setup Both both-asks (Given terms.modes) GoodShelf (Story (machine_of m) setup terms.modes) (laws m terms.modes setup)
-    (λ k w lane r found other. is-given terms.modes m g.nocto setup k w r found lane other) (λ k w fresh. none-good k w.shelf.pages fresh.pages) h v g.reaches lane x
+    (λ k w lane r found other. is-given terms.modes m g.nocto setup k w r found lane other) (λ k w fresh. none-good k w.shelf.pages (fresh.pages ∙ bare)) h v g.reaches lane x
     (ops.Read slot offset count) y (answers.Done (values.Bytes bytes)) ended in
     record { before = s.before; after = s.after; is = s.is; there = s.there; shown = s.story slot offset count refl bytes refl }
 
@@ -310,6 +311,6 @@ until h before after y is there =
     ap (take y) is ∙ ap (λ (n : ℕ). take n (before ++ after)) (sym there) ∙ take-early before after (length before) (omega arith) ∙ take-whole before
 
 pub reads-shown : ReadsShown
-reads-shown m terms setup h v g lane x slot offset count y bytes ended =
-    let s = had-read m terms setup h v g lane x slot offset count y bytes ended in
+reads-shown m terms setup h v g bare lane x slot offset count y bytes ended =
+    let s = had-read m terms setup h v g bare lane x slot offset count y bytes ended in
     subst (λ (k : List Entry). ReadShown (machine_of m) setup terms.modes k x (ops.Read slot offset count) offset bytes) (sym (until h s.before s.after y s.is s.there)) s.shown

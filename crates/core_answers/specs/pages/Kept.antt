@@ -10,7 +10,7 @@ use Rattle.nfs_types.specs.Stamps.{stamp_of}
 use Rattle.nfs_file_calls.specs.declared.call.FileCall.TheVariants as files
 use Rattle.nfs_file_calls.specs.declared.owned.FileKept.TheVariants as replies
 use Rattle.page_cache.specs.Bytes.{start_of, put_page, cut_page}
-use Rattle.page_cache.specs.Pages.{Pages, page_of, known_of}
+use Rattle.page_cache.specs.Pages.{Pages, nothing_kept, page_of, known_of}
 use Rattle.world_model.specs.declared.entry.Entry.{Entry}
 use Rattle.world_model.specs.declared.message.Call.TheVariants as calls
 use Rattle.world_model.specs.declared.message.Reply.TheVariants as answers
@@ -70,7 +70,7 @@ pub record IsKept (h : List Entry) (c : Pages) (file : List ℕ) (index : ℕ) (
   pub known : known_of file c ≡ Some stamp
   pub page : IsPage h file stamp index bytes
 
--- Each page that the client keeps is so.
+-- Each page that the client keeps is so, where none was kept from the start.
 abbrev pub PagesShown : Type 0
-PagesShown = (m : Mounted) (setup : Setup) (h : List Entry) (v : View) → Reaches (machine_of m) setup h v
+PagesShown = (m : Mounted) (setup : Setup) (h : List Entry) (v : View) → Reaches (machine_of m) setup h v → setup.pages ≡ nothing_kept
     → (file : List ℕ) (index : ℕ) (bytes : List ℕ) → page_of file index v.shelf.pages ≡ Some bytes → IsKept h v.shelf.pages file index bytes

@@ -27,6 +27,7 @@ use Rattle.core_facts.specs.SlotAnswers.{GoesWith}
 use Rattle.core_answers.specs.bonds.Kept.{IsAnswered}
 use Rattle.core_answers.specs.pages.Kept.{IsPage}
 use Rattle.core_answers.specs.pages.Passing.{Passes}
+use Rattle.page_cache.specs.Pages.{nothing_kept}
 
 -- A byte of the file at a place that the operation at the place x found: in a page that was kept, or in the reply to a READ that was first sent since
 -- the operation began.
@@ -60,8 +61,8 @@ pub record ReadShown (machine_of : ℕ → Op → Machine) (setup : Setup) (mode
   pub found : (k v : ℕ) → slice_get server k ≡ Some v → IsFound h x file (offset + k) v
   pub each : (k v : ℕ) → slice_get bytes k ≡ Some v → IsShown machine_of setup h x file server k (offset + k) v
 
--- Each answer to a read is so, by the history until then.
+-- Each answer to a read is so, by the history until then, where no page was kept from the start.
 abbrev pub ReadsShown : Type 0
-ReadsShown = (m : Mounted) (terms : Terms) (setup : Setup) (h : List Entry) (v : View) → GoesWith m terms setup h v
+ReadsShown = (m : Mounted) (terms : Terms) (setup : Setup) (h : List Entry) (v : View) → GoesWith m terms setup h v → setup.pages ≡ nothing_kept
     → (lane x slot offset count y : ℕ) (bytes : List ℕ) → Ended h lane x (Read slot offset count) y (Done (values.Bytes bytes))
     → ReadShown (machine_of m) setup terms.modes (take y h) x (Read slot offset count) offset bytes

@@ -2,7 +2,7 @@
 use Rattle.std.specs.Prelude.{◌≡◌, ℕ, List, Some}
 use Rattle.nfs_types.specs.declared.wcc.Stamp.{Stamp}
 use Rattle.page_cache.specs.Bytes.{page_at}
-use Rattle.page_cache.specs.Pages.{page_of, known_of}
+use Rattle.page_cache.specs.Pages.{nothing_kept, page_of, known_of}
 use Rattle.world_model.specs.Fresh.{Fresh}
 use Rattle.world_model.specs.History.{History}
 use Rattle.world_model.specs.Lawful.{Lawful}
@@ -13,8 +13,8 @@ use Rattle.client_core.specs.View.{View}
 use Rattle.core_facts.specs.Reaches.{Reaches}
 use Rattle.law_reads.specs.Kept.{HasStamp}
 
--- A page that the client keeps is that page of the file at every moment at which the file has its known stamp.
+-- A page that the client keeps is that page of the file at every moment at which the file has its known stamp, where none was kept from the start.
 abbrev pub PagesTrue : Type 0
-PagesTrue = (m : Mounted) (setup : Setup) (t : History) (v : View) → Lawful t → Fresh t → Reaches (machine_of m) setup t.entries v
+PagesTrue = (m : Mounted) (setup : Setup) (t : History) (v : View) → Lawful t → Fresh t → Reaches (machine_of m) setup t.entries v → setup.pages ≡ nothing_kept
     → (file : List ℕ) (stamp : Stamp) (index : ℕ) (bytes : List ℕ) → page_of file index v.shelf.pages ≡ Some bytes → known_of file v.shelf.pages ≡ Some stamp
     → (n : ℕ) (now : List ℕ) → HasStamp t n file stamp now → bytes ≡ page_at index now

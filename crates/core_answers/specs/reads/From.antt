@@ -19,6 +19,7 @@ use Rattle.core_facts.specs.SlotAnswers.{GoesWith}
 use Rattle.core_answers.specs.pages.Held.{IsHeld}
 use Rattle.core_answers.specs.pages.Read.{IsFound}
 use Rattle.core_answers.specs.writes.Written.{IsWritten}
+use Rattle.page_cache.specs.Pages.{nothing_kept}
 
 -- A byte of an answer, the k-th: an operation that began before the answer gave it to the place; or the server was found to have it; or it is a
 -- zero, past the end of what it was found to have.
@@ -36,9 +37,9 @@ pub record ReadGiven (modes : Modes) (h : List Entry) (x : ℕ) (op : Op) (offse
   pub found : (k v : ℕ) → slice_get server k ≡ Some v → IsFound h x file (offset + k) v
   pub each : (k v : ℕ) → slice_get bytes k ≡ Some v → IsFrom modes h file server k (offset + k) v
 
--- Each answer to a read is so, by the history until then.
+-- Each answer to a read is so, by the history until then, where no page was kept from the start.
 abbrev pub ReadsGiven : Type 0
-ReadsGiven = (m : Mounted) (terms : Terms) (setup : Setup) (h : List Entry) (v : View) → GoesWith m terms setup h v
+ReadsGiven = (m : Mounted) (terms : Terms) (setup : Setup) (h : List Entry) (v : View) → GoesWith m terms setup h v → setup.pages ≡ nothing_kept
     → (lane x slot offset count y : ℕ) (bytes : List ℕ) → Ended h lane x (Read slot offset count) y (Done (values.Bytes bytes))
     → ReadGiven terms.modes (take y h) x (Read slot offset count) offset bytes
 
@@ -50,8 +51,8 @@ pub record ReadFrom (modes : Modes) (t : History) (x y : ℕ) (op : Op) (offset 
   pub held : (k v : ℕ) → slice_get server k ≡ Some v → IsHeld t x y file (offset + k) v
   pub each : (k v : ℕ) → slice_get bytes k ≡ Some v → IsFrom modes (take y t.entries) file server k (offset + k) v
 
--- Each answer to a read is so, where the server is honest and gives each change of a file another stamp.
+-- Each answer to a read is so, where the server is honest and gives each change of a file another stamp, and no page was kept from the start.
 abbrev pub ReadsFrom : Type 0
-ReadsFrom = (m : Mounted) (terms : Terms) (setup : Setup) (t : History) (v : View) → GoesWith m terms setup t.entries v → Lawful t → Fresh t
+ReadsFrom = (m : Mounted) (terms : Terms) (setup : Setup) (t : History) (v : View) → GoesWith m terms setup t.entries v → Lawful t → Fresh t → setup.pages ≡ nothing_kept
     → (lane x slot offset count y : ℕ) (bytes : List ℕ) → Ended t.entries lane x (Read slot offset count) y (Done (values.Bytes bytes))
     → ReadFrom terms.modes t x y (Read slot offset count) offset bytes

@@ -52,27 +52,27 @@ fed-laws t = record {
 pub core-fed : CoreIsFed
 core-fed m setup t lawful = each-step m setup t lawful Fed fed-laws
 
--- what both machines come to from nothing
-record FromNothing (t : History) (s : Shelf) : Type 0 where
-  pages_are : page_steps.IsFed t s.pages
+-- what both machines come to from the first pages, and from no names
+record FromFirst (t : History) (first : Pages) (s : Shelf) : Type 0 where
+  pages_are : page_steps.Steps t first s.pages
   names_are : name_steps.Steps t [] s.names
 
 module _ (m : Mounted) (setup : Setup) (t : History) (lawful : Lawful t) (numbered : Numbered t.entries) where
-  then-from : (old new : Shelf) → FromNothing t old → Fed t old new → FromNothing t new
+  then-from : (old new : Shelf) → FromFirst t setup.pages old → Fed t old new → FromFirst t setup.pages new
   then-from old new f g = record {
-    pages_are = then-pages t nothing_kept old.pages new.pages f.pages_are g.pages;
+    pages_are = then-pages t setup.pages old.pages new.pages f.pages_are g.pages;
     names_are = then-names t [] old.names new.names f.names_are g.names;
   }
 
-  along-fed : (h rest : List Entry) (v : View) → t.entries ≡ h ++ rest → Reaches (machine_of m) setup h v → FromNothing t v.shelf
+  along-fed : (h rest : List Entry) (v : View) → t.entries ≡ h ++ rest → Reaches (machine_of m) setup h v → FromFirst t setup.pages v.shelf
   along-fed _ rest _ is (begins h v may up fresh) =
-      record { pages_are = page_steps.stays nothing_kept v.shelf.pages fresh.pages; names_are = name_steps.stays [] v.shelf.names fresh.names }
+      record { pages_are = page_steps.stays setup.pages v.shelf.pages fresh.pages; names_are = name_steps.stays [] v.shelf.names fresh.names }
   along-fed _ rest _ is (goes h before v b e r same k) =
       let along : t.entries ≡ before ++ e ∷ rest = is ∙ ap (λ (l : List Entry). l ++ rest) same ∙ append_assoc before (e ∷ []) rest in
       then-from b.shelf v.shelf (along-fed before (e ∷ rest) b along r) (over-on m setup t lawful numbered (Fed t) (fed-laws t) before rest b v e along r k)
-  along-fed _ rest _ is (loses h v b r shown same) = subst (λ (w : View). FromNothing t w.shelf) (sym same) (along-fed h rest b is r)
+  along-fed _ rest _ is (loses h v b r shown same) = subst (λ (w : View). FromFirst t setup.pages w.shelf) (sym same) (along-fed h rest b is r)
 
-whole : (m : Mounted) (setup : Setup) (t : History) (v : View) → Lawful t → Reaches (machine_of m) setup t.entries v → FromNothing t v.shelf
+whole : (m : Mounted) (setup : Setup) (t : History) (v : View) → Lawful t → Reaches (machine_of m) setup t.entries v → FromFirst t setup.pages v.shelf
 whole m setup t v lawful r = along-fed m setup t lawful (numbered-at m setup t.entries v r) t.entries [] v (sym (append-nil t.entries)) r
 
 pub pages-fed : PagesFed

@@ -16,6 +16,7 @@ use Rattle.core_counts.proofs.thrift.Savers.{IsSaver}
 use Rattle.core_counts.proofs.thrift.Stays.{Case, CalmAt, CalmHere, calm-grows, before-last, shorter, fresh-calm, stirs-calm, starts-calm, answers-calm, same-calm}
 use Rattle.core_counts.proofs.thrift.Taken.{read-machine, held-now}
 use Rattle.core_counts.proofs.thrift.UnkeptAsked.{none-at}
+use Rattle.page_cache.specs.Pages.{nothing_kept}
 
 some-entry : (a c : Entry) → Some a ≡ Some c → a ≡ c
 some-entry a c e = cc
@@ -106,7 +107,7 @@ module _ (m : Mounted) (terms : Terms) (setup : Setup) (nocto : m.nocto ≡ term
   pub calm-before : (h rest : List Entry) (v : View) → Reaches (machine_of m) setup h v → v.lost ≡ false → h ++ rest ≡ q.H → length h ≤ q.n → CalmHere m setup q h v
   calm-before h rest v r found is within = reached-moments (machine_of m) (begins-unbegun m) setup (CalmAt m setup q) calm-laws h v r found rest is within
 
-module _ (m : Mounted) (terms : Terms) (setup : Setup) (before h : List Entry) (v : View) (g : GoesFrom m terms setup before h v) (one : OneLane h)
+module _ (m : Mounted) (terms : Terms) (setup : Setup) (before h : List Entry) (v : View) (g : GoesFrom m terms setup before h v) (bare : setup.pages ≡ nothing_kept) (one : OneLane h)
     (o at page n xid offset count : ℕ) (f bytes : List ℕ) (stamp : Stamp) (took : TookPage terms h o f stamp at page) (sent : FirstSent h n xid bytes) (spells : SpellsCall xid (read_call f offset count) bytes)
     (late : at < n) (met : MeetsPage offset count page) (so : Unchanged terms h o n f stamp) (w : Outgoing (machine_of m) (begins-unbegun m) setup h n bytes) where
   its : IsSession m terms setup h v
@@ -125,6 +126,7 @@ module _ (m : Mounted) (terms : Terms) (setup : Setup) (before h : List Entry) (
   case = record {
     H = h;
     one = one;
+    bare = bare;
     o = o;
     at = at;
     n = n;
@@ -156,7 +158,7 @@ module _ (m : Mounted) (terms : Terms) (setup : Setup) (before h : List Entry) (
   never-again = kept-still.there (none-at m terms setup h v its n bytes w xid offset count f spells one page met)
 
 pub kept-once : KeptOnce
-kept-once m terms setup before h v g one o at page n xid offset count f bytes stamp took sent spells late met so = elim (early-or m terms setup before h v g n bytes sent.sent) [
+kept-once m terms setup before h v g bare one o at page n xid offset count f bytes stamp took sent spells late met so = elim (early-or m terms setup before h v g n bytes sent.sent) [
   | inl early ↦ none-early m terms setup before h v g n xid offset count f bytes early spells
-  | inr w ↦ never-again m terms setup before h v g one o at page n xid offset count f bytes stamp took sent spells late met so w
+  | inr w ↦ never-again m terms setup before h v g bare one o at page n xid offset count f bytes stamp took sent spells late met so w
 ]

@@ -174,7 +174,7 @@ long-laws m setup = record {
 none-met : (h : List Entry) (c : Pages) → c ≡ nothing_kept → AllMet h c
 none-met h c is = subst (AllMet h) (sym is) (All-nil (Of (WasMet h)))
 
-pub reached-long : (m : Mounted) (setup : Setup) (h : List Entry) (v : View) → Reaches (machine_of m) setup h v
+pub reached-long : (m : Mounted) (setup : Setup) (h : List Entry) (v : View) → Reaches (machine_of m) setup h v → setup.pages ≡ nothing_kept
     → Known m setup Both both-asks NoPlace MetShelf LongStory (long-laws m setup) (λ k w lane reached found idle. tt) h v
-reached-long m setup h v r =
-    reached-known m setup Both both-asks NoPlace MetShelf LongStory (long-laws m setup) (λ k w lane reached found idle. tt) (λ k w fresh. none-met k w.shelf.pages fresh.pages) h v r
+reached-long m setup h v r bare =
+    reached-known m setup Both both-asks NoPlace MetShelf LongStory (long-laws m setup) (λ k w lane reached found idle. tt) (λ k w fresh. none-met k w.shelf.pages (fresh.pages ∙ bare)) h v r

@@ -26,6 +26,7 @@ use Rattle.core_counts.specs.thrift.Reads.{ReadsLong}
 use Rattle.core_counts.proofs.thrift.Parts.{WasMet, IsPart, whole, ends, met, PhaseLong}
 use Rattle.core_counts.proofs.thrift.PartSteps.{LongIn}
 use Rattle.core_counts.proofs.thrift.PartTales.{RunsLong, reached-long}
+use Rattle.page_cache.specs.Pages.{nothing_kept}
 
 -- ---- where the pages of a range end
 
@@ -140,12 +141,12 @@ module _ (m : Mounted) (terms : Terms) (setup : Setup) (h : List Entry) (v : Vie
   ranged = (good-over (machine_of m) (begins-unbegun m) setup (Given terms.modes) (is-given terms.modes m s.goes.nocto setup) (ReadStory terms.modes m s.some) (read-laws terms.modes m s.some)
       w.before w.old w.reached w.at (record { number = w.waiting.purpose.lane; state = Busy w.machine }) w.busy).1 w.x w.op w.under_way slot from size is-read
 
-  runs : RunsLong w.before w.machine
-  runs = (((reached-long m setup w.before w.old w.reached).lanes w.at (record { number = w.waiting.purpose.lane; state = Busy w.machine }) w.busy).1 w.x w.op w.under_way).story slot from size
+  runs : setup.pages ≡ nothing_kept → RunsLong w.before w.machine
+  runs bare = (((reached-long m setup w.before w.old w.reached bare).lanes w.at (record { number = w.waiting.purpose.lane; state = Busy w.machine }) w.busy).1 w.x w.op w.under_way).story slot from size
       is-read
 
-  long : LongIn w.before ranged.of.reading
-  long = subst (λ (q : ReadFile). LongIn w.before q.reading) (same-read runs.of ranged.of (sym runs.is ∙ ranged.is)) runs.long
+  long : setup.pages ≡ nothing_kept → LongIn w.before ranged.of.reading
+  long bare = let k = runs bare in subst (λ (q : ReadFile). LongIn w.before q.reading) (same-read k.of ranged.of (sym k.is ∙ ranged.is)) k.long
 
   pub names : ReadNames ranged.of.reading Its
   names = (subst (λ (q : Machine). Expects q Its) ranged.is (Now m terms setup h v s i bytes w).expects).1
@@ -211,8 +212,8 @@ module _ (m : Mounted) (terms : Terms) (setup : Setup) (h : List Entry) (v : Vie
   reading-long None long k named some = absurd (omega (arith, some))
   reading-long (Some r) long k named some = phase-long r.phase r refl long k named some
 
-  pub is-long : IsLong terms h i f offset count
-  is-long = reading-long ranged.of.reading long ranged.at names some-wait
+  pub is-long : setup.pages ≡ nothing_kept → IsLong terms h i f offset count
+  is-long bare = reading-long ranged.of.reading (long bare) ranged.at names some-wait
 
 -- ---- those of the set-up
 
@@ -228,7 +229,7 @@ module _ (m : Mounted) (terms : Terms) (setup : Setup) (before h : List Entry) (
       by call same (asked lane x op under asks keeps) = g.set_up.unbegun x lane under.line op under.began
 
 pub reads-long : ReadsLong
-reads-long m terms setup before h v g i xid offset count f bytes at spells = elim (early-or m terms setup before h v g i bytes at) [
+reads-long m terms setup before h v g bare i xid offset count f bytes at spells = elim (early-or m terms setup before h v g i bytes at) [
   | inl early ↦ absurd (none-early m terms setup before h v g i xid offset count f bytes early spells)
-  | inr w ↦ is-long m terms setup h v (session m terms setup before h v g) i bytes w xid offset count f spells
+  | inr w ↦ is-long m terms setup h v (session m terms setup before h v g) i bytes w xid offset count f spells bare
 ]

@@ -17,13 +17,15 @@ use Rattle.core_counts.proofs.thrift.OpKinds.{OpKind, reads, stores, puts, op-ki
 use Rattle.core_counts.proofs.thrift.PutOpenings.{IsEither, PutThen, putting-starts, putting-resumes}
 use Rattle.core_counts.proofs.thrift.Quiet.{ThenQuiet, starts-quiet, resumes-quiet}
 use Rattle.core_counts.proofs.thrift.Savers.{IsSaver, saver-starts, saver-resumes}
+use Rattle.page_cache.specs.Pages.{nothing_kept}
 
 -- ---- the session
 
--- A session of one lane, in which a page of a file was given at the place `at`, after the open at the place o. From o to n nothing shows a change.
+-- A session of one lane, which began with no pages, in which a page of a file was given at the place `at`, after the open at the place o. From o to n nothing shows a change.
 pub record Case (m : Mounted) (setup : Setup) : Type 0 where
   pub H : List Entry
   pub one : OneLane H
+  pub bare : setup.pages ≡ nothing_kept
   pub o : ℕ
   pub at : ℕ
   pub n : ℕ
@@ -149,7 +151,7 @@ module _ (m : Mounted) (setup : Setup) (q : Case m setup) where
   fresh-calm h v up fresh rest is within = record {
     b = 0;
     low = omega arith;
-    pages = subst (GoodAt h 0) (sym fresh.pages) (record {
+    pages = subst (GoodAt h 0) (sym (fresh.pages ∙ q.bare)) (record {
       marks = λ g k at_. absurd (cc);
       met = All-nil (λ p. Met p.0.file p.0.index);
       distinct = tt;

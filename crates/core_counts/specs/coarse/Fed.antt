@@ -58,10 +58,10 @@ pub record Fed (t : History) (old new : Shelf) : Type 0 where
 abbrev pub CoreIsFed : Type 0
 CoreIsFed = (m : Mounted) (setup : Setup) (t : History) → Lawful t → EachStep m setup t Fed
 
--- So at each place of it the kept pages are what their machine comes to from nothing,
+-- So at each place of it the kept pages are what their machine comes to from those that were kept from the start,
 abbrev pub PagesFed : Type 0
 PagesFed = (m : Mounted) (setup : Setup) (t : History) (h rest : List Entry) (v : View) → Lawful t → t.entries ≡ h ++ rest → Reaches (machine_of m) setup h v
-    → page_steps.IsFed (until t h) v.shelf.pages
+    → page_steps.Steps (until t h) setup.pages v.shelf.pages
 
 -- and the kept names are fed as law_names says.
 abbrev pub NamesFed : Type 0

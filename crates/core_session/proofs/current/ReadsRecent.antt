@@ -300,8 +300,8 @@ file-of m terms setup h v g x y o f offset count bytes read file i =
     (subst (λ (l : ℕ). InSlot terms.modes h x l read.slot i.open_at file) lane (subst (λ (k : ℕ). InSlot terms.modes h x i.lane k i.open_at file) (sym slot) i.holds))
 
 pub reads-recent : ReadsRecent
-reads-recent m terms setup t v g noac brief lawful fresh x y o f offset count bytes read =
-    let s = had-read m terms setup t.entries v g noac (λ may. (brief may).lasts) read.lane x read.slot offset count y bytes read.ended in
+reads-recent m terms setup t v g noac brief lawful fresh bare x y o f offset count bytes read =
+    let s = had-read m terms setup t.entries v g noac (λ may. (brief may).lasts) bare read.lane x read.slot offset count y bytes read.ended in
     let numbered = (reached-rows (machine_of m) setup t.entries v g.reaches).numbered in
     let part = sym (until t.entries s.before s.after y s.is s.there) in
     let r = s.shown in

@@ -26,6 +26,7 @@ use Rattle.core_session.proofs.kept.OwnStamps.{stamp-laws}
 use Rattle.core_session.proofs.kept.OwnStays.{own-calls, own-done, own-there, ran_}
 use Rattle.core_session.proofs.kept.ReadFound.{StampLaws, RecentOwn, IsFound, IsEnd}
 use Rattle.core_session.proofs.kept.ReadTaken.{AllOf, HadRead, had-read}
+use Rattle.page_cache.specs.Pages.{nothing_kept}
 
 some-object : (a b : Object) → Some a ≡ Some b → a ≡ b
 some-object a b e = cc
@@ -42,7 +43,7 @@ some-byte a b e = cc
 
 module _ (m : Mounted) (terms : Terms) (setup : Setup) (t : History) (v : View) (g : GoesWith m terms setup t.entries v) (noac : m.noac ≡ terms.modes.noac)
     (brief : terms.modes.nocto ≡ true → KeepsBriefly terms.modes setup t.entries) (roots : KnowsRoot terms.origin t.entries m.root) (puts : PutsNamed t.entries) (alone : OnlySetsUp t.entries)
-    (lawful : Lawful t) (fresh : Fresh t) (once : Once t.entries)
+    (lawful : Lawful t) (fresh : Fresh t) (bare : setup.pages ≡ nothing_kept) (once : Once t.entries)
     (r y o : ℕ) (f : List ℕ) (offset count : ℕ) (bytes : List ℕ) (read : ReadsBytes terms.modes t.entries r y o f offset count bytes)
     (w e i byte : ℕ) (wrote : Wrote terms.modes t.entries w e f i byte) (early : e < r) (untouched : Touched terms.modes terms.origin t w y f i → ⊥) (saved : IsSaved t.entries w r y f i byte)
     (stated : Stated m setup t.entries saved.evidence.wrote.asked.heard.got_at f (files.Write f saved.evidence.wrote.offset saved.evidence.wrote.how saved.evidence.wrote.bytes)) where
@@ -241,7 +242,7 @@ module _ (m : Mounted) (terms : Terms) (setup : Setup) (t : History) (v : View) 
 
   story : HadRead (machine_of m) setup terms.modes t.entries v W Laws t.entries r y (ops.Read read.slot offset count) offset count bytes
   story =
-      had-read m terms setup t.entries v g noac (λ may. (brief may).lasts) (StandsAll m terms setup t.entries v g roots puts f) (keeps-stands m terms setup t.entries v g roots puts f) Laws read.lane r read.slot
+      had-read m terms setup t.entries v g noac (λ may. (brief may).lasts) bare (StandsAll m terms setup t.entries v g roots puts f) (keeps-stands m terms setup t.entries v g roots puts f) Laws read.lane r read.slot
       offset count y bytes read.ended
 
   -- it is in the answer, where it was asked for

@@ -36,6 +36,7 @@ use Rattle.core_answers.proofs.bonds.MachineCalls.{Asks}
 use Rattle.core_answers.proofs.pages.FilePages.{pages-opened, noted-pages}
 use Rattle.core_answers.proofs.pages.MachinePages.{pages-starts, pages-resumes}
 use Rattle.core_session.proofs.kept.ReadStory.{AlignedIn, EndsSo, GoodFor, HadBack, ReadAt, Answered, from-settled, takes-read, framed-begins, begins-reach}
+use Rattle.page_cache.specs.Pages.{nothing_kept}
 
 -- ---- one entry more
 
@@ -628,15 +629,15 @@ keeps-own m modes setup H V W L g =
     }
 
 pub had-read : (m : Mounted) (terms : Terms) (setup : Setup) (h : List Entry) (v : View) → GoesWith m terms setup h v → m.noac ≡ terms.modes.noac
-    → (terms.modes.nocto ≡ true → LastAtMost setup.lives terms.modes.longest)
+    → (terms.modes.nocto ≡ true → LastAtMost setup.lives terms.modes.longest) → setup.pages ≡ nothing_kept
     → (W : List Entry → View → Type 0) → KeepsWatching (machine_of m) setup W → (L : StampLaws (machine_of m) setup) → (lane x slot offset count y : ℕ) (bytes : List ℕ)
     → Ended h lane x (ops.Read slot offset count) y (answers.Done (values.Bytes bytes))
     → HadRead (machine_of m) setup terms.modes h v W L h x y (ops.Read slot offset count) offset count bytes
-had-read m terms setup h v g noac lasts W watching L lane x slot offset count y bytes ended =
+had-read m terms setup h v g noac lasts bare W watching L lane x slot offset count y bytes ended =
     let s = reached-answered m setup h v (AllOwn (machine_of m) setup terms.modes h v W L)
     (keeps-own m terms.modes setup h v W L (keeps-all m terms.modes setup (subst (λ (b : Bool). KeepsMoments (machine_of m) setup (marked.Good b terms.modes)) noac (marked.keeps-good m terms.modes g.nocto setup lasts))))
     W watching Both both-asks (Given terms.modes) GoodShelf
     (Story (machine_of m) setup terms.modes h v W L) (laws m terms.modes noac setup h v W L)
-    (λ k w lane r found other. is-given terms.modes m g.nocto setup k w r found lane other) (λ k w fresh. none-good k w.shelf.pages fresh.pages) h v g.reaches (onward.stays h v refl refl) lane x
+    (λ k w lane r found other. is-given terms.modes m g.nocto setup k w r found lane other) (λ k w fresh. none-good k w.shelf.pages (fresh.pages ∙ bare)) h v g.reaches (onward.stays h v refl refl) lane x
     (ops.Read slot offset count) y (answers.Done (values.Bytes bytes)) ended in
     record { before = s.before; after = s.after; is = s.is; there = s.there; shown = s.story slot offset count refl bytes refl }

@@ -30,10 +30,11 @@ use Rattle.core_session.proofs.kept.OwnSeen.{SeenAfter}
 use Rattle.core_session.proofs.kept.OwnStamps.{stamp-laws}
 use Rattle.core_session.proofs.kept.OwnStated.{stated-opens}
 use Rattle.core_session.proofs.own.Zeros.{zeros-since}
+use Rattle.page_cache.specs.Pages.{nothing_kept}
 
 module _ (m : Mounted) (terms : Terms) (setup : Setup) (t : History) (v : View) (nocto : m.nocto ≡ terms.modes.nocto) (noac : m.noac ≡ terms.modes.noac) (notes : Notes (machine_of m) setup t.entries v)
     (brief : terms.modes.nocto ≡ true → KeepsBriefly terms.modes setup t.entries) (roots : KnowsRoot terms.origin t.entries m.root) (puts : PutsNamed t.entries) (alone : OnlySetsUp t.entries)
-    (lawful : Lawful t) (fresh : Fresh t) (once : Once t.entries) where
+    (lawful : Lawful t) (fresh : Fresh t) (bare : setup.pages ≡ nothing_kept) (once : Once t.entries) where
   abbrev g : GoesWith m terms setup t.entries v
   g = record { nocto = nocto; reaches = notes-reach (machine_of m) setup t.entries v notes }
 
@@ -183,8 +184,9 @@ module _ (m : Mounted) (terms : Terms) (setup : Setup) (t : History) (v : View) 
   pub read-cut : ReadCut terms.modes terms.origin t
   read-cut r y o f offset count bytes read x e size k value cuts early low is untouched =
       cut-so x e f size cuts r y o offset count bytes read early k value low untouched
-      (had-read m terms setup t.entries v g noac (λ may. (brief may).lasts) (StandsAll m terms setup t.entries v g roots puts f) (keeps-stands m terms setup t.entries v g roots puts f)
+      (had-read m terms setup t.entries v g noac (λ may. (brief may).lasts) bare (StandsAll m terms setup t.entries v g roots puts f) (keeps-stands m terms setup t.entries v g roots puts f)
       (Laws x e f size cuts) read.lane r read.slot offset count y bytes read.ended) is
 
 pub cuts-read : CutsRead
-cuts-read m terms setup t v nocto noac notes brief roots puts alone lawful fresh once = read-cut m terms setup t v nocto noac notes brief roots puts alone lawful fresh once
+cuts-read m terms setup t v nocto noac notes brief roots puts alone lawful fresh bare once =
+    read-cut m terms setup t v nocto noac notes brief roots puts alone lawful fresh bare once

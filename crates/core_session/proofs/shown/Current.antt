@@ -140,7 +140,7 @@ module _ (m : Mounted) (terms : Terms) (setup : Setup) (t : History) (v : View) 
         byte-so k b (omega (arith, within, most)) (s.shown.each k b is)
 
 pub reads-current : ReadsCurrent
-reads-current m terms setup t v g noac brief roots puts lawful fresh x y o f offset count bytes read k b is =
+reads-current m terms setup t v g noac brief roots puts lawful fresh bare x y o f offset count bytes read k b is =
     current m terms setup t v g noac brief roots puts lawful fresh x y o f offset count bytes read
-    (had-read m terms setup t.entries v g noac (λ may. (brief may).lasts) (StandsAll m terms setup t.entries v g roots puts f) (keeps-stands m terms setup t.entries v g roots puts f) read.lane x
+    (had-read m terms setup t.entries v g noac (λ may. (brief may).lasts) bare (StandsAll m terms setup t.entries v g roots puts f) (keeps-stands m terms setup t.entries v g roots puts f) read.lane x
     read.slot offset count y bytes read.ended) k b is

@@ -35,6 +35,7 @@ use Rattle.core_answers.proofs.bonds.MachineCalls.{Asks}
 use Rattle.core_answers.proofs.pages.FilePages.{pages-opened, noted-pages}
 use Rattle.core_answers.proofs.pages.MachinePages.{pages-starts, pages-resumes}
 use Rattle.core_session.proofs.shown.Story.{AlignedIn, EndsSo, GoodFor, HadBack, ReadAt, Answered, from-settled, takes-read, framed-begins, begins-reach}
+use Rattle.page_cache.specs.Pages.{nothing_kept}
 
 -- ---- one entry more
 
@@ -557,15 +558,15 @@ pub record HadRead (mo : ℕ → Op → Machine) (setup : Setup) (modes_ : Modes
   pub shown : ReadShown (AllOf mo setup modes_ H V W) modes_ before x op offset count bytes
 
 pub had-read : (m : Mounted) (terms : Terms) (setup : Setup) (h : List Entry) (v : View) → GoesWith m terms setup h v → m.noac ≡ terms.modes.noac
-    → (terms.modes.nocto ≡ true → LastAtMost setup.lives terms.modes.longest)
+    → (terms.modes.nocto ≡ true → LastAtMost setup.lives terms.modes.longest) → setup.pages ≡ nothing_kept
     → (W : List Entry → View → Type 0) → KeepsWatching (machine_of m) setup W → (lane x slot offset count y : ℕ) (bytes : List ℕ)
     → Ended h lane x (ops.Read slot offset count) y (answers.Done (values.Bytes bytes))
     → HadRead (machine_of m) setup terms.modes h v W h x y (ops.Read slot offset count) offset count bytes
-had-read m terms setup h v g noac lasts W watching lane x slot offset count y bytes ended =
+had-read m terms setup h v g noac lasts bare W watching lane x slot offset count y bytes ended =
     let s = reached-answered m setup h v (All setup terms.modes)
     (of-moments (machine_of m) setup (All setup terms.modes) (keeps-all m terms.modes setup
     (subst (λ (b : Bool). KeepsMoments (machine_of m) setup (marked.Good b terms.modes)) noac (marked.keeps-good m terms.modes g.nocto setup lasts)))) W watching Both both-asks (Given terms.modes) GoodShelf
     (Story (machine_of m) setup terms.modes h v W) (laws m terms.modes noac setup h v W)
-    (λ k w lane r found other. is-given terms.modes m g.nocto setup k w r found lane other) (λ k w fresh. none-good k w.shelf.pages fresh.pages) h v g.reaches (onward.stays h v refl refl) lane x
+    (λ k w lane r found other. is-given terms.modes m g.nocto setup k w r found lane other) (λ k w fresh. none-good k w.shelf.pages (fresh.pages ∙ bare)) h v g.reaches (onward.stays h v refl refl) lane x
     (ops.Read slot offset count) y (answers.Done (values.Bytes bytes)) ended in
     record { before = s.before; after = s.after; is = s.is; there = s.there; shown = s.story slot offset count refl bytes refl }

@@ -10,13 +10,13 @@ pub returns-in_default-clause-goes : goal.returns-in_default-clause-goes
 returns-in_default-clause-goes g c = passes_same _ _ _ _ (λ h u. broken-none c.args.script.now h u)
 
 pub work-requires-clause-held : goal.work-requires-clause-held
-work-requires-clause-held g c = fresh-held c.args.script.now c.args.settings.now c.args.setup.now c.in-Ok.session c.in-Ok.ensures.fresh c.requires.few c.requires.may
+work-requires-clause-held g c = fresh-held c.args.script.now c.args.settings.now c.args.setup c.in-Ok.session c.in-Ok.ensures.fresh c.requires.few c.requires.may
 
 pub returns-in-Ok-work-clause-goes : goal.returns-in-Ok-work-clause-goes
 returns-in-Ok-work-clause-goes g c =
     passes_less _ _ _ _ _ _ _ _ (λ given text h k on u.
     session-ends c.args.script.now h k c.work.new.self c.requires.asked c.in-Ok-work.ensures.held.seated.sixteen c.in-Ok-work.ensures.idle c.in-Ok-work.ensures.quiet
-    (on.goes [] (length h) (fresh-goes c.args.script.now c.args.settings.now c.args.setup.now c.in-Ok.session c.in-Ok.ensures.fresh h u)) _ c.in-Ok.session given text refl u on) c.in-Ok-work.ensures.goes
+    (on.goes [] (length h) (fresh-goes c.args.script.now c.args.settings.now c.args.setup c.in-Ok.session c.in-Ok.ensures.fresh h u)) _ c.in-Ok.session given text refl u on) c.in-Ok-work.ensures.goes
 
 pub returns-in-Ok-work-clause-ending : goal.returns-in-Ok-work-clause-ending
 returns-in-Ok-work-clause-ending g c = c.in-Ok-work.ensures.held.status
@@ -24,25 +24,25 @@ returns-in-Ok-work-clause-ending g c = c.in-Ok-work.ensures.held.status
 pub returns-clause-goes : goal.returns-clause-goes
 returns-clause-goes g c =
     passes_less _ _ _ _ _ _ _ _ (λ given text h k off u.
-    session-breaks c.args.script.now c.in-Ok.session _ given text h k u (fresh-goes c.args.script.now c.args.settings.now c.args.setup.now c.in-Ok.session c.in-Ok.ensures.fresh h u) off) c.in-Err.ensures.goes
+    session-breaks c.args.script.now c.in-Ok.session _ given text h k u (fresh-goes c.args.script.now c.args.settings.now c.args.setup c.in-Ok.session c.in-Ok.ensures.fresh h u) off) c.in-Err.ensures.goes
 
 pub returns-in_default-clause-core : goal.returns-in_default-clause-core
-returns-in_default-clause-core g c = told-none _ c.args.settings.now c.args.setup.now c.requires.may
+returns-in_default-clause-core g c = told-none _ c.args.settings.now c.args.setup c.requires.may c.is_sound.ensures
 
 pub returns-in-Ok-work-clause-core : goal.returns-in-Ok-work-clause-core
 returns-in-Ok-work-clause-core g c =
     let p = c.in-Ok-work.ensures.goes in
-    told-done _ _ [] c.args.script.now p.given p.text c.args.settings.now c.args.setup.now c.in-Ok.session c.requires.may c.in-Ok.ensures.fresh c.work.new.self p.told
+    told-done _ _ [] c.args.script.now p.given p.text c.args.settings.now c.args.setup c.in-Ok.session c.requires.may c.in-Ok.ensures.fresh c.work.new.self p.told
 
 pub returns-clause-core : goal.returns-clause-core
 returns-clause-core g c =
     let p = c.in-Err.ensures.goes in
-    told-broken _ _ [] c.args.script.now p.given p.text c.args.settings.now c.args.setup.now c.in-Ok.session c.requires.may c.in-Ok.ensures.fresh c.in-Err.halt p.told
+    told-broken _ _ [] c.args.script.now p.given p.text c.args.settings.now c.args.setup c.in-Ok.session c.requires.may c.in-Ok.ensures.fresh c.in-Err.halt p.told
 
 pub returns-in-Ok-work-clause-counted : goal.returns-in-Ok-work-clause-counted
 returns-in-Ok-work-clause-counted g c =
     let p = c.in-Ok-work.ensures.goes in
-    told-counted _ _ [] c.args.script.now p.given p.text c.args.settings.now c.args.setup.now c.in-Ok.session c.requires.may c.in-Ok.ensures.fresh c.args.tally c.work.new.self c.in-Ok.ensures.counts p.told
+    told-counted _ _ [] c.args.script.now p.given p.text c.args.settings.now c.args.setup c.in-Ok.session c.requires.may c.in-Ok.ensures.fresh c.args.tally c.work.new.self c.in-Ok.ensures.counts p.told
 
 pub returns-in_default-clause-dials : goal.returns-in_default-clause-dials
 returns-in_default-clause-dials g c = dials_same _ _

@@ -6,8 +6,8 @@ pub returns-then-count-eq0-clause-shown : goal.returns-then-count-eq0-clause-sho
 returns-then-count-eq0-clause-shown g c = empty_says _ _ _ _ _ _ _ _ _ _ (omega (arith, c.count.ensures, c.if-count-eq0.true)) refl c.session.ensures.shown c.session.ensures.loses
 
 pub returns-in-Ok-clause-shown : goal.returns-in-Ok-clause-shown
-returns-in-Ok-clause-shown g c = ready_says _ _ _ _ _ _ _ _ _ _ _ _ _ (not_empty _ (λ z. c.if-count-eq0.false (omega (arith, c.count.ensures, z)))) c.requires.asked c.in-Ok.ensures.fits c.first_xid-first.ensures.read c.in-Ok.ensures.goes c.session-in-Ok.ensures.shown c.session-in-Ok.ensures.core
-    c.session-in-Ok.ensures.dials
+returns-in-Ok-clause-shown g c = ready_says _ _ _ _ _ _ _ _ _ _ _ _ _ (not_empty _ (λ z. c.if-count-eq0.false (omega (arith, c.count.ensures, z)))) c.requires.asked c.in-Ok.ensures.fits c.first_xid-first.ensures.read c.in-Ok.ensures.goes c.run_ready.ensures.shown c.run_ready.ensures.core
+    c.run_ready.ensures.dials
 
 pub returns-in-Err-clause-shown : goal.returns-in-Err-clause-shown
 returns-in-Err-clause-shown g c = early_says _ _ _ _ _ _ _ _ _ _ _ _ _ (not_empty _ (λ z. c.if-count-eq0.false (omega (arith, c.count.ensures, z)))) c.first_xid-first.ensures.read c.in-Err.ensures.goes c.end_early.ensures.shown

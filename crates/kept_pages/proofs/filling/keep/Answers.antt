@@ -1,0 +1,10 @@
+use Rattle.std.proofs.Common.{sym, subst}
+use Rattle.page_cache.specs.Pages.{Pages}
+use Rattle.kept_pages.specs.Comes.{ArePages}
+use Rattle.kept_pages.proofs.Offers.{keeps}
+use Rattle.kept_pages.proofs.filling.keep.Goals as goal
+
+pub returns : goal.returns
+returns c = λ slots told all.
+    subst (λ (p : Pages). ArePages slots p) (sym c.keep.ensures.after)
+    (keeps slots c.args.page.now.file c.args.page.now.stamp 1 c.args.page.now.index c.args.page.now.bytes.now c.args.cache.now c.keep.result c.keep.ensures.answer c.is_sound.ensures.known told all)

@@ -1,0 +1,93 @@
+//! Which pages of a cache go into which slots of a store.
+
+use indexmap::IndexMap;
+use nfs_types::{Handle, KeptPage};
+use page_cache::PageCache;
+use page_store::{Disk, PageStore};
+use std::alloc::Global;
+use xdr_codec::Memory;
+
+/// What is to be stored.
+#[derive(Drop)]
+pub(crate) struct Plan {
+    /// The slots that change. Those behind as many as there are pages are only closed.
+    pub(crate) slots: Vec<u32>,
+    /// The numbers in the cache of the pages that go into the first of them, in their order.
+    pub(crate) pages: Vec<u32>,
+}
+
+/// The pages of a cache that no slot has, and slots for them: those that have no page of the cache, as far as there are any. A
+/// slot whose page the cache doesn't keep changes in any case.
+pub(crate) fn plan<D: Disk + Drop>(
+    alloc: Global,
+    cache: &PageCache,
+    store: &PageStore<D>,
+) -> Result<Plan, Memory> {
+    let places = places_of(alloc, store)?;
+    let mut stays = vec![in alloc; false; store.count() as usize]?;
+    let mut pages = Vec::new(alloc);
+    for n in 0..PageCache::MAX as u32 {
+        let Some(page) = cache.nth(n as usize) else {
+            break;
+        };
+        match slot_with(store, &places, &page) {
+            Some(slot) => mark(&mut stays, slot as usize),
+            None => pages.push(n)?,
+        }
+    }
+    let slots = changing(alloc, store, &stays, pages.len())?;
+    Ok(Plan { slots, pages })
+}
+
+/// Where each page is that a store shows, by its file and number.
+fn places_of<D: Disk + Drop>(
+    alloc: Global,
+    store: &PageStore<D>,
+) -> Result<IndexMap<(Handle, u64), u32>, Memory> {
+    let mut places = IndexMap::new(alloc);
+    for slot in 0..store.count() {
+        if let Some(page) = store.slot_page(slot) {
+            places.insert((page.file, page.index), slot)?;
+        }
+    }
+    Ok(places)
+}
+
+/// The slot that shows this very page, if the table has it.
+fn slot_with<D: Disk + Drop>(
+    store: &PageStore<D>,
+    places: &IndexMap<(Handle, u64), u32>,
+    page: &KeptPage<'_>,
+) -> Option<u32> {
+    let slot = *places.get(&(page.file, page.index))?;
+    let shown = store.slot_page(slot)?;
+    if shown.stamp == page.stamp && shown.bytes == page.bytes {
+        Some(slot)
+    } else {
+        None
+    }
+}
+
+/// A slot keeps its page.
+fn mark(stays: &mut Vec<bool>, slot: usize) {
+    if slot < stays.len() {
+        stays[slot] = true;
+    }
+}
+
+/// The slots that don't keep their page, in their order: so many, and of the others those that show one.
+fn changing<D: Disk + Drop>(
+    alloc: Global,
+    store: &PageStore<D>,
+    stays: &[bool],
+    most: usize,
+) -> Result<Vec<u32>, Memory> {
+    let mut slots = Vec::new(alloc);
+    for (slot, stay) in stays.iter().enumerate() {
+        let slot = slot as u32;
+        if !*stay && (slots.len() < most || store.slot_page(slot).is_some()) {
+            slots.push(slot)?;
+        }
+    }
+    Ok(slots)
+}

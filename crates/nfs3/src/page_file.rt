@@ -1,0 +1,59 @@
+//! The file of kept pages.
+
+ghost use Rattle.std.specs.Prelude.{◌≡◌};
+ghost use Rattle.script_text.specs.Numbers.{number_of};
+ghost use Rattle.nfs3.specs.Endings.{unformatted_as};
+
+use crate::ending::Ending;
+use page_store::{FileDisk, PageStore, StoreFault};
+use script_text::number;
+
+/// How many pages a file has room for where no number is given, and the least.
+const LEAST: u32 = 1024;
+
+/// The most.
+const MOST: u32 = 65_536;
+
+/// Makes the file that the words name, or empties it, with room for so many pages as a word behind `--pages` says, 1,024 without it.
+/// Only its owner may read it.
+pub fn make(rt: &HostRuntime, words: &[String]) -> Ending {
+    match words {
+        [path] => format(rt, path.as_str(), LEAST),
+        [path, name, pages] if name.as_str() == "--pages" => match page_count(pages.as_str()) {
+            Some(pages) => format(rt, path.as_str(), pages),
+            None => Ending::Usage,
+        },
+        _ => Ending::Usage,
+    }
+}
+
+/// The number of pages of a word. None exactly where it isn't a number from 1,024 to 65,536 in decimal digits.
+fn page_count(word: &str) -> Option<u32>
+    ensures { result ≡ number_of 1024 65536 word.now }
+{
+    number(word.as_bytes(), LEAST, MOST)
+}
+
+/// Makes a file with room for so many pages, from 1,024 to 65,536.
+fn format(rt: &HostRuntime, path: &str, pages: u32) -> Ending {
+    if pages < LEAST || pages > MOST {
+        return Ending::Usage;
+    }
+    let Ok(mut disk) = FileDisk::make(rt, path) else {
+        return Ending::Store;
+    };
+    match PageStore::format_sized(rt.alloc(), &mut disk, pages) {
+        Ok(()) => Ending::Made,
+        Err(fault) => unformatted(fault),
+    }
+}
+
+/// How the program ends where a store failed.
+fn unformatted(fault: StoreFault) -> Ending
+    ensures { result ≡ unformatted_as fault }
+{
+    match fault {
+        StoreFault::Fault => Ending::Store,
+        StoreFault::Memory => Ending::Memory,
+    }
+}

@@ -1,0 +1,29 @@
+use Rattle.std.proofs.Common.{[], refl}
+use Rattle.lane_session.specs.declared.halt.Halt.TheVariants.{Memory}
+use Rattle.lane_session.proofs.Closing.{broken-counts}
+use Rattle.lane_session.proofs.CoreEnds.{told-none}
+use Rattle.lane_session.proofs.Ending.{broken-none}
+use Rattle.lane_session.proofs.Passing.{passes_same}
+use Rattle.link_dials.proofs.Dialing.{dials_same}
+use Rattle.script_runs.specs.LaneRuns.{setup_of}
+use Rattle.script_runs.proofs.LaneRuns.{nothing-sound}
+use Rattle.script_runs.proofs.lanes.run_ready.Goals as goal
+
+pub returns-in_default-clause-core : goal.returns-in_default-clause-core
+returns-in_default-clause-core g c = told-none _ c.args.settings.now (setup_of c.args.settings.now c.args.ready) c.requires.may nothing-sound
+
+pub returns-in_default-clause-dials : goal.returns-in_default-clause-dials
+returns-in_default-clause-dials g c = dials_same _ _
+
+pub returns-in_default-clause-shown : goal.returns-in_default-clause-shown
+returns-in_default-clause-shown g c =
+    passes_same _ _ _ _ (λ h u. broken-counts _ c.args.ready.tally c.args.settings.now.count c.args.script.now Memory _ [] [] h h refl (broken-none c.args.script.now h u))
+
+pub session-requires-clause-may : goal.session-requires-clause-may
+session-requires-clause-may g c = rw c.in-Ok.ensures (c.requires.may)
+
+pub returns-clause-core : goal.returns-clause-core
+returns-clause-core g c = rw c.in-Ok.ensures at c.session.ensures.core
+
+pub returns-clause-shown : goal.returns-clause-shown
+returns-clause-shown g c = rw c.in-Ok.ensures at c.session.ensures.shown
