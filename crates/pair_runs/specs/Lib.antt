@@ -1,0 +1,4 @@
+pub mod Given
+pub mod Clients
+pub mod Texts
+pub mod PairRuns
