@@ -8,6 +8,7 @@ mod connections;
 mod ending;
 mod export;
 mod make;
+mod pair;
 mod replay;
 mod run;
 mod schedule_file;
@@ -49,6 +50,9 @@ fn command(rt: &HostRuntime, mut words: Vec<String>) -> Ending {
         [name, _, ..] if name.as_str() == "replay" => {
             let path = words.remove(1);
             replay::replay(rt, path.as_str(), words.as_slice())
+        }
+        [name, schedule, script] if name.as_str() == "pair" => {
+            pair::pair(rt, schedule.as_str(), script.as_str())
         }
         [name, _, ..] if name.as_str() == "make" => {
             let size = words.remove(1);
