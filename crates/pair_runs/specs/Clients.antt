@@ -41,10 +41,30 @@ left_of (states.Open session) = tries_left session
 left_of states.Lost = 0
 left_of (states.Done status) = 0
 
--- the same of both
+-- each line has its answer
+abbrev pub IsOver : State → Type 0
+IsOver (states.Open session) = ⊥
+IsOver states.Lost = ⊥
+IsOver (states.Done status) = Unit {0}
+
+-- the status by the answers so far
+abbrev pub status_in : State → ℕ
+status_in (states.Open session) = session.status
+status_in states.Lost = 0
+status_in (states.Done status) = status
+
+-- ---- both
+
+-- each is, and has its own end
 pub record AreReady (p : Pair) : Type 0 where
   pub a : IsReady p.a
   pub b : IsReady p.b
+  pub first : p.a.side ≡ sides.A
+  pub second : p.b.side ≡ sides.B
+
+pub record AreOver (p : Pair) : Type 0 where
+  pub a : IsOver p.a.state
+  pub b : IsOver p.b.state
 
 abbrev pub left_in : Pair → ℕ
 left_in p = left_of p.a.state + left_of p.b.state

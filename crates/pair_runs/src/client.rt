@@ -1,11 +1,11 @@
 //! One of the two clients.
 
-ghost use Rattle.std.specs.Prelude.{◌≡◌, ◌≤◌, ◌<◌, ◌+◌, ◌-◌, ◌^◌, All, IfOk, OnOk, length, true};
+ghost use Rattle.std.specs.Prelude.{◌≡◌, ◌≤◌, ◌<◌, ◌+◌, ◌-◌, ◌^◌, All, IfOk, OnOk, length, true, false};
 ghost use Rattle.outside.specs.Causes.{Rose};
 ghost use Rattle.nfs_script.specs.Asked.{IsAskedLine};
 ghost use Rattle.lane_session.specs.Statuses.{CausedBy, IsSessionStatus};
 ghost use Rattle.session_setup.specs.Outcomes.{FitsSession};
-ghost use Rattle.pair_runs.specs.Clients.{IsReady, Stands, left_of, label_of};
+ghost use Rattle.pair_runs.specs.Clients.{IsOver, IsReady, Stands, label_of, left_of, status_in};
 ghost use Rattle.pair_runs.specs.Given.{pair_settings};
 
 use crate::settings::settings;
@@ -54,6 +54,7 @@ impl Client {
         requires first { 1 ≤ first_xid }
         requires last { first_xid + 1000000 ≤ 2 ^ 32 - 1 }
         ensures ready { IfOk result IsReady }
+        ensures made { IfOk result (λ c. (c.side ≡ side) × (c.script ≡ script)) }
         ensures honest { P.honest link.old → P.honest link.new }
     {
         let state = open_state(alloc, side, &script, first_xid, link)?;
@@ -74,6 +75,8 @@ impl Client {
     ) -> Result<bool, Halt>
         requires { IsReady self.old }
         ensures ready { OnOk result (IsReady self.new) }
+        ensures same { self.new ≡ record self.old { state = self.new.state } }
+        ensures over { IfOk result (λ went. went ≡ false → IsOver self.new.state) }
         ensures less { IfOk result (λ went. went ≡ true → left_of self.new.state < left_of self.old.state) }
         ensures fewer { OnOk result (left_of self.new.state ≤ left_of self.old.state) }
         ensures honest { P.honest link.old → P.honest link.new }
@@ -96,6 +99,8 @@ impl Client {
     ) -> Result<bool, Halt>
         requires { IsReady self.old }
         ensures ready { OnOk result (IsReady self.new) }
+        ensures same { self.new ≡ record self.old { state = self.new.state } }
+        ensures over { IfOk result (λ went. went ≡ false → IsOver self.new.state) }
         ensures less { IfOk result (λ went. went ≡ true → left_of self.new.state < left_of self.old.state) }
         ensures fewer { OnOk result (left_of self.new.state ≤ left_of self.old.state) }
         ensures same_reference { end.new.link.ghost_name ≡ end.old.link.ghost_name }
@@ -132,7 +137,8 @@ impl Client {
     /// The status by its answers so far.
     pub(crate) fn status(&self) -> u8
         requires { IsReady self.now }
-        ensures { IsSessionStatus result }
+        ensures is { result ≡ status_in self.now.state }
+        ensures range { IsSessionStatus result }
     {
         match &self.state {
             State::Open(session) => session.status(),

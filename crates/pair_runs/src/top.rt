@@ -137,6 +137,7 @@ fn set_up_both<P: PairLink>(
     requires second { All IsAskedLine second }
     requires fewer { length second ≤ 16384 }
     ensures ready { IfOk result AreReady }
+    ensures made { IfOk result (λ p. (p.a.script ≡ first) × (p.b.script ≡ second)) }
     ensures honest { P.honest link.old → P.honest link.new }
 {
     let a = Client::open(alloc, Side::A, first, FIRST_XID, link)?;

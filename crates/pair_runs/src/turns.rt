@@ -1,9 +1,9 @@
 //! The turns of two clients.
 
-ghost use Rattle.std.specs.Prelude.{◌≡◌, ◌≤◌, ◌<◌, ◌+◌, IfOk, OnOk, true, false};
+ghost use Rattle.std.specs.Prelude.{◌≡◌, ◌≤◌, ◌<◌, ◌+◌, IfOk, OnOk, max, true, false};
 ghost use Rattle.outside.specs.Causes.{Rose};
 ghost use Rattle.lane_session.specs.Statuses.{CausedBy, IsSessionStatus};
-ghost use Rattle.pair_runs.specs.Clients.{AreReady, left_in};
+ghost use Rattle.pair_runs.specs.Clients.{AreOver, AreReady, left_in, status_in};
 
 use crate::client::Client;
 use crate::status::of_both;
@@ -28,6 +28,7 @@ impl Pair {
     ) -> Result<(), Halt>
         requires { AreReady self.old }
         ensures ready { OnOk result (AreReady self.new) }
+        ensures over { OnOk result (AreOver self.new) }
         ensures honest { P.honest link.old → P.honest link.new }
         ensures later { K.faults out.old ≤ K.faults out.new }
         ensures cause { CausedBy result (Rose (K.faults out.old) (K.faults out.new)) }
@@ -95,6 +96,7 @@ impl Pair {
     ) -> Result<(), Halt>
         requires { AreReady self.old }
         ensures ready { OnOk result (AreReady self.new) }
+        ensures over { OnOk result (AreOver self.new) }
         ensures honest { P.honest link.old → P.honest link.new }
         ensures later { K.faults out.old ≤ K.faults out.new }
         ensures cause { CausedBy result (Rose (K.faults out.old) (K.faults out.new)) }
@@ -120,6 +122,7 @@ impl Pair {
     ) -> Result<bool, Halt>
         requires { AreReady self.old }
         ensures ready { OnOk result (AreReady self.new) }
+        ensures over { IfOk result (λ went. went ≡ false → AreOver self.new) }
         ensures less { IfOk result (λ went. went ≡ true → left_in self.new < left_in self.old) }
         ensures honest { P.honest link.old → P.honest link.new }
         ensures later { K.faults out.old ≤ K.faults out.new }
@@ -137,7 +140,8 @@ impl Pair {
     /// The status by the answers of both.
     pub(crate) fn status(&self) -> u8
         requires { AreReady self.now }
-        ensures { IsSessionStatus result }
+        ensures is { result ≡ max (status_in self.now.a.state) (status_in self.now.b.state) }
+        ensures range { IsSessionStatus result }
     {
         of_both(self.a.status(), self.b.status())
     }
