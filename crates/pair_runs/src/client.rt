@@ -165,6 +165,7 @@ fn open_state<P: PairLink>(
     first_xid: u32,
     link: &mut P,
 ) -> Result<State, Memory>
+    requires few { length script.now ≤ 16384 }
     requires first { 1 ≤ first_xid }
     requires last { first_xid + 1000000 ≤ 2 ^ 32 - 1 }
     ensures stands { IfOk result (Stands script.now) }
@@ -205,6 +206,7 @@ fn begin(
 ) -> Result<State, Memory>
     requires settings { settings.now ≡ pair_settings }
     requires fits { FitsSession settings.now first_xid ready.now }
+    requires few { length script.now ≤ 16384 }
     requires first { 1 ≤ first_xid }
     requires last { first_xid + 1000000 ≤ 2 ^ 32 - 1 }
     ensures { IfOk result (Stands script.now) }
