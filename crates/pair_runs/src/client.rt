@@ -1,12 +1,17 @@
 //! One of the two clients.
 
-ghost use Rattle.std.specs.Prelude.{◌≡◌, ◌≤◌, ◌<◌, ◌+◌, ◌-◌, ◌^◌, All, IfOk, OnOk, length, true, false};
+ghost use Rattle.std.specs.Prelude.{◌≡◌, ◌≤◌, ◌<◌, ◌+◌, ◌-◌, ◌^◌, ℕ, List, All, Ok, Err, IfOk, OnOk, length, true, false};
 ghost use Rattle.outside.specs.Causes.{Rose};
+ghost use Rattle.world_model.specs.declared.entry.Entry.{Entry};
+ghost use Rattle.nfs_script.specs.declared.script.ScriptLine.{ScriptLine};
 ghost use Rattle.nfs_script.specs.Asked.{IsAskedLine};
 ghost use Rattle.lane_session.specs.Statuses.{CausedBy, IsSessionStatus};
-ghost use Rattle.session_setup.specs.Outcomes.{FitsSession};
+ghost use Rattle.session_setup.specs.Outcomes.{FitsSession, SetsUp};
+ghost use Rattle.pair_ends.specs.Ends.{number_of};
 ghost use Rattle.pair_runs.specs.Clients.{IsOver, IsReady, Stands, label_of, left_of, status_in};
 ghost use Rattle.pair_runs.specs.Given.{pair_settings};
+ghost use Rattle.pair_runs.specs.PairGoing.{IsOpened, OpensAt, PairPasses, SetsUpAt, TurnsBy, state_of};
+ghost use Rattle.pair_runs.specs.PairRuns.{PairRelates};
 
 use crate::settings::settings;
 use crate::status;
@@ -56,6 +61,7 @@ impl Client {
         ensures ready { IfOk result IsReady }
         ensures made { IfOk result (λ c. (c.side ≡ side) × (c.script ≡ script)) }
         ensures honest { P.honest link.old → P.honest link.new }
+        ensures opens { PairRelates (P.told link.old) (P.told link.new) (OpensAt (number_of side) first_xid script (state_of result)) }
     {
         let state = open_state(alloc, side, &script, first_xid, link)?;
         Ok(Client {
@@ -82,6 +88,8 @@ impl Client {
         ensures honest { P.honest link.old → P.honest link.new }
         ensures later { K.faults out.old ≤ K.faults out.new }
         ensures cause { CausedBy result (Rose (K.faults out.old) (K.faults out.new)) }
+        ensures goes { PairPasses (C.readings clock.old) (C.readings clock.new) (P.told link.old) (P.told link.new) (K.written out.old) (K.written out.new)
+            (TurnsBy (number_of self.old.side) self.old.script self.old.state self.new.state result) }
     {
         let mut end = End {
             link,
@@ -107,6 +115,8 @@ impl Client {
         ensures honest { P.honest end.old.link.now → P.honest end.new.link.now }
         ensures later { K.faults out.old ≤ K.faults out.new }
         ensures cause { CausedBy result (Rose (K.faults out.old) (K.faults out.new)) }
+        ensures goes { PairPasses (C.readings clock.old) (C.readings clock.new) (P.told end.old.link.now) (P.told end.new.link.now) (K.written out.old) (K.written out.new)
+            (TurnsBy (number_of end.old.side) self.old.script self.old.state self.new.state result) }
     {
         match &mut self.state {
             State::Open(session) => {
@@ -170,13 +180,25 @@ fn open_state<P: PairLink>(
     requires last { first_xid + 1000000 ≤ 2 ^ 32 - 1 }
     ensures stands { IfOk result (Stands script.now) }
     ensures honest { P.honest link.old → P.honest link.new }
+    ensures opens { PairRelates (P.told link.old) (P.told link.new) (OpensAt (number_of side) first_xid script.now result) }
 {
     let settings = settings();
     let mut end = End { link, side };
     match set_up_at(alloc, &settings, first_xid, &mut end) {
         Ok(ready) => begin(alloc, &settings, script, first_xid, &ready),
-        Err(SetUpFault::Memory) => Err(Memory),
-        Err(_) => Ok(State::Lost),
+        Err(fault) => unopened(fault),
+    }
+}
+
+/// What a client is without a set-up: its session is lost, but for want of memory. The root is given, so no mount is refused.
+fn unopened(fault: SetUpFault) -> Result<State, Memory>
+    ensures stands { (script : List ScriptLine) → IfOk result (Stands script) }
+    ensures opened { (first : ℕ) (script : List ScriptLine) (h : List Entry) → SetsUp pair_settings first (Err fault) h → IsOpened first script result h }
+{
+    match fault {
+        SetUpFault::Memory => Err(Memory),
+        SetUpFault::Lost(_) => Ok(State::Lost),
+        SetUpFault::Refused(_) => Ok(State::Lost),
     }
 }
 
@@ -192,6 +214,7 @@ fn set_up_at<P: PairLink>(
     ensures fits { IfOk result (FitsSession settings.now first_xid) }
     ensures same_reference { end.new.link.ghost_name ≡ end.old.link.ghost_name }
     ensures honest { P.honest end.old.link.now → P.honest end.new.link.now }
+    ensures opens { PairRelates (P.told end.old.link.now) (P.told end.new.link.now) (SetsUpAt (number_of end.old.side) first_xid result) }
 {
     set_up(alloc, settings, first_xid, end)
 }
@@ -209,7 +232,8 @@ fn begin(
     requires few { length script.now ≤ 16384 }
     requires first { 1 ≤ first_xid }
     requires last { first_xid + 1000000 ≤ 2 ^ 32 - 1 }
-    ensures { IfOk result (Stands script.now) }
+    ensures stands { IfOk result (Stands script.now) }
+    ensures opened { (h : List Entry) → SetsUp pair_settings first_xid (Ok ready.now) h → IsOpened first_xid script.now result h }
 {
     let setup = Setup {
         root: ready.root,

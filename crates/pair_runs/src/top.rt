@@ -1,10 +1,15 @@
 //! The top call.
 
-ghost use Rattle.std.specs.Prelude.{◌≡◌, ◌≤◌, ◌⊎◌, All, IfOk, IfErr, length};
+ghost use Rattle.std.specs.Prelude.{◌≡◌, ◌≤◌, ◌⊎◌, [], All, IfOk, IfErr, length};
 ghost use Rattle.outside.specs.Causes.{Rose};
 ghost use Rattle.nfs_script.specs.Asked.{IsAskedLine};
 ghost use Rattle.lane_session.specs.Statuses.{IsCutOff};
+ghost use Rattle.script_runs.specs.Readings.{Reads};
+ghost use Rattle.script_runs.specs.Run.{Says};
+ghost use Rattle.pair_runs.specs.Beginnings.{ReadsBoth, ReadsTexts};
 ghost use Rattle.pair_runs.specs.Clients.{AreLetters, AreReady, IsEnding, IsPairStatus};
+ghost use Rattle.pair_runs.specs.PairGoing.{PairOpens, PairPasses};
+ghost use Rattle.pair_runs.specs.PairRuns.{BothRan, NoneBegan, PairLeaves, PairRelates};
 
 use crate::client::Client;
 use crate::start::{script_of, text_of};
@@ -45,6 +50,15 @@ pub fn run_pair<S: Source, T: Source, P: PairLink, C: Clock, K: Sink>(
 
     // A link that is honest stays so: what it tells is lawful as each client sees it.
     ensures honest { P.honest link.old → P.honest link.new }
+
+    // At 3 and 4 no client was set up, whatever the link tells: at 4 nothing is written, and at 3 the line that says which script is refused, and why.
+    ensures early { (result ≡ 3) ⊎ (result ≡ 4) → Says (K.written out.old) (K.written out.new) (NoneBegan (S.left a.old) (T.left b.old) result) }
+
+    // What was written is what the history of both says, and so are the readings that the clock gave; and each client's core goes with its side.
+    ensures shown { Says (K.written out.old) (K.written out.new) (λ text.
+        Reads (C.readings clock.old) (C.readings clock.new) (λ given.
+        PairRelates (P.told link.old) (P.told link.new) (λ before h. before.steps ≡ [] →
+        PairLeaves given (S.left a.old) (T.left b.old) h result text))) }
 {
     match scripts(alloc, a, b, out) {
         Ok((first, second)) => run_scripts(alloc, order, first, second, link, clock, out),
@@ -65,6 +79,7 @@ fn scripts<S: Source, T: Source, K: Sink>(
     ensures source { IfErr result (λ status. status ≡ 4 → Rose (S.faults a.old) (S.faults a.new) ⊎ Rose (T.faults b.old) (T.faults b.new)) }
     ensures sink { IfErr result (λ status. status ≡ 5 → Rose (K.faults out.old) (K.faults out.new)) }
     ensures later { K.faults out.old ≤ K.faults out.new }
+    ensures says { Says (K.written out.old) (K.written out.new) (ReadsBoth (S.left a.old) (T.left b.old) result) }
 {
     let first = match text_of(alloc, a) {
         Ok(text) => text,
@@ -89,6 +104,7 @@ fn both<K: Sink>(
     ensures status { IfErr result (λ status. (status ≡ 3) ⊎ IsCutOff status) }
     ensures sink { IfErr result (λ status. status ≡ 5 → Rose (K.faults out.old) (K.faults out.new)) }
     ensures later { K.faults out.old ≤ K.faults out.new }
+    ensures says { Says (K.written out.old) (K.written out.new) (ReadsTexts first.now second.now result) }
 {
     match script_of(alloc, Side::A, first, out) {
         Ok(a) => match script_of(alloc, Side::B, second, out) {
@@ -116,6 +132,8 @@ fn run_scripts<P: PairLink, C: Clock, K: Sink>(
     ensures ending { IsEnding result }
     ensures sink { result ≡ 5 → Rose (K.faults out.old) (K.faults out.new) }
     ensures honest { P.honest link.old → P.honest link.new }
+    ensures goes { PairPasses (C.readings clock.old) (C.readings clock.new) (P.told link.old) (P.told link.new) (K.written out.old) (K.written out.new)
+        (λ given text h k. h.steps ≡ [] → BothRan first second given k result text) }
 {
     let Ok(mut pair) = set_up_both(alloc, first, second, link) else {
         return status::NO_MEMORY;
@@ -139,6 +157,7 @@ fn set_up_both<P: PairLink>(
     ensures ready { IfOk result AreReady }
     ensures made { IfOk result (λ p. (p.a.script ≡ first) × (p.b.script ≡ second)) }
     ensures honest { P.honest link.old → P.honest link.new }
+    ensures opens { PairRelates (P.told link.old) (P.told link.new) (λ h k. h.steps ≡ [] → PairOpens first second result h k) }
 {
     let a = Client::open(alloc, Side::A, first, FIRST_XID, link)?;
     let b = Client::open(alloc, Side::B, second, OTHER_XID, link)?;

@@ -4,6 +4,7 @@ ghost use Rattle.std.specs.Prelude.{◌≡◌, ◌≤◌, ◌<◌, ◌+◌, IfOk
 ghost use Rattle.outside.specs.Causes.{Rose};
 ghost use Rattle.lane_session.specs.Statuses.{CausedBy, IsSessionStatus};
 ghost use Rattle.pair_runs.specs.Clients.{AreOver, AreReady, left_in, status_in};
+ghost use Rattle.pair_runs.specs.PairGoing.{PairBy, PairPasses};
 
 use crate::client::Client;
 use crate::status::of_both;
@@ -32,6 +33,8 @@ impl Pair {
         ensures honest { P.honest link.old → P.honest link.new }
         ensures later { K.faults out.old ≤ K.faults out.new }
         ensures cause { CausedBy result (Rose (K.faults out.old) (K.faults out.new)) }
+        ensures goes { PairPasses (C.readings clock.old) (C.readings clock.new) (P.told link.old) (P.told link.new) (K.written out.old) (K.written out.new)
+            (PairBy self.old self.new result) }
     {
         match self.follow(order, link, clock, out) {
             Ok(()) => self.alternate(link, clock, out),
@@ -52,6 +55,8 @@ impl Pair {
         ensures honest { P.honest link.old → P.honest link.new }
         ensures later { K.faults out.old ≤ K.faults out.new }
         ensures cause { CausedBy result (Rose (K.faults out.old) (K.faults out.new)) }
+        ensures goes { PairPasses (C.readings clock.old) (C.readings clock.new) (P.told link.old) (P.told link.new) (K.written out.old) (K.written out.new)
+            (PairBy self.old self.new result) }
     {
         for letter in order {
             match self.turn_of(*letter, link, clock, out) {
@@ -75,6 +80,8 @@ impl Pair {
         ensures honest { P.honest link.old → P.honest link.new }
         ensures later { K.faults out.old ≤ K.faults out.new }
         ensures cause { CausedBy result (Rose (K.faults out.old) (K.faults out.new)) }
+        ensures goes { PairPasses (C.readings clock.old) (C.readings clock.new) (P.told link.old) (P.told link.new) (K.written out.old) (K.written out.new)
+            (PairBy self.old self.new result) }
     {
         let client = if letter == b'a' {
             &mut self.a
@@ -100,6 +107,8 @@ impl Pair {
         ensures honest { P.honest link.old → P.honest link.new }
         ensures later { K.faults out.old ≤ K.faults out.new }
         ensures cause { CausedBy result (Rose (K.faults out.old) (K.faults out.new)) }
+        ensures goes { PairPasses (C.readings clock.old) (C.readings clock.new) (P.told link.old) (P.told link.new) (K.written out.old) (K.written out.new)
+            (PairBy self.old self.new result) }
     {
         'alternating: loop {
             match self.take_turns(link, clock, out) {
@@ -127,6 +136,8 @@ impl Pair {
         ensures honest { P.honest link.old → P.honest link.new }
         ensures later { K.faults out.old ≤ K.faults out.new }
         ensures cause { CausedBy result (Rose (K.faults out.old) (K.faults out.new)) }
+        ensures goes { PairPasses (C.readings clock.old) (C.readings clock.new) (P.told link.old) (P.told link.new) (K.written out.old) (K.written out.new)
+            (PairBy self.old self.new result) }
     {
         match self.a.turn(link, clock, out) {
             Ok(first) => match self.b.turn(link, clock, out) {
