@@ -10,8 +10,8 @@ new-requires c =
     let last = c.requires.last in
     may_set_up c.args.settings.now c.args.first_xid c.args.ready.now _ c.requires.first (omega (arith, n, last)) c.requires.fits refl refl refl refl
 
-pub returns-in-Ok : goal.returns-in-Ok
-returns-in-Ok c =
+pub returns-in-Ok-clause-stands : goal.returns-in-Ok-clause-stands
+returns-in-Ok-clause-stands c =
     let n = calls-of c.args.settings.now c.requires.settings in
     let last = c.requires.last in
     fresh-held c.args.script.now c.args.settings.now _ c.in-Ok.session c.in-Ok.ensures.fresh c.requires.few
