@@ -34,7 +34,8 @@ pub fn empty(alloc: Global) -> Case {
 /// Adds a line to a text.
 fn add_line(text: &mut Vec<u8>, line: &str) -> Result<(), AllocError> {
     text.extend_from_slice(line.as_bytes())?;
-    text.push(b'\n')
+    text.push(b'\n')?;
+    Ok(())
 }
 
 /// The number that digits spell; 0 where it is none.
@@ -45,12 +46,13 @@ fn number_of(text: &str) -> u32 {
 /// Takes what a line adds to the description.
 pub fn takes(case: &mut Case, word: &str, rest: &str) -> Result<(), AllocError> {
     match word {
-        "schedule" => add_line(&mut case.schedule, rest),
-        "a" => add_line(&mut case.script_a, rest),
-        "b" => add_line(&mut case.script_b, rest),
-        "read_a" => case.reads_a.push(number_of(rest)),
-        "read_b" => case.reads_b.push(number_of(rest)),
-        "write" => case.writes.push(number_of(rest)),
-        _ => Ok(()),
+        "schedule" => add_line(&mut case.schedule, rest)?,
+        "a" => add_line(&mut case.script_a, rest)?,
+        "b" => add_line(&mut case.script_b, rest)?,
+        "read_a" => case.reads_a.push(number_of(rest))?,
+        "read_b" => case.reads_b.push(number_of(rest))?,
+        "write" => case.writes.push(number_of(rest))?,
+        _ => {}
     }
+    Ok(())
 }
