@@ -19,7 +19,10 @@ use client_core::Setup;
 use lane_session::{Halt, Session, lose_lines};
 use nfs_script::Script;
 use outside::{Clock, PairLink, Sink};
+<<<<<<< HEAD
 use page_cache::PageCache;
+=======
+>>>>>>> 4cc4051697e02d8592c41d1db037b543c7e07a0c
 use pair_ends::{End, Side};
 use session_setup::{SetUp, SetUpFault, set_up};
 use session_words::Settings;
@@ -123,11 +126,12 @@ impl Client {
             State::Open(session) => {
                 match session.take_turn(&self.script, label(end.side), end, clock, out) {
                     Ok(went) => {
-                        if !went {
-                            let status = session.status();
-                            self.state = State::Done(status);
+                        if went {
+                            return Ok(true);
                         }
-                        Ok(went)
+                        let status = session.status();
+                        self.state = State::Done(status);
+                        Ok(false)
                     }
                     Err(halt) => Err(halt),
                 }
@@ -236,9 +240,12 @@ fn begin(
     ensures stands { IfOk result (Stands script.now) }
     ensures opened { (h : List Entry) → SetsUp pair_settings first_xid (Ok ready.now) h → IsOpened first_xid script.now result h }
 {
+<<<<<<< HEAD
     let Ok(pages) = PageCache::new(alloc) else {
         return Err(Memory);
     };
+=======
+>>>>>>> 4cc4051697e02d8592c41d1db037b543c7e07a0c
     let setup = Setup {
         root: ready.root,
         rsize: ready.rsize,
@@ -247,9 +254,14 @@ fn begin(
         limit: ready.left,
         cred: settings.cred,
         lives: settings.lives,
+<<<<<<< HEAD
         pages,
     };
     match Session::new(alloc, settings, setup, ready.tally) {
+=======
+    };
+    match Session::new(alloc, settings, &setup, ready.tally) {
+>>>>>>> 4cc4051697e02d8592c41d1db037b543c7e07a0c
         Ok(session) => Ok(State::Open(session)),
         Err(memory) => Err(memory),
     }
