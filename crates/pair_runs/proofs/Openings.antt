@@ -8,7 +8,8 @@ use Rattle.world_model.specs.Entries.{ours}
 use Rattle.link_dials.proofs.Dialing.{same-dials}
 use Rattle.nfs_script.specs.declared.script.ScriptLine.{ScriptLine}
 use Rattle.outside.specs.Pairs.{PairTold, seen_by, side}
-use Rattle.pair_ends.specs.Ends.{AddsAlone, Spares}
+use Rattle.pair_ends.specs.declared.side.Side.{Side}
+use Rattle.pair_ends.specs.Ends.{AddsAlone, Spares, number_of}
 use Rattle.session_words.specs.declared.settings.Export.TheVariants as exports
 use Rattle.session_words.specs.declared.settings.Settings.{Settings}
 use Rattle.session_setup.specs.declared.opening.SetUp.{SetUp}
@@ -46,6 +47,13 @@ set-up-at end first s result t0 t1 is alone along =
     both-less t0 t1 _ (SetsUpAt end first result)
     (λ h k x. record { alone = x.0; set_up = λ none. subst (λ (t : Settings). SetsUp t first result (seen_by end k.steps)) is (x.1.1 none) })
     (at-end end t0 t1 _ alone along)
+
+-- the same where the end's side is known to stay
+pub set-up-of-end : (old new : Side) (first : ℕ) (s : Settings) (result : Result SetUp SetUpFault) (t0 t1 : Option PairTold) → new ≡ old → s ≡ pair_settings → Spares (number_of old) t0 t1
+    → Along (option_map (side (number_of old)) t0) (option_map (side (number_of new)) t1) (λ h k. ours h ≡ [] → SetsUp s first result k) → PairRelates t0 t1 (SetsUpAt (number_of old) first result)
+set-up-of-end old new first s result t0 t1 same is alone along =
+    set-up-at (number_of old) first s result t0 t1 is alone
+    (subst (λ (e : Side). Along (option_map (side (number_of old)) t0) (option_map (side (number_of e)) t1) (λ h k. ours h ≡ [] → SetsUp s first result k)) same along)
 
 -- ---- nothing was noted
 
@@ -108,6 +116,13 @@ opens-session first script v s h one last fits f port so = record {
   port = port;
   dials = same-dials pair_settings.nfs_port h;
 }
+
+-- by settings that are those of both clients
+pub opens-by : (settings : Settings) (first : ℕ) (script : List ScriptLine) (v : SetUp) (s : Session) (h : List Entry) → settings ≡ pair_settings → 1 ≤ first → first + 1000000 ≤ 2 ^ 32 - 1
+    → FitsSession settings first v → IsFreshFor settings (setup_of settings v) s → s.port ≡ settings.nfs_port → SetsUp pair_settings first (Ok v) h → GoesOpen first script h s
+opens-by settings first script v s h is one last f fresh_is port so =
+    opens-session first script v s h one last (subst (λ (t : Settings). FitsSession t first v) is f) (subst (λ (t : Settings). IsFreshFor t (setup_of t v) s) is fresh_is)
+    (port ∙ ap (λ (t : Settings). t.nfs_port) is) so
 
 -- memory ran out, and no line began
 pub opens-nothing : (first : ℕ) (script : List ScriptLine) (result : Result SetUp SetUpFault) (h : List Entry) → SetsUp pair_settings first result h → ClientRan first script h 7

@@ -4,7 +4,8 @@ use Rattle.world_model.specs.declared.entry.Entry.{Entry}
 use Rattle.world_model.specs.History.{History}
 use Rattle.world_model.specs.Told.{Relates}
 use Rattle.outside.specs.Pairs.{PairTold, seen_by, side}
-use Rattle.pair_ends.specs.Ends.{AddsAlone, Spares}
+use Rattle.pair_ends.specs.declared.side.Side.{Side}
+use Rattle.pair_ends.specs.Ends.{AddsAlone, Spares, number_of}
 use Rattle.lane_session.specs.Streams.{Passes}
 use Rattle.lane_session.specs.Streams.{Appends as LaneAppends, ReadsAll as LaneReadsAll}
 use Rattle.script_runs.specs.Readings.{ReadsAll}
@@ -139,3 +140,11 @@ module _ (end : ℕ) (r0 r1 : Option (List ℕ)) (t0 t1 : Option PairTold) (w0 w
     told = both-less t0 t1 (AtEnd end (λ h k. R p.given p.text h k)) (λ h k. S p.given p.text h k) (λ h k x. less p.given p.text h k x.0 x.1)
         (at-end end t0 t1 (λ h k. R p.given p.text h k) alone p.told);
   }
+
+-- the same where the end's side is known to stay
+pub passes-of-end : (old new : Side) → new ≡ old → (r0 r1 : Option (List ℕ)) (t0 t1 : Option PairTold) (w0 w1 : Option (List ℕ)) (R : List ℕ → List ℕ → List Entry → List Entry → Type 0) (S : List ℕ → List ℕ → PairTold → PairTold → Type 0)
+    → ((g t : List ℕ) (h k : PairTold) → AddsAlone (number_of old) h k → R g t (seen_by (number_of old) h.steps) (seen_by (number_of old) k.steps) → S g t h k) → Spares (number_of old) t0 t1
+    → Passes r0 r1 (option_map (side (number_of old)) t0) (option_map (side (number_of new)) t1) w0 w1 R → PairPasses r0 r1 t0 t1 w0 w1 S
+passes-of-end old new same r0 r1 t0 t1 w0 w1 R S less alone p =
+    passes-at-end (number_of old) r0 r1 t0 t1 w0 w1 R S less alone
+    (subst (λ (s : Side). Passes r0 r1 (option_map (side (number_of old)) t0) (option_map (side (number_of s)) t1) w0 w1 R) same p)
