@@ -94,7 +94,7 @@ session-status script (states.Open s) over stands = absurd over
 session-status script states.Lost over stands = absurd over
 session-status script (states.Done status) over stands = stands
 
-module _ (first second : List ScriptLine) (p : Pair) (one : p.a.script ≡ first) (two : p.b.script ≡ second) (h k l : PairTold) (none : h.steps ≡ []) (opens : PairOpens first second (Ok p) h k) where
+module _ (first second : List ScriptLine) (p : Pair) (same_a : p.a.script ≡ first) (same_b : p.b.script ≡ second) (h k l : PairTold) (none : h.steps ≡ []) (opens : PairOpens first second (Ok p) h k) where
   -- each line has its answer
   pub both-done : {T : Type 0} → (x : T) (q : Pair) (status : ℕ) (given text : List ℕ) → AreReady q → AreOver q → status ≡ max (status_in q.a.state) (status_in q.b.state)
       → PairBy p q (Ok x) given text k l → BothRan first second given l status text
@@ -104,11 +104,11 @@ module _ (first second : List ScriptLine) (p : Pair) (one : p.a.script ≡ first
       record {
         a = status_in q.a.state;
         b = status_in q.b.state;
-        one = subst (λ (s : List ScriptLine). ClientRan 1 s (seen_by 0 l.steps) (status_in q.a.state)) (ap (λ (c : Client). c.script) by.0.a ∙ one)
+        one = subst (λ (s : List ScriptLine). ClientRan 1 s (seen_by 0 l.steps) (status_in q.a.state)) (ap (λ (c : Client). c.script) by.0.a ∙ same_a)
             (done-of 1 q.a (seen_by 0 l.steps) ready.a.asked over.a go.a);
-        other = subst (λ (s : List ScriptLine). ClientRan 1073741825 s (seen_by 1 l.steps) (status_in q.b.state)) (ap (λ (c : Client). c.script) by.0.b ∙ two)
+        other = subst (λ (s : List ScriptLine). ClientRan 1073741825 s (seen_by 1 l.steps) (status_in q.b.state)) (ap (λ (c : Client). c.script) by.0.b ∙ same_b)
             (done-of 1073741825 q.b (seen_by 1 l.steps) ready.b.asked over.b go.b);
-        status = by_both (session-status q.a.script q.a.state over.a ready.a.stands) (session-status q.b.script q.b.state over.b ready.b.stands) is;
+        ends = by_both (session-status q.a.script q.a.state over.a ready.a.stands) (session-status q.b.script q.b.state over.b ready.b.stands) is;
         says = whole_text all.1;
         clocked = record { last = []; is = all.0 ∙ sym (append-nil (pair_clocks l.steps)); few = omega arith; whole = λ other. refl };
       }
@@ -127,9 +127,9 @@ module _ (first second : List ScriptLine) (p : Pair) (one : p.a.script ≡ first
       record {
         a = status;
         b = status;
-        one = subst (λ (n : ℕ). ClientRan 1 first (seen_by 0 l.steps) n) (sym is) (subst (λ (s : List ScriptLine). ClientRan 1 s (seen_by 0 l.steps) (of_halt halt)) one cut.a);
-        other = subst (λ (n : ℕ). ClientRan 1073741825 second (seen_by 1 l.steps) n) (sym is) (subst (λ (s : List ScriptLine). ClientRan 1073741825 s (seen_by 1 l.steps) (of_halt halt)) two cut.b);
-        status = cut_off off refl refl;
+        one = subst (λ (n : ℕ). ClientRan 1 first (seen_by 0 l.steps) n) (sym is) (subst (λ (s : List ScriptLine). ClientRan 1 s (seen_by 0 l.steps) (of_halt halt)) same_a cut.a);
+        other = subst (λ (n : ℕ). ClientRan 1073741825 second (seen_by 1 l.steps) n) (sym is) (subst (λ (s : List ScriptLine). ClientRan 1073741825 s (seen_by 1 l.steps) (of_halt halt)) same_b cut.b);
+        ends = cut_off off refl refl;
         says = cut_text off (subst (IsFront text) (sym told) by.0.shown);
         clocked = record {
           last = by.0.last;
@@ -148,7 +148,7 @@ none-opened first second e status h k none seven o =
       b = status;
       one = subst (λ (n : ℕ). ClientRan 1 first (seen_by 0 k.steps) n) (sym seven) o.1;
       other = subst (λ (n : ℕ). ClientRan 1073741825 second (seen_by 1 k.steps) n) (sym seven) o.2;
-      status = cut_off (inr seven) refl refl;
+      ends = cut_off (inr seven) refl refl;
       says = whole_text all.1;
       clocked = record { last = []; is = all.0 ∙ sym (append-nil (pair_clocks k.steps)); few = omega arith; whole = λ other. refl };
     }

@@ -15,7 +15,7 @@ use Rattle.session_words.specs.declared.settings.Settings.{Settings}
 use Rattle.session_setup.specs.declared.opening.SetUp.{SetUp}
 use Rattle.session_setup.specs.declared.opening.SetUpFault.{SetUpFault}
 use Rattle.session_setup.specs.declared.opening.SetUpFault.TheVariants as faults
-use Rattle.session_setup.specs.Along.{Along}
+use Rattle.session_setup.specs.Along.{Along, Extends}
 use Rattle.session_setup.specs.Outcomes.{FitsSession, SetsUp}
 use Rattle.session_setup.specs.Sendings.{IsUnmarked}
 use Rattle.client_core.specs.declared.setup.Setup.{Setup}
@@ -37,16 +37,19 @@ use Rattle.pair_runs.specs.PairGoing.{GoesOpen, GoesLost, IsOpened, OpensAt, Pai
 use Rattle.pair_runs.specs.PairRuns.{ClientRan, unready, PairRelates}
 use Rattle.pair_runs.specs.Texts.{label_at, pair_transcript, pair_clocks}
 use Rattle.pair_runs.proofs.Adding.{side-grown, turn-adds}
-use Rattle.pair_runs.proofs.Passages.{at-end, both-less}
+use Rattle.pair_runs.proofs.Passages.{AtEnd, at-end, both-less}
 
 -- ---- the set-up
 
-pub set-up-at : (end first : ℕ) (s : Settings) (result : Result SetUp SetUpFault) (t0 t1 : Option PairTold) → s ≡ pair_settings → Spares end t0 t1
+abbrev SetUpSo : ℕ → Settings → Result SetUp SetUpFault → List Entry → List Entry → Type 0
+SetUpSo first s result h k = Extends h k × (ours h ≡ [] → SetsUp s first result k)
+
+set-up-at : (end first : ℕ) (s : Settings) (result : Result SetUp SetUpFault) (t0 t1 : Option PairTold) → s ≡ pair_settings → Spares end t0 t1
     → Along (option_map (side end) t0) (option_map (side end) t1) (λ h k. ours h ≡ [] → SetsUp s first result k) → PairRelates t0 t1 (SetsUpAt end first result)
 set-up-at end first s result t0 t1 is alone along =
-    both-less t0 t1 _ (SetsUpAt end first result)
+    both-less t0 t1 (AtEnd end (SetUpSo first s result)) (SetsUpAt end first result)
     (λ h k x. record { alone = x.0; set_up = λ none. subst (λ (t : Settings). SetsUp t first result (seen_by end k.steps)) is (x.1.1 none) })
-    (at-end end t0 t1 _ alone along)
+    (at-end end t0 t1 (SetUpSo first s result) alone along)
 
 -- the same where the end's side is known to stay
 pub set-up-of-end : (old new : Side) (first : ℕ) (s : Settings) (result : Result SetUp SetUpFault) (t0 t1 : Option PairTold) → new ≡ old → s ≡ pair_settings → Spares (number_of old) t0 t1

@@ -1,5 +1,5 @@
 -- What is written of two scripts before their clients are set up.
-use Rattle.std.specs.Prelude.{◌≡◌, ◌×◌, ℕ, List, [], Option, Result, Ok, Err}
+use Rattle.std.specs.Prelude.{◌≡◌, ℕ, List, [], Option, Result, Ok, Err}
 use Rattle.nfs_script.specs.declared.fault.ScriptFault.{ScriptFault}
 use Rattle.nfs_script.specs.declared.script.ScriptLine.{ScriptLine}
 use Rattle.nfs_script.specs.Script.{script_of}

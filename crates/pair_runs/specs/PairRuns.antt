@@ -98,7 +98,7 @@ pub record BothRan (first second : List ScriptLine) (given : List ℕ) (h : Pair
   pub b : ℕ
   pub one : ClientRan 1 first (seen_by 0 h.steps) a
   pub other : ClientRan 1073741825 second (seen_by 1 h.steps) b
-  pub status : StatusOf status a b
+  pub ends : StatusOf status a b
   pub says : PairText h.steps status text
   pub clocked : PairClocked h.steps status given
 

@@ -45,7 +45,7 @@ pub record PairHeadline (first second : List ScriptLine) (given : List ℕ) (h :
   pub b : ℕ
   pub one : SideKeeps pair_settings 1 first a (seen_by 0 h.steps)
   pub other : SideKeeps pair_settings 1073741825 second b (seen_by 1 h.steps)
-  pub status : StatusOf status a b
+  pub ends : StatusOf status a b
   pub says : PairText h.steps status text
   pub clocked : PairClocked h.steps status given
   pub sees : PairSees h 0 1
