@@ -1,0 +1,18 @@
+use Rattle.std.proofs.Common.{refl, arith}
+use Rattle.script_runs.proofs.LaneRuns.{may_set_up}
+use Rattle.lane_session.proofs.Ending.{fresh-held}
+use Rattle.pair_runs.proofs.Options.{calls-of}
+use Rattle.pair_runs.proofs.client.begin.Goals as goal
+
+pub new-requires : goal.new-requires
+new-requires c =
+    let n = calls-of c.args.settings.now c.requires.settings in
+    let last = c.requires.last in
+    may_set_up c.args.settings.now c.args.first_xid c.args.ready.now _ c.requires.first (omega (arith, n, last)) c.requires.fits refl refl refl refl
+
+pub returns-in-Ok-clause-stands : goal.returns-in-Ok-clause-stands
+returns-in-Ok-clause-stands c =
+    let n = calls-of c.args.settings.now c.requires.settings in
+    let last = c.requires.last in
+    fresh-held c.args.script.now c.args.settings.now _ c.in-Ok.session c.in-Ok.ensures.fresh c.requires.few
+    (may_set_up c.args.settings.now c.args.first_xid c.args.ready.now _ c.requires.first (omega (arith, n, last)) c.requires.fits refl refl refl refl)
