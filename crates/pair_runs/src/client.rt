@@ -19,6 +19,7 @@ use client_core::Setup;
 use lane_session::{Halt, Session, lose_lines};
 use nfs_script::Script;
 use outside::{Clock, PairLink, Sink};
+use page_cache::PageCache;
 use pair_ends::{End, Side};
 use session_setup::{SetUp, SetUpFault, set_up};
 use session_words::Settings;
@@ -235,6 +236,7 @@ fn begin(
     ensures stands { IfOk result (Stands script.now) }
     ensures opened { (h : List Entry) → SetsUp pair_settings first_xid (Ok ready.now) h → IsOpened first_xid script.now result h }
 {
+    let pages = PageCache::new(alloc)?;
     let setup = Setup {
         root: ready.root,
         rsize: ready.rsize,
@@ -243,8 +245,9 @@ fn begin(
         limit: ready.left,
         cred: settings.cred,
         lives: settings.lives,
+        pages,
     };
-    match Session::new(alloc, settings, &setup, ready.tally) {
+    match Session::new(alloc, settings, setup, ready.tally) {
         Ok(session) => Ok(State::Open(session)),
         Err(memory) => Err(memory),
     }
