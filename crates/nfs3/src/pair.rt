@@ -4,7 +4,7 @@ use crate::ending::Ending;
 use crate::schedule_file::{refused, schedule_text};
 use net_edge::{StandardInput, StandardOutput, file_source};
 use outside::TickClock;
-use pair_runs::run_pair;
+use two_clients::run_pair;
 use world_link::parse_pair;
 
 /// Runs the script on standard input and the one in the file of the second name, as two clients over the simulated server of the schedule in the file of the first

@@ -123,11 +123,12 @@ impl Client {
             State::Open(session) => {
                 match session.take_turn(&self.script, label(end.side), end, clock, out) {
                     Ok(went) => {
-                        if !went {
-                            let status = session.status();
-                            self.state = State::Done(status);
+                        if went {
+                            return Ok(true);
                         }
-                        Ok(went)
+                        let status = session.status();
+                        self.state = State::Done(status);
+                        Ok(false)
                     }
                     Err(halt) => Err(halt),
                 }

@@ -83,14 +83,16 @@ impl Pair {
         ensures goes { PairPasses (C.readings clock.old) (C.readings clock.new) (P.told link.old) (P.told link.new) (K.written out.old) (K.written out.new)
             (PairBy self.old self.new result) }
     {
-        let client = if letter == b'a' {
-            &mut self.a
+        if letter == b'a' {
+            match self.a.turn(link, clock, out) {
+                Ok(_) => Ok(()),
+                Err(halt) => Err(halt),
+            }
         } else {
-            &mut self.b
-        };
-        match client.turn(link, clock, out) {
-            Ok(_) => Ok(()),
-            Err(halt) => Err(halt),
+            match self.b.turn(link, clock, out) {
+                Ok(_) => Ok(()),
+                Err(halt) => Err(halt),
+            }
         }
     }
 
