@@ -25,5 +25,13 @@ pub fn pair(rt: &HostRuntime, schedule: &str, script: &str) -> Ending {
     let mut first = StandardInput::new(rt.stdin());
     let mut clock = TickClock::new(tick);
     let mut sink = StandardOutput::new(rt.stdout());
-    Ending::Ran(run_pair(alloc, order.bytes(), &mut first, &mut second, &mut world, &mut clock, &mut sink))
+    Ending::Ran(run_pair(
+        alloc,
+        order.bytes(),
+        &mut first,
+        &mut second,
+        &mut world,
+        &mut clock,
+        &mut sink,
+    ))
 }

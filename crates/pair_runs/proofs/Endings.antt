@@ -1,20 +1,12 @@
 -- Which statuses come where, and what two turns together leave.
-<<<<<<< HEAD
-use Rattle.std.proofs.Common.{◌≡◌, ◌<◌, ◌≤◌, ◌+◌, inl, inr, ℕ, Bool, true, false, Err, refl, arith}
-=======
 use Rattle.std.proofs.Common.{◌≡◌, ◌<◌, ◌≤◌, ◌+◌, inl, inr, ℕ, Bool, true, false, Err, refl, ap, ◌∙◌, arith}
->>>>>>> 4cc4051697e02d8592c41d1db037b543c7e07a0c
 use Rattle.std.specs.Prelude.{◌⊎◌, ◌||◌}
 use Rattle.lane_session.specs.declared.halt.Halt.{Halt}
 use Rattle.lane_session.specs.declared.halt.Halt.TheVariants as halts
 use Rattle.lane_session.specs.Statuses.{CausedBy, IsCutOff, IsSessionStatus, of_halt}
-<<<<<<< HEAD
-use Rattle.pair_runs.specs.Clients.{IsEnding}
-=======
 use Rattle.pair_runs.specs.declared.client.Client.{Client}
 use Rattle.pair_runs.specs.declared.turns.Pair.{Pair}
 use Rattle.pair_runs.specs.Clients.{AreReady, IsEnding, IsReady}
->>>>>>> 4cc4051697e02d8592c41d1db037b543c7e07a0c
 
 -- ---- statuses
 
@@ -74,8 +66,6 @@ pub both-over : (p q : Bool) (A B : Type 0) → (p ≡ false → A) → (q ≡ f
 both-over true q A B a b is = absurd cc
 both-over false true A B a b is = absurd cc
 both-over false false A B a b is = (a refl, b refl)
-<<<<<<< HEAD
-=======
 
 -- ---- both clients after a turn of one
 
@@ -84,4 +74,3 @@ turned-a p c r ready same = record { a = ready; b = r.b; first = ap (λ (x : Cli
 
 pub turned-b : (p : Pair) (c : Client) → AreReady p → IsReady c → c ≡ record p.b { state = c.state } → AreReady (record p { b = c })
 turned-b p c r ready same = record { a = r.a; b = ready; first = r.first; second = ap (λ (x : Client). x.side) same ∙ r.second }
->>>>>>> 4cc4051697e02d8592c41d1db037b543c7e07a0c

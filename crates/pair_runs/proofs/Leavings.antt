@@ -120,9 +120,9 @@ module _ (first second : List ScriptLine) (p : Pair) (same_a : p.a.script ≡ fi
       let early = whole-of [] [] h k none opens.0 in
       let all : l.steps ≡ k.steps ++ by.0.more = ap (λ (t : PairTold). t.steps) by.0.grown in
       let read : pair_clocks l.steps ≡ pair_clocks by.0.more =
-          ap pair_clocks all ∙ readings-append k.steps by.0.more ∙ ap (λ (t : List ℕ). t ++ pair_clocks by.0.more) (sym early.0) in
+      ap pair_clocks all ∙ readings-append k.steps by.0.more ∙ ap (λ (t : List ℕ). t ++ pair_clocks by.0.more) (sym early.0) in
       let told : pair_transcript l.steps ≡ pair_transcript by.0.more =
-          ap pair_transcript all ∙ transcripts-append k.steps by.0.more ∙ ap (λ (t : List ℕ). t ++ pair_transcript by.0.more) (sym early.1) in
+      ap pair_transcript all ∙ transcripts-append k.steps by.0.more ∙ ap (λ (t : List ℕ). t ++ pair_transcript by.0.more) (sym early.1) in
       let off : IsCutOff status = subst IsCutOff (sym is) (cuts-off halt) in
       record {
         a = status;

@@ -1,7 +1,6 @@
 pub mod Options
 pub mod BothStatuses
 pub mod Endings
-<<<<<<< HEAD
 pub mod Alone
 pub mod Sayings
 pub mod Passages
@@ -11,5 +10,4 @@ pub mod Cutting
 pub mod Sessions
 pub mod Both
 pub mod Openings
-=======
->>>>>>> 4cc4051697e02d8592c41d1db037b543c7e07a0c
+pub mod Leavings

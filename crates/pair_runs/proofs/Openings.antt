@@ -84,9 +84,9 @@ silently end low h k alone u =
     let told : told_by (label_at end) (seen_by end k.steps) ≡ [] = untold (label_at end) (seen_by end k.steps) (fresh (seen_by end k.steps) u) in
     let read : clocks (seen_by end k.steps) ≡ [] = no-clocks (seen_by end k.steps) u in
     let told_parts : told_by (label_at end) (seen_by end h.steps) ++ told_by (label_at end) (seen_by end alone.more) ≡ [] =
-        sym (told-append (label_at end) (seen_by end h.steps) (seen_by end alone.more)) ∙ sym (ap (told_by (label_at end)) (side-grown end low h k alone end)) ∙ told in
+    sym (told-append (label_at end) (seen_by end h.steps) (seen_by end alone.more)) ∙ sym (ap (told_by (label_at end)) (side-grown end low h k alone end)) ∙ told in
     let read_parts : clocks (seen_by end h.steps) ++ clocks (seen_by end alone.more) ≡ [] =
-        sym (clocks-append (seen_by end h.steps) (seen_by end alone.more)) ∙ sym (ap clocks (side-grown end low h k alone end)) ∙ read in
+    sym (clocks-append (seen_by end h.steps) (seen_by end alone.more)) ∙ sym (ap clocks (side-grown end low h k alone end)) ∙ read in
     let told_before = front-none (told_by (label_at end) (seen_by end h.steps)) (told_by (label_at end) (seen_by end alone.more)) told_parts in
     let read_before = front-none (clocks (seen_by end h.steps)) (clocks (seen_by end alone.more)) read_parts in
     turn-adds end low h k alone [] [] (read ∙ sym (append-nil (clocks (seen_by end h.steps)) ∙ read_before)) (told ∙ sym (append-nil (told_by (label_at end) (seen_by end h.steps)) ∙ told_before))

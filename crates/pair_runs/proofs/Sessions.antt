@@ -72,7 +72,7 @@ open-cut : (first : ℕ) (label : List ℕ) (script : List ScriptLine) (old : Se
     → CutsOff label script old halt given text h k → GoesOpen first script h old → ClientRan first script k (of_halt halt)
 open-cut first label script old halt given text h k asked dials c g =
     let core : HasCore (mounted_by pair_settings (setup_of pair_settings g.v)) (setup_of pair_settings g.v) g.before k =
-        c.core [] (length g.before) g.goes (mounted_by pair_settings (setup_of pair_settings g.v)) (setup_of pair_settings g.v) (record { from = g.before; counted = false }) g.core in
+    c.core [] (length g.before) g.goes (mounted_by pair_settings (setup_of pair_settings g.v)) (setup_of pair_settings g.v) (record { from = g.before; counted = false }) g.core in
     began (ran g.v g.before g.set_up g.fits asked core (then-dials pair_settings.nfs_port g.before h k g.dials (subst (λ (p : ℕ). Dials p h k) g.port dials)))
     (went-runs script g.before k (of_halt halt) (g.grown.0 ++ c.grown.0, c.grown.1 ∙ ap (λ (t : List Entry). t ++ c.grown.0) g.grown.1 ∙ append_assoc g.before g.grown.0 c.grown.0)
     (fresh g.before g.set_up.unmarked) (cuts-off halt) (c.went [] (length g.before) g.goes))

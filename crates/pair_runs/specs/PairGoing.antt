@@ -4,10 +4,7 @@ use Rattle.xdr_codec.specs.declared.blob.Memory.{Memory}
 use Rattle.world_model.specs.declared.entry.Entry.{Entry}
 use Rattle.world_model.specs.declared.tally.Tally.{Tally}
 use Rattle.world_model.specs.Entries.{ours}
-<<<<<<< HEAD
 use Rattle.world_model.specs.Follows.{IsFront}
-=======
->>>>>>> 4cc4051697e02d8592c41d1db037b543c7e07a0c
 use Rattle.link_dials.specs.Dials.{Dials}
 use Rattle.nfs_script.specs.declared.script.ScriptLine.{ScriptLine}
 use Rattle.outside.specs.Pairs.{PairStep, PairTold, seen_by}
@@ -31,11 +28,7 @@ use Rattle.pair_runs.specs.declared.client.State.{State}
 use Rattle.pair_runs.specs.declared.client.State.TheVariants as states
 use Rattle.pair_runs.specs.declared.turns.Pair.{Pair}
 use Rattle.pair_runs.specs.Given.{pair_settings}
-<<<<<<< HEAD
 use Rattle.pair_runs.specs.PairRuns.{ClientRan, LosesAmong, RunsLines, PairRelates}
-=======
-use Rattle.pair_runs.specs.PairRuns.{ClientRan, LosesAmong, RunsLines, IsCutAt, PairRelates}
->>>>>>> 4cc4051697e02d8592c41d1db037b543c7e07a0c
 use Rattle.pair_runs.specs.Texts.{pair_transcript, pair_clocks}
 
 -- What calls lead from and to: readings were given, a text was written, and by them the history of both goes on.
@@ -56,22 +49,14 @@ pub record PairAdds (given text : List ℕ) (h k : PairTold) : Type 0 where
   pub clocked : given ≡ pair_clocks more
   pub shown : text ≡ pair_transcript more
 
-<<<<<<< HEAD
 -- The same of a turn that was cut off: the readings were noted but perhaps the last, and a front of the text was written.
-=======
--- The same of a turn that was cut off.
->>>>>>> 4cc4051697e02d8592c41d1db037b543c7e07a0c
 pub record PairBreaks (halt : Halt) (given text : List ℕ) (h k : PairTold) : Type 0 where
   pub more : List PairStep
   pub grown : k ≡ record { start = h.start; steps = h.steps ++ more }
   pub last : List ℕ
   pub clocked : given ≡ pair_clocks more ++ last
   pub left : IsLeft halt last
-<<<<<<< HEAD
   pub shown : IsFront text (pair_transcript more)
-=======
-  pub shown : IsCutAt more text
->>>>>>> 4cc4051697e02d8592c41d1db037b543c7e07a0c
 
 -- ---- a client, whose first xid is this one, along its side
 
@@ -97,7 +82,6 @@ pub record GoesLost (first : ℕ) (h : List Entry) : Type 0 where
   pub unseen : ours more ≡ []
 
 -- Its session goes so; or its set-up lost the session, and each answer says so.
-<<<<<<< HEAD
 pub data HasGone (first : ℕ) (script : List ScriptLine) (h : List Entry) : Type 0 where
   by_session : (s : Session) → GoesOpen first script h s → HasGone first script h
   by_loss : (tally : Tally) (before more : List Entry) → h ≡ before ++ more → SetsUp pair_settings first (Err (Lost tally)) before → LosesAmong script more
@@ -106,16 +90,6 @@ pub data HasGone (first : ℕ) (script : List ScriptLine) (h : List Entry) : Typ
 -- Each line has its answer.
 pub record GoesDone (first : ℕ) (script : List ScriptLine) (h : List Entry) (status : ℕ) : Type 0 where
   pub began : HasGone first script h
-=======
-pub data HasBegun (first : ℕ) (script : List ScriptLine) (h : List Entry) : Type 0 where
-  by_session : (s : Session) → GoesOpen first script h s → HasBegun first script h
-  by_loss : (tally : Tally) (before more : List Entry) → h ≡ before ++ more → SetsUp pair_settings first (Err (Lost tally)) before → LosesAmong script more
-      → HasBegun first script h
-
--- Each line has its answer.
-pub record GoesDone (first : ℕ) (script : List ScriptLine) (h : List Entry) (status : ℕ) : Type 0 where
-  pub began : HasBegun first script h
->>>>>>> 4cc4051697e02d8592c41d1db037b543c7e07a0c
   pub lines : RunsLines script h status
 
 abbrev pub StateGoes : ℕ → List ScriptLine → List Entry → State → Type 0

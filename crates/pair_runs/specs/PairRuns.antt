@@ -24,11 +24,7 @@ use Rattle.lane_session.specs.Statuses.{IsCutOff, IsSessionStatus}
 use Rattle.script_runs.specs.LaneRuns.{setup_of}
 use Rattle.script_runs.specs.Run.{IsReadAs, IsFaultOf}
 use Rattle.pair_runs.specs.Given.{pair_settings}
-<<<<<<< HEAD
 use Rattle.pair_runs.specs.Texts.{label_at, pair_transcript, pair_clocks}
-=======
-use Rattle.pair_runs.specs.Texts.{label_at, step_text, pair_transcript, pair_clocks}
->>>>>>> 4cc4051697e02d8592c41d1db037b543c7e07a0c
 
 -- ---- one client, along its side
 
@@ -61,23 +57,10 @@ pub data ClientRan (first : ℕ) (lines : List ScriptLine) (h : List Entry) (sta
 
 -- ---- both
 
-<<<<<<< HEAD
 -- The answers were written, in order, each behind the letter of its client; or a front of that, if the run was cut off.
 pub data PairText (steps : List PairStep) (status : ℕ) (text : List ℕ) : Type 0 where
   whole_text : text ≡ pair_transcript steps → PairText steps status text
   cut_text : IsCutOff status → IsFront text (pair_transcript steps) → PairText steps status text
-=======
--- All answers were written, in order; or all before the last one, and a front of its line.
-pub data IsCutAt (steps : List PairStep) (text : List ℕ) : Type 0 where
-  all_said : text ≡ pair_transcript steps → IsCutAt steps text
-  last_cut : (before after : List PairStep) (s : PairStep) (front : List ℕ) → steps ≡ before ++ s ∷ after → pair_transcript after ≡ []
-      → text ≡ pair_transcript before ++ front → IsFront front (step_text s) → IsCutAt steps text
-
--- The answers were written, in order, each behind the letter of its client; or the run was cut off within the line of the last one.
-pub data PairText (steps : List PairStep) (status : ℕ) (text : List ℕ) : Type 0 where
-  whole_text : text ≡ pair_transcript steps → PairText steps status text
-  cut_text : IsCutOff status → IsCutAt steps text → PairText steps status text
->>>>>>> 4cc4051697e02d8592c41d1db037b543c7e07a0c
 
 -- The readings that the clock gave to both were noted, in order, but at status 7 perhaps the last.
 pub record PairClocked (steps : List PairStep) (status : ℕ) (given : List ℕ) : Type 0 where

@@ -19,10 +19,7 @@ use client_core::Setup;
 use lane_session::{Halt, Session, lose_lines};
 use nfs_script::Script;
 use outside::{Clock, PairLink, Sink};
-<<<<<<< HEAD
 use page_cache::PageCache;
-=======
->>>>>>> 4cc4051697e02d8592c41d1db037b543c7e07a0c
 use pair_ends::{End, Side};
 use session_setup::{SetUp, SetUpFault, set_up};
 use session_words::Settings;
@@ -240,12 +237,7 @@ fn begin(
     ensures stands { IfOk result (Stands script.now) }
     ensures opened { (h : List Entry) → SetsUp pair_settings first_xid (Ok ready.now) h → IsOpened first_xid script.now result h }
 {
-<<<<<<< HEAD
-    let Ok(pages) = PageCache::new(alloc) else {
-        return Err(Memory);
-    };
-=======
->>>>>>> 4cc4051697e02d8592c41d1db037b543c7e07a0c
+    let pages = PageCache::new(alloc)?;
     let setup = Setup {
         root: ready.root,
         rsize: ready.rsize,
@@ -254,14 +246,9 @@ fn begin(
         limit: ready.left,
         cred: settings.cred,
         lives: settings.lives,
-<<<<<<< HEAD
         pages,
     };
     match Session::new(alloc, settings, setup, ready.tally) {
-=======
-    };
-    match Session::new(alloc, settings, &setup, ready.tally) {
->>>>>>> 4cc4051697e02d8592c41d1db037b543c7e07a0c
         Ok(session) => Ok(State::Open(session)),
         Err(memory) => Err(memory),
     }
