@@ -114,8 +114,8 @@ module _ (first second : List ScriptLine) (p : Pair) (same_a : p.a.script ≡ fi
       }
 
   -- the run was cut off
-  pub both-cut : {T : Type 0} → (halt : Halt) (q : Pair) (status : ℕ) (given text : List ℕ) → status ≡ of_halt halt → PairBy {T = T} p q (Err halt) given text k l → BothRan first second given l status text
-  both-cut halt q status given text is by =
+  pub both-cut : (T : Type 0) (halt : Halt) (q : Pair) (status : ℕ) (given text : List ℕ) → status ≡ of_halt halt → PairBy {T = T} p q (Err halt) given text k l → BothRan first second given l status text
+  both-cut T halt q status given text is by =
       let cut = by.1 opens.1 in
       let early = whole-of [] [] h k none opens.0 in
       let all : l.steps ≡ k.steps ++ by.0.more = ap (λ (t : PairTold). t.steps) by.0.grown in
