@@ -135,12 +135,12 @@ fn run_scripts<P: PairLink, C: Clock, K: Sink>(
     ensures goes { PairPasses (C.readings clock.old) (C.readings clock.new) (P.told link.old) (P.told link.new) (K.written out.old) (K.written out.new)
         (λ given text h k. h.steps ≡ [] → BothRan first second given k result text) }
 {
-    let Ok(mut pair) = set_up_both(alloc, first, second, link) else {
-        return status::NO_MEMORY;
-    };
-    match pair.run(order, link, clock, out) {
-        Ok(()) => pair.status(),
-        Err(halt) => status::of_halt(halt),
+    match set_up_both(alloc, first, second, link) {
+        Ok(mut pair) => match pair.run(order, link, clock, out) {
+            Ok(()) => pair.status(),
+            Err(halt) => status::of_halt(halt),
+        },
+        Err(_) => status::NO_MEMORY,
     }
 }
 
