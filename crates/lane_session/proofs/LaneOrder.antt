@@ -67,12 +67,14 @@ pub by-none : (script : List ScriptLine) → by_lanes 0 script ≡ []
 unfolding by_lanes
 by-none script = refl
 
+by-suc : (n : ℕ) (script : List ScriptLine) → by_lanes (suc n) script ≡ by_lanes n script ++ of_lane (suc n) script
+unfolding by_lanes
+by-suc n script = refl
+
 pub by-next : (n : ℕ) (script : List ScriptLine) → by_lanes (n + 1) script ≡ by_lanes n script ++ of_lane (n + 1) script
-by-next n script = let one : n + 1 ≡ suc n = omega arith in subst (λ (m : ℕ). by_lanes m script ≡ by_lanes n script ++ of_lane m script) (sym one) (next n)
-  where
-    next : (m : ℕ) → by_lanes (suc m) script ≡ by_lanes m script ++ of_lane (suc m) script
-    unfolding by_lanes
-    next m = refl
+by-next n script =
+    let one : n + 1 ≡ suc n = omega arith in
+    subst (λ (m : ℕ). by_lanes m script ≡ by_lanes n script ++ of_lane m script) (sym one) (by-suc n script)
 
 pub by-empty : (n : ℕ) (script : List ScriptLine) → script ≡ [] → by_lanes n script ≡ []
 unfolding by_lanes
@@ -148,6 +150,7 @@ by-unbegun (suc n) lane script out =
     before : (lane ≡ 0) ⊎ (suc n < lane) → (lane ≡ 0) ⊎ (n < lane)
     before (inl is) = inl is
     before (inr over) = inr (omega (arith, over))
+
     apart : (lane ≡ 0) ⊎ (suc n < lane) → suc n ≢ lane
     apart (inl is) same = omega (arith, is, same)
     apart (inr over) same = omega (arith, over, same)
@@ -158,6 +161,9 @@ unfolding by_lanes
 by-begun zero lane script least most = absurd (omega (arith, least, most))
 by-begun (suc n) lane script least most = begun-both lane (by_lanes n script) (of_lane (suc n) script) ∙ by (nat_eq lane (suc n)) refl (by-begun n lane script least)
   where
+    below : lane ≢ suc n → lane ≤ n
+    below differs = elim (cases_lt n lane) [ inl over ↦ absurd (differs (omega (arith, over, most))) | inr low ↦ low ]
+
     by : (b : Bool) → nat_eq lane (suc n) ≡ b → (lane ≤ n → begun lane (entries_of (by_lanes n script)) ≡ begun lane (entries_of script))
         → begun lane (entries_of (by_lanes n script)) ++ begun lane (entries_of (of_lane (suc n) script)) ≡ begun lane (entries_of script)
     by true e earlier =
@@ -170,8 +176,6 @@ by-begun (suc n) lane script least most = begun-both lane (by_lanes n script) (o
         ap (λ (t : List Entry). t ++ begun lane (entries_of (of_lane (suc n) script))) (earlier (below differs))
         ∙ ap (λ (t : List Entry). begun lane (entries_of script) ++ t) (of-unbegun lane (suc n) script (λ same. differs (sym same)))
         ∙ append-nil (begun lane (entries_of script))
-    below : lane ≢ suc n → lane ≤ n
-    below differs = elim (cases_lt n lane) [ inl over ↦ absurd (differs (omega (arith, over, most))) | inr low ↦ low ]
 
 -- the lines of a script, lane after lane, are the script's in each lane
 pub lanes-same : (script : List ScriptLine) → All IsAskedLine script → SameLanes (by_lanes 16 script) script

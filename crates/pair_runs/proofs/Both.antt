@@ -32,8 +32,8 @@ module _ (end : ℕ) (low : end < 2) (h k : PairTold) (alone : AddsAlone end h k
 one-state : (c : Client) (state : State) (first : ℕ) (h : List Entry) (new : Client) → new ≡ record c { state = state } → StateGoes first c.script h state → StateGoes first new.script h new.state
 one-state c state first h new is g = subst (λ (n : Client). StateGoes first n.script h n.state) (sym is) g
 
-module _ {T U : Type 0} (old new : Pair) (ready : AreReady old) (given text : List ℕ) (h k : PairTold) where
-  pub first-turns : (x : T) (y : U) → new.a ≡ record old.a { state = new.a.state } → new.b ≡ old.b → TurnsBy 0 old.a.script old.a.state new.a.state (Ok x) given text h k → PairBy old new (Ok y) given text h k
+module _ (old new : Pair) (ready : AreReady old) (given text : List ℕ) (h k : PairTold) where
+  pub first-turns : {T U : Type 0} → (x : T) (y : U) → new.a ≡ record old.a { state = new.a.state } → new.b ≡ old.b → TurnsBy 0 old.a.script old.a.state new.a.state (Ok x) given text h k → PairBy old new (Ok y) given text h k
   first-turns x y a b t = (
     record { a = a; b = b ∙ sym (ap (λ (c : Client). record old.b { state = c.state }) b) },
     t.1,
@@ -43,7 +43,7 @@ module _ {T U : Type 0} (old new : Pair) (ready : AreReady old) (given text : Li
     },
   )
 
-  pub second-turns : (x : T) (y : U) → new.a ≡ old.a → new.b ≡ record old.b { state = new.b.state } → TurnsBy 1 old.b.script old.b.state new.b.state (Ok x) given text h k → PairBy old new (Ok y) given text h k
+  pub second-turns : {T U : Type 0} → (x : T) (y : U) → new.a ≡ old.a → new.b ≡ record old.b { state = new.b.state } → TurnsBy 1 old.b.script old.b.state new.b.state (Ok x) given text h k → PairBy old new (Ok y) given text h k
   second-turns x y a b t = (
     record { a = a ∙ sym (ap (λ (c : Client). record old.a { state = c.state }) a); b = b },
     t.1,
@@ -53,11 +53,11 @@ module _ {T U : Type 0} (old new : Pair) (ready : AreReady old) (given text : Li
     },
   )
 
-  pub first-cuts : (halt : Halt) (state : State) → TurnsBy {T = T} 0 old.a.script old.a.state state (Err halt) given text h k → PairBy {T = U} old new (Err halt) given text h k
-  first-cuts halt state t = (t.1, λ go. record { a = t.2 1 go.a; b = other-cut 0 (omega arith) h k t.0 1073741825 old.b go.b halt ready.b })
+  pub first-cuts : (T U : Type 0) (halt : Halt) (state : State) → TurnsBy {T = T} 0 old.a.script old.a.state state (Err halt) given text h k → PairBy {T = U} old new (Err halt) given text h k
+  first-cuts T U halt state t = (t.1, λ go. record { a = t.2 1 go.a; b = other-cut 0 (omega arith) h k t.0 1073741825 old.b go.b halt ready.b })
 
-  pub second-cuts : (halt : Halt) (state : State) → TurnsBy {T = T} 1 old.b.script old.b.state state (Err halt) given text h k → PairBy {T = U} old new (Err halt) given text h k
-  second-cuts halt state t = (t.1, λ go. record { a = other-cut 1 (omega arith) h k t.0 1 old.a go.a halt ready.a; b = t.2 1073741825 go.b })
+  pub second-cuts : (T U : Type 0) (halt : Halt) (state : State) → TurnsBy {T = T} 1 old.b.script old.b.state state (Err halt) given text h k → PairBy {T = U} old new (Err halt) given text h k
+  second-cuts T U halt state t = (t.1, λ go. record { a = other-cut 1 (omega arith) h k t.0 1 old.a go.a halt ready.a; b = t.2 1073741825 go.b })
 
 -- ---- one turn after the other
 
@@ -80,10 +80,3 @@ module _ {T U : Type 0} (a b c : Pair) (x : T) (given text read said : List ℕ)
   pub pair-then : (result : Result U Halt) → PairBy b c result read said k l → PairBy a c result (given ++ read) (text ++ said) h l
   pair-then (Ok y) q = (same-then a b c p.0 q.0, adds-then given text read said h k l p.1 q.1, λ go. q.2 (p.2 go))
   pair-then (Err halt) q = (breaks-then halt given text read said h k l p.1 q.0, λ go. cut-before a b halt l p.0 (q.1 (p.2 go)))
-
--- the answer of a turn that went is of no account
-pub pair-as : {T U : Type 0} → (a b : Pair) (x : T) (y : U) (given text : List ℕ) (h k : PairTold) → PairBy a b (Ok x) given text h k → PairBy a b (Ok y) given text h k
-pair-as a b x y given text h k p = p
-
-pub pair-cut-as : {T U : Type 0} → (a b c : Pair) (halt : Halt) (given text : List ℕ) (h k : PairTold) → PairBy {T = T} a b (Err halt) given text h k → PairBy {T = U} a c (Err halt) given text h k
-pair-cut-as a b c halt given text h k p = p

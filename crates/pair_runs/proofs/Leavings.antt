@@ -1,5 +1,5 @@
 -- What a run of two scripts leaves, from its set-ups and its turns.
-use Rattle.std.proofs.Common.{◌≡◌, ◌≢◌, ◌≤◌, ◌⊎◌, inl, inr, ℕ, List, [], ◌∷◌, ◌++◌, length, max, All, Option, Some, None, Result, Ok, Err, refl, sym, ap, subst, ◌∙◌, arith, append-nil}
+use Rattle.std.proofs.Common.{◌≡◌, ◌≢◌, ◌≤◌, ◌<◌, ◌⊎◌, inl, inr, ℕ, List, [], ◌∷◌, ◌++◌, length, max, All, Option, Some, None, Result, Ok, Err, refl, sym, ap, subst, ◌∙◌, arith, append-nil}
 use Rattle.world_model.specs.declared.entry.Entry.{Entry}
 use Rattle.world_model.specs.Entries.{ours}
 use Rattle.world_model.specs.Follows.{IsFront}
@@ -21,10 +21,10 @@ use Rattle.pair_runs.specs.declared.client.Client.{Client}
 use Rattle.pair_runs.specs.declared.client.State.{State}
 use Rattle.pair_runs.specs.declared.client.State.TheVariants as states
 use Rattle.pair_runs.specs.declared.turns.Pair.{Pair}
-use Rattle.pair_runs.specs.Beginnings.{IsOneRefused, for_first, for_second, IsRefused, for_fault, for_memory, ReadsBoth, ReadsTexts}
-use Rattle.pair_runs.specs.Clients.{AreOver, AreReady, IsOver, IsReady, Stands, status_in}
+use Rattle.pair_runs.specs.Beginnings.{IsOneRefused, for_first, for_second, IsRefused, for_fault, for_memory, ReadsBoth, ReadsOne, ReadsTexts}
+use Rattle.pair_runs.specs.Clients.{AreOver, AreReady, IsEnding, IsOver, IsReady, Stands, status_in}
 use Rattle.pair_runs.specs.PairGoing.{BothCut, BothGo, GoesDone, OpensAt, PairAdds, PairBreaks, PairBy, PairOpens, PairPasses, SamePair, StateGoes}
-use Rattle.pair_runs.specs.PairRuns.{BothRan, ClientRan, unbegun, cut_text, whole_text, by_both, cut_off, NoneBegan, unread, refused_a, refused_b, PairLeaves, none_began, both_ran, PairRelates}
+use Rattle.pair_runs.specs.PairRuns.{BothRan, ClientRan, unbegun, cut_text, whole_text, by_both, cut_off, NoneBegan, unread, refused_a, refused_b, PairLeaves, none_began, both_ran, PairRelates, RefusesOne}
 use Rattle.pair_runs.specs.Texts.{pair_clocks, pair_transcript}
 use Rattle.pair_runs.proofs.Both.{other-goes}
 use Rattle.pair_runs.proofs.Cutting.{client-cut, client-done, cuts-off}
@@ -114,8 +114,8 @@ module _ (first second : List ScriptLine) (p : Pair) (same_a : p.a.script ≡ fi
       }
 
   -- the run was cut off
-  pub both-cut : {T : Type 0} → (halt : Halt) (q : Pair) (status : ℕ) (given text : List ℕ) → status ≡ of_halt halt → PairBy {T = T} p q (Err halt) given text k l → BothRan first second given l status text
-  both-cut halt q status given text is by =
+  pub both-cut : (T : Type 0) (halt : Halt) (q : Pair) (status : ℕ) (given text : List ℕ) → status ≡ of_halt halt → PairBy {T = T} p q (Err halt) given text k l → BothRan first second given l status text
+  both-cut T halt q status given text is by =
       let cut = by.1 opens.1 in
       let early = whole-of [] [] h k none opens.0 in
       let all : l.steps ≡ k.steps ++ by.0.more = ap (λ (t : PairTold). t.steps) by.0.grown in
@@ -170,6 +170,52 @@ module _ (left_a left_b : Option (List ℕ)) (one other items_a items_b : List �
   -- both texts were all that the sources had
   pub reads-both : (result : Result (List ScriptLine × List ScriptLine) ℕ) (v w : Option (List ℕ)) → Says v w (ReadsTexts one other result) → Says v w (ReadsBoth left_a left_b result)
   reads-both result v w said = record { text = said.text; added = said.added; is = both-of result said.text said.is }
+
+-- ---- what is written of them
+
+-- two texts, one after the other
+says-then : (P Q R : List ℕ → Type 0) (v w u : Option (List ℕ)) → ((said : List ℕ) → P said → said ≡ []) → ((said more : List ℕ) → P said → Q more → R more) → Says v w P → Says w u Q → Says v u R
+says-then P Q R v w u none join p q = record {
+  text = q.text;
+  added = appends-then v w u [] q.text (subst (λ (t : List ℕ). Appends v w t) (none p.text p.is) p.added) q.added;
+  is = join p.text q.text p.is q.is;
+}
+
+pub first-refused : (first second : List ℕ) (status : ℕ) (v w : Option (List ℕ)) → Says v w (IsRefused 0 first status) → Says v w (IsOneRefused first second status)
+first-refused first second status v w p = record { text = p.text; added = p.added; is = for_first p.is }
+
+pub second-refused : (first second : List ℕ) (lines : List ScriptLine) (status : ℕ) (v w u : Option (List ℕ)) → Says v w (ReadsOne 0 first (Ok lines)) → Says w u (IsRefused 1 second status)
+    → Says v u (IsOneRefused first second status)
+second-refused first second lines status v w u p q =
+    says-then (ReadsOne 0 first (Ok lines)) (IsRefused 1 second status) (IsOneRefused first second status) v w u (λ said r. r.1) (λ said more r f. for_second lines r.0 f) p q
+
+pub both-read : (first second : List ℕ) (a b : List ScriptLine) (v w u : Option (List ℕ)) → Says v w (ReadsOne 0 first (Ok a)) → Says w u (ReadsOne 1 second (Ok b)) → Says v u (ReadsTexts first second (Ok (a, b)))
+both-read first second a b v w u p q =
+    says-then (ReadsOne 0 first (Ok a)) (ReadsOne 1 second (Ok b)) (ReadsTexts first second (Ok (a, b))) v w u (λ said r. r.1) (λ said more r f. (r.0, f.0, f.1)) p q
+
+-- one text
+pub one-read : (end : ℕ) (text : List ℕ) (lines : List ScriptLine) (v : Option (List ℕ)) → script_of text ≡ Ok lines → Says v v (ReadsOne end text (Ok lines))
+one-read end text lines v e = record { text = []; added = appends-same v; is = (e, refl) }
+
+pub one-refused : (end : ℕ) (text : List ℕ) (fault : ScriptFault) (status : ℕ) (v w : Option (List ℕ)) → script_of text ≡ Err fault → Says v w (RefusesOne end fault status) → Says v w (IsRefused end text status)
+one-refused end text fault status v w e p = record { text = p.text; added = p.added; is = for_fault fault e p.is }
+
+pub one-unread : (end : ℕ) (text : List ℕ) (status : ℕ) (v : Option (List ℕ)) → status ≡ 7 → Says v v (IsRefused end text status)
+one-unread end text status v seven = record { text = []; added = appends-same v; is = for_memory seven refl }
+
+-- turns end neither with 3 nor with 4
+pub no-early : (status : ℕ) (A : Type 0) → IsEnding status → (status ≡ 3) ⊎ (status ≡ 4) → A
+no-early status A ending early = absurd (elim early [ inl three ↦ never 3 three ending (omega arith, omega arith) | inr four ↦ never 4 four ending (omega arith, omega arith) ])
+  where
+    off : (n : ℕ) → status ≡ n → IsCutOff status → (2 < n) × (n < 5) → ⊥
+    off n is (inl five) within = let low = within.1 in omega (arith, is, five, low)
+    off n is (inr seven) within = let low = within.1 in omega (arith, is, seven, low)
+
+    never : (n : ℕ) → status ≡ n → IsEnding status → (2 < n) × (n < 5) → ⊥
+    never n is (inl (inl zero_is)) within = let high = within.0 in omega (arith, is, zero_is, high)
+    never n is (inl (inr (inl one_is))) within = let high = within.0 in omega (arith, is, one_is, high)
+    never n is (inl (inr (inr six))) within = let low = within.1 in omega (arith, is, six, low)
+    never n is (inr cut) within = off n is cut within
 
 -- a source failed, or memory ran out
 pub says-unread : (v left_a left_b : Option (List ℕ)) (status : ℕ) → (status ≡ 4) ⊎ (status ≡ 7) → Says v v (NoneBegan left_a left_b status)

@@ -11,3 +11,4 @@ pub mod Sessions
 pub mod Both
 pub mod Openings
 pub mod Leavings
+pub mod AtEnds

@@ -1,7 +1,9 @@
 -- What the set-up of a client leaves, along its side.
 use Rattle.std.proofs.Common.{◌≡◌, ◌<◌, ◌≤◌, ◌+◌, ◌-◌, ◌^◌, inl, inr, ℕ, suc, List, [], ◌∷◌, ◌++◌, length, true, false, Option, Some, None, option_map, Result, Ok, Err, refl, sym, ap, subst, ◌∙◌, arith, append-nil}
 use Rattle.xdr_codec.specs.declared.blob.Memory.{Memory}
+use Rattle.world_model.specs.declared.answer.Fault.{Fault}
 use Rattle.world_model.specs.declared.entry.Entry.{Entry}
+use Rattle.world_model.specs.declared.tally.Tally.{Tally}
 use Rattle.world_model.specs.declared.entry.Entry.TheVariants.{Began, Answered, Dialed, Sent, Executed, Foreign, Flushed, Reboot, Delivered, Failed, Clock}
 use Rattle.world_model.specs.Clocked.{clocks}
 use Rattle.world_model.specs.Entries.{ours}
@@ -131,26 +133,24 @@ opens-by settings first script v s h is one last f fresh_is port so =
 pub opens-nothing : (first : ℕ) (script : List ScriptLine) (result : Result SetUp SetUpFault) (h : List Entry) → SetsUp pair_settings first result h → ClientRan first script h 7
 opens-nothing first script result h so = unready result h [] (sym (append-nil h)) so refl refl
 
--- what a client is without a set-up
-abbrev pub IsWithout : SetUpFault → Result State Memory → Type 0
-IsWithout faults.Memory (Err e) = Unit {0}
-IsWithout faults.Memory (Ok state) = ⊥
-IsWithout (faults.Lost tally) (Ok states.Lost) = Unit {0}
-IsWithout (faults.Lost tally) (Ok (states.Open s)) = ⊥
-IsWithout (faults.Lost tally) (Ok (states.Done n)) = ⊥
-IsWithout (faults.Lost tally) (Err e) = ⊥
-IsWithout (faults.Refused fault) result = Unit {0}
-
 -- a set-up that failed
-pub opens-without : (first : ℕ) (script : List ScriptLine) (fault : SetUpFault) (result : Result State Memory) (h : List Entry) → IsWithout fault result → SetsUp pair_settings first (Err fault) h
-    → IsOpened first script result h
-opens-without first script faults.Memory (Err e) h w so = opens-nothing first script (Err faults.Memory) h so
-opens-without first script faults.Memory (Ok state) h w so = absurd w
-opens-without first script (faults.Lost tally) (Ok states.Lost) h w so = record { tally = tally; before = h; more = []; is = sym (append-nil h); set_up = so; unseen = refl }
-opens-without first script (faults.Lost tally) (Ok (states.Open s)) h w so = absurd w
-opens-without first script (faults.Lost tally) (Ok (states.Done n)) h w so = absurd w
-opens-without first script (faults.Lost tally) (Err e) h w so = absurd w
-opens-without first script (faults.Refused fault) result h w so = absurd (let no_way : pair_settings.export ≡ exports.Path so.ends.path = so.ends.mounting in cc)
+pub opens-memory : (first : ℕ) (script : List ScriptLine) (fault : SetUpFault) (h : List Entry) → fault ≡ faults.Memory → SetsUp pair_settings first (Err fault) h → ClientRan first script h 7
+opens-memory first script fault h is so = opens-nothing first script (Err fault) h so
+
+pub opens-lost : (first : ℕ) (script : List ScriptLine) (tally : Tally) (fault : SetUpFault) (h : List Entry) → fault ≡ faults.Lost tally → SetsUp pair_settings first (Err fault) h → GoesLost first h
+opens-lost first script tally fault h is so = record {
+  tally = tally;
+  before = h;
+  more = [];
+  is = sym (append-nil h);
+  set_up = subst (λ (f : SetUpFault). SetsUp pair_settings first (Err f) h) is so;
+  unseen = refl;
+}
+
+pub opens-refused : (first : ℕ) (script : List ScriptLine) (cause : Fault) (fault : SetUpFault) (h : List Entry) → fault ≡ faults.Refused cause → SetsUp pair_settings first (Err fault) h → GoesLost first h
+opens-refused first script cause fault h is so =
+    let refused : SetsUp pair_settings first (Err (faults.Refused cause)) h = subst (λ (f : SetUpFault). SetsUp pair_settings first (Err f) h) is so in
+    absurd (let no_way : pair_settings.export ≡ exports.Path refused.ends.path = refused.ends.mounting in cc)
 
 -- ---- from one end
 

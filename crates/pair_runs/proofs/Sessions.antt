@@ -166,9 +166,9 @@ module _ (end : ℕ) (low : end < 2) (label : List ℕ) (own : label ≡ label_a
           (open-done first script (seen_by end k.steps) new asked long idle quiet (open-on first label script old new given text (seen_by end h.steps) (seen_by end k.steps) same dials on g)),
     )
 
-    pub session-cut : {T : Type 0} → (halt : Halt) (state : State) → All IsAskedLine script → Dials old.port (seen_by end h.steps) (seen_by end k.steps)
+    pub session-cut : (T : Type 0) (halt : Halt) (state : State) → All IsAskedLine script → Dials old.port (seen_by end h.steps) (seen_by end k.steps)
         → CutsOff label script old halt given text (seen_by end h.steps) (seen_by end k.steps) → TurnsBy {T = T} end script (states.Open old) state (Err halt) given text h k
-    session-cut halt state asked dials c = (
+    session-cut T halt state asked dials c = (
       alone,
       breaks-so halt given text c.last c.clocked c.left c.shown,
       λ first g. open-cut first label script old halt given text (seen_by end h.steps) (seen_by end k.steps) asked dials c g,
@@ -185,9 +185,9 @@ module _ (end : ℕ) (low : end < 2) (label : List ℕ) (own : label ≡ label_a
           (lost-done first (by_lanes 16 script) script (lanes-same script asked) (by-empty 16 script) label (side end h) (side end k) g u given text b),
     )
 
-    pub lost-turn-cut : {T : Type 0} → (halt : Halt) (state : State) → LosesBy label (by_lanes 16 script) (Err halt) given text (seen_by end h.steps) (seen_by end k.steps)
+    pub lost-turn-cut : (T : Type 0) (halt : Halt) (state : State) → LosesBy label (by_lanes 16 script) (Err halt) given text (seen_by end h.steps) (seen_by end k.steps)
         → TurnsBy {T = T} end script states.Lost state (Err halt) given text h k
-    lost-turn-cut halt state b = (
+    lost-turn-cut T halt state b = (
       alone,
       breaks-so halt given text b.3.5.last
           (ap (λ (t : List ℕ). clocks (seen_by end h.steps) ++ t) b.3.5.clocked ∙ sym (append_assoc (clocks (seen_by end h.steps)) (clocks (b.3.0 ++ b.3.1)) b.3.5.last)

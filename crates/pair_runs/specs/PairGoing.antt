@@ -123,9 +123,11 @@ state_of (Err e) = Err e
 
 abbrev pub TurnsBy : {T : Type 0} → ℕ → List ScriptLine → State → State → Result T Halt → List ℕ → List ℕ → PairTold → PairTold → Type 0
 TurnsBy end script old new (Ok x) given text h k =
-    AddsAlone end h k × PairAdds given text h k × ((first : ℕ) → StateGoes first script (seen_by end h.steps) old → StateGoes first script (seen_by end k.steps) new)
+    AddsAlone end h k × PairAdds given text h k
+    × ((first : ℕ) → StateGoes first script (seen_by end h.steps) old → StateGoes first script (seen_by end k.steps) new)
 TurnsBy end script old new (Err halt) given text h k =
-    AddsAlone end h k × PairBreaks halt given text h k × ((first : ℕ) → StateGoes first script (seen_by end h.steps) old → ClientRan first script (seen_by end k.steps) (of_halt halt))
+    AddsAlone end h k × PairBreaks halt given text h k
+    × ((first : ℕ) → StateGoes first script (seen_by end h.steps) old → ClientRan first script (seen_by end k.steps) (of_halt halt))
 
 -- ---- both clients
 

@@ -44,7 +44,8 @@ pub record LosesAmong (lines : List ScriptLine) (more : List Entry) : Type 0 whe
 -- dialed; or its set-up lost the session, and each answer says so.
 pub data ClientBegan (first : ℕ) (lines : List ScriptLine) (h : List Entry) : Type 0 where
   ran : (v : SetUp) (before : List Entry) → SetsUp pair_settings first (Ok v) before → FitsSession pair_settings first v → All IsAskedLine lines
-      → HasCore (mounted_by pair_settings (setup_of pair_settings v)) (setup_of pair_settings v) before h → Dials pair_settings.nfs_port before h → ClientBegan first lines h
+      → HasCore (mounted_by pair_settings (setup_of pair_settings v)) (setup_of pair_settings v) before h → Dials pair_settings.nfs_port before h
+      → ClientBegan first lines h
   lost : (tally : Tally) (before more : List Entry) → h ≡ before ++ more → SetsUp pair_settings first (Err (Lost tally)) before → LosesAmong lines more
       → ClientBegan first lines h
 

@@ -116,8 +116,8 @@ impl Client {
         ensures honest { P.honest end.old.link.now → P.honest end.new.link.now }
         ensures later { K.faults out.old ≤ K.faults out.new }
         ensures cause { CausedBy result (Rose (K.faults out.old) (K.faults out.new)) }
-        ensures goes { PairPasses (C.readings clock.old) (C.readings clock.new) (P.told end.old.link.now) (P.told end.new.link.now) (K.written out.old) (K.written out.new)
-            (TurnsBy (number_of end.old.side) self.old.script self.old.state self.new.state result) }
+        ensures goes { PairPasses (C.readings clock.old) (C.readings clock.new) (P.told end.old.link.now) (P.told end.new.link.now)
+            (K.written out.old) (K.written out.new) (TurnsBy (number_of end.old.side) self.old.script self.old.state self.new.state result) }
     {
         match &mut self.state {
             State::Open(session) => {

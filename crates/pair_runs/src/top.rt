@@ -26,9 +26,9 @@ const FIRST_XID: u32 = 1;
 /// The first xid of client b.
 const OTHER_XID: u32 = 1_073_741_825;
 
-/// Runs two scripts, each in a client of its own over its end of the link, and writes an answer line for each operation behind the letter of its client. Each
-/// client has the root `0000000000000001`, makes its calls as nobody, and asks for the server's sizes before the first turn. Turns follow the letters `a` and `b`
-/// of the order, and then come one after the other until both are done.
+/// Runs two scripts, each in a client of its own over its end of the link, and writes an answer line for each operation behind the letter of its client.
+/// Each client has the root `0000000000000001`, makes its calls as nobody, and asks for the server's sizes before the first turn. Turns follow the letters
+/// `a` and `b` of the order, and then come one after the other until both are done.
 ///
 /// It answers the status: 0 where each operation went well, 1 where one was refused, 3 where a script is, 4 where a source failed, 5 where the sink failed, 6
 /// where a client's link is lost, 7 for lack of memory outside an operation.
@@ -135,12 +135,12 @@ fn run_scripts<P: PairLink, C: Clock, K: Sink>(
     ensures goes { PairPasses (C.readings clock.old) (C.readings clock.new) (P.told link.old) (P.told link.new) (K.written out.old) (K.written out.new)
         (λ given text h k. h.steps ≡ [] → BothRan first second given k result text) }
 {
-    let Ok(mut pair) = set_up_both(alloc, first, second, link) else {
-        return status::NO_MEMORY;
-    };
-    match pair.run(order, link, clock, out) {
-        Ok(()) => pair.status(),
-        Err(halt) => status::of_halt(halt),
+    match set_up_both(alloc, first, second, link) {
+        Ok(mut pair) => match pair.run(order, link, clock, out) {
+            Ok(()) => pair.status(),
+            Err(halt) => status::of_halt(halt),
+        },
+        Err(_) => status::NO_MEMORY,
     }
 }
 

@@ -11,9 +11,9 @@ ghost use Rattle.two_clients.specs.Pair.{PairIs};
 use outside::{Clock, PairLink, Sink, Source};
 use std::alloc::Global;
 
-/// Runs two scripts, each in a client of its own over its end of the link, and writes an answer line for each operation behind the letter of its client. Each
-/// client has the root `0000000000000001`, makes its calls as nobody, and asks for the server's sizes before the first turn. Turns follow the letters `a` and `b`
-/// of the order, and then come one after the other until both are done.
+/// Runs two scripts, each in a client of its own over its end of the link, and writes an answer line for each operation behind the letter of its client.
+/// Each client has the root `0000000000000001`, makes its calls as nobody, and asks for the server's sizes before the first turn. Turns follow the letters
+/// `a` and `b` of the order, and then come one after the other until both are done.
 ///
 /// It answers the status: 0 where each operation went well, 1 where one was refused, 3 where a script is, 4 where a source failed, 5 where the sink failed, 6
 /// where a client's link is lost, 7 for lack of memory outside an operation.

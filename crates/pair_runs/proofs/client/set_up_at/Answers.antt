@@ -1,5 +1,6 @@
 use Rattle.std.proofs.Common.{refl, arith}
 use Rattle.pair_ends.proofs.Calls.{spares-none}
+use Rattle.pair_runs.proofs.Openings.{set-up-of-end}
 use Rattle.pair_runs.proofs.Options.{options-of, calls-of}
 use Rattle.pair_runs.proofs.client.set_up_at.Goals as goal
 
@@ -11,3 +12,8 @@ set_up-requires-clause-last g c = let n = calls-of c.args.settings.now c.require
 
 pub returns-clause-same_reference : goal.returns-clause-same_reference
 returns-clause-same_reference g c = (c.set_up.ensures.stays c.args.end.now (refl, refl, spares-none _ _)).0
+
+pub returns-clause-opens : goal.returns-clause-opens
+returns-clause-opens g c =
+    let s = c.set_up.ensures.stays c.args.end.now (refl, refl, spares-none _ _) in
+    set-up-of-end c.args.end.now.side _ c.args.first_xid c.args.settings.now c.set_up.result _ _ s.1 c.requires.settings s.2 c.set_up.ensures.goes
