@@ -43,6 +43,15 @@ try_all_triples() {
     done
 }
 
+# Two clients of one server: their scripts stand in a folder of their own.
+try_a_pair() {
+    local folder=$examples/pair status
+    "$nfs3" pair "$folder/schedule" "$folder/script_b" <"$folder/script_a" >"$work/said" 2>/dev/null
+    status=$?
+    [ "$status" = "$(named status "$folder/schedule")" ] && cmp -s "$work/said" "$folder/expected"
+    count $? "pair: status $status, $(cat "$work/said")"
+}
+
 # A folder with folders, an empty file, one that takes several scripts, all bytes, and names with other bytes than letters.
 make_a_folder() {
     mkdir -p "$work/there/b c/d" "$work/there/%41"
@@ -92,6 +101,7 @@ end_without_a_server() {
 
 start_without_a_server
 try_all_triples
+try_a_pair
 try_a_backup
 end_without_a_server
 sum_up

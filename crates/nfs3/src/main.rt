@@ -1,7 +1,8 @@
 //! A user-space client of NFS version 3. `nfs3 run HOST WORDS` runs the script on standard input with the server at HOST over
 //! TCP, `nfs3 run --udp HOST WORDS` over UDP, and `nfs3 replay SCHEDULE WORDS` over a simulated server, which the file SCHEDULE
-//! describes. `nfs3 make N WORDS` runs a script that is made over such a server without a file. `nfs3 export PORT CALLS`, with or
-//! without a SCHEDULE, serves a test export, over UDP with `--udp` before the port. `nfs3 fsc-make FILE` makes a file of kept pages.
+//! describes. `nfs3 make N WORDS` runs a script that is made over such a server without a file. `nfs3 pair SCHEDULE SCRIPT` runs two
+//! scripts as two clients of a simulated server. `nfs3 export PORT CALLS`, with or without a SCHEDULE, serves a test export, over UDP
+//! with `--udp` before the port. `nfs3 fsc-make FILE` makes a file of kept pages.
 #![tactic(auto)]
 
 mod connections;
@@ -9,6 +10,7 @@ mod ending;
 mod export;
 mod make;
 mod page_file;
+mod pair;
 mod replay;
 mod run;
 mod schedule_file;
@@ -50,6 +52,9 @@ fn command(rt: &HostRuntime, mut words: Vec<String>) -> Ending {
         [name, _, ..] if name.as_str() == "replay" => {
             let path = words.remove(1);
             replay::replay(rt, path.as_str(), words.as_slice())
+        }
+        [name, schedule, script] if name.as_str() == "pair" => {
+            pair::pair(rt, schedule.as_str(), script.as_str())
         }
         [name, _, ..] if name.as_str() == "make" => {
             let size = words.remove(1);

@@ -8,6 +8,8 @@ use Rattle.session_setup.specs.Origins.{origin_of, modes_of, terms_by}
 use Rattle.lane_session.specs.Endings.{cut, entries_of}
 use Rattle.lane_session.specs.Sessions.{IsUnmarked}
 use Rattle.lane_session.proofs.Ending.{broken-none}
+use Rattle.script_runs.specs.Readings.{Reads}
+use Rattle.script_runs.specs.Run.{Says}
 use Rattle.script_runs.proofs.LaneRuns.{fresh}
 use Rattle.nfs_client.specs.Headline.{Promises}
 use Rattle.nfs_client.proofs.Headlines.{ready-promises, quiet-promises}
@@ -20,8 +22,8 @@ use Rattle.nfs_client.proofs.SetUpAlone.{lost-quiet}
 use Rattle.nfs_client.proofs.Showing.{run-shows}
 use Rattle.link_dials.specs.Sendings.{GoesToPorts, Resends}
 use Rattle.link_dials.proofs.Ports.{ports-none}
-use Rattle.two_clients.specs.Given.{pair_settings}
-use Rattle.two_clients.specs.PairRuns.{ran, lost, began, unready, unbegun, ClientRan, RunsLines, BothRan, PairLeaves, none_began, both_ran}
+use Rattle.pair_runs.specs.Given.{pair_settings}
+use Rattle.pair_runs.specs.PairRuns.{ran, lost, began, unready, unbegun, ClientRan, RunsLines, BothRan, PairLeaves, none_began, both_ran, PairRelates}
 use Rattle.two_clients.specs.Pair.{SideKeeps, PairHeadline, PairSees, PairIs}
 use Rattle.two_clients.specs.Pair as pairs
 use Rattle.two_clients.specs.Sees.{AreAlike}
@@ -108,3 +110,20 @@ pub pair-is : (given : List ℕ) (left_a left_b : Option (List ℕ)) (h : PairTo
     → PairIs given left_a left_b h status text
 pair-is given left_a left_b h status text (none_began still unread none) = pairs.none_began still unread none
 pair-is given left_a left_b h status text (both_ran first second a b r) = pairs.both_ran first second a b (pair-headline first second given h status text r)
+
+-- ---- a run
+
+pair-told : (old new : Option PairTold) (given : List ℕ) (left_a left_b : Option (List ℕ)) (status : ℕ) (text : List ℕ)
+    → PairRelates old new (λ before h. before.steps ≡ [] → PairLeaves given left_a left_b h status text) → PairRelates old new (λ before h. before.steps ≡ [] → PairIs given left_a left_b h status text)
+pair-told None new given left_a left_b status text r = tt
+pair-told (Some x) None given left_a left_b status text r = absurd r
+pair-told (Some x) (Some y) given left_a left_b status text r = λ none. pair-is given left_a left_b y status text (r none)
+
+pub says-headline : (v w a b : Option (List ℕ)) (old new : Option PairTold) (left_a left_b : Option (List ℕ)) (status : ℕ)
+    → Says v w (λ text. Reads a b (λ given. PairRelates old new (λ before h. before.steps ≡ [] → PairLeaves given left_a left_b h status text)))
+    → Says v w (λ text. Reads a b (λ given. PairRelates old new (λ before h. before.steps ≡ [] → PairIs given left_a left_b h status text)))
+says-headline v w a b old new left_a left_b status said = record {
+  text = said.text;
+  added = said.added;
+  is = (said.is.0, said.is.1, pair-told old new said.is.0 left_a left_b status said.text said.is.2);
+}

@@ -17,8 +17,8 @@ use Rattle.lane_session.specs.Endings.{EndsAs, entries_of}
 use Rattle.lane_session.specs.Going.{AllTimed}
 use Rattle.script_runs.specs.Run.{IsReadAs}
 use Rattle.nfs_client.specs.Headline.{Promises}
-use Rattle.two_clients.specs.Given.{pair_settings}
-use Rattle.two_clients.specs.PairRuns.{NoneBegan, PairClocked, PairLeaves, PairText, StatusOf}
+use Rattle.pair_runs.specs.Given.{pair_settings}
+use Rattle.pair_runs.specs.PairRuns.{NoneBegan, PairClocked, PairText, StatusOf}
 use Rattle.two_clients.specs.Sees.{IsHonestTo}
 
 -- What `Headline` says of a session, of the history as one client sees it: all but its text and its readings of the clock, which are among those of both. The
@@ -56,8 +56,3 @@ pub data PairIs (given : List ℕ) (left_a left_b : Option (List ℕ)) (h : Pair
   none_began : h.steps ≡ [] → given ≡ [] → NoneBegan left_a left_b status text → PairIs given left_a left_b h status text
   both_ran : (first second : List ScriptLine) → IsReadAs left_a (Ok first) → IsReadAs left_b (Ok second) → PairHeadline first second given h status text
       → PairIs given left_a left_b h status text
-
--- What a run of two clients leaves promises this.
-abbrev pub RunsKeepPromises : Type 0
-RunsKeepPromises = (given : List ℕ) (left_a left_b : Option (List ℕ)) (h : PairTold) (status : ℕ) (text : List ℕ) → PairLeaves given left_a left_b h status text
-    → PairIs given left_a left_b h status text

@@ -23,8 +23,8 @@ use Rattle.lane_session.specs.Running.{mounted_by}
 use Rattle.lane_session.specs.Statuses.{IsCutOff, IsSessionStatus}
 use Rattle.script_runs.specs.LaneRuns.{setup_of}
 use Rattle.script_runs.specs.Run.{IsReadAs, IsFaultOf}
-use Rattle.two_clients.specs.Given.{pair_settings}
-use Rattle.two_clients.specs.Texts.{label_at, pair_transcript, pair_clocks}
+use Rattle.pair_runs.specs.Given.{pair_settings}
+use Rattle.pair_runs.specs.Texts.{label_at, pair_transcript, pair_clocks}
 
 -- ---- one client, along its side
 

@@ -1,0 +1,14 @@
+pub mod Options
+pub mod BothStatuses
+pub mod Endings
+pub mod Alone
+pub mod Sayings
+pub mod Passages
+pub mod Adding
+pub mod Apart
+pub mod Cutting
+pub mod Sessions
+pub mod Both
+pub mod Openings
+pub mod Leavings
+pub mod AtEnds

@@ -1,0 +1,5 @@
+use Rattle.two_clients.proofs.Pair.{says-headline}
+use Rattle.two_clients.proofs.pair.run_pair.Goals as goal
+
+pub returns-clause-headline : goal.returns-clause-headline
+returns-clause-headline g c = says-headline _ _ _ _ _ _ _ _ _ c.run_pair.ensures.shown
