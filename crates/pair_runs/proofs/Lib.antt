@@ -9,6 +9,7 @@ pub mod Apart
 pub mod Cutting
 pub mod Sessions
 pub mod Both
+pub mod Turned
 pub mod Openings
 pub mod Leavings
 pub mod AtEnds
