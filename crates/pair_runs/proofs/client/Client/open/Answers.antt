@@ -6,5 +6,5 @@ returns-clause-ready g c = record { asked = c.requires.asked; few = c.requires.f
 
 pub returns-in_err-state-clause-opens : goal.returns-in_err-state-clause-opens
 returns-in_err-state-clause-opens g c =
-    let p = err_from_is_err_and c.from_residual-in_err-state.result c.from_residual-in_err-state.ensures.1 in
+    let p = err_from_is_err_and c.from_residual.result c.from_residual.ensures.1 in
     rw p.1 c.in_err-state.ensures.opens
