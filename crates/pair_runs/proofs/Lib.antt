@@ -12,3 +12,4 @@ pub mod Both
 pub mod Openings
 pub mod Leavings
 pub mod AtEnds
+pub mod Turning
