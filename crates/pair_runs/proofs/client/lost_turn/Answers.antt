@@ -19,7 +19,7 @@ returns-in-Ok-clause-same_reference g c = (c.lose_lines.ensures.stays c.args.end
 pub returns-in-Ok-clause-goes : goal.returns-in-Ok-clause-goes
 returns-in-Ok-clause-goes g c =
     let s = c.lose_lines.ensures.stays c.args.end.now (refl, refl, spares-none _ _) in
-    lose-on c.args.end.now.side _ s.1 c.label.result.now c.label.ensures c.args.script.now c.requires _ _ _ _ _ _ s.2 (Some c.of_lost.result) tt c.of_lost.result c.of_lost.ensures c.in-Ok.ensures.goes
+    lose-on c.args.end.now.side _ s.1 c.label.result.now c.label.ensures c.args.script.now c.requires.asked _ _ _ _ _ _ s.2 (Some c.of_lost.result) tt c.of_lost.result c.of_lost.ensures c.in-Ok.ensures.goes
 
 -- ---- it was cut off
 
@@ -32,4 +32,4 @@ returns-in-Err-clause-cause g c = caused-later (Unit {0}) (Option ℕ) c.in-Err.
 pub returns-in-Err-clause-goes : goal.returns-in-Err-clause-goes
 returns-in-Err-clause-goes g c =
     let s = c.lose_lines.ensures.stays c.args.end.now (refl, refl, spares-none _ _) in
-    lose-off c.args.end.now.side _ s.1 c.label.result.now c.label.ensures c.args.script.now c.requires _ _ _ _ _ _ s.2 (Option ℕ) c.in-Err.halt states.Lost c.in-Err.ensures.goes
+    lose-off c.args.end.now.side _ s.1 c.label.result.now c.label.ensures c.args.script.now c.requires.asked _ _ _ _ _ _ s.2 (Option ℕ) c.in-Err.halt states.Lost c.in-Err.ensures.goes
