@@ -142,6 +142,10 @@ puts-named h asked x lane line offset path bytes at = (asked x lane line (ops.Pu
 
 -- ---- what a core shows
 
+-- no page was kept from the start
+none-given : (t : History) → GivenTrue nothing_kept t
+none-given t = All-nil _
+
 reached-may : (machine : ℕ → Op → Machine) (setup : Setup) (h : List Entry) (v : View) → Reaches machine setup h v → MaySetUp setup
 reached-may machine setup _ _ (begins h v may up fresh) = may
 reached-may machine setup _ _ (goes h before v b e r is t) = reached-may machine setup before b r
@@ -156,9 +160,17 @@ module _ (m : Mounted) (setup : Setup) (h : List Entry) (core : View) (r : Reach
   goes-with : (terms : Terms) → m.nocto ≡ terms.modes.nocto → GoesWith m terms setup h core
   goes-with terms nocto = record { nocto = nocto; reaches = r }
 
+  -- what is shown of kept pages, and of reads, with the pages that were kept from the start
+  abbrev PagesOver : Pages → Type 0
+  PagesOver p = (file : List ℕ) (index : ℕ) (bytes : List ℕ) → page_of file index core.shelf.pages ≡ Some bytes → IsKeptFrom p h core.shelf.pages file index bytes
+
+  abbrev ReadsOver : Pages → Terms → Type 0
+  ReadsOver p terms = (lane x slot offset count y : ℕ) (bytes : List ℕ) → Ended h lane x (ops.Read slot offset count) y (Done (Bytes bytes))
+      → ReadGivenFrom p terms.modes (take y h) x (ops.Read slot offset count) offset bytes
+
   kept-shown : setup.pages ≡ nothing_kept → (terms : Terms) → m.nocto ≡ terms.modes.nocto → KnowsRoot terms.origin h m.root → PutsNamed h → KeptShown terms setup h core
   kept-shown bare terms nocto root named = record {
-    pages = pages-shown m setup h core r bare;
+    pages = subst (λ (p : Pages). PagesOver p) bare (pages-shown m setup h core r);
     pending = pending-written m terms setup h core (goes-with terms nocto);
     held_back = λ found told. pending-held m terms setup h core (goes-with terms nocto) found root named told;
     carried = pieces-carried m setup h core r;
@@ -171,7 +183,7 @@ module _ (m : Mounted) (setup : Setup) (h : List Entry) (core : View) (r : Reach
   slots-shown bare terms nocto =
       let g : GoesWith m terms setup h core = goes-with terms nocto in
       record {
-        reads = reads-given m terms setup h core g bare;
+        reads = subst (λ (p : Pages). ReadsOver p terms) bare (reads-given m terms setup h core g);
         held = slots-hold-opens m terms setup h core g;
         places = places-exact m terms setup h core g;
         caused = places-caused m terms setup h core g;
@@ -270,16 +282,16 @@ module _ (s : Settings) (first : ℕ) (v : SetUp) (t : History) (core : View) (l
   honest-shown : HonestShown s v.root core t
   honest-shown = record {
     stats = stats-led m (setup_of s v) (longest_of s.lives) t core (longest-last s.lives) lawful fresh r;
-    reads = reads-from m (terms_by s first) (setup_of s v) t core (record { nocto = refl; reaches = r }) lawful fresh refl;
+    reads = reads-from m (terms_by s first) (setup_of s v) t core (record { nocto = refl; reaches = r }) lawful fresh (none-given t);
     recent =
         reads-recent m (terms_by s first) (setup_of s v) t core (record { nocto = refl; reaches = r }) refl
-        (λ may. record { takes = takes; lasts = longest-last s.lives }) lawful fresh refl;
+        (λ may. record { takes = takes; lasts = longest-last s.lives }) lawful fresh (none-given t);
     read_true =
         reads-current m (terms_by s first) (setup_of s v) t core (record { nocto = refl; reaches = r }) refl
-        (λ may. record { takes = takes; lasts = longest-last s.lives }) root (puts-named t.entries asked) lawful fresh refl;
-    read_back = λ asks. stable-read m (terms_by s first) (setup_of s v) t core (record { nocto = refl; reaches = r }) refl asks lawful fresh refl;
+        (λ may. record { takes = takes; lasts = longest-last s.lives }) root (puts-named t.entries asked) lawful fresh (none-given t);
+    read_back = λ asks. stable-read m (terms_by s first) (setup_of s v) t core (record { nocto = refl; reaches = r }) refl asks lawful fresh (none-given t);
     stood = names-stood m (setup_of s v) (longest_of s.lives) t core (longest-last s.lives) lawful fresh r;
-    pages = pages-true m (setup_of s v) t core lawful fresh r refl;
+    pages = pages-true m (setup_of s v) t core lawful fresh (none-given t) r;
     ages = attrs-aged m (setup_of s v) (modes_of s) (origin_of s.export) t core (longest-last s.lives) lawful fresh takes root r;
     names = names-held m (setup_of s v) (modes_of s) (origin_of s.export) t core goes-honestly;
     lists = lists-whole m (setup_of s v) (modes_of s) (origin_of s.export) t core goes-honestly;
@@ -309,11 +321,11 @@ module _ (s : Settings) (first : ℕ) (v : SetUp) (t : History) (core : View) (l
         settled = settled-stay mount (terms_by s first) (setup_of s v) t core with-core root named only lawful once;
         cuts_stay = cuts-stay mount (terms_by s first) (setup_of s v) t core refl notes root named only lawful once;
         reads = λ fresh. record {
-          current = reads-current mount (terms_by s first) (setup_of s v) t core with-core refl briefly root named lawful fresh refl;
-          own = own-bytes-read mount (terms_by s first) (setup_of s v) t core with-core refl briefly root named only lawful fresh refl once;
-          cut = cuts-read mount (terms_by s first) (setup_of s v) t core refl refl notes briefly root named only lawful fresh refl once;
+          current = reads-current mount (terms_by s first) (setup_of s v) t core with-core refl briefly root named lawful fresh (none-given t);
+          own = own-bytes-read mount (terms_by s first) (setup_of s v) t core with-core refl briefly root named only lawful fresh (none-given t) once;
+          cut = cuts-read mount (terms_by s first) (setup_of s v) t core refl refl notes briefly root named only lawful fresh (none-given t) once;
         };
-        ends = λ fresh. reads-end-rightly mount (terms_by s first) (setup_of s v) t core with-core refl briefly root named only lawful fresh refl once;
+        ends = λ fresh. reads-end-rightly mount (terms_by s first) (setup_of s v) t core with-core refl briefly root named only lawful fresh (none-given t) once;
       }
 
 -- ---- complete sessions
