@@ -1,6 +1,7 @@
 -- A session that was set up shows what its core does: its root was known as each operation began, and its terms are those of the settings.
-use Rattle.std.proofs.Common.{◌≡◌, ◌≤◌, ◌<◌, ◌+◌, ◌⊎◌, inl, inr, ℕ, List, [], ◌∷◌, ◌++◌, length, Bool, true, false, cond, Some, Ok, refl, sym, ap, subst, arith}
+use Rattle.std.proofs.Common.{◌≡◌, ◌≤◌, ◌<◌, ◌+◌, ◌⊎◌, inl, inr, ℕ, List, [], ◌∷◌, ◌++◌, length, take, Bool, true, false, cond, Some, Ok, refl, sym, ap, subst, arith}
 use Rattle.std.proofs.lemmas.Bool.{cases_lt, eq-eqb}
+use Rattle.std.proofs.lemmas.List.Elements.{All-nil}
 use Rattle.attr_cache.specs.declared.lives.Lives.{Lives}
 use Rattle.rpc_message.specs.declared.cred.Cred.{Cred}
 use Rattle.rpc_retry.specs.declared.waiting.Waiting.{Waiting}
@@ -9,7 +10,8 @@ use Rattle.world_model.specs.declared.entry.Entry.{Entry}
 use Rattle.world_model.specs.declared.entry.Entry.TheVariants.{Began, Clock, Sent}
 use Rattle.world_model.specs.declared.op.Op.{Op}
 use Rattle.world_model.specs.declared.op.Op.TheVariants as ops
-use Rattle.world_model.specs.declared.answer.Answer.TheVariants.{Refused}
+use Rattle.world_model.specs.declared.answer.Answer.TheVariants.{Done, Refused}
+use Rattle.world_model.specs.declared.answer.Value.TheVariants.{Bytes}
 use Rattle.world_model.specs.declared.answer.Fault.TheVariants.{Spent}
 use Rattle.claims.specs.CallsAsked.{CallsAsked, NoneBegan}
 use Rattle.claims.specs.Caused.{calls_in}
@@ -42,6 +44,9 @@ use Rattle.core_facts.proofs.Owning.{reached-owned}
 use Rattle.core_facts.proofs.Refusals.{refusals-shown}
 use Rattle.core_facts.proofs.Rows.{reached-rows}
 use Rattle.core_facts.proofs.SlotTheorems.{places-caused, places-exact, slots-hold-opens}
+use Rattle.core_answers.specs.pages.Kept.{IsKeptFrom}
+use Rattle.core_answers.specs.pages.True.{GivenTrue}
+use Rattle.core_answers.specs.reads.From.{ReadGivenFrom}
 use Rattle.core_answers.proofs.answers.LonePuts.{lone-refusals}
 use Rattle.core_answers.proofs.answers.PutRules.{put-faults-few, put-rules-shown}
 use Rattle.core_answers.specs.asks.PutCalls.{IsMadeAlone}
@@ -119,7 +124,7 @@ use Rattle.nfs_client.proofs.AllOks.{all-oks}
 use Rattle.nfs_client.proofs.Causes.{all-caused}
 use Rattle.nfs_client.proofs.Ports.{ready-ports}
 use Rattle.nfs_client.proofs.Spent.{ended-sent}
-use Rattle.page_cache.specs.Pages.{nothing_kept}
+use Rattle.page_cache.specs.Pages.{Pages, nothing_kept, page_of}
 
 -- ---- the root
 
@@ -291,7 +296,7 @@ module _ (s : Settings) (first : ℕ) (v : SetUp) (t : History) (core : View) (l
         (λ may. record { takes = takes; lasts = longest-last s.lives }) root (puts-named t.entries asked) lawful fresh (none-given t);
     read_back = λ asks. stable-read m (terms_by s first) (setup_of s v) t core (record { nocto = refl; reaches = r }) refl asks lawful fresh (none-given t);
     stood = names-stood m (setup_of s v) (longest_of s.lives) t core (longest-last s.lives) lawful fresh r;
-    pages = pages-true m (setup_of s v) t core lawful fresh (none-given t) r;
+    pages = pages-true m (setup_of s v) t core lawful fresh r (none-given t);
     ages = attrs-aged m (setup_of s v) (modes_of s) (origin_of s.export) t core (longest-last s.lives) lawful fresh takes root r;
     names = names-held m (setup_of s v) (modes_of s) (origin_of s.export) t core goes-honestly;
     lists = lists-whole m (setup_of s v) (modes_of s) (origin_of s.export) t core goes-honestly;
