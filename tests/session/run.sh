@@ -340,6 +340,43 @@ try_made_scripts() {
     comes_to 5 'nfs3: write fault' $? 'make without standard output'
 }
 
+# What making a file of kept pages says, on both streams, and its status.
+formats() {
+    "$nfs3" fsc-make "${@:3}" >"$work/said" 2>&1 </dev/null
+    comes_to "$1" "$2" $? "fsc-make ${*:3}"
+}
+
+# The mode and the length of that file.
+is_made() {
+    local made
+    made=$(stat -c '%a %s' "$work/pages")
+    [ "$made" = "$1" ]
+    count $? "the file of kept pages has mode and length: $made"
+}
+
+# Slots of 4,224 bytes, and the label behind them.
+try_page_files() {
+    formats 0 '' "$work/pages"
+    is_made '600 4329600'
+    formats 0 '' "$work/pages" --pages 1500
+    is_made '600 6340224'
+    printf x >>"$work/pages"
+    formats 0 '' "$work/pages" --pages 1024
+    is_made '600 4329600'
+    flock "$work/pages" "$nfs3" fsc-make "$work/pages" --pages 1500 >"$work/said" 2>&1
+    comes_to 9 'nfs3: store' $? 'fsc-make of a file that is in use'
+    is_made '600 4329600'
+    formats 9 'nfs3: store' "$work/missing/pages"
+    formats 9 'nfs3: store' "$work"
+    formats 9 'nfs3: store' /dev/full
+    formats 2 'nfs3: usage'
+    formats 2 'nfs3: usage' "$work/pages" --pages
+    formats 2 'nfs3: usage' "$work/pages" --pages 1023
+    formats 2 'nfs3: usage' "$work/pages" --pages 65537
+    formats 2 'nfs3: usage' "$work/pages" --pages +1024
+    formats 2 'nfs3: usage' "$work/pages" 1024
+}
+
 trap end_all EXIT
 "$nfs3" >"$work/build.log" 2>&1
 [ $? -eq 2 ] || {
@@ -361,6 +398,7 @@ try_a_large_datagram
 try_a_late_server
 try_refusals
 try_made_scripts
+try_page_files
 for part in launcher examples; do
     "$here/$part.sh"
     count $? "$part.sh"

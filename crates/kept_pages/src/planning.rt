@@ -18,7 +18,7 @@ pub(crate) struct Plan {
 
 /// The pages of a cache that no slot has, and slots for them: those that have no page of the cache, as far as there are any. A
 /// slot whose page the cache doesn't keep changes in any case.
-pub(crate) fn plan<D: Disk + Drop>(
+pub(crate) fn plan_for<D: Disk + Drop>(
     alloc: Global,
     cache: &PageCache,
     store: &PageStore<D>,

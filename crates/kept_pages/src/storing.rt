@@ -6,9 +6,12 @@ ghost use Rattle.page_store.specs.Slots.{IsSound};
 ghost use Rattle.page_store.specs.Store.{Stands};
 ghost use Rattle.page_store.specs.Faults.{HasStoreCause};
 ghost use Rattle.page_store.specs.Rounds.{IsUnderWay};
-ghost use Rattle.kept_pages.specs.Kept.{KeepsOrKept, AreKept, Fills};
+ghost use Rattle.page_store.specs.Pages.{shows_page};
+ghost use Rattle.page_cache.specs.Pages.{Pages};
+ghost use Rattle.kept_pages.specs.Kept.{KeepsOrKept, IsKept, AreKept, Fills};
 
-use crate::planning::plan;
+use crate::planning::plan_for;
+use nfs_types::KeptPage;
 use page_cache::PageCache;
 use page_store::{Disk, PageStore, StoreFault};
 use std::alloc::Global;
@@ -37,17 +40,17 @@ pub fn store_kept<D: Disk + Drop>(
     ensures goes_on { D.tells store.old.disk → D.tells store.new.disk }
     ensures cause { HasStoreCause (D.faults store.old.disk) (D.faults store.new.disk) result }
 {
-    let Ok(plan) = plan(alloc, cache, store) else {
+    let Ok(planned) = plan_for(alloc, cache, store) else {
         return Err(StoreFault::Memory);
     };
-    if plan.slots.is_empty() {
+    if planned.slots.is_empty() {
         return Ok(());
     }
-    match store.begin(plan.slots.as_slice()) {
+    match store.begin(planned.slots.as_slice()) {
         Ok(()) => {}
         Err(fault) => return Err(fault),
     }
-    match fill_all(cache, store, plan.slots.as_slice(), plan.pages.as_slice()) {
+    match fill_all(cache, store, planned.slots.as_slice(), planned.pages.as_slice()) {
         Ok(()) => {}
         Err(fault) => return Err(fault),
     }
@@ -97,9 +100,28 @@ fn fill_nth<D: Disk + Drop>(
     ensures goes_on { D.tells store.old.disk → D.tells store.new.disk }
     ensures cause { HasStoreCause (D.faults store.old.disk) (D.faults store.new.disk) result }
 {
-    let Some(page) = cache.nth(n as usize) else {
-        return Ok(());
-    };
+    match cache.nth(n as usize) {
+        Some(page) => fill_with(store, slot, &page),
+        None => Ok(()),
+    }
+}
+
+/// Fills a slot of a round with a page, unless it is too long.
+fn fill_with<D: Disk + Drop>(
+    store: &mut PageStore<D>,
+    slot: u32,
+    page: &KeptPage<'_>,
+) -> Result<(), StoreFault>
+    ensures fills { D.tells store.old.disk → (n : ℕ) → length store.old.pages ≤ n → IsSound n (D.may_leave store.old.disk)
+        → IsUnderWay (D.seen store.old.disk) (D.may_leave store.old.disk) store.old.round
+        → Fills D.seen D.may_leave D.moment D.left_since n store.old store.new }
+    ensures kept { (c : Pages) → IsKept c (shows_page page.now) → AreKept c store.old.round → AreKept c store.new.round }
+    ensures short { length store.new.round ≤ length store.old.round }
+    ensures pages { store.new.pages ≡ store.old.pages }
+    ensures label { store.new.label ≡ store.old.label }
+    ensures goes_on { D.tells store.old.disk → D.tells store.new.disk }
+    ensures cause { HasStoreCause (D.faults store.old.disk) (D.faults store.new.disk) result }
+{
     if page.bytes.len() > PAGE {
         return Ok(());
     }

@@ -67,12 +67,14 @@ pub by-none : (script : List ScriptLine) → by_lanes 0 script ≡ []
 unfolding by_lanes
 by-none script = refl
 
+by-suc : (n : ℕ) (script : List ScriptLine) → by_lanes (suc n) script ≡ by_lanes n script ++ of_lane (suc n) script
+unfolding by_lanes
+by-suc n script = refl
+
 pub by-next : (n : ℕ) (script : List ScriptLine) → by_lanes (n + 1) script ≡ by_lanes n script ++ of_lane (n + 1) script
-by-next n script = let one : n + 1 ≡ suc n = omega arith in subst (λ (m : ℕ). by_lanes m script ≡ by_lanes n script ++ of_lane m script) (sym one) (next n)
-  where
-    next : (m : ℕ) → by_lanes (suc m) script ≡ by_lanes m script ++ of_lane (suc m) script
-    unfolding by_lanes
-    next m = refl
+by-next n script =
+    let one : n + 1 ≡ suc n = omega arith in
+    subst (λ (m : ℕ). by_lanes m script ≡ by_lanes n script ++ of_lane m script) (sym one) (by-suc n script)
 
 pub by-empty : (n : ℕ) (script : List ScriptLine) → script ≡ [] → by_lanes n script ≡ []
 unfolding by_lanes

@@ -244,6 +244,7 @@ rest-goes done from script h lane s mid least seeks g = record {
     | inl is ↦ subst (IsPlaced done script h (suc n)) (sym is.1) (own n is.0)
     | inr is ↦ g.placed n p is.1
   ];
+  within = g.within;
   status = g.status;
   timed = g.timed;
   together = g.together;

@@ -1,5 +1,5 @@
 -- Each record of a session goes to the port of its program: MNT in the set-up, and calls of NFS from FSINFO on.
-use Rattle.std.proofs.Common.{◌≡◌, ◌≤◌, inl, inr, ℕ, suc, List, [], ◌∷◌, ◌++◌, length, Ok, Err, refl, sym, ap, subst, ◌∙◌, arith}
+use Rattle.std.proofs.Common.{◌≡◌, ◌≤◌, inl, inr, ℕ, suc, List, [], ◌∷◌, ◌++◌, length, Result, Ok, Err, refl, sym, ap, subst, ◌∙◌, arith}
 use Rattle.nfs_types.specs.declared.program.TheConstants.{NFS_PROGRAM}
 use Rattle.rpc_retry.specs.Held.{next_xid}
 use Rattle.rpc_retry.proofs.Lookups.{at_sent}
@@ -20,6 +20,7 @@ use Rattle.core_facts.proofs.Cases.{sent_now}
 use Rattle.core_facts.proofs.Noting.{notes-reach, answers-first}
 use Rattle.core_facts.proofs.Rows.{Rows, reached-rows}
 use Rattle.session_setup.specs.declared.opening.SetUp.{SetUp}
+use Rattle.session_setup.specs.declared.opening.SetUpFault.{SetUpFault}
 use Rattle.session_setup.specs.declared.opening.SetUpFault.TheVariants.{Lost}
 use Rattle.session_setup.specs.Outcomes.{SetsUp}
 use Rattle.session_setup.proofs.Calls.{heads_same, same_program}
@@ -81,10 +82,10 @@ all-dials : (port : ℕ) (more : List Entry) → AreHushed more → AreDialsOf p
 all-dials port [] each = tt
 all-dials port (e ∷ more) each = (hushed-dials port e (each 0 e refl), all-dials port more (λ i d at. each (suc i) d at))
 
--- its lines were answered that it is lost
-pub lost-ports : (s : Settings) (first : ℕ) (tally : Tally) (before more h : List Entry) → SetsUp s first (Err (Lost tally)) before → h ≡ before ++ more → AreHushed more
+-- since the set-up nothing was dialed, sent or received
+pub hushed-ports : (s : Settings) (first : ℕ) (result : Result SetUp SetUpFault) (before more h : List Entry) → SetsUp s first result before → h ≡ before ++ more → AreHushed more
     → GoesToPorts s.mount_port s.nfs_port h
-lost-ports s first tally before more h so is each =
+hushed-ports s first result before more h so is each =
     ports-then s.mount_port s.nfs_port before h so.ports (sends-none s.nfs_port before h (record { more = more; is = is; only = all-dials s.nfs_port more each }) unsent)
     (λ i xid call bytes at late spells. absurd (unsent i bytes at late))
   where
@@ -92,6 +93,11 @@ lost-ports s first tally before more h so is each =
     unsent i bytes at late =
         let b = behind before more i (Sent bytes) (subst (λ (l : List Entry). At l i (Sent bytes)) is at) late in
         each b.0 (Sent bytes) b.1
+
+-- its lines were answered that it is lost
+pub lost-ports : (s : Settings) (first : ℕ) (tally : Tally) (before more h : List Entry) → SetsUp s first (Err (Lost tally)) before → h ≡ before ++ more → AreHushed more
+    → GoesToPorts s.mount_port s.nfs_port h
+lost-ports s first tally before more h so is each = hushed-ports s first (Err (Lost tally)) before more h so is each
 
 -- there were no lines
 pub empty-ports : (s : Settings) (h : List Entry) → h ≡ [] → GoesToPorts s.mount_port s.nfs_port h

@@ -25,7 +25,7 @@ use Rattle.nfs_client.proofs.Quiet.{IsQuiet, IsSetUpRecord}
 use Rattle.nfs_client.proofs.Quiet as quiet
 
 -- an entry of two lists together is one of the first, or of the second
-split-at : (h more : List Entry) (i : ℕ) (e : Entry) → At (h ++ more) i e → At h i e ⊎ ((k : ℕ) × (i ≡ length h + k) × At more k e)
+pub split-at : (h more : List Entry) (i : ℕ) (e : Entry) → At (h ++ more) i e → At h i e ⊎ ((k : ℕ) × (i ≡ length h + k) × At more k e)
 split-at [] more i e at = inr (i, omega arith, at)
 split-at (d ∷ h) more zero e at = inl at
 split-at (d ∷ h) more (suc i) e at = elim (split-at h more i e at) [
@@ -61,7 +61,7 @@ module _ (s : Settings) (first : ℕ) (result : Result SetUp SetUpFault) (before
       by call xid (mounts path is c x) = causes.mounts path is c (none-began i (At-below before i (Sent sent) at))
       by call xid (informs root rooted c x) = causes.informs root (Rooted-grow (origin_of s.export) before more i root rooted) c (none-began i (At-below before i (Sent sent) at))
 
-  asked-so : CallsAsked (terms_by s first) whole
+  pub asked-so : CallsAsked (terms_by s first) (before ++ more)
   asked-so = record {
     caused = λ i sent at. caused-so i sent (sent-before i sent at);
     among = λ i xid sent at has.
@@ -79,7 +79,7 @@ module _ (s : Settings) (first : ℕ) (result : Result SetUp SetUpFault) (before
   set-up-call call i xid (mounts path is c x) = quiet.mounts path c
   set-up-call call i xid (informs root rooted c x) = quiet.informs root c
 
-  set-up-so : (i : ℕ) (sent : List ℕ) → At whole i (Sent sent) → IsSetUpRecord sent
+  pub set-up-so : (i : ℕ) (sent : List ℕ) → At (before ++ more) i (Sent sent) → IsSetUpRecord sent
   set-up-so i sent at = let r = so.sent.caused i sent (sent-before i sent at) in record { xid = r.xid; call = r.call; spells = r.made.spells; is = set-up-call r.call i r.xid r.is }
 
 none-more : (i : ℕ) (e : Entry) → At [] i e → IsHushed e

@@ -7,11 +7,12 @@ use Rattle.page_cache.specs.Pages.{Pages}
 use Rattle.page_store.specs.Disk.{Every, LeavesOnly}
 use Rattle.page_store.specs.Slots.{IsSound}
 use Rattle.page_store.specs.Pages.{StoredPage, HasPage, WasKept}
-use Rattle.page_store.specs.Rounds.{Round, IsFilled, KeepsAll, KeepsOrFills, ArePagesAfter, round_after, taken_in}
+use Rattle.page_store.specs.Rounds.{Round, IsFilled, IsUnderWay, KeepsAll, KeepsOrFills, ArePagesAfter, round_after, taken_in}
 use Rattle.page_store.specs.Store.{StoreView, Stands}
 use Rattle.page_store.specs.declared.fault.StoreFault.{StoreFault}
 use Rattle.page_store.proofs.InMemory.{get-set, no-entry, none-filled, begun-long}
-use Rattle.page_store.proofs.Moments.{weaker, then_on}
+use Rattle.page_store.proofs.Moments.{started, weaker, then_on}
+use Rattle.page_store.proofs.RoundLemmas.{keeps-all-itself}
 use Rattle.kept_pages.specs.Kept.{IsKept, AreKept, KeepsOrKept, Fills}
 
 pub sound-less : (n m : ℕ) (may_leave : List ℕ → Type 0) → m ≤ n → IsSound n may_leave → IsSound m may_leave
@@ -67,6 +68,17 @@ filled-kept n slots c round old mid fits all each image keeps k page less has = 
     low filled = let within = slice_get_within round k (Some (Some page)) filled in omega (arith, within, fits)
 
 module _ {D : Type 0} (seen : D → List ℕ) (may_leave : D → List ℕ → Type 0) (moment : D → ℕ) (left_since : D → ℕ → List ℕ → Type 0) (n : ℕ) where
+  -- where nothing was done
+  pub fills-itself : (old : StoreView D) → ((c : List ℕ) → left_since old.disk (moment old.disk) c → may_leave old.disk c) → IsSound n (may_leave old.disk)
+      → IsUnderWay (seen old.disk) (may_leave old.disk) old.round → Fills seen may_leave moment left_since n old old
+  fills-itself old only sound under_way = record {
+    sound = sound;
+    under_way = under_way;
+    leaves = keeps-all-itself n (may_leave old.disk);
+    moments = started moment left_since old.disk (KeepsAll n (may_leave old.disk)) (may_leave old.disk) only (keeps-all-itself n (may_leave old.disk));
+    stands = λ s. s;
+  }
+
   pub fills-then : (old mid new : StoreView D) → Fills seen may_leave moment left_since n old mid → Fills seen may_leave moment left_since n mid new
       → Fills seen may_leave moment left_since n old new
   fills-then old mid new first next = record {
@@ -77,3 +89,24 @@ module _ {D : Type 0} (seen : D → List ℕ) (may_leave : D → List ℕ → Ty
         (keeps-then n (may_leave old.disk) (may_leave mid.disk) first.leaves);
     stands = λ s. next.stands (first.stands s);
   }
+
+  -- an image of a time at which nothing was done
+  pub kept-itself : (slots : ℕ) (c : Pages) (old : StoreView D) → ((i : List ℕ) → left_since old.disk (moment old.disk) i → may_leave old.disk i)
+      → LeavesOnly moment left_since old.disk old.disk (KeepsOrKept n slots c (may_leave old.disk))
+  kept-itself slots c old only =
+      started moment left_since old.disk (KeepsOrKept n slots c (may_leave old.disk)) (may_leave old.disk) only
+      (λ i left. keeps-kept n slots c (may_leave old.disk) i (keeps-all-itself n (may_leave old.disk) i left))
+
+  -- while slots are filled
+  pub kept-filling : (slots : ℕ) (c : Pages) (old new : StoreView D) → Fills seen may_leave moment left_since n old new
+      → LeavesOnly moment left_since old.disk new.disk (KeepsOrKept n slots c (may_leave old.disk))
+  kept-filling slots c old new f = weaker moment left_since old.disk new.disk (KeepsAll n (may_leave old.disk)) (KeepsOrKept n slots c (may_leave old.disk)) f.moments
+      (keeps-kept n slots c (may_leave old.disk))
+
+  -- and when the round is ended
+  pub kept-ended : (slots : ℕ) (c : Pages) (old mid : StoreView D) (new : D) → Fills seen may_leave moment left_since n old mid → length mid.round ≤ slots → AreKept c mid.round
+      → LeavesOnly moment left_since mid.disk new (KeepsOrFills n mid.round (may_leave mid.disk))
+      → LeavesOnly moment left_since old.disk new (KeepsOrKept n slots c (may_leave old.disk))
+  kept-ended slots c old mid new f fits all ended =
+      then_on moment left_since old.disk mid.disk new (KeepsOrKept n slots c (may_leave old.disk)) (KeepsOrFills n mid.round (may_leave mid.disk))
+      (kept-filling slots c old mid f) ended (filled-kept n slots c mid.round (may_leave old.disk) (may_leave mid.disk) fits all f.leaves)
