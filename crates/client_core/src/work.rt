@@ -183,7 +183,8 @@ impl Work {
     pub(crate) fn into_pages(self) -> PageCache
         ensures { result ≡ self.shelf.pages }
     {
-        self.shelf.pages
+        let shelf = self.shelf;
+        shelf.pages
     }
 
     /// Whether the session is lost.
