@@ -252,7 +252,7 @@ module _ (mo : ℕ → Op → Machine) (setup : Setup) (modes : Modes) where
         found k v is =
             let at = a.at in
             let start = a.start in
-            place-as h x r.file (r.base.start + (r.offset - r.base.start + k)) (offset + k) v (omega (arith, at, start))
+            place-as setup.pages h x r.file (r.base.start + (r.offset - r.base.start + k)) (offset + k) v (omega (arith, at, start))
             (a.base (r.offset - r.base.start + k) v (sym (get-drop (r.offset - r.base.start) r.base.bytes k) ∙ is))
 
         same : reading.answer_of r back ≡ shown_over r.file offset count server (was_pending r.file offset count a.was.back) back
