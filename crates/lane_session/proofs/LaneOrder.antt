@@ -160,6 +160,9 @@ unfolding by_lanes
 by-begun zero lane script least most = absurd (omega (arith, least, most))
 by-begun (suc n) lane script least most = begun-both lane (by_lanes n script) (of_lane (suc n) script) ∙ by (nat_eq lane (suc n)) refl (by-begun n lane script least)
   where
+    below : lane ≢ suc n → lane ≤ n
+    below differs = elim (cases_lt n lane) [ inl over ↦ absurd (differs (omega (arith, over, most))) | inr low ↦ low ]
+
     by : (b : Bool) → nat_eq lane (suc n) ≡ b → (lane ≤ n → begun lane (entries_of (by_lanes n script)) ≡ begun lane (entries_of script))
         → begun lane (entries_of (by_lanes n script)) ++ begun lane (entries_of (of_lane (suc n) script)) ≡ begun lane (entries_of script)
     by true e earlier =
@@ -172,8 +175,6 @@ by-begun (suc n) lane script least most = begun-both lane (by_lanes n script) (o
         ap (λ (t : List Entry). t ++ begun lane (entries_of (of_lane (suc n) script))) (earlier (below differs))
         ∙ ap (λ (t : List Entry). begun lane (entries_of script) ++ t) (of-unbegun lane (suc n) script (λ same. differs (sym same)))
         ∙ append-nil (begun lane (entries_of script))
-    below : lane ≢ suc n → lane ≤ n
-    below differs = elim (cases_lt n lane) [ inl over ↦ absurd (differs (omega (arith, over, most))) | inr low ↦ low ]
 
 -- the lines of a script, lane after lane, are the script's in each lane
 pub lanes-same : (script : List ScriptLine) → All IsAskedLine script → SameLanes (by_lanes 16 script) script

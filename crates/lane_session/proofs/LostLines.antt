@@ -1,5 +1,6 @@
 -- A line of a session that was lost before, those of a lane one after the other, and lane after lane.
-use Rattle.std.proofs.Common.{◌≡◌, ◌≤◌, ◌<◌, ◌+◌, inl, inr, ℕ, zero, suc, List, [], ◌∷◌, ◌++◌, length, take, drop, nat_eq, true, false, slice_get, Option, Some, Result, Ok, Err, refl, sym, ap, subst, ◌∙◌, arith, append-nil, append_assoc}
+use Rattle.std.proofs.Common.{◌≡◌, ◌≢◌, ◌≤◌, ◌<◌, ◌+◌, inl, inr, ℕ, zero, suc, List, [], ◌∷◌, ◌++◌, length, take, drop, slice_get, Option, Some, Result, Ok, Err, refl, sym, ap, subst, ◌∙◌, arith, append-nil, append_assoc}
+use Rattle.std.proofs.lemmas.Bool.{eq-eqb, ne_eqb}
 use Rattle.xdr_codec.specs.declared.blob.Memory.{Memory}
 use Rattle.world_model.specs.declared.answer.Answer.TheVariants.{Refused}
 use Rattle.world_model.specs.declared.answer.Fault.TheVariants as faults
@@ -97,24 +98,24 @@ pub lost-none : (label : List ℕ) (h : List Entry) → LosesBy label [] (Ok tt)
 lost-none label h = ([], sym (append-nil h), no_line [] [] refl refl, refl, refl)
 
 lost-one : (label : List ℕ) (script : List ScriptLine) (at : ℕ) (lane : ℕ) (result : Result (Unit {0}) Halt) (given text : List ℕ) (h k : List Entry)
-    → ((l : ScriptLine) → slice_get script at ≡ Some l → nat_eq l.lane lane ≡ true) → LosesLine label script at result given text h k
+    → ((l : ScriptLine) → slice_get script at ≡ Some l → l.lane ≡ lane) → LosesLine label script at result given text h k
     → LosesBy label (of_lane lane (take 1 (drop at script))) result given text h k
 lost-one label script at lane (Ok u) given text h k own (l, there, (ms, is, read, shown)) =
-    subst (λ (ls : List ScriptLine). LosesBy label ls (Ok u) given text h k) (sym (of-own lane script at l there (own l there)))
+    subst (λ (ls : List ScriptLine). LosesBy label ls (Ok u) given text h k) (sym (of-own lane script at l there (eq-eqb l.lane lane (own l there))))
     (lost_line l ms, is, one_line (l ∷ []) [] (lost_line l ms) [] l ms refl refl (no_line [] [] refl refl), read, shown)
 lost-one label script at lane (Err halt) given text h k own (l, there, (es, is, part, told)) =
-    subst (λ (ls : List ScriptLine). LosesBy label ls (Err halt) given text h k) (sym (of-own lane script at l there (own l there)))
+    subst (λ (ls : List ScriptLine). LosesBy label ls (Err halt) given text h k) (sym (of-own lane script at l there (eq-eqb l.lane lane (own l there))))
     (0, l, refl, ([], es, is, no_line [] [] refl refl, part, told))
 
 module _ (label : List ℕ) (script : List ScriptLine) (at : ℕ) (lane : ℕ) (l : ScriptLine) (there : slice_get script at ≡ Some l) where
-  pub lost-own : (result : Result (Unit {0}) Halt) → nat_eq l.lane lane ≡ true → (given text : List ℕ) (h k : List Entry) → LosesLine label script at result given text h k
+  pub lost-own : (result : Result (Unit {0}) Halt) → l.lane ≡ lane → (given text : List ℕ) (h k : List Entry) → LosesLine label script at result given text h k
       → LosesBy label (of_lane lane (take 1 (drop at script))) result given text h k
   lost-own result own given text h k p =
       lost-one label script at lane result given text h k
-      (λ m found. subst (λ (n : ScriptLine). nat_eq n.lane lane ≡ true) (let same : Some l ≡ Some m = sym there ∙ found in let is : l ≡ m = cc in is) own) p
+      (λ m found. subst (λ (n : ScriptLine). n.lane ≡ lane) (let same : Some l ≡ Some m = sym there ∙ found in let is : l ≡ m = cc in is) own) p
 
-  pub lost-other : nat_eq l.lane lane ≡ false → (h : List Entry) → LosesBy label (of_lane lane (take 1 (drop at script))) (Ok tt) [] [] h h
-  lost-other other h = subst (λ (ls : List ScriptLine). LosesBy label ls (Ok tt) [] [] h h) (sym (of-other lane script at l there other)) (lost-none label h)
+  pub lost-other : l.lane ≢ lane → (h : List Entry) → LosesBy label (of_lane lane (take 1 (drop at script))) (Ok tt) [] [] h h
+  lost-other other h = subst (λ (ls : List ScriptLine). LosesBy label ls (Ok tt) [] [] h h) (sym (of-other lane script at l there (ne_eqb l.lane lane other))) (lost-none label h)
 
 -- ---- lines, and then further ones
 
@@ -227,3 +228,7 @@ pub lanes-off : (label : List ℕ) (script : List ScriptLine) (n : ℕ) (halt : 
 lanes-off label script n halt g i t u h k m lt p q =
     let r = by-parts 16 n script lt in
     lost-off label (by_lanes n script) (of_lane (n + 1) script) r.0 (by_lanes 16 script) halt g i t u h k m r.1 p q
+
+pub lanes-whole : (label : List ℕ) (script : List ScriptLine) (n : ℕ) (g t : List ℕ) (h k : List Entry) → n ≡ 16 → LanesSo label script n g t h k
+    → LosesBy label (by_lanes 16 script) (Ok tt) g t h k
+lanes-whole label script n g t h k is p = subst (λ (m : ℕ). LosesBy label (by_lanes m script) (Ok tt) g t h k) is p

@@ -1,6 +1,6 @@
 //! The file of kept pages.
 
-ghost use Rattle.std.specs.Prelude.{◌≡◌};
+ghost use Rattle.std.specs.Prelude.{◌≡◌, ◌≤◌, IfSome};
 ghost use Rattle.script_text.specs.Numbers.{number_of};
 ghost use Rattle.nfs3.specs.Endings.{unformatted_as};
 
@@ -29,16 +29,17 @@ pub fn make(rt: &HostRuntime, words: &[String]) -> Ending {
 
 /// The number of pages of a word. None exactly where it isn't a number from 1,024 to 65,536 in decimal digits.
 fn page_count(word: &str) -> Option<u32>
-    ensures { result ≡ number_of 1024 65536 word.now }
+    ensures value { result ≡ number_of 1024 65536 word.now }
+    ensures within { IfSome result (λ n. (1024 ≤ n) × (n ≤ 65536)) }
 {
     number(word.as_bytes(), LEAST, MOST)
 }
 
 /// Makes a file with room for so many pages, from 1,024 to 65,536.
-fn format(rt: &HostRuntime, path: &str, pages: u32) -> Ending {
-    if pages < LEAST || pages > MOST {
-        return Ending::Usage;
-    }
+fn format(rt: &HostRuntime, path: &str, pages: u32) -> Ending
+    requires least { 1024 ≤ pages }
+    requires most { pages ≤ 65536 }
+{
     let Ok(mut disk) = FileDisk::make(rt, path) else {
         return Ending::Store;
     };

@@ -1,5 +1,6 @@
 //! A disk in memory, or a store over it.
 
+use crate::kept;
 use crate::words::{
     fill, handle, label, last, numbers, show_bytes, show_done, show_label, show_slot, slots, small,
     stamp, store,
@@ -130,6 +131,7 @@ fn on_store(
         },
         "finish" => show_done(rt, pages.finish())?,
         "empty" => println!(rt; "= {}", pages.is_empty())?,
+        "kept" => kept::row(rt, alloc, &mut pages, rest)?,
         "label" if rest.is_empty() => show_label(rt, alloc, &pages)?,
         "label" => match label(&mut pages, a, last(rest)) {
             Some(result) => show_done(rt, result)?,

@@ -8,6 +8,7 @@
 //! - `store SLOT FILE SIZE INDEX TEXT`, `page SLOT`, `find FILE SIZE INDEX`
 //! - `begin SLOT SLOT ..`, `fill SLOT FILE SIZE INDEX TEXT`, `finish`: a round
 //! - `label ROOT WORDS`, `label`, `empty`: puts a label, shows it, tells whether no slot shows a page
+//! - `kept FILE SIZE INDEX TEXT`, `kept`: shows a cache of the store's pages that keeps this one, too, and stores its pages
 //! - `write AT HEX`, `bytes AT COUNT`, `last COUNT`: writes to the disk, shows bytes of it, and the last calls that it recorded
 //! - `stops OLD NEW`: for each call of a store of the text NEW, over OLD where that isn't `-`: the call fails, the disk
 //!   crashes, and what `open` finds
@@ -21,6 +22,7 @@ mod chopped;
 mod faults;
 mod files;
 mod held;
+mod kept;
 mod stops;
 mod words;
 

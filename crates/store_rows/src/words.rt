@@ -148,7 +148,7 @@ pub fn show_slot<D: Disk + Drop>(
 }
 
 /// Prints a page: its file and its bytes in hex, the length in its stamp, and its number.
-fn show_page(rt: &impl Print, alloc: Global, page: &KeptPage<'_>) -> io::Result<()> {
+pub fn show_page(rt: &impl Print, alloc: Global, page: &KeptPage<'_>) -> io::Result<()> {
     let Ok(file) = hex::encode(alloc, page.file.bytes()) else {
         return println!(rt; "= memory");
     };

@@ -1,6 +1,6 @@
 -- What lists of records and entries are without their ends, after a push or a removal.
-use Rattle.std.proofs.Common.{◌≡◌, ◌<◌, ℕ, zero, suc, List, [], ◌∷◌, ◌++◌, length, map, take, drop, get_or, Option, Some, None, slice_get, refl, sym, ap, ◌∙◌, arith}
-use Rattle.std.specs.Prelude.{OnSome}
+use Rattle.std.proofs.Common.{◌≡◌, ◌<◌, ℕ, zero, suc, List, [], ◌∷◌, ◌++◌, length, map, take, drop, get_or, Option, Some, None, Result, Ok, Err, slice_get, refl, sym, ap, ◌∙◌, arith}
+use Rattle.std.specs.Prelude.{OnErr, OnSome}
 use Rattle.std.specs.List.{remove}
 use Rattle.std.proofs.lemmas.List.{map_push, map-append, length-map, take-map, drop-map}
 use Rattle.outside.specs.declared.link.Received.TheVariants as received
@@ -45,9 +45,6 @@ readied_by old new end reply bytes after is shape pushed =
 
 -- ---- none
 
-pub no_ready : (items : List Routed) → items ≡ [] → map bytes_in items ≡ []
-no_ready items is = ap (map bytes_in) is
-
 pub none_then : (ready : List Routed) (waiting : List Queued) → (ready ≡ [] → waiting ≡ []) → map bytes_in ready ≡ [] → map waiting_in waiting ≡ []
 none_then [] waiting h e = ap (map waiting_in) (h refl)
 none_then (r ∷ ready) waiting h e = absurd cc
@@ -72,6 +69,11 @@ bytes_left items place =
 pub on_some : {T : Type 0} (r : Option T) (x : T) (P : Type 0) → r ≡ Some x → OnSome r P → P
 on_some (Some y) x P e p = p
 on_some None x P e p = absurd cc
+
+-- what holds anyway holds where there is an error
+pub on_err : {T E : Type 0} → (r : Result T E) (P : Type 0) → P → OnErr r P
+on_err (Ok x) P p = tt
+on_err (Err e) P p = p
 
 -- a reply is handed out, and it is told
 pub handed_at : (old new : WorldView) (told told_after : List Told) (items after : List Routed) (place end : ℕ) (reply : Routed) (bytes rec : List ℕ)

@@ -1,4 +1,4 @@
-use Rattle.std.proofs.Common.{arith, Ok, rules}
+use Rattle.std.proofs.Common.{arith, Ok}
 use Rattle.lane_session.proofs.LostLines.{LaneSo, OwnSo, lost-none, lane-more, lane-off, lane-whole}
 use Rattle.lane_session.proofs.Passing.{passes_less, passes_same, passes_then}
 use Rattle.lane_session.proofs.lost_lines.lose_lane.Goals as goal
@@ -22,4 +22,6 @@ returns-in-Err-clause-goes g c =
 
 pub returns-clause-goes : goal.returns-clause-goes
 returns-clause-goes g c =
-    passes_less _ _ _ _ _ _ _ _ (λ given text h k p. lane-whole c.args.label.now c.args.lane c.args.script.now c.loop-at.at given text h k ? p) c.loop-at.invariant.goes
+    let is = c.count-at-end.ensures in
+    let over = c.loop-at-test.false in
+    passes_less _ _ _ _ _ _ _ _ (λ given text h k p. lane-whole c.args.label.now c.args.lane c.args.script.now c.loop-at.at given text h k (omega (arith, is, over)) p) c.loop-at.invariant.goes

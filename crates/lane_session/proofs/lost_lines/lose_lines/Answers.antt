@@ -1,7 +1,7 @@
-use Rattle.std.proofs.Common.{arith, ◌+◌, Ok, rules}
+use Rattle.std.proofs.Common.{arith, ◌+◌, Ok}
 use Rattle.lane_session.specs.Losing.{of_lane, LosesBy}
-use Rattle.lane_session.proofs.LostLines.{LanesSo, lanes-none, lanes-more, lanes-off}
-use Rattle.lane_session.proofs.Passing.{passes_same, passes_then}
+use Rattle.lane_session.proofs.LostLines.{LanesSo, lanes-none, lanes-more, lanes-off, lanes-whole}
+use Rattle.lane_session.proofs.Passing.{passes_less, passes_same, passes_then}
 use Rattle.lane_session.proofs.lost_lines.lose_lines.Goals as goal
 
 pub loop-index-init : goal.loop-index-init
@@ -19,4 +19,10 @@ loop-index-preserved g c = record {
 pub returns-in-Err-clause-goes : goal.returns-in-Err-clause-goes
 returns-in-Err-clause-goes g c =
     passes_then _ _ _ _ _ _ _ _ _ (LanesSo c.args.label.now c.args.script.now c.loop-index.index) _ _
-    (λ f i t u h k m x y. lanes-off c.args.label.now c.args.script.now c.loop-index.index _ f i t u h k m ? x y) c.loop-index.invariant.goes c.in-Err.ensures.goes
+    (λ f i t u h k m x y. lanes-off c.args.label.now c.args.script.now c.loop-index.index _ f i t u h k m c.loop-index-test.true x y) c.loop-index.invariant.goes c.in-Err.ensures.goes
+
+pub returns-clause-goes : goal.returns-clause-goes
+returns-clause-goes g c =
+    let most = c.loop-index.auto.index-end in
+    let over = c.loop-index-test.false in
+    passes_less _ _ _ _ _ _ _ _ (λ given text h k p. lanes-whole c.args.label.now c.args.script.now c.loop-index.index given text h k (omega (arith, most, over)) p) c.loop-index.invariant.goes
