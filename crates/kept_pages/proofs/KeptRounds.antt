@@ -32,12 +32,12 @@ kept-more c slot page old new (Ok true) kept is all k p filled =
     one : (p : StoredPage) → Some (Some p) ≡ Some (Some page) → page ≡ p
     one p e = cc
 kept-more c slot page old new (Ok false) kept is all k p filled = all k p (subst (λ (r : Round). IsFilled r k p) is filled)
-kept-more c slot page old new (Err fault) kept is all k p filled = absurd (let no_way : None ≡ Some (Some (Some p)) = subst (λ (r : Round). IsFilled r k p) is filled in cc)
+kept-more c slot page old new (Err e) kept is all k p filled = absurd (let no_way : None ≡ Some (Some (Some p)) = subst (λ (r : Round). IsFilled r k p) is filled in cc)
 
 pub round-short : (slot : ℕ) (page : StoredPage) (old new : Round) (result : Result Bool StoreFault) → new ≡ round_after slot page result old → length new ≤ length old
 round-short slot page old new (Ok true) is = let same : length new ≡ length old = ap (λ (r : Round). length r) is ∙ length-set old slot (Some (Some page)) in omega (arith, same)
 round-short slot page old new (Ok false) is = let same : length new ≡ length old = ap (λ (r : Round). length r) is in omega (arith, same)
-round-short slot page old new (Err fault) is = let none : length new ≡ 0 = ap (λ (r : Round). length r) is in omega (arith, none)
+round-short slot page old new (Err e) is = let none : length new ≡ 0 = ap (λ (r : Round). length r) is in omega (arith, none)
 
 -- no page is in a round that has just begun
 pub begun-kept : (c : Pages) (slots : List ℕ) (n : ℕ) (round : Round) → round ≡ taken_in slots (replicate n None) → AreKept c round

@@ -46,11 +46,19 @@ fn places_of<D: Disk + Drop>(
 ) -> Result<IndexMap<(Handle, u64), u32>, Memory> {
     let mut places = IndexMap::new(alloc);
     for slot in 0..store.count() {
-        if let Some(page) = store.slot_page(slot) {
-            places.insert((page.file, page.index), slot)?;
+        if let Some(place) = place_in(store, slot) {
+            places.insert(place, slot)?;
         }
     }
     Ok(places)
+}
+
+/// The file and the number of the page that a slot shows, if it shows one.
+fn place_in<D: Disk + Drop>(store: &PageStore<D>, slot: u32) -> Option<(Handle, u64)> {
+    match store.slot_page(slot) {
+        Some(page) => Some((page.file, page.index)),
+        None => None,
+    }
 }
 
 /// The slot that shows this very page, if the table has it.
@@ -60,11 +68,18 @@ fn slot_with<D: Disk + Drop>(
     page: &KeptPage<'_>,
 ) -> Option<u32> {
     let slot = *places.get(&(page.file, page.index))?;
-    let shown = store.slot_page(slot)?;
-    if shown.stamp == page.stamp && shown.bytes == page.bytes {
+    if shows(store, slot, page) {
         Some(slot)
     } else {
         None
+    }
+}
+
+/// Whether a slot shows a page with these bytes under this stamp.
+fn shows<D: Disk + Drop>(store: &PageStore<D>, slot: u32, page: &KeptPage<'_>) -> bool {
+    match store.slot_page(slot) {
+        Some(shown) => shown.stamp == page.stamp && shown.bytes == page.bytes,
+        None => false,
     }
 }
 
@@ -72,6 +87,14 @@ fn slot_with<D: Disk + Drop>(
 fn mark(stays: &mut Vec<bool>, slot: usize) {
     if slot < stays.len() {
         stays[slot] = true;
+    }
+}
+
+/// Whether a slot keeps its page.
+fn is_marked(stays: &[bool], slot: u32) -> bool {
+    match stays.get(slot as usize) {
+        Some(stay) => *stay,
+        None => false,
     }
 }
 
@@ -83,9 +106,8 @@ fn changing<D: Disk + Drop>(
     most: usize,
 ) -> Result<Vec<u32>, Memory> {
     let mut slots = Vec::new(alloc);
-    for (slot, stay) in stays.iter().enumerate() {
-        let slot = slot as u32;
-        if !*stay && (slots.len() < most || store.slot_page(slot).is_some()) {
+    for slot in 0..store.count() {
+        if !is_marked(stays, slot) && (slots.len() < most || place_in(store, slot).is_some()) {
             slots.push(slot)?;
         }
     }

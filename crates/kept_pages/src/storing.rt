@@ -50,7 +50,12 @@ pub fn store_kept<D: Disk + Drop>(
         Ok(()) => {}
         Err(fault) => return Err(fault),
     }
-    match fill_all(cache, store, planned.slots.as_slice(), planned.pages.as_slice()) {
+    match fill_all(
+        cache,
+        store,
+        planned.slots.as_slice(),
+        planned.pages.as_slice(),
+    ) {
         Ok(()) => {}
         Err(fault) => return Err(fault),
     }

@@ -150,6 +150,7 @@ by-unbegun (suc n) lane script out =
     before : (lane ≡ 0) ⊎ (suc n < lane) → (lane ≡ 0) ⊎ (n < lane)
     before (inl is) = inl is
     before (inr over) = inr (omega (arith, over))
+
     apart : (lane ≡ 0) ⊎ (suc n < lane) → suc n ≢ lane
     apart (inl is) same = omega (arith, is, same)
     apart (inr over) same = omega (arith, over, same)

@@ -261,7 +261,7 @@ SameLanes order script = (lane : ℕ) → begun lane (entries_of order) ≡ begu
 some-line : (l : ScriptLine) (ls : List ScriptLine) → begun l.lane (entries_of (l ∷ ls)) ≡ [] → ⊥
 some-line l ls none =
     let first : Began l.lane l.line l.op ∷ begun l.lane (entries_of ls) ≡ [] =
-        ap (λ (t : List Entry). t ++ begun l.lane (entries_of ls)) (sym (begun-own l.lane l.line l.op)) ∙ sym (begun-append l.lane (Began l.lane l.line l.op ∷ []) (entries_of ls)) ∙ none in
+    ap (λ (t : List Entry). t ++ begun l.lane (entries_of ls)) (sym (begun-own l.lane l.line l.op)) ∙ sym (begun-append l.lane (Began l.lane l.line l.op ∷ []) (entries_of ls)) ∙ none in
     absurd cc
 
 -- there are lines in the one where there are in the other

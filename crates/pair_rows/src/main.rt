@@ -9,6 +9,8 @@
 mod show;
 mod text;
 
+ghost use Rattle.std.specs.Prelude.{◌<◌};
+
 use crate::show::{show_answer, show_begun, show_bytes};
 use crate::text::{bytes_of, port_of};
 use outside::{PairLink, Received};

@@ -1,5 +1,5 @@
 -- That pages which are kept aren't asked for again (RFC 1813, section 3.3.6).
-use Rattle.std.specs.Prelude.{List}
+use Rattle.std.specs.Prelude.{◌≡◌, List}
 use Rattle.world_model.specs.declared.entry.Entry.{Entry}
 use Rattle.claims.specs.Terms.{Terms}
 use Rattle.claims.specs.Thrifty.{OneLane, KeptPages}

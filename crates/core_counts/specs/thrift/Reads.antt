@@ -1,5 +1,5 @@
 -- How long the READs of a session are (RFC 1813, sections 3.3.6 and 3.3.19).
-use Rattle.std.specs.Prelude.{List}
+use Rattle.std.specs.Prelude.{◌≡◌, List}
 use Rattle.world_model.specs.declared.entry.Entry.{Entry}
 use Rattle.claims.specs.Terms.{Terms}
 use Rattle.claims.specs.Thrifty.{LongReads}

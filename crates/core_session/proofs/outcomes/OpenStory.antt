@@ -1,6 +1,7 @@
 -- How an open goes well: with the reply to its GETATTR, or with the one that gave its file, of which attributes are kept.
 use Rattle.core_session.proofs.Prelude.{◌≡◌, ◌≤◌, ◌+◌, ◌⊎◌, inl, inr, ℕ, Bool, true, false, List, [], ◌∷◌, ◌++◌, length, Result, refl, sym, subst, ◌∙◌, arith, Attr, Mode, Answer, Fault, Value, Entry, Began, Delivered, Call, Reply, Op, IsDelivered, Asked-grow, Asked-wide, length_last, Next, Shelf, Turn, OpenFile, Opening, walk_of, Mounted, Machine, PathMachine, IsNamed, front_of, last_of, machine_of, file_of, slot_taken, Starts, Resumes, Takes, State, Busy, Setup, of_walk, path_by, in_flight, Awaits, PathOr, LeadsTo, leads-later, ends-later, IsQuiet, Did, TaleLaws, walk-looks, LastAtMost, one-call, CameOf, heard_of, unmade, SlotLaws}
 use Rattle.core_facts.specs.InFlight.{of_file}
+use Rattle.core_facts.specs.Tries.{IsMade}
 use Rattle.core_answers.proofs.refusals.Answering.{IsSeen}
 use Rattle.world_model.specs.declared.answer.Answer.TheVariants as answers
 use Rattle.world_model.specs.declared.answer.Value.TheVariants as values
@@ -13,7 +14,7 @@ use Rattle.client_core.specs.declared.lane.State.TheVariants.{Over as Ends}
 use Rattle.core_facts.proofs.OpenPath.{OpenRuns}
 use Rattle.core_facts.proofs.OpenStory.{IsFileOf, found, made, OpenShown, OpeningTold, LedStory, led-on}
 use Rattle.core_answers.proofs.bonds.AttrsShown.{ShownIn, attr-laws, fresh-attrs, no-story}
-use Rattle.core_answers.proofs.bonds.Keeping.{Known, IsAsked, reached-known}
+use Rattle.core_answers.proofs.bonds.Keeping.{Known, reached-known}
 use Rattle.core_answers.proofs.bonds.Learnt.{Good}
 use Rattle.core_answers.proofs.bonds.MachineAttrs.{attrs-takes}
 use Rattle.core_answers.proofs.bonds.MachineCalls.{Asks, asks-laws}
@@ -243,15 +244,18 @@ module _ (m : Mounted) (most : ℕ) where
 
     pub sees : LastAtMost setup.lives most → IsSeen (machine_of m) setup Seen
     sees lasts h v r kept_up may xid w waits it_made at machine there x op u from o rec = record {
-      asks = subst (Asks machine) same asked.on;
+      asks = subst (Asks machine) same on;
       kept = kept-so most h (Delivered rec) v.shelf.attrs known.kept;
     }
       where
         known : Known m setup Asks asks-laws KeptShown NoStory (no-story m Asks KeptShown (attr-laws most)) h v
         known = reached-known m setup Asks asks-laws KeptShown NoStory (no-story m Asks KeptShown (attr-laws most)) (λ k n fresh. fresh-attrs setup most k n.shelf.attrs lasts fresh.attrs) h v r
 
-        asked : IsAsked m setup Asks asks-laws KeptShown NoStory (no-story m Asks KeptShown (attr-laws most)) xid w machine
-        asked = (known.lanes at (record { number = w.purpose.lane; state = Busy machine }) there).0 xid w waits refl
+        mine : IsMade setup.cred xid w
+        mine = ((known.lanes at (record { number = w.purpose.lane; state = Busy machine }) there).0 xid w waits refl).made
 
-        same : asked.made.asked ≡ it_made.asked
-        same = one-call xid xid asked.made.asked it_made.asked w.bytes (nfs-of asked.made.asked asked.made.nfs) asked.made.spells.spells it_made.spells.spells
+        on : Asks machine mine.asked
+        on = ((known.lanes at (record { number = w.purpose.lane; state = Busy machine }) there).0 xid w waits refl).on
+
+        same : mine.asked ≡ it_made.asked
+        same = one-call xid xid mine.asked it_made.asked w.bytes (nfs-of mine.asked mine.nfs) mine.spells.spells it_made.spells.spells

@@ -39,6 +39,6 @@ returns-in-Ok-clause-short g c = round-short c.args.slot (shows_page c.args.page
 pub returns-in-Err-clause-short : goal.returns-in-Err-clause-short
 returns-in-Err-clause-short g c = round-short c.args.slot (shows_page c.args.page.now) c.args.store.now.round c.fill.new.self.round c.fill.result c.fill.ensures.round
 
-pub returns-then-branch-clause-fills : goal.returns-then-branch-clause-fills
-returns-then-branch-clause-fills g c = λ tells n fits s u.
+pub returns-then-page-gt-PAGE-clause-fills : goal.returns-then-page-gt-PAGE-clause-fills
+returns-then-page-gt-PAGE-clause-fills g c = λ tells n fits s u.
     fills-itself g.D.Disk.seen g.D.Disk.may_leave g.D.Disk.moment g.D.Disk.left_since n c.args.store.now (g.met.D.Disk.only_now c.args.store.now.disk tells) s u

@@ -19,3 +19,6 @@ returns-in-Some-clause-loses g c = rw c.in-Some.is (told-set-up _ _ c.in-Some.se
 
 pub returns-in-None-clause-loses : goal.returns-in-None-clause-loses
 returns-in-None-clause-loses g c = rw c.in-None.is c.lose_all.ensures.loses
+
+pub returns-in-Some-clause-counted : goal.returns-in-Some-clause-counted
+returns-in-Some-clause-counted g c = rw c.in-Some.is c.run_lines.ensures.counted

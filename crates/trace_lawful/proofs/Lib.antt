@@ -1,0 +1,3 @@
+pub mod Lawfulness
+pub mod Firsts
+pub mod Deciding
