@@ -7,12 +7,11 @@ ghost use Rattle.trace_data.specs.Histories.{history_of};
 ghost use Rattle.trace_rules.specs.Beginnings.{BreaksAt};
 ghost use Rattle.trace_lawful.specs.Judged.{IsLawfulEntry, IsLawfulAt};
 
-use crate::sound::sound_all;
 use limits::RECORD_BYTES;
 use std::alloc::Global;
 use trace_calls::{is_replied, was_sent};
 use trace_data::{Trace, objects_after};
-use trace_rules::{changes_nothing, is_restart};
+use trace_rules::{changes_nothing, is_restart, sound_all};
 use trace_steps::{is_flush, is_served};
 use world_model::{Call, Entry, Reply};
 use xdr_codec::Memory;
