@@ -5,11 +5,9 @@ ghost use Rattle.std.specs.Result.{result_map_both};
 ghost use Rattle.world_model.specs.Messages.{HasXid};
 ghost use Rattle.call_replies.specs.Records.{results_in, denial_number, ResultsIn};
 
+use limits::RECORD_BYTES;
 use rpc_message::{Reply, ReplyFault, read_reply};
 use world_model::Fault;
-
-/// The most bytes of a record.
-const MOST_BYTES: usize = 131_072;
 
 /// The number of RPC_MISMATCH among the refusals, and what is added to an auth status.
 const MISMATCH: u64 = 100;
@@ -22,7 +20,7 @@ pub fn results_of<'a>(rec: &'a [u8]) -> Result<&'a [u8], Fault>
     ensures exact { result_map_both (λ r. r.now) (λ e. e) result ≡ results_in rec.entry.now }
     ensures means { (x : ℕ) → HasXid rec.entry.now x → ResultsIn x rec.entry.now (result_map_both (λ r. r.now) (λ e. e) result) }
 {
-    if rec.len() > MOST_BYTES {
+    if rec.len() > RECORD_BYTES {
         return Err(Fault::Bad(7));
     }
     match read_reply(rec) {

@@ -30,6 +30,7 @@ use crate::setup::Setup;
 use attr_cache::AttrCache;
 use call_replies::came_of;
 use client_shelf::{Came, Next, Shelf, Turn};
+use limits::{CALLS_IN_FLIGHT, LANE_COUNT};
 use mount_calls::{mount_proc, write_mount_call};
 use nfs_dir_calls::{dir_proc, write_dir_call};
 use nfs_file_calls::{file_proc, write_file_call};
@@ -41,12 +42,6 @@ use std::alloc::Global;
 use std::marker::Model;
 use world_model::{Answer, Call, Fault};
 use xdr_codec::{Blob, Memory, Writer};
-
-/// How many calls may wait.
-const CALLS: usize = 32;
-
-/// How many lanes there are.
-const LANES: usize = 16;
 
 /// Lanes in order of beginning, their shelf and their calls. Between the step of an operation and the call that it asks
 /// for, what the next step needs doesn't hold yet; so it is no part of this type.
@@ -95,7 +90,7 @@ impl Work {
             wsize: setup.wsize,
             calls: Calls::new(alloc, setup.first_xid, setup.limit, setup.cred),
             shelf,
-            lanes: Vec::with_capacity(alloc, LANES)?,
+            lanes: Vec::with_capacity(alloc, LANE_COUNT)?,
             clock: 0,
             moments: 0,
             begun: 0,
@@ -251,7 +246,7 @@ impl Work {
     fn has_room(&self) -> bool
         ensures { result ≡ has_room self.now }
     {
-        self.calls.waiting() < CALLS
+        self.calls.waiting() < CALLS_IN_FLIGHT
     }
 
     /// How many lanes have an operation.

@@ -4,13 +4,11 @@ ghost use Rattle.std.specs.Prelude.{◌≡◌, [], position, IfOk};
 ghost use Rattle.std.specs.List.{list_any};
 ghost use Rattle.client_shelf.specs.LaneFiles.{is_lane, is_file, is_other, added, left, place_of, first_of, leads, is_first};
 
+use limits::LANE_COUNT;
 use nfs_types::Handle;
 use std::alloc::Global;
 use std::marker::Model;
 use xdr_codec::Memory;
-
-/// How many lanes there are.
-const LANES: usize = 16;
 
 /// A lane, and the file that it is at.
 #[derive(Clone, Copy, Debug, PartialEq, Eq)]
@@ -57,7 +55,7 @@ impl LaneFiles {
         ensures { IfOk result (λ l. l ≡ []) }
     {
         Ok(LaneFiles {
-            places: Vec::with_capacity(alloc, LANES)?,
+            places: Vec::with_capacity(alloc, LANE_COUNT)?,
         })
     }
 
@@ -73,7 +71,7 @@ impl LaneFiles {
     fn add(&mut self, place: LaneFile)
         ensures { self.new ≡ added place self.old }
     {
-        if self.places.len() < LANES {
+        if self.places.len() < LANE_COUNT {
             let Ok(()) = self.places.push(place) else {
                 unreachable!();
             };

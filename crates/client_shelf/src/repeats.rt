@@ -3,12 +3,10 @@
 ghost use Rattle.std.specs.Prelude.{◌≡◌, [], ◌∷◌, ◌++◌, ◌<◌, length, position, IfOk};
 ghost use Rattle.client_shelf.specs.Repeats.{is_call, repeat_of, times_of, ended, may_repeat, answered};
 
+use limits::CALLS_IN_FLIGHT;
 use std::alloc::Global;
 use std::marker::Model;
 use xdr_codec::Memory;
-
-/// How many calls may wait.
-const CALLS: usize = 32;
 
 /// How often a call is made again.
 const MOST_TIMES: u8 = 3;
@@ -49,7 +47,7 @@ impl Repeats {
         ensures { IfOk result (λ r. r ≡ []) }
     {
         Ok(Repeats {
-            calls: Vec::with_capacity(alloc, CALLS)?,
+            calls: Vec::with_capacity(alloc, CALLS_IN_FLIGHT)?,
         })
     }
 
@@ -61,7 +59,7 @@ impl Repeats {
     {
         let times = self.times(xid);
         self.end(xid);
-        if !again || times >= MOST_TIMES || self.calls.len() >= CALLS {
+        if !again || times >= MOST_TIMES || self.calls.len() >= CALLS_IN_FLIGHT {
             return false;
         }
         self.add(Repeat {

@@ -8,6 +8,7 @@ pub mod PiecesSent
 pub mod PiecesCalled
 pub mod Keeping
 pub mod PageLaws
+pub mod FirstPages
 pub mod PagesShown
 pub mod PagesTrue
 pub mod ReadBytes

@@ -20,3 +20,4 @@ pub mod Spelled
 pub mod Later
 pub mod Stamped
 pub mod Risen
+pub mod Shown

@@ -1,6 +1,6 @@
 //! The export.
 
-ghost use Rattle.std.specs.Prelude.{◌≡◌, ◌<◌, ◌∷◌, [], true, if◌then◌else◌, is_some, unwrap_or, option_copied, IfOk, OnOk, OnErr};
+ghost use Rattle.std.specs.Prelude.{◌≡◌, ◌<◌, ◌∷◌, [], true, if◌then◌else◌, is_some, unwrap_or, option_copied, option_map, slice_get, length, MatchOption, IfOk, OnOk, OnErr};
 ghost use Rattle.world_model.specs.Lawful.{Flushes};
 ghost use Rattle.world_model.specs.NameService.{keeps_all};
 ghost use Rattle.world_model.specs.Rising.{RisesAt};
@@ -10,7 +10,9 @@ ghost use Rattle.export_fs.specs.Executed.{executed};
 ghost use Rattle.export_fs.specs.Finding as findings;
 ghost use Rattle.export_fs.specs.Later.{RestartsLater};
 ghost use Rattle.export_fs.specs.Partial.{IsWrite, partly_executed};
-ghost use Rattle.export_fs.specs.Parts.{kind, verifier};
+ghost use Rattle.export_fs.specs.Shown.{is_gone_in, stable_in};
+ghost use Rattle.export_fs.specs.Pages.{rows_after};
+ghost use Rattle.export_fs.specs.Parts.{attr_of, bytes_in, kind, rows_in, text_in, verifier};
 ghost use Rattle.export_fs.specs.Placing.{placed};
 ghost use Rattle.export_fs.specs.Restart.{may_restart, after_restart, after_flush};
 ghost use Rattle.export_fs.specs.Risen.{TakesNew};
@@ -19,8 +21,9 @@ ghost use Rattle.export_fs.specs.Sound.{Sound};
 ghost use Rattle.export_fs.specs.Spelling.{HasSpellingCall, HasSpellingReply};
 ghost use Rattle.export_fs.specs.Stamped.{Stamped};
 
+use crate::row::Row;
 use crate::tree::Tree;
-use nfs_types::{Handle, Name, Verf};
+use nfs_types::{Attr, Handle, Name, Verf};
 use std::alloc::Global;
 use std::marker::Model;
 use world_model::{Call, Path, Reply};
@@ -150,5 +153,55 @@ impl Export {
         ensures { result ≡ verifier self.now }
     {
         self.tree.verifier()
+    }
+
+    /// How many objects were made, those that are gone too. Each number below is the place of one.
+    pub fn made(&self) -> usize
+        ensures { result ≡ length self.now.nodes }
+    {
+        self.tree.made()
+    }
+
+    /// The attributes of the object at a place, also where it is gone. None exactly where no object has the place.
+    pub fn attr_made(&self, place: u32) -> Option<Attr>
+        ensures { result ≡ option_map (attr_of place) (slice_get self.now.nodes place) }
+    {
+        self.tree.attr_made(place)
+    }
+
+    /// Whether the object at a place lost its last name.
+    pub fn is_gone(&self, place: u32) -> bool
+        ensures { result ≡ is_gone_in (slice_get self.now.nodes place) }
+    {
+        self.tree.is_gone(place)
+    }
+
+    /// The bytes of the file at a place as they are, also where it is gone; none of another object.
+    pub fn bytes_made(&self, place: u32) -> &[u8]
+        ensures { result.now ≡ bytes_in (slice_get self.now.nodes place) }
+    {
+        self.tree.bytes_made(place)
+    }
+
+    /// The bytes of the file at a place that a restart leaves, also where it is gone; none of another object.
+    pub fn stable_made(&self, place: u32) -> &[u8]
+        ensures { result.now ≡ stable_in (slice_get self.now.nodes place) }
+    {
+        self.tree.stable_made(place)
+    }
+
+    /// The text of the symbolic link at a place, also where it is gone. None exactly where it is no link.
+    pub fn text_made(&self, place: u32) -> Option<&[u8]>
+        ensures { option_copied result ≡ text_in (slice_get self.now.nodes place) }
+    {
+        self.tree.text_made(place)
+    }
+
+    /// The next entry after a cookie of the directory at a place, also where it is gone. None exactly where no entry
+    /// has a cookie above, or where it is no directory.
+    pub fn row_made(&self, place: u32, cookie: u64) -> Option<Row>
+        ensures { MatchOption result (rows_after cookie (rows_in (slice_get self.now.nodes place)) ≡ []) (λ row. rows_after cookie (rows_in (slice_get self.now.nodes place)) ≡ row ∷ rows_after row.cookie (rows_in (slice_get self.now.nodes place))) }
+    {
+        self.tree.row_made(place, cookie)
     }
 }

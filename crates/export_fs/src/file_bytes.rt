@@ -55,6 +55,13 @@ impl FileBytes {
         self.bytes.as_slice()
     }
 
+    /// The bytes that a restart leaves.
+    pub(crate) fn stable(&self) -> &[u8]
+        ensures { result.now ≡ self.now.stable }
+    {
+        self.stable.as_slice()
+    }
+
     /// Whether a restart changes none of them.
     pub(crate) fn is_steady(&self) -> bool
         ensures { result ≡ bytes_eq self.now.bytes self.now.stable }

@@ -22,8 +22,11 @@ mod places;
 mod placing;
 mod restart;
 mod row;
+mod shown;
 mod status;
 mod tree;
 
 pub use export::Export;
 pub use mounts::handles_fit;
+pub use places::handle_of;
+pub use row::Row;

@@ -53,9 +53,9 @@ pub(crate) fn place_of(handle: &Handle) -> Option<u32>
     Some((number - 1) as u32)
 }
 
-/// The file handle of the object at a place.
+/// The file handle of the object at a place in order of making: its number, which is 1 more, as 8 bytes.
 #[tactic(auto, unfolding(xdr_codec::specs::Spelling::u64_bytes))]
-pub(crate) fn handle_of(place: u32) -> Handle
+pub fn handle_of(place: u32) -> Handle
     ensures { result ≡ handle_of place }
 {
     let mut bytes = [0; HANDLE_BYTES];

@@ -5,11 +5,11 @@ use nfs_types::Name;
 /// A name in a directory, the place of the object that has it in order of making, and its cookie (RFC 1813, section
 /// 3.3.17).
 #[derive(Clone, Copy, Drop)]
-pub(crate) struct Row {
+pub struct Row {
     /// The name.
-    pub(crate) name: Name,
+    pub name: Name,
     /// The place of the object, which is its number less 1.
-    pub(crate) place: u32,
+    pub place: u32,
     /// The cookie, 1 or more.
-    pub(crate) cookie: u64,
+    pub cookie: u64,
 }

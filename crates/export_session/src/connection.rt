@@ -9,13 +9,11 @@ ghost use Rattle.export_session.specs.Talk.{Does, Sends, TurnsTo, TalksTo};
 
 use crate::next::{End, Next};
 use crate::serving::Serving;
+use limits::WAIT_MS;
 use nfs_types::NFS_PROGRAM;
 use outside::{Link, LinkFault, Received};
 use portmap_calls::{PORTMAP_PROGRAM, read_mapping};
 use rpc_message::read_call;
-
-/// How many milliseconds a record is waited for.
-const WAIT_MS: u32 = 15_000;
 
 impl Serving {
     /// Answers what comes over a link until it fails or is silent, which is None; or how serving ends. After the last port that

@@ -8,10 +8,8 @@ ghost use Rattle.export_session.specs.Senders.{DoesAll, SendsAimed, SendsTo, Tur
 
 use crate::next::{End, Next};
 use crate::serving::Serving;
+use limits::WAIT_MS;
 use outside::{Arrived, Datagrams, LinkFault};
-
-/// How many milliseconds a datagram is waited for.
-const WAIT_MS: u32 = 15_000;
 
 /// How many waits may fail or be silent, or replies not be sent.
 const MOST_MISSED: u32 = 65_536;

@@ -1,3 +1,4 @@
+pub mod Again
 pub mod Free
 pub mod Rooms
 pub mod Openings

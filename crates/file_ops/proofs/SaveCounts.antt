@@ -91,11 +91,6 @@ refused-save : (s : Saving) (fault : Fault) (b : Bool) → (s.waiting == 0) ≡ 
 refused-save s fault true is = let none = none-waits (saves.is_sending s.phase) s.waiting (eqb-true s.waiting 0 is) in (none, none)
 refused-save s fault false is = refl
 
--- nothing is left to send
-committed : (phase : Phase) (file : List ℕ) (upto : ℕ) (refusal : Option Fault) (put_off : ℕ)
-    → of_saving (record { file = file; upto = upto; phase = phase; waiting = 1; refusal = refusal; put_off = put_off }) ≡ 1
-committed phase file upto refusal put_off = one-waits (saves.is_sending phase)
-
 sent-save : (by_reply : Bool) (s : Saving) (lt done : Bool) → nat_lt 0 s.waiting ≡ lt
     → SaveCounts (if lt then Wait else if done then Ended (Ok tt) else Send (saves.commit_of s.file)) (of_saving s)
     (of_saving (if lt then s else if done then s else record s { phase = saves.commit_phase s.phase; waiting = 1 }))

@@ -28,7 +28,7 @@ pub struct OpenFile {
 impl OpenFile {
     /// It is to open a name of a directory. With `nocto` a file whose state is known isn't asked for its attributes.
     pub fn new(lane: u8, slot: u8, mode: Mode, nocto: bool, dir: &Handle, name: &Name) -> OpenFile
-        ensures { result ≡ record { lane = lane; slot = slot; opening = record { dir = dir.now; name = name.now; mode = mode; nocto = nocto; moment = 0; step = first_step mode; asked = false } } }
+        ensures { result ≡ record { lane = lane; slot = slot; opening = record { dir = dir.now; name = name.now; mode = mode; nocto = nocto; moment = 0; step = first_step mode; asked = false; put_off = 0 } } }
     {
         OpenFile {
             lane,

@@ -134,8 +134,9 @@ impl Opening {
         let told = self.led(came);
         self.note(came, sent.now, &mut shelf.attrs, &mut shelf.names);
         if again(self.may_again(&told), sent, turn, &mut shelf.repeats) {
+            let call = self.call();
             self.count();
-            return OpeningNext::Send(self.call());
+            return OpeningNext::Send(call);
         }
         let led = self.known(told, turn.now, &shelf.attrs, &shelf.pages);
         self.lead(led, sent, turn, &mut shelf.pages)

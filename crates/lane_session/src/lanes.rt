@@ -5,13 +5,11 @@ ghost use Rattle.lane_session.specs.declared.lanes.Place.{Place as PlaceOf};
 ghost use Rattle.std.specs.Bool.{OnFalse, OnTrue};
 ghost use Rattle.lane_session.specs.Places.{AreIdle, Ends, IsNext, Seeks};
 
+use limits::LANE_COUNT;
 use nfs_script::Script;
 use std::alloc::Global;
 use std::marker::Model;
 use xdr_codec::Memory;
-
-/// How many lanes there are.
-pub const LANES: usize = 16;
 
 /// Where a lane is in the script.
 #[derive(Clone, Copy, Debug, PartialEq, Eq)]
@@ -46,7 +44,7 @@ impl Lanes {
     {
         let mut places = Vec::new(alloc);
         places.resize(
-            LANES,
+            LANE_COUNT,
             Place {
                 next: 0,
                 line: None,

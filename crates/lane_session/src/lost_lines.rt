@@ -8,13 +8,11 @@ ghost use Rattle.lane_session.specs.Streams.{Passes};
 
 use crate::halt::Halt;
 use crate::lines::{note_beginning, tell_answer};
+use limits::LANES;
 use nfs_script::Script;
 use outside::{Clock, Link, Sink};
 use std::alloc::Global;
 use world_model::{Answer, Fault};
-
-/// How many lanes there are.
-const LANES: u8 = 16;
 
 /// The lines of a session that was lost in its set-up: each begins, and is answered that the session is lost, lane after lane as after any loss. Nothing is
 /// sent. Each answer is written at once, behind the label.

@@ -31,6 +31,7 @@ use crate::lanes::Lanes;
 use crate::lines::{note_beginning, tell_answer};
 use crate::status;
 use client_core::{Core, Setup};
+use limits::{ATTEMPTS, CONNECTS, LANES, STRAY_RECORDS, WAIT_MS};
 use nfs_script::Script;
 use op_machines::{Machine, Mounted};
 use outside::{Clock, Link, LinkFault, Received, Sink};
@@ -38,17 +39,6 @@ use session_words::Settings;
 use std::alloc::Global;
 use world_model::{Op, Tally};
 use xdr_codec::Memory;
-
-/// How many lanes there are.
-const LANES: u8 = 16;
-/// How long a record is waited for, in milliseconds.
-const WAIT_MS: u32 = 15_000;
-/// How many attempts are made of a call.
-const ATTEMPTS: u32 = 4;
-/// So many dials in a row that fail lose the session.
-const DIALS: u32 = 4;
-/// So many records in a row that answer no call lose the session.
-const MOST_DROPPED: u32 = 65_536;
 
 /// A session that is under way: where its lanes are in the script, and the core with the calls that wait. It is made over a set-up, and goes on
 /// turn by turn until each line of the script has its answer.
@@ -589,7 +579,7 @@ impl Session {
             return;
         }
         self.dropped += 1;
-        if self.dropped == MOST_DROPPED {
+        if self.dropped == STRAY_RECORDS {
             self.lose();
         }
     }
@@ -656,7 +646,7 @@ fn redial<L: Link>(port: u16, link: &mut L) -> Result<bool, Memory>
     ensures stays { (first : L) → L.stays first link.old → L.stays first link.new }
     ensures honest { L.honest link.old → L.honest link.new }
 {
-    for _ in 0..DIALS {
+    for _ in 0..CONNECTS {
         match link.dial(port) {
             Ok(()) => return Ok(true),
             Err(LinkFault::Failed) => {}

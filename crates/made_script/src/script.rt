@@ -5,11 +5,9 @@ ghost use Rattle.made_script.specs.Made.{IsSize, each, next, lane_of, open_text,
 ghost use Rattle.made_script.specs.Made.{turn_text, turn, made_text};
 
 use crate::numbers::{write_byte, write_number};
+use limits::GREATEST_LANE;
 use std::alloc::Global;
 use xdr_codec::{Blob, Memory, Writer};
-
-/// In how many lanes the operations are.
-const LANES: u32 = 16;
 
 /// The script of this size: in each of 16 lanes a file is opened, then so many fills follow, at places that a sequence of numbers
 /// gives, with a read after each fifth and a sync after each seventh of them, and at the end each file is closed.
@@ -30,7 +28,7 @@ fn write_opens(out: &mut Writer) -> Result<(), Memory>
     ensures { OnOk result (out.new ≡ out.old ++ each open_text 16) }
 {
     let mut lane = 0u32;
-    while lane < LANES {
+    while lane < GREATEST_LANE {
         lane += 1;
         write_open(out, lane)?;
     }
@@ -125,7 +123,7 @@ fn write_sync(out: &mut Writer, k: u32) -> Result<(), Memory>
 fn write_lane(out: &mut Writer, k: u32) -> Result<(), Memory>
     ensures { OnOk result (out.new ≡ out.old ++ decimal (lane_of k)) }
 {
-    write_number(out, u64::from(k % LANES + 1))
+    write_number(out, u64::from(k % GREATEST_LANE + 1))
 }
 
 /// Appends where a fill begins, and how many bytes it has.
@@ -144,7 +142,7 @@ fn write_closes(out: &mut Writer) -> Result<(), Memory>
     ensures { OnOk result (out.new ≡ out.old ++ each close_text 16) }
 {
     let mut lane = 0u32;
-    while lane < LANES {
+    while lane < GREATEST_LANE {
         lane += 1;
         write_close(out, lane)?;
     }

@@ -1,6 +1,7 @@
 -- A session that was set up shows what its core does: its root was known as each operation began, and its terms are those of the settings.
-use Rattle.std.proofs.Common.{◌≡◌, ◌≤◌, ◌<◌, ◌+◌, ◌⊎◌, inl, inr, ℕ, List, [], ◌∷◌, ◌++◌, length, Bool, true, false, cond, Some, Ok, refl, sym, ap, subst, arith}
+use Rattle.std.proofs.Common.{◌≡◌, ◌≤◌, ◌<◌, ◌+◌, ◌⊎◌, inl, inr, ℕ, List, [], ◌∷◌, ◌++◌, length, take, Bool, true, false, cond, Some, Ok, refl, sym, ap, subst, arith}
 use Rattle.std.proofs.lemmas.Bool.{cases_lt, eq-eqb}
+use Rattle.std.proofs.lemmas.List.Elements.{All-nil}
 use Rattle.attr_cache.specs.declared.lives.Lives.{Lives}
 use Rattle.rpc_message.specs.declared.cred.Cred.{Cred}
 use Rattle.rpc_retry.specs.declared.waiting.Waiting.{Waiting}
@@ -9,7 +10,8 @@ use Rattle.world_model.specs.declared.entry.Entry.{Entry}
 use Rattle.world_model.specs.declared.entry.Entry.TheVariants.{Began, Clock, Sent}
 use Rattle.world_model.specs.declared.op.Op.{Op}
 use Rattle.world_model.specs.declared.op.Op.TheVariants as ops
-use Rattle.world_model.specs.declared.answer.Answer.TheVariants.{Refused}
+use Rattle.world_model.specs.declared.answer.Answer.TheVariants.{Done, Refused}
+use Rattle.world_model.specs.declared.answer.Value.TheVariants.{Bytes}
 use Rattle.world_model.specs.declared.answer.Fault.TheVariants.{Spent}
 use Rattle.claims.specs.CallsAsked.{CallsAsked, NoneBegan}
 use Rattle.claims.specs.Caused.{calls_in}
@@ -42,6 +44,9 @@ use Rattle.core_facts.proofs.Owning.{reached-owned}
 use Rattle.core_facts.proofs.Refusals.{refusals-shown}
 use Rattle.core_facts.proofs.Rows.{reached-rows}
 use Rattle.core_facts.proofs.SlotTheorems.{places-caused, places-exact, slots-hold-opens}
+use Rattle.core_answers.specs.pages.Kept.{IsKeptFrom}
+use Rattle.core_answers.specs.pages.True.{GivenTrue}
+use Rattle.core_answers.specs.reads.From.{ReadGivenFrom}
 use Rattle.core_answers.proofs.answers.LonePuts.{lone-refusals}
 use Rattle.core_answers.proofs.answers.PutRules.{put-faults-few, put-rules-shown}
 use Rattle.core_answers.specs.asks.PutCalls.{IsMadeAlone}
@@ -119,7 +124,7 @@ use Rattle.nfs_client.proofs.AllOks.{all-oks}
 use Rattle.nfs_client.proofs.Causes.{all-caused}
 use Rattle.nfs_client.proofs.Ports.{ready-ports}
 use Rattle.nfs_client.proofs.Spent.{ended-sent}
-use Rattle.page_cache.specs.Pages.{nothing_kept}
+use Rattle.page_cache.specs.Pages.{Pages, nothing_kept, page_of}
 
 -- ---- the root
 
@@ -142,6 +147,10 @@ puts-named h asked x lane line offset path bytes at = (asked x lane line (ops.Pu
 
 -- ---- what a core shows
 
+-- no page was kept from the start
+none-given : (t : History) → GivenTrue nothing_kept t
+none-given t = All-nil _
+
 reached-may : (machine : ℕ → Op → Machine) (setup : Setup) (h : List Entry) (v : View) → Reaches machine setup h v → MaySetUp setup
 reached-may machine setup _ _ (begins h v may up fresh) = may
 reached-may machine setup _ _ (goes h before v b e r is t) = reached-may machine setup before b r
@@ -156,9 +165,17 @@ module _ (m : Mounted) (setup : Setup) (h : List Entry) (core : View) (r : Reach
   goes-with : (terms : Terms) → m.nocto ≡ terms.modes.nocto → GoesWith m terms setup h core
   goes-with terms nocto = record { nocto = nocto; reaches = r }
 
+  -- what is shown of kept pages, and of reads, with the pages that were kept from the start
+  abbrev PagesOver : Pages → Type 0
+  PagesOver p = (file : List ℕ) (index : ℕ) (bytes : List ℕ) → page_of file index core.shelf.pages ≡ Some bytes → IsKeptFrom p h core.shelf.pages file index bytes
+
+  abbrev ReadsOver : Pages → Terms → Type 0
+  ReadsOver p terms = (lane x slot offset count y : ℕ) (bytes : List ℕ) → Ended h lane x (ops.Read slot offset count) y (Done (Bytes bytes))
+      → ReadGivenFrom p terms.modes (take y h) x (ops.Read slot offset count) offset bytes
+
   kept-shown : setup.pages ≡ nothing_kept → (terms : Terms) → m.nocto ≡ terms.modes.nocto → KnowsRoot terms.origin h m.root → PutsNamed h → KeptShown terms setup h core
   kept-shown bare terms nocto root named = record {
-    pages = pages-shown m setup h core r bare;
+    pages = subst (λ (p : Pages). PagesOver p) bare (pages-shown m setup h core r);
     pending = pending-written m terms setup h core (goes-with terms nocto);
     held_back = λ found told. pending-held m terms setup h core (goes-with terms nocto) found root named told;
     carried = pieces-carried m setup h core r;
@@ -171,7 +188,7 @@ module _ (m : Mounted) (setup : Setup) (h : List Entry) (core : View) (r : Reach
   slots-shown bare terms nocto =
       let g : GoesWith m terms setup h core = goes-with terms nocto in
       record {
-        reads = reads-given m terms setup h core g bare;
+        reads = subst (λ (p : Pages). ReadsOver p terms) bare (reads-given m terms setup h core g);
         held = slots-hold-opens m terms setup h core g;
         places = places-exact m terms setup h core g;
         caused = places-caused m terms setup h core g;
@@ -270,16 +287,16 @@ module _ (s : Settings) (first : ℕ) (v : SetUp) (t : History) (core : View) (l
   honest-shown : HonestShown s v.root core t
   honest-shown = record {
     stats = stats-led m (setup_of s v) (longest_of s.lives) t core (longest-last s.lives) lawful fresh r;
-    reads = reads-from m (terms_by s first) (setup_of s v) t core (record { nocto = refl; reaches = r }) lawful fresh refl;
+    reads = reads-from m (terms_by s first) (setup_of s v) t core (record { nocto = refl; reaches = r }) lawful fresh (none-given t);
     recent =
         reads-recent m (terms_by s first) (setup_of s v) t core (record { nocto = refl; reaches = r }) refl
-        (λ may. record { takes = takes; lasts = longest-last s.lives }) lawful fresh refl;
+        (λ may. record { takes = takes; lasts = longest-last s.lives }) lawful fresh (none-given t);
     read_true =
         reads-current m (terms_by s first) (setup_of s v) t core (record { nocto = refl; reaches = r }) refl
-        (λ may. record { takes = takes; lasts = longest-last s.lives }) root (puts-named t.entries asked) lawful fresh refl;
-    read_back = λ asks. stable-read m (terms_by s first) (setup_of s v) t core (record { nocto = refl; reaches = r }) refl asks lawful fresh refl;
+        (λ may. record { takes = takes; lasts = longest-last s.lives }) root (puts-named t.entries asked) lawful fresh (none-given t);
+    read_back = λ asks. stable-read m (terms_by s first) (setup_of s v) t core (record { nocto = refl; reaches = r }) refl asks lawful fresh (none-given t);
     stood = names-stood m (setup_of s v) (longest_of s.lives) t core (longest-last s.lives) lawful fresh r;
-    pages = pages-true m (setup_of s v) t core lawful fresh r refl;
+    pages = pages-true m (setup_of s v) t core lawful fresh r (none-given t);
     ages = attrs-aged m (setup_of s v) (modes_of s) (origin_of s.export) t core (longest-last s.lives) lawful fresh takes root r;
     names = names-held m (setup_of s v) (modes_of s) (origin_of s.export) t core goes-honestly;
     lists = lists-whole m (setup_of s v) (modes_of s) (origin_of s.export) t core goes-honestly;
@@ -309,11 +326,11 @@ module _ (s : Settings) (first : ℕ) (v : SetUp) (t : History) (core : View) (l
         settled = settled-stay mount (terms_by s first) (setup_of s v) t core with-core root named only lawful once;
         cuts_stay = cuts-stay mount (terms_by s first) (setup_of s v) t core refl notes root named only lawful once;
         reads = λ fresh. record {
-          current = reads-current mount (terms_by s first) (setup_of s v) t core with-core refl briefly root named lawful fresh refl;
-          own = own-bytes-read mount (terms_by s first) (setup_of s v) t core with-core refl briefly root named only lawful fresh refl once;
-          cut = cuts-read mount (terms_by s first) (setup_of s v) t core refl refl notes briefly root named only lawful fresh refl once;
+          current = reads-current mount (terms_by s first) (setup_of s v) t core with-core refl briefly root named lawful fresh (none-given t);
+          own = own-bytes-read mount (terms_by s first) (setup_of s v) t core with-core refl briefly root named only lawful fresh (none-given t) once;
+          cut = cuts-read mount (terms_by s first) (setup_of s v) t core refl refl notes briefly root named only lawful fresh (none-given t) once;
         };
-        ends = λ fresh. reads-end-rightly mount (terms_by s first) (setup_of s v) t core with-core refl briefly root named only lawful fresh refl once;
+        ends = λ fresh. reads-end-rightly mount (terms_by s first) (setup_of s v) t core with-core refl briefly root named only lawful fresh (none-given t) once;
       }
 
 -- ---- complete sessions

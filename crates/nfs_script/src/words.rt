@@ -7,6 +7,7 @@ ghost use Rattle.nfs_script.specs.Commands.{wanted, slot_of, offset_of, read_cou
 ghost use Rattle.nfs_script.specs.Script.{first_of, lane_of};
 
 use crate::fault::{Cause, LineFault};
+use limits::GREATEST_LANE;
 use nfs_types::Mode;
 use script_text::{
     byte, four_words, long_number, next_word, number, one_word, path, payload, target, three_words,
@@ -15,9 +16,6 @@ use script_text::{
 use std::alloc::Global;
 use world_model::Path;
 use xdr_codec::Blob;
-
-/// The greatest lane.
-const MOST_LANE: u32 = 16;
 
 /// The greatest slot.
 const MOST_SLOT: u32 = 16;
@@ -90,7 +88,7 @@ pub(crate) fn four<'a>(
 pub(crate) fn lane(word: &[u8]) -> Result<u8, LineFault>
     ensures { Gives (λ n. n) result (lane_of word.now) }
 {
-    match number(word, 1, MOST_LANE) {
+    match number(word, 1, GREATEST_LANE) {
         Some(lane) => Ok(lane as u8),
         None => Err(LineFault::Refused(Cause::Lane)),
     }

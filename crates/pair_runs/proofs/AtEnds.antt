@@ -1,5 +1,5 @@
 -- A turn of a client over its end of the link.
-use Rattle.std.proofs.Common.{◌≡◌, ℕ, List, ◌++◌, length, All, Option, option_map, Ok, Err, refl, sym, ap, subst, ◌∙◌}
+use Rattle.std.proofs.Common.{◌≡◌, ℕ, List, ◌++◌, length, All, Bool, true, false, Option, Some, None, option_map, Ok, Err, refl, sym, ap, subst, ◌∙◌}
 use Rattle.world_model.specs.declared.entry.Entry.{Entry}
 use Rattle.link_dials.specs.Dials.{Dials}
 use Rattle.nfs_script.specs.declared.script.ScriptLine.{ScriptLine}
@@ -18,8 +18,8 @@ use Rattle.lane_session.specs.Streams.{Passes}
 use Rattle.lane_session.proofs.Closing.{passes-both}
 use Rattle.pair_runs.specs.declared.client.State.{State}
 use Rattle.pair_runs.specs.declared.client.State.TheVariants as states
-use Rattle.pair_runs.specs.Clients.{label_of}
-use Rattle.pair_runs.specs.PairGoing.{PairPasses, TurnsBy}
+use Rattle.pair_runs.specs.Clients.{done_by, label_of}
+use Rattle.pair_runs.specs.PairGoing.{AdvancesBy, PairPasses, TurnsBy}
 use Rattle.pair_runs.proofs.Passages.{passes-of-end, passes-same}
 use Rattle.pair_runs.proofs.Sessions.{done-turn, label-is, lost-turn, lost-turn-cut, low-end, session-cut, session-done, session-goes}
 
@@ -49,6 +49,16 @@ module _ (e new_end : Side) (same_end : new_end ≡ e) (label : List ℕ) (own :
         passes-of-end e new_end same_end r0 r1 t0 t1 w0 w1 (λ g t h k. CutsOff label script old halt g t h k × Dials old.port h k) (TurnsBy {T = T} (number_of e) script (states.Open old) state (Err halt))
         (λ g t h k a y. session-cut (number_of e) (low-end e) label (own ∙ label-is e) script h k a old new g t T halt state asked y.1 y.0) alone
         (passes-both r0 r1 _ _ w0 w1 (CutsOff label script old halt) (Dials old.port) p keeps.only)
+
+    -- what the session's turn comes to, before the state moves
+    pub turn-went : (went : Bool) (done : Option ℕ) → done ≡ done_by went new.status → length new.lanes ≡ 16 → (went ≡ false → AreIdle new.lanes) → (went ≡ false → AreQuiet script new)
+        → Passes r0 r1 (option_map (side (number_of e)) t0) (option_map (side (number_of new_end)) t1) w0 w1 (GoesOn label script old new)
+        → PairPasses r0 r1 t0 t1 w0 w1 (AdvancesBy (number_of e) script (states.Open old) (states.Open new) (Ok done))
+    turn-went true done is long idle quiet p =
+        subst (λ (d : Option ℕ). PairPasses r0 r1 t0 t1 w0 w1 (AdvancesBy (number_of e) script (states.Open old) (states.Open new) (Ok d))) (sym is) (turn-on {T = Option ℕ} None p)
+    turn-went false done is long idle quiet p =
+        subst (λ (d : Option ℕ). PairPasses r0 r1 t0 t1 w0 w1 (AdvancesBy (number_of e) script (states.Open old) (states.Open new) (Ok d))) (sym is)
+        (turn-done {T = Option ℕ} (Some new.status) new.status refl long (idle refl) (quiet refl) p)
 
   -- the lines of a lost client
   pub lose-on : {T : Type 0} → (x : T) (u : Unit {0}) (status : ℕ) → status ≡ status_of script

@@ -13,3 +13,4 @@ pub mod Turned
 pub mod Openings
 pub mod Leavings
 pub mod AtEnds
+pub mod Turning

@@ -1,5 +1,5 @@
 -- The two clients of a run: what holds of one between its turns, and what a run ends with.
-use Rattle.std.specs.Prelude.{◌≡◌, ◌≤◌, ◌+◌, ◌⊎◌, ◌||◌, ◌==◌, ℕ, List, codes, All, length, max, Bool, true, Result, Ok, Err}
+use Rattle.std.specs.Prelude.{◌≡◌, ◌≤◌, ◌+◌, ◌⊎◌, ◌||◌, ◌==◌, ℕ, List, codes, All, length, max, Bool, true, false, Option, Some, None, Result, Ok, Err}
 use Rattle.std.specs.List.{list_all}
 use Rattle.nfs_script.specs.declared.script.ScriptLine.{ScriptLine}
 use Rattle.nfs_script.specs.Asked.{IsAskedLine}
@@ -52,6 +52,22 @@ abbrev pub status_in : State → ℕ
 status_in (states.Open session) = session.status
 status_in states.Lost = 0
 status_in (states.Done status) = status
+
+-- ---- a turn
+
+-- the status by the answers, if no line is left
+abbrev pub done_by : Bool → ℕ → Option ℕ
+done_by true status = None
+done_by false status = Some status
+
+abbrev pub is_left : Option ℕ → Bool
+is_left None = true
+is_left (Some status) = false
+
+-- a client whose lines then all have their answers is done
+abbrev pub moved : State → Option ℕ → State
+moved state None = state
+moved state (Some status) = states.Done status
 
 -- ---- both
 

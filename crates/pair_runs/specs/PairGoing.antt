@@ -27,6 +27,7 @@ use Rattle.pair_runs.specs.declared.client.Client.{Client}
 use Rattle.pair_runs.specs.declared.client.State.{State}
 use Rattle.pair_runs.specs.declared.client.State.TheVariants as states
 use Rattle.pair_runs.specs.declared.turns.Pair.{Pair}
+use Rattle.pair_runs.specs.Clients.{moved}
 use Rattle.pair_runs.specs.Given.{pair_settings}
 use Rattle.pair_runs.specs.PairRuns.{ClientRan, LosesAmong, RunsLines, PairRelates}
 use Rattle.pair_runs.specs.Texts.{pair_transcript, pair_clocks}
@@ -128,6 +129,11 @@ TurnsBy end script old new (Ok x) given text h k =
 TurnsBy end script old new (Err halt) given text h k =
     AddsAlone end h k × PairBreaks halt given text h k
     × ((first : ℕ) → StateGoes first script (seen_by end h.steps) old → ClientRan first script (seen_by end k.steps) (of_halt halt))
+
+-- the same where the state is yet to move
+abbrev pub AdvancesBy : ℕ → List ScriptLine → State → State → Result (Option ℕ) Halt → List ℕ → List ℕ → PairTold → PairTold → Type 0
+AdvancesBy end script old new (Ok done) = TurnsBy end script old (moved new done) (Ok done)
+AdvancesBy end script old new (Err halt) = TurnsBy {T = Option ℕ} end script old new (Err halt)
 
 -- ---- both clients
 

@@ -1,16 +1,18 @@
 //! One of the two clients.
 
-ghost use Rattle.std.specs.Prelude.{◌≡◌, ◌≤◌, ◌<◌, ◌+◌, ◌-◌, ◌^◌, ℕ, List, All, Ok, Err, IfOk, OnOk, length, true, false};
+ghost use Rattle.std.specs.Prelude.{◌≡◌, ◌≢◌, ◌≤◌, ◌<◌, ◌+◌, ◌-◌, ◌^◌, ℕ, List, All, None, Ok, Err, IfOk, OnOk, length, true, false};
 ghost use Rattle.outside.specs.Causes.{Rose};
 ghost use Rattle.world_model.specs.declared.entry.Entry.{Entry};
 ghost use Rattle.nfs_script.specs.declared.script.ScriptLine.{ScriptLine};
 ghost use Rattle.nfs_script.specs.Asked.{IsAskedLine};
+ghost use Rattle.lane_session.specs.Holding.{IsHeld, tries_left};
 ghost use Rattle.lane_session.specs.Statuses.{CausedBy, IsSessionStatus};
 ghost use Rattle.session_setup.specs.Outcomes.{FitsSession, SetsUp};
 ghost use Rattle.pair_ends.specs.Ends.{number_of};
-ghost use Rattle.pair_runs.specs.Clients.{IsOver, IsReady, Stands, label_of, left_of, status_in};
+ghost use Rattle.pair_runs.specs.Clients.{IsOver, IsReady, Stands, done_by, is_left, label_of, left_of, moved, status_in};
+ghost use Rattle.pair_runs.specs.declared.client.State.TheVariants as states;
 ghost use Rattle.pair_runs.specs.Given.{pair_settings};
-ghost use Rattle.pair_runs.specs.PairGoing.{IsOpened, OpensAt, PairPasses, SetsUpAt, TurnsBy, state_of};
+ghost use Rattle.pair_runs.specs.PairGoing.{AdvancesBy, IsOpened, OpensAt, PairPasses, SetsUpAt, TurnsBy, state_of};
 ghost use Rattle.pair_runs.specs.PairRuns.{PairRelates};
 
 use crate::settings::settings;
@@ -119,30 +121,48 @@ impl Client {
         ensures goes { PairPasses (C.readings clock.old) (C.readings clock.new) (P.told end.old.link.now) (P.told end.new.link.now)
             (K.written out.old) (K.written out.new) (TurnsBy (number_of end.old.side) self.old.script self.old.state self.new.state result) }
     {
+        match self.advance(end, clock, out) {
+            Ok(done) => Ok(self.settle(done)),
+            Err(halt) => Err(halt),
+        }
+    }
+
+    /// The lines go on by a turn. If none is left, this is the status by the answers, and the state is yet to say so.
+    fn advance<P: PairLink, C: Clock, K: Sink>(
+        &mut self,
+        end: &mut End<'_, P>,
+        clock: &mut C,
+        out: &mut K,
+    ) -> Result<Option<u8>, Halt>
+        requires { IsReady self.old }
+        ensures same { self.new ≡ record self.old { state = self.new.state } }
+        ensures stands { IfOk result (λ done. Stands self.old.script (moved self.new.state done)) }
+        ensures less { IfOk result (λ done. done ≡ None → left_of self.new.state < left_of self.old.state) }
+        ensures same_reference { end.new.link.ghost_name ≡ end.old.link.ghost_name }
+        ensures honest { P.honest end.old.link.now → P.honest end.new.link.now }
+        ensures later { K.faults out.old ≤ K.faults out.new }
+        ensures cause { CausedBy result (Rose (K.faults out.old) (K.faults out.new)) }
+        ensures goes { PairPasses (C.readings clock.old) (C.readings clock.new) (P.told end.old.link.now) (P.told end.new.link.now)
+            (K.written out.old) (K.written out.new) (AdvancesBy (number_of end.old.side) self.old.script self.old.state self.new.state result) }
+    {
         match &mut self.state {
-            State::Open(session) => {
-                match session.take_turn(&self.script, label(end.side), end, clock, out) {
-                    Ok(went) => {
-                        if went {
-                            return Ok(true);
-                        }
-                        let status = session.status();
-                        self.state = State::Done(status);
-                        Ok(false)
-                    }
-                    Err(halt) => Err(halt),
-                }
+            State::Open(session) => session_turn(session, &self.script, end, clock, out),
+            State::Lost => lost_turn(self.alloc, &self.script, end, clock, out),
+            State::Done(status) => Ok(Some(*status)),
+        }
+    }
+
+    /// The state says what the turn came to: whether lines are left.
+    fn settle(&mut self, done: Option<u8>) -> bool
+        ensures left { result ≡ is_left done }
+        ensures moved { self.new ≡ record self.old { state = moved self.old.state done } }
+    {
+        match done {
+            Some(status) => {
+                self.state = State::Done(status);
+                false
             }
-            State::Lost => {
-                match lose_lines(self.alloc, &self.script, label(end.side), end, clock, out) {
-                    Ok(()) => {
-                        self.state = State::Done(status::of_lost(&self.script));
-                        Ok(false)
-                    }
-                    Err(halt) => Err(halt),
-                }
-            }
-            State::Done(_) => Ok(false),
+            None => true,
         }
     }
 
@@ -167,6 +187,62 @@ pub(crate) fn label(side: Side) -> &'static [u8]
     match side {
         Side::A => b"a ",
         Side::B => b"b ",
+    }
+}
+
+/// A turn of a session: the status by its answers, if no line is left.
+fn session_turn<P: PairLink, C: Clock, K: Sink>(
+    session: &mut Session,
+    script: &Script,
+    end: &mut End<'_, P>,
+    clock: &mut C,
+    out: &mut K,
+) -> Result<Option<u8>, Halt>
+    requires asked { All IsAskedLine script.now }
+    requires few { length script.now ≤ 16384 }
+    requires held { IsHeld script.now session.old }
+    ensures stands { IfOk result (λ done. Stands script.now (moved (states.Open session.new) done)) }
+    ensures less { IfOk result (λ done. done ≡ None → tries_left session.new < tries_left session.old) }
+    ensures same_reference { end.new.link.ghost_name ≡ end.old.link.ghost_name }
+    ensures honest { P.honest end.old.link.now → P.honest end.new.link.now }
+    ensures later { K.faults out.old ≤ K.faults out.new }
+    ensures cause { CausedBy result (Rose (K.faults out.old) (K.faults out.new)) }
+    ensures goes { PairPasses (C.readings clock.old) (C.readings clock.new) (P.told end.old.link.now) (P.told end.new.link.now)
+        (K.written out.old) (K.written out.new) (AdvancesBy (number_of end.old.side) script.now (states.Open session.old) (states.Open session.new) result) }
+{
+    match session.take_turn(script, label(end.side), end, clock, out) {
+        Ok(went) => Ok(status_after(session, went)),
+        Err(halt) => Err(halt),
+    }
+}
+
+fn status_after(session: &Session, went: bool) -> Option<u8>
+    ensures { result ≡ done_by went session.now.status }
+{
+    if went { None } else { Some(session.status()) }
+}
+
+/// The turn of a client whose session was lost in its set-up: each line is answered so, and this is the status by the answers.
+fn lost_turn<P: PairLink, C: Clock, K: Sink>(
+    alloc: Global,
+    script: &Script,
+    end: &mut End<'_, P>,
+    clock: &mut C,
+    out: &mut K,
+) -> Result<Option<u8>, Halt>
+    requires asked { All IsAskedLine script.now }
+    ensures stands { IfOk result (λ done. Stands script.now (moved states.Lost done)) }
+    ensures some { IfOk result (λ done. done ≢ None) }
+    ensures same_reference { end.new.link.ghost_name ≡ end.old.link.ghost_name }
+    ensures honest { P.honest end.old.link.now → P.honest end.new.link.now }
+    ensures later { K.faults out.old ≤ K.faults out.new }
+    ensures cause { CausedBy result (Rose (K.faults out.old) (K.faults out.new)) }
+    ensures goes { PairPasses (C.readings clock.old) (C.readings clock.new) (P.told end.old.link.now) (P.told end.new.link.now)
+        (K.written out.old) (K.written out.new) (AdvancesBy (number_of end.old.side) script.now states.Lost states.Lost result) }
+{
+    match lose_lines(alloc, script, label(end.side), end, clock, out) {
+        Ok(()) => Ok(Some(status::of_lost(script))),
+        Err(halt) => Err(halt),
     }
 }
 

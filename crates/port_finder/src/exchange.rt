@@ -4,22 +4,14 @@ ghost use Rattle.port_finder.specs.Does.{Does};
 ghost use Rattle.port_finder.specs.Talk.{Dials, Receives, Listens, Attempts, Tries, Exchanges};
 
 use crate::halt::{Halt, Miss};
+use limits::{CONNECTS, STRAY_RECORDS, WAIT_MS};
 use outside::{Link, LinkFault, Received};
 use rpc_message::xid_of;
 use std::alloc::Global;
 use xdr_codec::Blob;
 
-/// How long a record is waited for, in milliseconds.
-const WAIT_MS: u32 = 15_000;
-
-/// The most dials in a row.
-const MOST_DIALS: u32 = 4;
-
 /// So often is a call sent again, at most.
 const MOST_RETRIES: u32 = 3;
-
-/// So many records in a row that answer no call, and the session is lost.
-const MOST_DROPPED: u32 = 65_536;
 
 /// Makes a connection to the port, with at most four dials.
 pub fn dial<L: Link>(port: u16, link: &mut L) -> Result<(), Halt>
@@ -28,7 +20,7 @@ pub fn dial<L: Link>(port: u16, link: &mut L) -> Result<(), Halt>
     ensures honest { L.honest link.old → L.honest link.new }
 {
     let mut failed = 0;
-    while failed < MOST_DIALS {
+    while failed < CONNECTS {
         match link.dial(port) {
             Ok(()) => return Ok(()),
             Err(LinkFault::Failed) => failed += 1,
@@ -112,7 +104,7 @@ fn listen<L: Link>(alloc: Global, link: &mut L, xid: u32) -> Result<Blob, Miss>
     ensures honest { L.honest link.old → L.honest link.new }
 {
     let mut dropped = 0;
-    while dropped < MOST_DROPPED {
+    while dropped < STRAY_RECORDS {
         let record = match receive(alloc, link) {
             Ok(record) => record,
             Err(miss) => return Err(miss),

@@ -5,11 +5,9 @@ ghost use Rattle.std.specs.Result.{result_map_both};
 ghost use Rattle.world_model.specs.Messages.{HasXid};
 ghost use Rattle.port_finder.specs.Replies.{ResultsIn, denial_number, IsPort, registered_port, Means};
 
+use limits::RECORD_BYTES;
 use portmap_calls::read_port;
 use rpc_message::{Reply, ReplyFault, read_reply};
-
-/// The most bytes of a record.
-const MOST_BYTES: usize = 131_072;
 
 /// The number of RPC_MISMATCH among the refusals, and what is added to an auth status.
 const MISMATCH: u64 = 100;
@@ -58,7 +56,7 @@ fn registered(port: u32) -> Result<u16, Refusal>
 fn results_of<'a>(rec: &'a [u8]) -> Result<&'a [u8], Refusal>
     ensures { (x : ℕ) → HasXid rec.entry.now x → ResultsIn x rec.entry.now (result_map_both (λ r. r.now) (λ e. e) result) }
 {
-    if rec.len() > MOST_BYTES {
+    if rec.len() > RECORD_BYTES {
         return Err(Refusal::Bad(7));
     }
     match read_reply(rec) {

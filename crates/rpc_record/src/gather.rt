@@ -7,13 +7,11 @@ ghost use Rattle.rpc_record.specs.declared.gather.Phase.TheVariants as phases;
 ghost use Rattle.rpc_record.specs.Gather.{Advances, IsOpen, begins, goes_on, unbegun};
 
 use byteorder::{BigEndian, ByteOrder};
+use limits::RECORD_BYTES;
 use std::alloc::Global;
 use std::marker::Model;
 use std::mem;
 use xdr_codec::Memory;
-
-/// The most bytes of a record.
-const MOST_BYTES: usize = 131_072;
 
 /// The most fragments of a record.
 const MOST_FRAGMENTS: u32 = 4096;
@@ -71,7 +69,7 @@ fn begun(word: u32, size: usize, fragments: u32) -> Phase
     ensures { result ≡ begins word size fragments }
 {
     let len = (word % LAST) as usize;
-    if fragments == 0 || len > MOST_BYTES - size {
+    if fragments == 0 || len > RECORD_BYTES - size {
         return Phase::Long;
     }
     if len > 0 {

@@ -16,14 +16,12 @@ use crate::answers::{AfterFailure, PutFault, PutRefusal, Taken};
 use crate::table::{fail_all, oldest_given_up, place_of_due};
 use crate::waiting::Waiting;
 use indexmap::IndexMap;
+use limits::CALLS_IN_FLIGHT;
 use nfs_types::PROGRAM_VERSION;
 use rpc_message::{CallHead, Cred, read_reply, write_call, xid_of};
 use std::alloc::Global;
 use std::marker::Model;
 use xdr_codec::{Blob, Memory, Writer};
-
-/// How many calls may wait at a time.
-const IN_FLIGHT: usize = 32;
 
 /// The bytes of a record for which there is room from the beginning: those of a call without data are fewer, mostly.
 const ROOM: usize = 512;
@@ -119,7 +117,7 @@ impl<P: Drop> Calls<P> {
         if self.made == self.limit {
             return Err(PutRefusal::Spent);
         }
-        if self.calls.len() == IN_FLIGHT {
+        if self.calls.len() == CALLS_IN_FLIGHT {
             return Err(PutRefusal::Crowded);
         }
         Ok(())

@@ -6,9 +6,7 @@ ghost use Rattle.rpc_retry.specs.Waiting.{first_given_up, failed, is_due};
 
 use crate::waiting::Waiting;
 use indexmap::IndexMap;
-
-/// How many attempts are made of a call.
-const ATTEMPTS: u32 = 4;
+use limits::ATTEMPTS;
 
 /// The place of the oldest call that is due.
 pub fn place_of_due<P>(calls: &IndexMap<u32, Waiting<P>>) -> Option<usize>

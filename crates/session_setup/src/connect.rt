@@ -6,10 +6,8 @@ ghost use Rattle.session_setup.specs.Along.{Along};
 ghost use Rattle.session_setup.specs.Exchanges.{Connects};
 
 use crate::stop::Stop;
+use limits::CONNECTS;
 use outside::{Link, LinkFault};
-
-/// After so many failed connects in a row the session is lost.
-const MAX_CONNECTS: u32 = 4;
 
 /// Connects to a port of the server.
 pub(crate) fn connect<L: Link>(port: u16, link: &mut L) -> Result<(), Stop>
@@ -19,7 +17,7 @@ pub(crate) fn connect<L: Link>(port: u16, link: &mut L) -> Result<(), Stop>
     ensures stays { (first : L) → L.stays first link.old → L.stays first link.new }
     ensures honest { L.honest link.old → L.honest link.new }
 {
-    for _ in 0..MAX_CONNECTS {
+    for _ in 0..CONNECTS {
         match link.dial(port) {
             Ok(()) => return Ok(()),
             Err(LinkFault::Memory) => return Err(Stop::Memory),

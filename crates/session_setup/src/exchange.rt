@@ -9,19 +9,11 @@ ghost use Rattle.session_setup.specs.Takings.{AnswersSo};
 
 use crate::connect::connect;
 use crate::stop::Stop;
+use limits::{ATTEMPTS, STRAY_RECORDS, WAIT_MS};
 use outside::{Link, LinkFault, Received};
 use rpc_retry::{AfterFailure, Calls, Taken};
 use std::alloc::Global;
 use xdr_codec::Blob;
-
-/// How long a record is waited for, in milliseconds.
-const WAIT_MS: u32 = 15_000;
-
-/// After so many records in a row that answer no call the session is lost.
-const MAX_DROPPED: u32 = 65_536;
-
-/// The most transmissions of a call.
-const MAX_ATTEMPTS: u32 = 4;
 
 /// What an attempt of a call comes to.
 #[derive(Debug, Drop)]
@@ -53,7 +45,7 @@ pub(crate) fn exchange<L: Link>(
     ensures honest { L.honest link.old → L.honest link.new }
 {
     let mut dropped = 0;
-    for _ in 0..MAX_ATTEMPTS {
+    for _ in 0..ATTEMPTS {
         match attempt_once(alloc, port, link, calls, &mut dropped) {
             Ok(Some(record)) => return Ok(record),
             Ok(None) => {}
@@ -140,7 +132,7 @@ fn await_reply<L: Link>(
     ensures stays { (first : L) → L.stays first link.old → L.stays first link.new }
     ensures honest { L.honest link.old → L.honest link.new }
 {
-    while *dropped < MAX_DROPPED {
+    while *dropped < STRAY_RECORDS {
         if let Some(heard) = hear(alloc, link, calls) {
             return heard;
         }

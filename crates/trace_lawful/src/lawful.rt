@@ -7,17 +7,14 @@ ghost use Rattle.trace_data.specs.Histories.{history_of};
 ghost use Rattle.trace_rules.specs.Beginnings.{BreaksAt};
 ghost use Rattle.trace_lawful.specs.Judged.{IsLawfulEntry, IsLawfulAt};
 
-use crate::sound::sound_all;
+use limits::RECORD_BYTES;
 use std::alloc::Global;
 use trace_calls::{is_replied, was_sent};
 use trace_data::{Trace, objects_after};
-use trace_rules::{changes_nothing, is_restart};
+use trace_rules::{changes_nothing, is_restart, sound_all};
 use trace_steps::{is_flush, is_served};
 use world_model::{Call, Entry, Reply};
 use xdr_codec::Memory;
-
-/// The most bytes of a record.
-const MOST_BYTES: usize = 131_072;
 
 /// How many entries are the fewest that aren't what an honest server and network make (RFC 1813, sections 3.3, 4.8 and
 /// 4.9), 0 where the start is no server. None exactly where the whole history is.
@@ -88,7 +85,7 @@ fn is_delivered(alloc: Global, trace: &Trace, entry: usize, rec: &[u8]) -> Resul
     ensures { IfOk result (λ b. IsTrue b
         ↔ LawfulAt (history_of trace.now) entry (Delivered rec.now) ((history_of trace.now).at entry) ((history_of trace.now).at (suc entry))) }
 {
-    if rec.len() > MOST_BYTES || !changes_nothing(trace, entry) {
+    if rec.len() > RECORD_BYTES || !changes_nothing(trace, entry) {
         return Ok(false);
     }
     is_replied(alloc, trace.entries.as_slice(), entry, rec)

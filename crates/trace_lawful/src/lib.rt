@@ -4,7 +4,6 @@
 mod earliest;
 mod lawful;
 mod server;
-mod sound;
 
 pub use earliest::First;
 pub use lawful::first_unlawful;

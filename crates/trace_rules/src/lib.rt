@@ -15,5 +15,5 @@ pub use keeping::{
 };
 pub use late::is_once;
 pub use restarts::{is_restart, same_verf};
-pub use servers::are_servers;
+pub use servers::{are_servers, sound_all};
 pub use stamps::{is_fresh, is_stamp};

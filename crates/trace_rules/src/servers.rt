@@ -41,9 +41,10 @@ fn sound_updates(updates: &[Update], count: usize) -> bool
     true
 }
 
-/// Whether each object that is named is sound.
+/// Whether each object that is named is sound: a file has the size of its bytes, and no more of them are stable; a
+/// directory has cookies of 1 or more.
 #[tactic(auto, using(crate::proofs::Below::all_below_steps), unfolding(crate::specs::Soundness::sound_all))]
-fn sound_all(objects: &[Updated]) -> bool
+pub fn sound_all(objects: &[Updated]) -> bool
     ensures { result ≡ sound_all objects.now }
 {
     let mut place = 0;

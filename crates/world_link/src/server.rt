@@ -26,14 +26,12 @@ use crate::refused::refused_by;
 use crate::routed::{Routed, Told};
 use export_fs::{Export, handles_fit};
 use export_serve::{Asked, asked, spelled};
+use limits::RECORD_BYTES;
 use nfs_file_calls::FileCall;
 use std::alloc::Global;
 use std::collections::{BTreeMap, VecDeque};
 use world_model::{Call, Entry, Reply};
 use xdr_codec::{Blob, Memory};
-
-/// The most bytes of a record.
-const MOST_BYTES: usize = 131_072;
 
 /// The export, what is told of it and of the link, and the records that came and that are on their way back.
 #[derive(Drop)]
@@ -224,7 +222,7 @@ fn short_enough(bytes: Blob) -> Result<Blob, Memory>
     ensures same { IfOk result (λ short. short ≡ bytes) }
     ensures short { IfOk result (λ short. length short ≤ most_bytes) }
 {
-    if bytes.bytes().len() > MOST_BYTES {
+    if bytes.bytes().len() > RECORD_BYTES {
         return Err(Memory);
     }
     Ok(bytes)

@@ -49,7 +49,7 @@ pub struct World {
     alloc: Global,
     plan: Plan,
     /// The export as it was before the first entry: the server at each moment is worked out from it.
-    start: Export,
+    pub(crate) start: Export,
     pub(crate) server: Server,
     /// The records that were sent and had no turn yet, the oldest first.
     pub(crate) waiting: VecDeque<Queued>,

@@ -28,31 +28,31 @@ whole-page told ends eof whole true is b given =
 whole-page told true eof whole false is b given = inr (whole refl)
 whole-page told false eof whole false is b given = absurd cc
 
-module _ (h : List Entry) where
+module _ (first : Pages) (h : List Entry) where
   abbrev pub Good : Pages → Type 0
-  Good c = AreKnown c × AreTrue (IsPage h) c
+  Good c = AreKnown c × AreTrue (IsPage first h) c
 
   pub quiet-good : QuietLaws Good
   quiet-good = record {
-    opens = λ file stamp mark c g. (known-opened file c stamp mark g.0, true-opened (IsPage h) file c stamp mark g.1);
-    sees = λ file stamp sent c g. (known-saw file c stamp sent g.0, true-saw (IsPage h) file c stamp sent g.1);
-    shows = λ file index c g. (known-shown file c index g.0, true-shown (IsPage h) file index c g.1);
+    opens = λ file stamp mark c g. (known-opened file c stamp mark g.0, true-opened (IsPage first h) file c stamp mark g.1);
+    sees = λ file stamp sent c g. (known-saw file c stamp sent g.0, true-saw (IsPage first h) file c stamp sent g.1);
+    shows = λ file index c g. (known-shown file c index g.0, true-shown (IsPage first h) file index c g.1);
     drops = λ file moment c g. (
       known-wrote file c untold 0 [] moment g.0,
-      true-wrote (IsPage h) file c untold 0 [] moment (λ before after was is known index bytes page. absurd cc) g.1,
+      true-wrote (IsPage first h) file c untold 0 [] moment (λ before after was is known index bytes page. absurd cc) g.1,
     );
   }
 
   abbrev Told : Call → Reply → Type 0
   Told call reply = IsAnswered h 0 (length h) call reply
 
-  kept-good : (file : List ℕ) (stamp : Stamp) (sent index : ℕ) (bytes : List ℕ) (c : Pages) → IsPage h file stamp index bytes → Good c → (answer : Answer) → keep_answer file stamp sent c ≡ answer
-      → AreTrue (IsPage h) (after_keep answer stamp (record { file = file; index = index }) bytes c)
+  kept-good : (file : List ℕ) (stamp : Stamp) (sent index : ℕ) (bytes : List ℕ) (c : Pages) → IsPage first h file stamp index bytes → Good c → (answer : Answer) → keep_answer file stamp sent c ≡ answer
+      → AreTrue (IsPage first h) (after_keep answer stamp (record { file = file; index = index }) bytes c)
   kept-good file stamp sent index bytes c page g Stale is = g.1
   kept-good file stamp sent index bytes c page g Differs is = g.1
-  kept-good file stamp sent index bytes c page g Kept is = true-kept (IsPage h) file c stamp sent index bytes g.0 g.1 is page
+  kept-good file stamp sent index bytes c page g Kept is = true-kept (IsPage first h) file c stamp sent index bytes g.0 g.1 is page
 
-  kept-page : (file : List ℕ) (stamp : Stamp) (sent index : ℕ) (bytes : List ℕ) (c : Pages) → IsPage h file stamp index bytes → Good c → Good (kept_page file stamp sent index bytes c)
+  kept-page : (file : List ℕ) (stamp : Stamp) (sent index : ℕ) (bytes : List ℕ) (c : Pages) → IsPage first h file stamp index bytes → Good c → Good (kept_page file stamp sent index bytes c)
   unfolding kept_page
   kept-page file stamp sent index bytes c page g = (
     known-offered file c (keep_answer file stamp sent c) stamp index bytes g.0,
@@ -91,7 +91,7 @@ module _ (h : List Entry) where
       → Told (calls.File (files.Write file offset how bytes)) (replies.File (kept.Write wcc count committed verf)) → Good c → Good (wrote file wcc offset (take count bytes) moment c)
   wrote-good file offset how bytes wcc count committed verf moment c answered g = (
     known-wrote file c wcc offset (take count bytes) moment g.0,
-    true-wrote (IsPage h) file c wcc offset (take count bytes) moment
+    true-wrote (IsPage first h) file c wcc offset (take count bytes) moment
         (λ before after was is known index page had. pages.written before (stamp_of after) index offset count bytes page _ had
         (record { how = how; committed = committed; wcc = wcc; verf = verf; answered = answered; leads = record { attr = after; before = was; after = is; is = refl } }) refl) g.1,
   )
@@ -99,7 +99,7 @@ module _ (h : List Entry) where
   cut-good : (file : List ℕ) (wcc : Wcc) (size moment : ℕ) (c : Pages) → Told (size_call file size) (replies.File (kept.SetAttr wcc)) → Good c → Good (cut file wcc size moment c)
   cut-good file wcc size moment c answered g = (
     known-cut file c wcc size moment g.0,
-    true-cut (IsPage h) file c wcc size moment
+    true-cut (IsPage first h) file c wcc size moment
         (λ before after was is known index page had. pages.cut before (stamp_of after) index size page _ had
         (record { set = _; guard = None; wcc = wcc; answered = answered; is = refl; leads = record { attr = after; before = was; after = is; is = refl } }) refl) g.1,
   )

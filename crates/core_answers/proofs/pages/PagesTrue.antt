@@ -1,5 +1,5 @@
 -- On an honest server a page that is kept under a stamp is that page of the file, while it has the stamp.
-use Rattle.core_answers.proofs.Prelude.{inl, inr, ◌⊎◌, ◌≡◌, ◌≤◌, ◌+◌, ◌-◌, ℕ, suc, true, List, [], ◌∷◌, length, take, drop, Some, refl, sym, ap, subst, ◌∙◌, Stamp, FileCall, FileKept, start_of, Fresh, History, Lawful, Numbered, machine_of, reached-rows, IsAnswered, WasRead, WasWritten, WasCut, IsPage}
+use Rattle.core_answers.proofs.Prelude.{inl, inr, ◌⊎◌, ◌≡◌, ◌≤◌, ◌+◌, ◌-◌, ℕ, suc, true, List, [], ◌∷◌, length, take, drop, Some, refl, sym, ap, subst, ◌∙◌, Stamp, FileCall, FileKept, start_of, Pages, Fresh, History, Lawful, Numbered, machine_of, reached-rows, IsAnswered, WasRead, WasWritten, WasCut, IsPage}
 use Rattle.page_cache.specs.Bytes.{page_at, put_page, cut_page}
 use Rattle.nfs_file_calls.specs.declared.call.FileCall.TheVariants as files
 use Rattle.nfs_file_calls.specs.declared.owned.FileKept.TheVariants as kept
@@ -15,10 +15,10 @@ use Rattle.law_reads.proofs.KeptBytes.{same_bytes, reads, writes, serves, later,
 use Rattle.law_pages.proofs.OfferedPage.{offered_bytes}
 use Rattle.core_answers.proofs.bonds.Executions.{answered-ran}
 use Rattle.core_answers.specs.pages.Kept as pages
-use Rattle.core_answers.specs.pages.True.{PagesTrue}
+use Rattle.core_answers.specs.pages.True.{GivenTrue, HadPage, PagesTrue}
 use Rattle.core_answers.proofs.pages.PagesShown.{good-pages}
 
-module _ (t : History) (l : Lawful t) (fresh : Fresh t) (numbered : Numbered t.entries) (file : List ℕ) where
+module _ (first : Pages) (t : History) (given : GivenTrue first t) (l : Lawful t) (fresh : Fresh t) (numbered : Numbered t.entries) (file : List ℕ) where
   -- the call was executed with this reply
   was-done : (call : FileCall) (reply : FileKept) → IsAnswered t.entries 0 (length t.entries) (calls.File call) (answers.File reply) → Done t call reply
   was-done call reply a =
@@ -86,7 +86,10 @@ module _ (t : History) (l : Lawful t) (fresh : Fresh t) (numbered : Numbered t.e
       ∙ page-cut index size r.now
       ∙ ap (page_at index) (same_bytes t l fresh (suc r.n) n file s (resized size r.now) now r.after has)
 
-  pub true-page-of : (s : Stamp) (index : ℕ) (bytes : List ℕ) → IsPage t.entries file s index bytes → IsPageOf s index bytes
+  pub true-page-of : (s : Stamp) (index : ℕ) (bytes : List ℕ) → IsPage first t.entries file s index bytes → IsPageOf s index bytes
+  true-page-of _ _ _ (pages.from_start s index bytes found known fits) = λ n now has.
+      let g : HadPage t file s index bytes = true-page (HadPage t) file index first bytes s given found known in
+      g.is ∙ ap (page_at index) (same_bytes t l fresh g.n n file s g.now now g.has has)
   true-page-of _ _ _ (pages.read s index bytes r) = read-true s index bytes r
   true-page-of _ _ _ (pages.written old s index offset count bytes page now had w is) =
       subst (IsPageOf s index) (sym is) (written-true old s index offset count bytes page w (true-page-of old index page had))
@@ -94,7 +97,7 @@ module _ (t : History) (l : Lawful t) (fresh : Fresh t) (numbered : Numbered t.e
       subst (IsPageOf s index) (sym is) (cut-true old s index size page w (true-page-of old index page had))
 
 pub pages-true : PagesTrue
-pages-true m setup t v lawful fresh r bare file stamp index bytes found known =
-    let g = good-pages m setup t.entries v r bare in
-    true-page-of t lawful fresh (reached-rows (machine_of m) setup t.entries v r).numbered file stamp index bytes
-    (true-page (IsPage t.entries) file index v.shelf.pages bytes stamp g.1 found known)
+pages-true m setup t v lawful fresh r given file stamp index bytes found known =
+    let g = good-pages m setup t.entries v r in
+    true-page-of setup.pages t given lawful fresh (reached-rows (machine_of m) setup t.entries v r).numbered file stamp index bytes
+    (true-page (IsPage setup.pages t.entries) file index v.shelf.pages bytes stamp g.1 found known)

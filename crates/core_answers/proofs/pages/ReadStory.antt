@@ -38,16 +38,17 @@ use Rattle.core_answers.proofs.pages.ReadBytes.{get-drop, get-taken, InPart, get
 -- ---- pages
 
 -- a page has no more bytes
-pub page-fits : (h : List Entry) (file : List ℕ) (s : Stamp) (index : ℕ) (page : List ℕ) → IsPage h file s index page → length page ≤ 4096
-page-fits h file _ _ _ (pages.read s index bytes r) =
+pub page-fits : (initial : Pages) (h : List Entry) (file : List ℕ) (s : Stamp) (index : ℕ) (page : List ℕ) → IsPage initial h file s index page → length page ≤ 4096
+page-fits initial h file _ _ _ (pages.from_start s index bytes found known fits) = fits
+page-fits initial h file _ _ _ (pages.read s index bytes r) =
     let long = length-take 4096 (drop (start_of index - r.offset) r.given) in
     let is = ap length r.page in
     omega (arith, long, is)
-page-fits h file _ _ _ (pages.written old s index offset count bytes page now had w is) =
-    let fits = put-fits index offset (take count bytes) page (page-fits h file old index page had) in
+page-fits initial h file _ _ _ (pages.written old s index offset count bytes page now had w is) =
+    let fits = put-fits index offset (take count bytes) page (page-fits initial h file old index page had) in
     let same = ap length is in
     omega (arith, fits, same)
-page-fits h file _ _ _ (pages.cut old s index size page now had w is) =
+page-fits initial h file _ _ _ (pages.cut old s index size page now had w is) =
     let long = length-cut index size page in
     let same = ap length is in
     omega (arith, long, same)
@@ -68,17 +69,17 @@ same-bytes a b e = cc
 
 -- ---- what is found
 
-module _ (h : List Entry) (x : ℕ) (file : List ℕ) where
+module _ (initial : Pages) (h : List Entry) (x : ℕ) (file : List ℕ) where
   abbrev pub FoundBase : Bytes → Type 0
-  FoundBase b = (k v : ℕ) → slice_get b.bytes k ≡ Some v → IsFound h x file (b.start + k) v
+  FoundBase b = (k v : ℕ) → slice_get b.bytes k ≡ Some v → IsFound initial h x file (b.start + k) v
 
-  place-as : (a b v : ℕ) → a ≡ b → IsFound h x file a v → IsFound h x file b v
-  place-as a b v is f = subst (λ (p : ℕ). IsFound h x file p v) is f
+  place-as : (a b v : ℕ) → a ≡ b → IsFound initial h x file a v → IsFound initial h x file b v
+  place-as a b v is f = subst (λ (p : ℕ). IsFound initial h x file p v) is f
 
-  pub more-found : (more : List ℕ) (b : Bytes) → FoundBase b → ((at v : ℕ) → slice_get more at ≡ Some v → IsFound h x file (place_after b + at) v) → FoundBase (with_more more b)
+  pub more-found : (more : List ℕ) (b : Bytes) → FoundBase b → ((at v : ℕ) → slice_get more at ≡ Some v → IsFound initial h x file (place_after b + at) v) → FoundBase (with_more more b)
   more-found more b old new k v is = by (get-joined b.bytes (take (b.limit - length b.bytes) more) k v is)
     where
-      by : InPart b.bytes (take (b.limit - length b.bytes) more) k v → IsFound h x file (b.start + k) v
+      by : InPart b.bytes (take (b.limit - length b.bytes) more) k v → IsFound initial h x file (b.start + k) v
       by (inl e) = old k v e
       by (inr e) =
           let at = e.1 in
@@ -124,7 +125,7 @@ module _ (h : List Entry) (x : ℕ) (file : List ℕ) where
       let place : place_after b ≡ (f.first + a.0) * 4096 = omega (arith, start, long) in
       omega (arith, whole, place)
 
-  page-found : (b : Bytes) → IsFramed b → Aligned b → (stamp : Stamp) (page : List ℕ) → IsPage h file stamp (gather.next_page b) page → FoundBase b → FoundBase (with_more page b)
+  page-found : (b : Bytes) → IsFramed b → Aligned b → (stamp : Stamp) (page : List ℕ) → IsPage initial h file stamp (gather.next_page b) page → FoundBase b → FoundBase (with_more page b)
   page-found b f a stamp page is old =
       more-found page b old (λ at v there.
       in_page stamp (gather.next_page b) at page is there (let place = page-place b f a in omega (arith, place)))
@@ -137,13 +138,13 @@ module _ (h : List Entry) (x : ℕ) (file : List ℕ) where
       let limit = f.limit in
       (a.0 + 1, omega (arith, joined, cut, whole, long, limit, short))
 
-  module _ (b : Bytes) (c : Pages) (framed : IsFramed b) (aligned : Aligned b) (found : FoundBase b) (good : Good h c) (short : length b.bytes < b.limit) where
+  module _ (b : Bytes) (c : Pages) (framed : IsFramed b) (aligned : Aligned b) (found : FoundBase b) (good : Good initial h c) (short : length b.bytes < b.limit) where
     page-by : (page : List ℕ) → page_of file (gather.next_page b) c ≡ Some page → (less : Bool) → nat_lt (length page) 4096 ≡ less
         → OkBy (if less then founds.Ended else founds.Page) (with_more page b)
-    page-by page is true e = let k = kept-of h c file (gather.next_page b) page is good in page-found b framed aligned k.stamp page k.page found
+    page-by page is true e = let k = kept-of initial h c file (gather.next_page b) page is good in page-found b framed aligned k.stamp page k.page found
     page-by page is false e =
-        let k = kept-of h c file (gather.next_page b) page is good in
-        let fits = page-fits h file k.stamp (gather.next_page b) page k.page in
+        let k = kept-of initial h c file (gather.next_page b) page is good in
+        let fits = page-fits initial h file k.stamp (gather.next_page b) page k.page in
         let long : 4096 ≤ length page = grind (arith, nat_tests) in
         (page-found b framed aligned k.stamp page k.page found, page-aligned b framed aligned page (omega (arith, fits, long)) short)
 
@@ -159,7 +160,7 @@ module _ (h : List Entry) (x : ℕ) (file : List ℕ) where
     with-limit None = refl
     with-limit (Some page) = refl
 
-  taken-ok : (b : Bytes) (c : Pages) → IsFramed b → Aligned b → FoundBase b → Good h c → OkGathered b.start b.limit (gather.taken file b c)
+  taken-ok : (b : Bytes) (c : Pages) → IsFramed b → Aligned b → FoundBase b → Good initial h c → OkGathered b.start b.limit (gather.taken file b c)
   taken-ok b c framed aligned found good = by (is_whole b || gather.is_past (known_of file c) (place_after b)) refl
     where
       o : Option (List ℕ)
@@ -177,7 +178,7 @@ module _ (h : List Entry) (x : ℕ) (file : List ℕ) where
           let short : length b.bytes < b.limit = grind (arith, nat_tests) in
           (with-start b c framed aligned found good short o, with-limit b c framed aligned found good short o, page-ok b c framed aligned found good short o refl)
 
-  then-ok : (start limit : ℕ) (g : Gathered) (f : Found) → g.found ≡ f → OkGathered start limit g → IsFramed g.base → Good h g.pages → OkGathered start limit (gather.then_taken file g f)
+  then-ok : (start limit : ℕ) (g : Gathered) (f : Found) → g.found ≡ f → OkGathered start limit g → IsFramed g.base → Good initial h g.pages → OkGathered start limit (gather.then_taken file g f)
   then-ok start limit g founds.Page is ok framed good =
       let two : FoundBase g.base × Aligned g.base = subst (λ (f : Found). OkBy f g.base) is ok.2 in
       let t = taken-ok g.base g.pages framed two.1 two.0 good in
@@ -185,12 +186,12 @@ module _ (h : List Entry) (x : ℕ) (file : List ℕ) where
   then-ok start limit g founds.Ended is ok framed good = ok
   then-ok start limit g founds.Wanted is ok framed good = ok
 
-  gathered-ok : (n : ℕ) (b : Bytes) (c : Pages) → IsFramed b → Aligned b → FoundBase b → Good h c → OkGathered b.start b.limit (gather.gathered file n b c)
+  gathered-ok : (n : ℕ) (b : Bytes) (c : Pages) → IsFramed b → Aligned b → FoundBase b → Good initial h c → OkGathered b.start b.limit (gather.gathered file n b c)
   gathered-ok zero b c framed aligned found good = (refl, refl, (found, aligned))
   gathered-ok (suc n) b c framed aligned found good =
       let g = gather.gathered file n b c in
       let before = gathered-ok n b c framed aligned found good in
-      then-ok b.start b.limit g g.found refl before (framed-as b g.base before.0 before.1 framed) (gathered-pages (Good h) (quiet-good h) file n b c good)
+      then-ok b.start b.limit g g.found refl before (framed-as b g.base before.0 before.1 framed) (gathered-pages (Good initial h) (quiet-good initial h) file n b c good)
 
   pub ok-found : (f : Found) (b : Bytes) → OkBy f b → FoundBase b
   ok-found founds.Page b ok = ok.0
@@ -216,12 +217,12 @@ module _ (mo : ℕ → Op → Machine) (setup : Setup) (modes : Modes) where
     pub space : r.space ≡ count
     pub was : WasThen h x r.file offset count r.was
     pub start : r.base.start ≤ offset
-    pub framed : IsFramed h x r.file r.base
-    pub base : FoundBase h x r.file r.base
-    pub aligned : AlignedIn h x r.file r.phase r.base
+    pub framed : IsFramed setup.pages h x r.file r.base
+    pub base : FoundBase setup.pages h x r.file r.base
+    pub aligned : AlignedIn setup.pages h x r.file r.phase r.base
 
   -- the same in another phase
-  pub in-phase : (h : List Entry) (x : ℕ) (op : Op) (offset count : ℕ) (r : Reading) (phase : Phase) → ReadAt h x op offset count r → AlignedIn h x r.file phase r.base
+  pub in-phase : (h : List Entry) (x : ℕ) (op : Op) (offset count : ℕ) (r : Reading) (phase : Phase) → ReadAt h x op offset count r → AlignedIn setup.pages h x r.file phase r.base
       → ReadAt h x op offset count (record r { phase = phase })
   in-phase h x op offset count r phase a aligned =
       record { of = a.of; at = a.at; space = a.space; was = a.was; start = a.start; framed = a.framed; base = a.base; aligned = aligned }
@@ -247,11 +248,11 @@ module _ (mo : ℕ → Op → Machine) (setup : Setup) (modes : Modes) where
         server : List ℕ
         server = bytes_from r.offset r.base
 
-        found : (k v : ℕ) → slice_get server k ≡ Some v → IsFound h x r.file (offset + k) v
+        found : (k v : ℕ) → slice_get server k ≡ Some v → IsFound setup.pages h x r.file (offset + k) v
         found k v is =
             let at = a.at in
             let start = a.start in
-            place-as h x r.file (r.base.start + (r.offset - r.base.start + k)) (offset + k) v (omega (arith, at, start))
+            place-as setup.pages h x r.file (r.base.start + (r.offset - r.base.start + k)) (offset + k) v (omega (arith, at, start))
             (a.base (r.offset - r.base.start + k) v (sym (get-drop (r.offset - r.base.start) r.base.bytes k) ∙ is))
 
         same : reading.answer_of r back ≡ shown_over r.file offset count server (was_pending r.file offset count a.was.back) back
@@ -288,7 +289,7 @@ module _ (mo : ℕ → Op → Machine) (setup : Setup) (modes : Modes) where
         goes-as (reading.shown_next (reading.answer_of r back)) next (record r { space = 0 }) (record r { space = 0 }) is refl
         (λ bytes same. subst (λ (bs : List ℕ). ReadShown mo setup modes h x op offset bs) (same-bytes (reading.answer_of r back) bytes same) (shown-of r back a passed))
 
-    asks-aligned : (p : Phase) (file : List ℕ) (b : Bytes) → reading.asks_attrs p ≡ true → AlignedIn h x file p b → Aligned h x file b
+    asks-aligned : (p : Phase) (file : List ℕ) (b : Bytes) → reading.asks_attrs p ≡ true → AlignedIn setup.pages h x file p b → Aligned setup.pages h x file b
     asks-aligned phases.Attrs file b is a = a
     asks-aligned phases.AskedAttrs file b is a = absurd cc
     asks-aligned phases.Pages file b is a = absurd cc
@@ -317,28 +318,28 @@ module _ (mo : ℕ → Op → Machine) (setup : Setup) (modes : Modes) where
         → Goes next (reading.gone room s).reading
     goes-on room back s next a passed g = goes-if (reading.asks room s) back s next a passed g
 
-    settled-in : (p : Phase) (r : Reading) (c : Pages) → r.phase ≡ p → Good h c → ReadAt h x op offset count r → OfState (reading.settled_in p r c)
+    settled-in : (p : Phase) (r : Reading) (c : Pages) → r.phase ≡ p → Good setup.pages h c → ReadAt h x op offset count r → OfState (reading.settled_in p r c)
     settled-in phases.Attrs r c is good a = a
     settled-in phases.AskedAttrs r c is good a = a
     settled-in phases.Pages r c is good a =
-        let aligned : Aligned h x r.file r.base = subst (λ (p : Phase). AlignedIn h x r.file p r.base) is a.aligned in
+        let aligned : Aligned setup.pages h x r.file r.base = subst (λ (p : Phase). AlignedIn setup.pages h x r.file p r.base) is a.aligned in
         let g = gather.gathered r.file (r.base.limit / 4096 + 1) r.base c in
-        let ok = gathered-ok h x r.file (r.base.limit / 4096 + 1) r.base c a.framed aligned a.base good in
+        let ok = gathered-ok setup.pages h x r.file (r.base.limit / 4096 + 1) r.base c a.framed aligned a.base good in
         record {
           of = a.of;
           at = a.at;
           space = a.space;
           was = a.was;
           start = let s = ok.0 in let was = a.start in omega (arith, s, was);
-          framed = framed-as h x r.file r.base g.base ok.0 ok.1 a.framed;
-          base = ok-found h x r.file g.found g.base ok.2;
-          aligned = ok-aligned h x r.file g.found g.base ok.2;
+          framed = framed-as setup.pages h x r.file r.base g.base ok.0 ok.1 a.framed;
+          base = ok-found setup.pages h x r.file g.found g.base ok.2;
+          aligned = ok-aligned setup.pages h x r.file g.found g.base ok.2;
         }
     settled-in phases.Rest r c is good a = a
     settled-in (phases.Asked size) r c is good a = a
     settled-in phases.Ended r c is good a = a
 
-    pub from-settled : (room : Bool) (back : Pending) (r : Reading) (c : Pages) (next : Next) (new : reading.State) → ReadAt h x op offset count r → Good h c → HasPassed mo setup h x back
+    pub from-settled : (room : Bool) (back : Pending) (r : Reading) (c : Pages) (next : Next) (new : reading.State) → ReadAt h x op offset count r → Good setup.pages h c → HasPassed mo setup h x back
         → reading.Goes room back (reading.settled r c) next → new ≡ reading.gone room (reading.settled r c) → Goes next new.reading
     from-settled room back r c next new a good passed g is =
         goes-as next next (reading.gone room (reading.settled r c)).reading new.reading refl (ap (λ (s : reading.State). s.reading) is)
@@ -351,13 +352,13 @@ module _ (mo : ℕ → Op → Machine) (setup : Setup) (modes : Modes) where
         goes-as (reading.refused fault) next r new.reading is (ap (λ (s : reading.State). s.reading) same) (λ bytes no_way. absurd cc)
 
     after-opened : (result : Result (Unit {0}) memory.Memory) (turn : Turn) (r : Reading) (c : Pages) (back : Pending) (next : Next) (new : reading.State) → ReadAt h x op offset count r
-        → Aligned h x r.file r.base → Good h c → HasPassed mo setup h x back → reading.AfterOpened result turn r c back next new → Goes next new.reading
+        → Aligned setup.pages h x r.file r.base → Good setup.pages h c → HasPassed mo setup h x back → reading.AfterOpened result turn r c back next new → Goes next new.reading
     after-opened (Ok done) turn r c back next new a aligned good passed o =
         from-settled turn.room back (record r { phase = phases.Pages }) c next new (in-phase h x op offset count r phases.Pages a aligned) good passed o.0 o.1
     after-opened (Err no_memory) turn r c back next new a aligned good passed o =
         goes-as (reading.refused faults.Memory) next r new.reading o.0 (ap (λ (s : reading.State). s.reading) o.1) (λ bytes no_way. absurd cc)
 
-    waits-aligned : (p : Phase) (file : List ℕ) (b : Bytes) → reading.waits_attrs p ≡ true → AlignedIn h x file p b → Aligned h x file b
+    waits-aligned : (p : Phase) (file : List ℕ) (b : Bytes) → reading.waits_attrs p ≡ true → AlignedIn setup.pages h x file p b → Aligned setup.pages h x file b
     waits-aligned phases.Attrs file b is a = a
     waits-aligned phases.AskedAttrs file b is a = a
     waits-aligned phases.Pages file b is a = a
@@ -366,18 +367,18 @@ module _ (mo : ℕ → Op → Machine) (setup : Setup) (modes : Modes) where
     waits-aligned phases.Ended file b is a = absurd cc
 
     attrs-read : (told : Result Attr Fault) (again : Bool) (sent turn : Turn) (r : Reading) (c : Pages) (back : Pending) (next : Next) (new : reading.State) → ReadAt h x op offset count r
-        → Aligned h x r.file r.base → Good h c → ((attr : Attr) → told ≡ Ok attr → HasPassed mo setup h x back) → reading.TakesAttrs again told sent turn r c back next new → Goes next new.reading
+        → Aligned setup.pages h x r.file r.base → Good setup.pages h c → ((attr : Attr) → told ≡ Ok attr → HasPassed mo setup h x back) → reading.TakesAttrs again told sent turn r c back next new → Goes next new.reading
     attrs-read (Ok attr) again sent turn r c back next new a aligned good passed t =
-        after-opened t.result turn r t.later back next new a aligned (pages-opened (Good h) (quiet-good h) t.result r.file attr r.moment sent turn c t.later t.opens good) (passed attr refl) t.goes
+        after-opened t.result turn r t.later back next new a aligned (pages-opened (Good setup.pages h) (quiet-good setup.pages h) t.result r.file attr r.moment sent turn c t.later t.opens good) (passed attr refl) t.goes
     attrs-read (Err fault) again sent turn r c back next new a aligned good passed t = again-read again (reading.attrs_call r.file) fault r c next new a t.0 t.1
 
     -- ---- a part
 
-    module _ (call : Call) (came : Result Reply Fault) (laws : ToldLaws (Good h) call came) (sent turn : Turn) (back : Pending)
+    module _ (call : Call) (came : Result Reply Fault) (laws : ToldLaws (Good setup.pages h) call came) (sent turn : Turn) (back : Pending)
         (told : (reply : Reply) → came ≡ Ok reply → WasTaken mo setup h x call sent back reply) where
-      module _ (r : Reading) (c : Pages) (a : ReadAt h x op offset count r) (good : Good h c) where
-        part-aligned : (eof more : Bool) (size : ℕ) (b : Bytes) → IsFramed h x r.file b → (more ≡ false → place_after b % 4096 ≡ 0)
-            → AlignedIn h x r.file (if eof then phases.Ended else if more then phases.Rest else phases.Pages) b
+      module _ (r : Reading) (c : Pages) (a : ReadAt h x op offset count r) (good : Good setup.pages h c) where
+        part-aligned : (eof more : Bool) (size : ℕ) (b : Bytes) → IsFramed setup.pages h x r.file b → (more ≡ false → place_after b % 4096 ≡ 0)
+            → AlignedIn setup.pages h x r.file (if eof then phases.Ended else if more then phases.Rest else phases.Pages) b
         part-aligned true more size b framed whole = tt
         part-aligned false true size b framed whole = tt
         part-aligned false false size b framed whole =
@@ -393,7 +394,7 @@ module _ (mo : ℕ → Op → Machine) (setup : Setup) (modes : Modes) where
             → call ≡ calls.File (file_calls.Read r.file (place_after r.base) size) → ReadAt h x op offset count (reading.added (reading.count_of r.phase) eof given r)
         added-at attr counted eof given size is asked =
             let w = told (replies.File (kept.Read attr counted eof given)) is in
-            let framed = framed-as h x r.file r.base (with_more given r.base) refl refl a.framed in
+            let framed = framed-as setup.pages h x r.file r.base (with_more given r.base) refl refl a.framed in
             record {
               of = a.of;
               at = a.at;
@@ -401,7 +402,7 @@ module _ (mo : ℕ → Op → Machine) (setup : Setup) (modes : Modes) where
               was = a.was;
               start = a.start;
               framed = framed;
-              base = more-found h x r.file given r.base a.base (λ at v there.
+              base = more-found setup.pages h x r.file given r.base a.base (λ at v there.
                   in_reply w.since.told.since (place_after r.base) size counted at attr eof given w.since.later
                   (subst (λ (q : Call). IsAnswered h w.since.told.since (length h) q (replies.File (kept.Read attr counted eof given))) asked w.since.told.answered)
                   there refl);
@@ -417,7 +418,7 @@ module _ (mo : ℕ → Op → Machine) (setup : Setup) (modes : Modes) where
         part-if false attr counted eof given size again next new is asked t same =
             from-settled turn.room back (reading.added (reading.count_of r.phase) eof given r) (reading.noted attr r.file sent.moment (place_after r.base) given eof c) next new
             (added-at attr counted eof given size is asked)
-            (noted-pages (Good h) (quiet-good h) call came laws attr r.file counted eof given (place_after r.base) size sent.moment c is asked good)
+            (noted-pages (Good setup.pages h) (quiet-good setup.pages h) call came laws attr r.file counted eof given (place_after r.base) size sent.moment c is asked good)
             (told (replies.File (kept.Read attr counted eof given)) is).passed t same
 
         file-part : (k : FileKept) (size : ℕ) (again : Bool) (next : Next) (new : reading.State) → came ≡ Ok (replies.File k)
@@ -459,8 +460,8 @@ module _ (mo : ℕ → Op → Machine) (setup : Setup) (modes : Modes) where
 
 -- ---- as it begins
 
-pub framed-begins : (h : List Entry) (x : ℕ) (file : List ℕ) (offset count : ℕ) → IsFramed h x file (nothing_of offset count)
-framed-begins h x file offset count = record {
+pub framed-begins : (initial : Pages) (h : List Entry) (x : ℕ) (file : List ℕ) (offset count : ℕ) → IsFramed initial h x file (nothing_of offset count)
+framed-begins initial h x file offset count = record {
   first = offset / 4096;
   last = last (count == 0);
   start = let whole = div-add-mod' offset 4096 in omega (arith, whole);

@@ -1,5 +1,5 @@
 -- On an honest server the bytes that a read found are those of its file.
-use Rattle.core_answers.proofs.Prelude.{◌≡◌, ◌<◌, ◌≤◌, ◌+◌, ℕ, suc, List, [], ◌∷◌, ◌++◌, length, slice_get, Option, Some, refl, sym, ap, subst, ◌∙◌, append_assoc, arith, Attr, Stamp, Wcc, FileCall, FileKept, start_of, Entry, Fresh, History, Lawful, IsOf, Numbered, machine_of, reached-rows, IsAnswered, WasRead, WasWritten, WasCut, IsPage, IsShown}
+use Rattle.core_answers.proofs.Prelude.{◌≡◌, ◌<◌, ◌≤◌, ◌+◌, ℕ, suc, List, [], ◌∷◌, ◌++◌, length, slice_get, Option, Some, refl, sym, ap, subst, ◌∙◌, append_assoc, arith, Attr, Stamp, Wcc, FileCall, FileKept, start_of, Pages, Entry, Fresh, History, Lawful, IsOf, Numbered, machine_of, reached-rows, IsAnswered, WasRead, WasWritten, WasCut, IsPage, IsShown}
 use Rattle.std.proofs.Common.{append-nil}
 use Rattle.page_cache.specs.Bytes.{page_at}
 use Rattle.core_answers.specs.pages.Read.{IsFound, in_page, in_reply}
@@ -22,6 +22,8 @@ use Rattle.core_answers.proofs.bonds.AttrsShown.{answered-grow}
 use Rattle.core_answers.proofs.bonds.Executions.{answered-ran}
 use Rattle.core_answers.specs.pages.Held.{IsHeld, since_begun, with_stamp, ReadsHeld}
 use Rattle.core_answers.specs.pages.Kept as pages
+use Rattle.core_answers.specs.pages.True.{GivenTrue, HadPage, IsEarly}
+use Rattle.page_cache.proofs.Believed.{true-page}
 use Rattle.core_answers.proofs.pages.PagesShown.{page-grows}
 use Rattle.core_answers.proofs.pages.PagesTrue.{true-page-of}
 use Rattle.core_answers.proofs.pages.ReadsShown.{had-read, until}
@@ -33,13 +35,14 @@ sets s t f set guard wcc (broken_off g at way given status w is answer p) = absu
 sets s t f set guard wcc (done d) = d
 
 -- a page that is known in a part of a history is known in all of it
-page-later : (h more : List Entry) (file : List ℕ) (stamp : Stamp) (index : ℕ) (bytes : List ℕ) → IsPage h file stamp index bytes → IsPage (h ++ more) file stamp index bytes
-page-later h [] file stamp index bytes p = subst (λ (k : List Entry). IsPage k file stamp index bytes) (sym (append-nil h)) p
-page-later h (e ∷ more) file stamp index bytes p =
-    subst (λ (k : List Entry). IsPage k file stamp index bytes) (append_assoc h (e ∷ []) more)
-    (page-later (h ++ e ∷ []) more file stamp index bytes (page-grows h e file stamp index bytes p))
+page-later : (first : Pages) (h more : List Entry) (file : List ℕ) (stamp : Stamp) (index : ℕ) (bytes : List ℕ) → IsPage first h file stamp index bytes → IsPage first (h ++ more) file stamp index bytes
+page-later first h [] file stamp index bytes p = subst (λ (k : List Entry). IsPage first k file stamp index bytes) (sym (append-nil h)) p
+page-later first h (e ∷ more) file stamp index bytes p =
+    subst (λ (k : List Entry). IsPage first k file stamp index bytes) (append_assoc h (e ∷ []) more)
+    (page-later first (h ++ e ∷ []) more file stamp index bytes (page-grows first h e file stamp index bytes p))
 
-module _ (t : History) (l : Lawful t) (fresh : Fresh t) (numbered : Numbered t.entries) (before after : List Entry) (is : t.entries ≡ before ++ after) (file : List ℕ) where
+module _ (first : Pages) (t : History) (given : GivenTrue first t) (l : Lawful t) (fresh : Fresh t) (numbered : Numbered t.entries) (before after : List Entry) (is : t.entries ≡ before ++ after)
+    (begun : (n : ℕ) → IsEarly t n → n ≤ length before) (file : List ℕ) where
   -- the call was executed with this reply, before the end of the part
   record DoneBy (from : ℕ) (call : FileCall) (reply : FileKept) : Type 0 where
     exec : Done t call reply
@@ -122,14 +125,17 @@ module _ (t : History) (l : Lawful t) (fresh : Fresh t) (numbered : Numbered t.e
       by (Entries list) held sized = absurd sized
       by (Text text) held sized = absurd sized
 
-  page-had : (stamp : Stamp) (index : ℕ) (bytes : List ℕ) → IsPage before file stamp index bytes → HadIt stamp
+  page-had : (stamp : Stamp) (index : ℕ) (bytes : List ℕ) → IsPage first before file stamp index bytes → HadIt stamp
+  page-had _ _ _ (pages.from_start stamp index bytes found known fits) =
+      let g : HadPage t file stamp index bytes = true-page (HadPage t) file index first bytes stamp given found known in
+      record { n = g.n; soon = begun g.n g.early; now = g.now; has = g.has }
   page-had _ _ _ (pages.read stamp index bytes r) = read-had stamp index bytes r
   page-had _ _ _ (pages.written old stamp index offset count bytes page now had w same) = written-had old stamp offset count bytes w
   page-had _ _ _ (pages.cut old stamp index size page now had w same) = cut-had old stamp size w
 
   -- ---- a byte
 
-  found-held : (x place v : ℕ) → IsFound before x file place v → IsHeld t x (length before) file place v
+  found-held : (x place v : ℕ) → IsFound first before x file place v → IsHeld t x (length before) file place v
   found-held x place v (in_page stamp index at page p there same) = with_stamp stamp (record {
     n = m.n;
     now = m.now;
@@ -143,12 +149,12 @@ module _ (t : History) (l : Lawful t) (fresh : Fresh t) (numbered : Numbered t.e
       m : HadIt stamp
       m = page-had stamp index page p
 
-      whole : IsPage t.entries file stamp index page
-      whole = subst (λ (k : List Entry). IsPage k file stamp index page) (sym is) (page-later before after file stamp index page p)
+      whole : IsPage first t.entries file stamp index page
+      whole = subst (λ (k : List Entry). IsPage first k file stamp index page) (sym is) (page-later first before after file stamp index page p)
 
       every : (n : ℕ) (now : List ℕ) → HasStamp t n file stamp now → slice_get now place ≡ Some v
       every n now has =
-          let page_is : page ≡ page_at index now = true-page-of t l fresh numbered file stamp index page whole n now has in
+          let page_is : page ≡ page_at index now = true-page-of first t given l fresh numbered file stamp index page whole n now has in
           ap (slice_get now) same ∙ part_stands (start_of index) 4096 now at v (ap (λ (b : List ℕ). slice_get b at) (sym page_is) ∙ there)
   found-held x place v (in_reply since offset count counted at attr eof given after_ answered there same) =
       let k = done-by since (files.Read file offset count) (kept.Read attr counted eof given) answered in
@@ -165,15 +171,17 @@ module _ (t : History) (l : Lawful t) (fresh : Fresh t) (numbered : Numbered t.e
       })
 
 pub reads-held : ReadsHeld
-reads-held m terms setup t v g lawful fresh bare lane x slot offset count y bytes ended =
-    let s = had-read m terms setup t.entries v g bare lane x slot offset count y bytes ended in
+reads-held m terms setup t v g lawful fresh given lane x slot offset count y bytes ended =
+    let s = had-read m terms setup t.entries v g lane x slot offset count y bytes ended in
     let numbered = (reached-rows (machine_of m) setup t.entries v g.reaches).numbered in
     let part = sym (until t.entries s.before s.after y s.is s.there) in
     let r = s.shown in
+    let begun : (n : ℕ) → IsEarly t n → n ≤ length s.before =
+    λ n early. let low = early x lane ended.line (ops.Read slot offset count) ended.began in let later = ended.later in let there = s.there in omega (arith, low, later, there) in
     record {
       file = r.file;
       of = subst (λ (k : List Entry). IsOf terms.modes k x (ops.Read slot offset count) r.file) part r.of;
       server = r.server;
-      held = λ k b is. subst (λ (n : ℕ). IsHeld t x n r.file (offset + k) b) s.there (found-held t lawful fresh numbered s.before s.after s.is r.file x (offset + k) b (r.found k b is));
+      held = λ k b is. subst (λ (n : ℕ). IsHeld t x n r.file (offset + k) b) s.there (found-held setup.pages t given lawful fresh numbered s.before s.after s.is begun r.file x (offset + k) b (r.found k b is));
       each = λ k b is. subst (λ (h : List Entry). IsShown (machine_of m) setup h x r.file r.server k (offset + k) b) part (r.each k b is);
     }

@@ -21,9 +21,8 @@ use Rattle.core_answers.proofs.pages.Keeping.{HasPassed, WasTaken, BondLaws, rea
 use Rattle.core_answers.proofs.pages.MachinePages.{pages-starts, pages-resumes}
 use Rattle.core_answers.proofs.pages.PageCalls.{PageAwaits, ReadAwaits, PartAwaits, Both, both-asks}
 use Rattle.core_answers.proofs.pages.PageLaws.{Good, quiet-good, told-good-laws}
-use Rattle.core_answers.proofs.pages.PagesShown.{GoodShelf, page-grows, good-grows, from-start, takes-good, none-good}
+use Rattle.core_answers.proofs.pages.PagesShown.{GoodShelf, page-grows, good-grows, from-start, takes-good, first-good}
 use Rattle.core_answers.proofs.pages.ReadStory.{AlignedIn, ReadAt, Answered, from-settled, takes-read, framed-begins}
-use Rattle.page_cache.specs.Pages.{nothing_kept}
 
 -- ---- one entry more
 
@@ -50,8 +49,8 @@ module _ (mo : ℕ → Op → Machine) (setup : Setup) (modes_ : Modes) (h : Lis
     pending = p.pending;
   }
 
-  found-grows : (x : ℕ) (file : List ℕ) (place v : ℕ) → IsFound h x file place v → IsFound (h ++ e ∷ []) x file place v
-  found-grows x file place v (in_page stamp index at page is there same) = in_page stamp index at page (page-grows h e file stamp index page is) there same
+  found-grows : (x : ℕ) (file : List ℕ) (place v : ℕ) → IsFound setup.pages h x file place v → IsFound setup.pages (h ++ e ∷ []) x file place v
+  found-grows x file place v (in_page stamp index at page is there same) = in_page stamp index at page (page-grows setup.pages h e file stamp index page is) there same
   found-grows x file place v (in_reply since offset count counted at attr eof given later answered there same) =
       in_reply since offset count counted at attr eof given later (answered-last h e since _ _ answered) there same
 
@@ -140,21 +139,21 @@ module _ (mo : ℕ → Op → Machine) (setup : Setup) (modes_ : Modes) where
     as-file next m r k f new is at same a = as-machine next m k r new (is ∙ ap machines.File at) same a
 
     goes-from : (room : Bool) (m : ReadFile) (back : Pending) (r : Reading) (c : Pages) (next : Next) (k : ReadFile) (later : Pages) (f : FileMachine) (new : Machine) → new ≡ machines.File f
-        → f ≡ files.Read k → ReadAt mo setup modes_ h x op offset count r → Good h c → HasPassed mo setup h x back → reads.GoesFrom room m back (reading.settled r c) next k later
+        → f ≡ files.Read k → ReadAt mo setup modes_ h x op offset count r → Good setup.pages h c → HasPassed mo setup h x back → reads.GoesFrom room m back (reading.settled r c) next k later
         → ThenState h x op offset count next new
     goes-from room m back r c next k later f new is at a good passed g =
         as-file next m (reading.gone room (reading.settled r c)).reading k f new is at g.machine
         (from-settled mo setup modes_ h x op offset count room back r c next (reading.gone room (reading.settled r c)) a good passed g.step refl)
 
     resumes-in : (o : Option Reading) (m : ReadFile) (r : Reading) (room : Bool) (back : Pending) (c : Pages) (next : Next) (k : ReadFile) (later : Pages) (f : FileMachine) (new : Machine)
-        → o ≡ Some r → new ≡ machines.File f → f ≡ files.Read k → ReadAt mo setup modes_ h x op offset count r → Good h c → HasPassed mo setup h x back
+        → o ≡ Some r → new ≡ machines.File f → f ≡ files.Read k → ReadAt mo setup modes_ h x op offset count r → Good setup.pages h c → HasPassed mo setup h x back
         → reads.ResumesIn o room m c back next k later → ThenState h x op offset count next new
     resumes-in None m r room back c next k later f new there is at a good passed s = absurd (let no_way : None ≡ Some r = there in cc)
     resumes-in (Some q) m r room back c next k later f new there is at a good passed s =
         goes-from room m back q c next k later f new is at (subst (ReadAt mo setup modes_ h x op offset count) (let same : r ≡ q = cc in same) a) good passed s
 
     takes-in : (o : Option Reading) (m : ReadFile) (r : Reading) (call : Call) (sent turn : Turn) (came : Result Reply Fault) (repeats : _) (back : Pending) (c : Pages) (next : Next) (k : ReadFile)
-        (later : Pages) (f : FileMachine) (new : Machine) → o ≡ Some r → new ≡ machines.File f → f ≡ files.Read k → ReadAt mo setup modes_ h x op offset count r → Good h c
+        (later : Pages) (f : FileMachine) (new : Machine) → o ≡ Some r → new ≡ machines.File f → f ≡ files.Read k → ReadAt mo setup modes_ h x op offset count r → Good setup.pages h c
         → PartAwaits r call → ((reply : Reply) → came ≡ Ok reply → WasTaken mo setup h x call sent back reply) → reads.TakesIn o sent turn came repeats m c back next k later
         → ThenState h x op offset count next new
     takes-in None m r call sent turn came repeats back c next k later f new there is at a good asked told t = absurd (let no_way : None ≡ Some r = there in cc)
@@ -162,7 +161,7 @@ module _ (mo : ℕ → Op → Machine) (setup : Setup) (modes_ : Modes) where
         let same : r ≡ q = cc in
         as-file next m t.state.reading k f new is at t.machine
         (takes-read mo setup modes_ h x op offset count call came
-        (told-good-laws h call came (λ reply got. let w = told reply got in from-start h w.since.told.since call reply w.since.told.answered)) sent turn back told q c
+        (told-good-laws setup.pages h call came (λ reply got. let w = told reply got in from-start h w.since.told.since call reply w.since.told.answered)) sent turn back told q c
         (subst (ReadAt mo setup modes_ h x op offset count) same a) good (reading.waits_attrs q.phase) repeats next t.state refl (subst (λ (z : Reading). PartAwaits z call) same asked) t.step)
 
   -- ---- as it begins
@@ -218,7 +217,7 @@ module _ (mo : ℕ → Op → Machine) (setup : Setup) (modes_ : Modes) where
       space = refl;
       was = record { back = old.back; passed = passed; is = refl };
       start = omega arith;
-      framed = framed-begins later (length h) b.o.file offset count;
+      framed = framed-begins setup.pages later (length h) b.o.file offset count;
       base = λ j v is. absurd (let no_way : None ≡ Some v = is in cc);
       aligned = first noac;
     })
@@ -226,12 +225,12 @@ module _ (mo : ℕ → Op → Machine) (setup : Setup) (modes_ : Modes) where
         k : Held modes_ later (length h) (ops.Read slot offset count)
         k = held-begins modes_ h lane line slot (ops.Read slot offset count) b.o old given refl b.there b.right
 
-        first : (n : Bool) → AlignedIn later (length h) b.o.file (reads.first_phase n) (nothing_of offset count)
+        first : (n : Bool) → AlignedIn setup.pages later (length h) b.o.file (reads.first_phase n) (nothing_of offset count)
         first true = (0, refl)
         first false = (0, refl)
 
     starts-with : (begun : Result Reading Fault) (rsize : ℕ) (noac : Bool) (turn : Turn) (next : Next) (k : ReadFile) (after_ : Pages) (f : FileMachine) (new : Machine) → new ≡ machines.File f
-        → f ≡ files.Read k → HasPassed mo setup later (length h) old.back → Good later old.pages
+        → f ≡ files.Read k → HasPassed mo setup later (length h) old.back → Good setup.pages later old.pages
         → reads.Begins (reads.begun_at (finite.get old.opens (lane, slot)) (turn.moment - 1)
         (record { lane = lane; slot = slot; offset = offset; count = count; rsize = rsize; noac = noac; reading = None }) old.back) begun
         → reads.StartsWith begun turn.room (record { lane = lane; slot = slot; offset = offset; count = count; rsize = rsize; noac = noac; reading = None }) old.pages old.back next k after_
@@ -249,24 +248,24 @@ module _ (mounted : Mounted) (modes_ : Modes) (setup : Setup) where
   mo = machine_of mounted
 
   starts-read : (h : List Entry) (lane line slot offset count wsize : ℕ) (turn : Turn) (old : Shelf) (next : Next) (new : Machine) (after : Shelf) → Given modes_ h lane old
-      → HasPassed mo setup (h ++ Began lane line (ops.Read slot offset count) ∷ []) (length h) old.back → Good (h ++ Began lane line (ops.Read slot offset count) ∷ []) old.pages
+      → HasPassed mo setup (h ++ Began lane line (ops.Read slot offset count) ∷ []) (length h) old.back → Good setup.pages (h ++ Began lane line (ops.Read slot offset count) ∷ []) old.pages
       → Starts wsize (machine_of mounted lane (ops.Read slot offset count)) turn old next new after
       → ThenState mo setup modes_ (h ++ Began lane line (ops.Read slot offset count) ∷ []) (length h) (ops.Read slot offset count) offset count next new
   starts-read h lane line slot offset count wsize turn old next new after given passed good s =
       starts-with mo setup modes_ h lane line slot offset count old given s.step.step.reading mounted.rsize mounted.noac turn next s.step.machine after.pages s.machine new s.machine_is
       s.step.machine_is passed good s.step.step.begins s.step.step.goes
 
-  laws : BondLaws mo setup Both (Given modes_) GoodShelf (Story mo setup modes_)
+  laws : BondLaws mo setup Both (Given modes_) (GoodShelf setup.pages) (Story mo setup modes_)
   laws = record {
     starts = λ h lane line op wsize turn old next new after given passed good late s. record {
-      kept = pages-starts (Good (h ++ Began lane line op ∷ [])) (quiet-good (h ++ Began lane line op ∷ [])) (mo lane op) wsize turn old next new after s good;
+      kept = pages-starts (Good setup.pages (h ++ Began lane line op ∷ [])) (quiet-good setup.pages (h ++ Began lane line op ∷ [])) (mo lane op) wsize turn old next new after s good;
       then_ = then-story mo setup modes_ (h ++ Began lane line op ∷ []) (length h) op next new (λ slot offset count is.
           subst (λ (o : Op). Starts wsize (machine_of mounted lane o) turn old next new after → HasPassed mo setup (h ++ Began lane line o ∷ []) (length h) old.back
-          → Good (h ++ Began lane line o ∷ []) old.pages → ThenState mo setup modes_ (h ++ Began lane line o ∷ []) (length h) o offset count next new) (sym is)
+          → Good setup.pages (h ++ Began lane line o ∷ []) old.pages → ThenState mo setup modes_ (h ++ Began lane line o ∷ []) (length h) o offset count next new) (sym is)
           (λ starts has good. starts-read h lane line slot offset count wsize turn old next new after given has good starts) s passed good);
     };
     resumes = λ h x op machine wsize turn old next new after good passed within late story r. record {
-      kept = pages-resumes (Good h) (quiet-good h) machine wsize turn old next new after r good;
+      kept = pages-resumes (Good setup.pages h) (quiet-good setup.pages h) machine wsize turn old next new after r good;
       then_ = then-story mo setup modes_ h x op next new (λ slot offset count is.
           let k = story slot offset count is in
           let moved : Resumes wsize (machines.File (files.Read k.m)) turn old next new after = subst (λ (n : Machine). Resumes wsize n turn old next new after) k.is r in
@@ -274,7 +273,7 @@ module _ (mounted : Mounted) (modes_ : Modes) (setup : Setup) where
           moved.step.machine_is k.at good passed moved.step.step);
     };
     takes = λ h x op machine call wsize sent turn came old next new after good within late story on told t. record {
-      kept = takes-good h machine call wsize sent turn came old next new after on.1
+      kept = takes-good setup.pages h machine call wsize sent turn came old next new after on.1
           (λ reply is. let w = told reply is in (from-start h w.since.told.since call reply w.since.told.answered, w.link)) t good;
       then_ = then-story mo setup modes_ h x op next new (λ slot offset count is.
           let k = story slot offset count is in
@@ -284,7 +283,7 @@ module _ (mounted : Mounted) (modes_ : Modes) (setup : Setup) where
           takes-in mo setup modes_ h x op offset count k.m.reading k.m k.r call sent turn came old.repeats old.back old.pages next moved.step.machine after.pages moved.machine new k.reading
           moved.machine_is moved.step.machine_is k.at good asked told moved.step.step);
     };
-    still = λ h e shelf good. good-grows h e shelf.pages good;
+    still = λ h e shelf good. good-grows setup.pages h e shelf.pages good;
     grows = λ h e x op state story slot offset count is. state-grows mo setup modes_ h e x op offset count state (story slot offset count is);
     lost = λ h x op shown slot offset count is. λ bytes no_way. absurd cc;
   }
@@ -297,12 +296,12 @@ pub record HadRead (mo : ℕ → Op → Machine) (setup : Setup) (modes_ : Modes
   pub there : length before ≡ y
   pub shown : ReadShown mo setup modes_ before x op offset bytes
 
-pub had-read : (m : Mounted) (terms : Terms) (setup : Setup) (h : List Entry) (v : View) → GoesWith m terms setup h v → setup.pages ≡ nothing_kept → (lane x slot offset count y : ℕ) (bytes : List ℕ)
+pub had-read : (m : Mounted) (terms : Terms) (setup : Setup) (h : List Entry) (v : View) → GoesWith m terms setup h v → (lane x slot offset count y : ℕ) (bytes : List ℕ)
     → Ended h lane x (ops.Read slot offset count) y (answers.Done (values.Bytes bytes))
     → HadRead (machine_of m) setup terms.modes h x y (ops.Read slot offset count) offset bytes
-had-read m terms setup h v g bare lane x slot offset count y bytes ended =
-    let s = reached-answered m setup Both both-asks (Given terms.modes) GoodShelf (Story (machine_of m) setup terms.modes) (laws m terms.modes setup)
-    (λ k w lane r found other. is-given terms.modes m g.nocto setup k w r found lane other) (λ k w fresh. none-good k w.shelf.pages (fresh.pages ∙ bare)) h v g.reaches lane x
+had-read m terms setup h v g lane x slot offset count y bytes ended =
+    let s = reached-answered m setup Both both-asks (Given terms.modes) (GoodShelf setup.pages) (Story (machine_of m) setup terms.modes) (laws m terms.modes setup)
+    (λ k w lane r found other. is-given terms.modes m g.nocto setup k w r found lane other) (λ k w fresh. first-good setup.pages k w.shelf.pages fresh.pages fresh.sound) h v g.reaches lane x
     (ops.Read slot offset count) y (answers.Done (values.Bytes bytes)) ended in
     record { before = s.before; after = s.after; is = s.is; there = s.there; shown = s.story slot offset count refl bytes refl }
 
@@ -311,6 +310,6 @@ until h before after y is there =
     ap (take y) is ∙ ap (λ (n : ℕ). take n (before ++ after)) (sym there) ∙ take-early before after (length before) (omega arith) ∙ take-whole before
 
 pub reads-shown : ReadsShown
-reads-shown m terms setup h v g bare lane x slot offset count y bytes ended =
-    let s = had-read m terms setup h v g bare lane x slot offset count y bytes ended in
+reads-shown m terms setup h v g lane x slot offset count y bytes ended =
+    let s = had-read m terms setup h v g lane x slot offset count y bytes ended in
     subst (λ (k : List Entry). ReadShown (machine_of m) setup terms.modes k x (ops.Read slot offset count) offset bytes) (sym (until h s.before s.after y s.is s.there)) s.shown

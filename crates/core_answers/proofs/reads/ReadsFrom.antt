@@ -38,8 +38,8 @@ module _ (m : Modes) (mounted : Mounted) (same : mounted.nocto ≡ m.nocto) (set
   from-shown h x file server k place v (shown.empty is past) = by_end is past
 
 pub reads-given : ReadsGiven
-reads-given m terms setup h v g bare lane x slot offset count y bytes ended =
-    let r = reads-shown m terms setup h v g bare lane x slot offset count y bytes ended in
+reads-given m terms setup h v g lane x slot offset count y bytes ended =
+    let r = reads-shown m terms setup h v g lane x slot offset count y bytes ended in
     record {
       file = r.file;
       of = r.of;
@@ -49,8 +49,8 @@ reads-given m terms setup h v g bare lane x slot offset count y bytes ended =
     }
 
 pub reads-from : ReadsFrom
-reads-from m terms setup t v g lawful fresh bare lane x slot offset count y bytes ended =
-    let r = reads-held m terms setup t v g lawful fresh bare lane x slot offset count y bytes ended in
+reads-from m terms setup t v g lawful fresh given lane x slot offset count y bytes ended =
+    let r = reads-held m terms setup t v g lawful fresh given lane x slot offset count y bytes ended in
     record {
       file = r.file;
       of = r.of;

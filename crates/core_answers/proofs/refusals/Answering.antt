@@ -64,7 +64,7 @@ module _ (machine_of : ℕ → Op → Machine) (unbegun : (lane : ℕ) (op : Op)
   abbrev Sees : telling.Sight
   Sees h x op machine from sent turn call shelf = Q h x op machine from sent call shelf
 
-  sees-so : telling.IsSeenBy machine_of setup G S Sees
+  pub sees-so : telling.IsSeenBy machine_of setup G S Sees
   sees-so h v p found may xid w waits made at machine there x op u from out story rec = sees h v p found may xid w waits made at machine there x op u from out rec
 
   came-so : (h : List Entry) (x : ℕ) (op : Op) (machine : Machine) (sent turn : Turn) (came : Result Reply Fault) (shelf : Shelf) → telling.CameOf Sees E W h x op machine sent turn came shelf

@@ -21,7 +21,7 @@ use Rattle.client_core.specs.View.{View}
 use Rattle.core_facts.specs.SlotAnswers.{GoesWith}
 use Rattle.law_reads.specs.Kept.{HasStamp}
 use Rattle.core_answers.specs.pages.Read.{IsShown}
-use Rattle.page_cache.specs.Pages.{nothing_kept}
+use Rattle.core_answers.specs.pages.True.{GivenTrue}
 
 -- at the moment the file has the stamp
 abbrev pub HadStamp : History → List ℕ → Stamp → ℕ → Type 0
@@ -42,8 +42,8 @@ pub record ReadHeld (machine_of : ℕ → Op → Machine) (setup : Setup) (modes
   pub held : (k v : ℕ) → slice_get server k ≡ Some v → IsHeld t x y file (offset + k) v
   pub each : (k v : ℕ) → slice_get bytes k ≡ Some v → IsShown machine_of setup (take y t.entries) x file server k (offset + k) v
 
--- Each answer to a read is so, where no page was kept from the start.
+-- Each answer to a read is so, where the pages that were kept from the start are true.
 abbrev pub ReadsHeld : Type 0
-ReadsHeld = (m : Mounted) (terms : Terms) (setup : Setup) (t : History) (v : View) → GoesWith m terms setup t.entries v → Lawful t → Fresh t → setup.pages ≡ nothing_kept
+ReadsHeld = (m : Mounted) (terms : Terms) (setup : Setup) (t : History) (v : View) → GoesWith m terms setup t.entries v → Lawful t → Fresh t → GivenTrue setup.pages t
     → (lane x slot offset count y : ℕ) (bytes : List ℕ) → Ended t.entries lane x (Read slot offset count) y (Done (values.Bytes bytes))
     → ReadHeld (machine_of m) setup terms.modes t x y (Read slot offset count) offset bytes

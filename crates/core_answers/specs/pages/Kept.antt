@@ -55,22 +55,28 @@ pub record WasCut (h : List Entry) (file : List ℕ) (size : ℕ) (old new : Sta
   pub is : set.size ≡ Some size
   pub leads : Leads wcc old new
 
--- So a page of a file is known under a stamp: a READ gave it; or it was known under the stamp before a WRITE or a SETATTR of this client whose reply
--- leads to this stamp, and has the bytes that were written, or the size, since.
-pub data IsPage (h : List Entry) (file : List ℕ) : Stamp → ℕ → List ℕ → Type 0 where
-  read : (stamp : Stamp) (index : ℕ) (bytes : List ℕ) → WasRead h file stamp index bytes → IsPage h file stamp index bytes
-  written : (old stamp : Stamp) (index offset count : ℕ) (bytes page now : List ℕ) → IsPage h file old index page → WasWritten h file offset count bytes old stamp
-      → now ≡ put_page index offset (take count bytes) page → IsPage h file stamp index now
-  cut : (old stamp : Stamp) (index size : ℕ) (page now : List ℕ) → IsPage h file old index page → WasCut h file size old stamp → now ≡ cut_page index size page
-      → IsPage h file stamp index now
+-- So a page of a file is known under a stamp: it was kept from the start, under this stamp; a READ gave it; or it was known under the stamp before a WRITE or a
+-- SETATTR of this client whose reply leads to this stamp, and has the bytes that were written, or the size, since.
+pub data IsPage (first : Pages) (h : List Entry) (file : List ℕ) : Stamp → ℕ → List ℕ → Type 0 where
+  from_start : (stamp : Stamp) (index : ℕ) (bytes : List ℕ) → page_of file index first ≡ Some bytes → known_of file first ≡ Some stamp
+      → length bytes ≤ 4096 → IsPage first h file stamp index bytes
+  read : (stamp : Stamp) (index : ℕ) (bytes : List ℕ) → WasRead h file stamp index bytes → IsPage first h file stamp index bytes
+  written : (old stamp : Stamp) (index offset count : ℕ) (bytes page now : List ℕ) → IsPage first h file old index page → WasWritten h file offset count bytes old stamp
+      → now ≡ put_page index offset (take count bytes) page → IsPage first h file stamp index now
+  cut : (old stamp : Stamp) (index size : ℕ) (page now : List ℕ) → IsPage first h file old index page → WasCut h file size old stamp → now ≡ cut_page index size page
+      → IsPage first h file stamp index now
 
 -- The file's known stamp, and the page is known under it.
-pub record IsKept (h : List Entry) (c : Pages) (file : List ℕ) (index : ℕ) (bytes : List ℕ) : Type 0 where
+pub record IsKeptFrom (first : Pages) (h : List Entry) (c : Pages) (file : List ℕ) (index : ℕ) (bytes : List ℕ) : Type 0 where
   pub stamp : Stamp
   pub known : known_of file c ≡ Some stamp
-  pub page : IsPage h file stamp index bytes
+  pub page : IsPage first h file stamp index bytes
 
--- Each page that the client keeps is so, where none was kept from the start.
+-- the same where nothing was kept from the start: a READ gave the page, and this client wrote and cut it since
+abbrev pub IsKept : List Entry → Pages → List ℕ → ℕ → List ℕ → Type 0
+IsKept h c file index bytes = IsKeptFrom nothing_kept h c file index bytes
+
+-- Each page that the client keeps is so.
 abbrev pub PagesShown : Type 0
-PagesShown = (m : Mounted) (setup : Setup) (h : List Entry) (v : View) → Reaches (machine_of m) setup h v → setup.pages ≡ nothing_kept
-    → (file : List ℕ) (index : ℕ) (bytes : List ℕ) → page_of file index v.shelf.pages ≡ Some bytes → IsKept h v.shelf.pages file index bytes
+PagesShown = (m : Mounted) (setup : Setup) (h : List Entry) (v : View) → Reaches (machine_of m) setup h v
+    → (file : List ℕ) (index : ℕ) (bytes : List ℕ) → page_of file index v.shelf.pages ≡ Some bytes → IsKeptFrom setup.pages h v.shelf.pages file index bytes

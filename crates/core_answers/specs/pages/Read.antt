@@ -27,15 +27,15 @@ use Rattle.core_facts.specs.SlotAnswers.{GoesWith}
 use Rattle.core_answers.specs.bonds.Kept.{IsAnswered}
 use Rattle.core_answers.specs.pages.Kept.{IsPage}
 use Rattle.core_answers.specs.pages.Passing.{Passes}
-use Rattle.page_cache.specs.Pages.{nothing_kept}
+use Rattle.page_cache.specs.Pages.{Pages}
 
 -- A byte of the file at a place that the operation at the place x found: in a page that was kept, or in the reply to a READ that was first sent since
 -- the operation began.
-pub data IsFound (h : List Entry) (x : ℕ) (file : List ℕ) (place v : ℕ) : Type 0 where
-  in_page : (stamp : Stamp) (index at : ℕ) (page : List ℕ) → IsPage h file stamp index page → slice_get page at ≡ Some v → place ≡ start_of index + at → IsFound h x file place v
+pub data IsFound (first : Pages) (h : List Entry) (x : ℕ) (file : List ℕ) (place v : ℕ) : Type 0 where
+  in_page : (stamp : Stamp) (index at : ℕ) (page : List ℕ) → IsPage first h file stamp index page → slice_get page at ≡ Some v → place ≡ start_of index + at → IsFound first h x file place v
   in_reply : (since offset count counted at : ℕ) (attr : Option Attr) (eof : Bool) (given : List ℕ) → x < since
       → IsAnswered h since (length h) (calls.File (files.Read file offset count)) (answers.File (replies.Read attr counted eof given)) → slice_get given at ≡ Some v
-      → place ≡ offset + at → IsFound h x file place v
+      → place ≡ offset + at → IsFound first h x file place v
 
 -- The byte was pending in the core, in a view through which it passed since the place x.
 pub record WasPending (machine_of : ℕ → Op → Machine) (setup : Setup) (h : List Entry) (x : ℕ) (file : List ℕ) (place v : ℕ) : Type 0 where
@@ -58,11 +58,11 @@ pub record ReadShown (machine_of : ℕ → Op → Machine) (setup : Setup) (mode
   pub file : List ℕ
   pub of : IsOf modes h x op file
   pub server : List ℕ
-  pub found : (k v : ℕ) → slice_get server k ≡ Some v → IsFound h x file (offset + k) v
+  pub found : (k v : ℕ) → slice_get server k ≡ Some v → IsFound setup.pages h x file (offset + k) v
   pub each : (k v : ℕ) → slice_get bytes k ≡ Some v → IsShown machine_of setup h x file server k (offset + k) v
 
--- Each answer to a read is so, by the history until then, where no page was kept from the start.
+-- Each answer to a read is so, by the history until then.
 abbrev pub ReadsShown : Type 0
-ReadsShown = (m : Mounted) (terms : Terms) (setup : Setup) (h : List Entry) (v : View) → GoesWith m terms setup h v → setup.pages ≡ nothing_kept
+ReadsShown = (m : Mounted) (terms : Terms) (setup : Setup) (h : List Entry) (v : View) → GoesWith m terms setup h v
     → (lane x slot offset count y : ℕ) (bytes : List ℕ) → Ended h lane x (Read slot offset count) y (Done (values.Bytes bytes))
     → ReadShown (machine_of m) setup terms.modes (take y h) x (Read slot offset count) offset bytes

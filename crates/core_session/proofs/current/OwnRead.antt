@@ -8,8 +8,8 @@ use Rattle.core_session.proofs.current.ReadsRecent.{file-of}
 use Rattle.core_session.proofs.current.ReadsTaken.{had-read, of-grows}
 
 pub pending-read : PendingRead
-pending-read m terms setup h v g noac lasts bare x y o f offset count bytes read =
-    let s = had-read m terms setup h v g noac lasts bare read.lane x read.slot offset count y bytes read.ended in
+pending-read m terms setup h v g noac lasts x y o f offset count bytes read =
+    let s = had-read m terms setup h v g noac lasts read.lane x read.slot offset count y bytes read.ended in
     let r = s.shown in
     let of : IsOf terms.modes h x (ops.Read read.slot offset count) r.file =
     subst (λ (k : List Entry). IsOf terms.modes k x (ops.Read read.slot offset count) r.file) (sym s.is)

@@ -1,5 +1,5 @@
 -- On an honest server what a read found are bytes that the file had since its open began.
-use Rattle.core_session.proofs.Prelude.{◌≡◌, ◌<◌, ◌≤◌, ◌+◌, ◌⊎◌, inl, inr, ℕ, suc, Bool, true, false, List, [], ◌∷◌, ◌++◌, length, length-append, take, drop, slice_get, Option, Some, None, refl, sym, ap, subst, ◌∙◌, append_assoc, append-nil, arith, cases_lt, length-take, length-drop, slice_get_within, Stamp, FileCall, FileKept, start_of, Cell, cell_at, byte_of, of_file, Entry, Began, Op, At, Fresh, History, Lawful, Modes, HeldSize, ReadsBytes, Bytes, Entries, Text, InSlot, IsOf, Terms, At-grow, At-one, Numbered, HasStamp, serves, Mounted, machine_of, Setup, View, GoesWith, begins-unbegun, always-later, reached-rows, IsAnswered, IsPage, page-grows, IsAged, SeenFrom, WasRegular, RecentThen, IsFound, in_page, in_reply, IsEnd, by_known, by_page, by_reply}
+use Rattle.core_session.proofs.Prelude.{◌≡◌, ◌<◌, ◌≤◌, ◌+◌, ◌⊎◌, inl, inr, ℕ, suc, Bool, true, false, List, [], ◌∷◌, ◌++◌, length, length-append, take, drop, slice_get, Option, Some, None, refl, sym, ap, subst, ◌∙◌, append_assoc, append-nil, arith, cases_lt, length-take, length-drop, slice_get_within, Stamp, FileCall, FileKept, start_of, Cell, cell_at, byte_of, of_file, Entry, Began, Op, At, Fresh, History, Lawful, Modes, HeldSize, ReadsBytes, Bytes, Entries, Text, InSlot, IsOf, Terms, At-grow, At-one, Numbered, HasStamp, serves, Mounted, machine_of, Setup, View, GoesWith, begins-unbegun, always-later, reached-rows, IsAnswered, IsPage, page-grows, IsAged, SeenFrom, WasRegular, RecentThen, IsFound, in_page, in_reply, IsEnd, by_known, by_page, by_reply, Pages}
 use Rattle.page_cache.specs.Bytes.{page_at}
 use Rattle.claims.specs.ReadTrue.{HeldByte, Since, each_read, opened}
 use Rattle.world_model.specs.Server.{Listed, IsSound}
@@ -22,6 +22,7 @@ use Rattle.core_answers.proofs.bonds.AttrsShown.{answered-grow}
 use Rattle.core_answers.proofs.bonds.Executions.{answered-ran}
 use Rattle.core_answers.proofs.bonds.Recents.{own-of, young-of}
 use Rattle.core_answers.specs.pages.Read.{WasPending}
+use Rattle.core_answers.specs.pages.True.{GivenTrue}
 use Rattle.core_answers.proofs.pages.PagesTrue.{true-page-of}
 use Rattle.core_answers.proofs.pages.ReadsShown.{until}
 use Rattle.core_answers.proofs.reads.Passed.{passed-along}
@@ -91,16 +92,16 @@ module _ (t : History) (l : Lawful t) (fresh : Fresh t) (numbered : Numbered t.e
       let ran = answered-ran t l numbered from (length before) (calls.File call) (answers.File reply) tt whole in
       record { exec = (ran.place, ran.xid, ran.at); since = ran.late; soon = ran.before }
 
-  page-all : (stamp : Stamp) (index : ℕ) (bytes : List ℕ) → IsPage before file stamp index bytes → IsPage t.entries file stamp index bytes
-  page-all stamp index bytes p =
-      subst (λ (k : List Entry). IsPage k file stamp index bytes) (sym is)
-      (always-later (λ k. IsPage k file stamp index bytes) (λ k e. page-grows k e file stamp index bytes) before after p)
+  page-all : (first : Pages) (stamp : Stamp) (index : ℕ) (bytes : List ℕ) → IsPage first before file stamp index bytes → IsPage first t.entries file stamp index bytes
+  page-all first stamp index bytes p =
+      subst (λ (k : List Entry). IsPage first k file stamp index bytes) (sym is)
+      (always-later (λ k. IsPage first k file stamp index bytes) (λ k e. page-grows first k e file stamp index bytes) before after p)
 
   -- the page, whenever the file has its stamp
-  pub page-is : (stamp : Stamp) (index : ℕ) (page : List ℕ) → IsPage before file stamp index page → (n : ℕ) (now : List ℕ) → HasStamp t n file stamp now → page ≡ page_at index now
-  page-is stamp index page p n now has = true-page-of t l fresh numbered file stamp index page (page-all stamp index page p) n now has
+  pub page-is : (first : Pages) → GivenTrue first t → (stamp : Stamp) (index : ℕ) (page : List ℕ) → IsPage first before file stamp index page → (n : ℕ) (now : List ℕ) → HasStamp t n file stamp now → page ≡ page_at index now
+  page-is first given stamp index page p n now has = true-page-of first t given l fresh numbered file stamp index page (page-all first stamp index page p) n now has
 
-  module _ (modes : Modes) (takes : modes.nocto ≡ true → TakesReadings t.entries) (x lane slot o y : ℕ) (opens : Opens modes before lane slot o y file) (low : y < x) where
+  module _ (first : Pages) (given : GivenTrue first t) (modes : Modes) (takes : modes.nocto ≡ true → TakesReadings t.entries) (x lane slot o y : ℕ) (opens : Opens modes before lane slot o y file) (low : y < x) where
     -- the file had the stamp at a moment of which the read may show bytes
     pub record HadRecent (stamp : Stamp) : Type 0 where
       pub n : ℕ
@@ -155,10 +156,10 @@ module _ (t : History) (l : Lawful t) (fresh : Fresh t) (numbered : Numbered t.e
             let f = regular-file t l fresh numbered before after is file k.1 in
             had-from k.0.s stamp (λ n late. from-open noac k.0.s n late k.0.age) (had-since t l fresh numbered before after is file f.n f.stamp f.now f.has k.0.s stamp k.0.seen)
 
-    pub found-held : (place v : ℕ) → IsFound modes before x file place v → HeldByte t (Since modes t.entries x o) (length before) file place v
+    pub found-held : (place v : ℕ) → IsFound first modes before x file place v → HeldByte t (Since modes t.entries x o) (length before) file place v
     found-held place v (in_page stamp index at page p r there same) =
         let had = recent-had stamp r in
-        let page_is = page-is stamp index page p had.n had.now had.has in
+        let page_is = page-is first given stamp index page p had.n had.now had.has in
         record {
           n = had.n;
           now = had.now;
@@ -197,7 +198,7 @@ module _ (t : History) (l : Lawful t) (fresh : Fresh t) (numbered : Numbered t.e
         by (sound.other text holds k m) = absurd (not-text now has.stable text (sym has.holds ∙ holds))
 
     -- where the file was found to end it ended at such a moment
-    pub end-held : (place : ℕ) → IsEnd modes before x file place → HeldSize t (Since modes t.entries x o) (length before) file place
+    pub end-held : (place : ℕ) → IsEnd first modes before x file place → HeldSize t (Since modes t.entries x o) (length before) file place
     end-held place (by_known stamp r less) =
         let had = recent-had stamp r in
         let long = sized stamp had.n had.now had.has in
@@ -212,7 +213,7 @@ module _ (t : History) (l : Lawful t) (fresh : Fresh t) (numbered : Numbered t.e
         }
     end-held place (by_page stamp index page p r less at) =
         let had = recent-had stamp r in
-        let page_is = ap length (page-is stamp index page p had.n had.now had.has) in
+        let page_is = ap length (page-is first given stamp index page p had.n had.now had.has) in
         let cut = length-take 4096 (drop (start_of index) had.now) in
         let rest = length-drop (start_of index) had.now in
         record {
@@ -251,13 +252,13 @@ module _ (t : History) (l : Lawful t) (fresh : Fresh t) (numbered : Numbered t.e
     -- ---- the answer
 
     module _ (mounted : Mounted) (same : mounted.nocto ≡ modes.nocto) (setup : Setup) (offset count : ℕ) (bytes server : List ℕ)
-        (found : (k v : ℕ) → slice_get server k ≡ Some v → IsFound modes before x file (offset + k) v) (ends : (count ≤ length server) ⊎ IsEnd modes before x file (offset + length server))
+        (found : (k v : ℕ) → slice_get server k ≡ Some v → IsFound first modes before x file (offset + k) v) (ends : (count ≤ length server) ⊎ IsEnd first modes before x file (offset + length server))
         (long : (length bytes ≡ count) ⊎ (length server ≤ length bytes)) (most : length bytes ≤ count) where
       -- the file ended with what was found, where that is less
       server-short : length server < count → HeldSize t (Since modes t.entries x o) (length before) file (offset + length server)
       server-short less = by ends
         where
-          by : (count ≤ length server) ⊎ IsEnd modes before x file (offset + length server) → HeldSize t (Since modes t.entries x o) (length before) file (offset + length server)
+          by : (count ≤ length server) ⊎ IsEnd first modes before x file (offset + length server) → HeldSize t (Since modes t.entries x o) (length before) file (offset + length server)
           by (inl whole) = absurd (omega (arith, whole, less))
           by (inr end) = end-held (offset + length server) end
 
@@ -300,8 +301,8 @@ file-of m terms setup h v g x y o f offset count bytes read file i =
     (subst (λ (l : ℕ). InSlot terms.modes h x l read.slot i.open_at file) lane (subst (λ (k : ℕ). InSlot terms.modes h x i.lane k i.open_at file) (sym slot) i.holds))
 
 pub reads-recent : ReadsRecent
-reads-recent m terms setup t v g noac brief lawful fresh bare x y o f offset count bytes read =
-    let s = had-read m terms setup t.entries v g noac (λ may. (brief may).lasts) bare read.lane x read.slot offset count y bytes read.ended in
+reads-recent m terms setup t v g noac brief lawful fresh given x y o f offset count bytes read =
+    let s = had-read m terms setup t.entries v g noac (λ may. (brief may).lasts) read.lane x read.slot offset count y bytes read.ended in
     let numbered = (reached-rows (machine_of m) setup t.entries v g.reaches).numbered in
     let part = sym (until t.entries s.before s.after y s.is s.there) in
     let r = s.shown in
@@ -318,10 +319,10 @@ reads-recent m terms setup t v g noac brief lawful fresh bare x y o f offset cou
     opens-front terms.modes s.before s.after read.lane read.slot o holds.y r.file (omega (arith, low, began, there))
     (subst (λ (k : List ℕ). Opens terms.modes (s.before ++ s.after) read.lane read.slot o holds.y k) same (subst (λ (k : List Entry). Opens terms.modes k read.lane read.slot o holds.y f) s.is holds.opens)) in
     let each : (k b : ℕ) → slice_get bytes k ≡ Some b → IsSoFar terms.modes t s.before x (length s.before) o r.file (offset + k) b = λ k b is.
-    byte-so t lawful fresh numbered s.before s.after s.is r.file terms.modes (λ may. (brief may).takes) x read.lane read.slot o holds.y opens low m g.nocto setup offset count bytes r.server
+    byte-so t lawful fresh numbered s.before s.after s.is r.file setup.pages given terms.modes (λ may. (brief may).takes) x read.lane read.slot o holds.y opens low m g.nocto setup offset count bytes r.server
     r.found r.ends r.long r.most k b (slice_get_within bytes k b is) (r.each k b is) in
     let short : length bytes < count → HeldSize t (Since terms.modes t.entries x o) (length s.before) r.file (offset + length bytes) = λ less.
-    answer-short t lawful fresh numbered s.before s.after s.is r.file terms.modes (λ may. (brief may).takes) x read.lane read.slot o holds.y opens low m g.nocto setup offset count bytes
+    answer-short t lawful fresh numbered s.before s.after s.is r.file setup.pages given terms.modes (λ may. (brief may).takes) x read.lane read.slot o holds.y opens low m g.nocto setup offset count bytes
     r.server r.found r.ends r.long r.most less in
     record {
       each = λ k b is.

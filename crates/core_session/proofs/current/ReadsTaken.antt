@@ -4,7 +4,7 @@ use Rattle.file_ops.specs.Base.{Bytes}
 use Rattle.core_session.specs.current.Read.{WasPast, IsShown, own, served, empty, PassedThen, ReadShown}
 use Rattle.core_answers.proofs.pages.PageCalls.{PageAwaits, PartAwaits}
 use Rattle.core_answers.proofs.pages.PageLaws.{told-good-laws}
-use Rattle.core_answers.proofs.pages.PagesShown.{GoodShelf, good-grows, takes-good, none-good}
+use Rattle.core_answers.proofs.pages.PagesShown.{GoodShelf, good-grows, takes-good, first-good}
 use Rattle.std.specs.FinMap as finite
 use Rattle.world_model.specs.declared.message.Call.TheVariants as calls
 use Rattle.nfs_file_calls.specs.declared.call.FileCall.TheVariants as file_calls
@@ -36,7 +36,6 @@ use Rattle.core_answers.proofs.bonds.MachineCalls.{Asks}
 use Rattle.core_answers.proofs.pages.FilePages.{pages-opened, noted-pages}
 use Rattle.core_answers.proofs.pages.MachinePages.{pages-starts, pages-resumes}
 use Rattle.core_session.proofs.current.ReadStory.{AlignedIn, EndsSo, GoodFor, HadBack, ReadAt, Answered, from-settled, takes-read, framed-begins, begins-reach}
-use Rattle.page_cache.specs.Pages.{nothing_kept}
 
 -- ---- one entry more
 
@@ -112,21 +111,21 @@ module _ (mo : ℕ → Op → Machine) (setup : Setup) (modes_ : Modes) (h : Lis
     again = λ noac. seen-grows h e x file stamp (r.again noac);
   }
 
-  found-grows : (x : ℕ) (file : List ℕ) (place v : ℕ) → IsFound modes_ h x file place v → IsFound modes_ (h ++ e ∷ []) x file place v
-  found-grows x file place v (in_page stamp index at page is r there same) = in_page stamp index at page (page-grows h e file stamp index page is) (recent-grows x file stamp r) there same
+  found-grows : (x : ℕ) (file : List ℕ) (place v : ℕ) → IsFound setup.pages modes_ h x file place v → IsFound setup.pages modes_ (h ++ e ∷ []) x file place v
+  found-grows x file place v (in_page stamp index at page is r there same) = in_page stamp index at page (page-grows setup.pages h e file stamp index page is) (recent-grows x file stamp r) there same
   found-grows x file place v (in_reply since offset count counted at attr eof given later answered there same) =
       in_reply since offset count counted at attr eof given later (answered-last h e since _ _ answered) there same
 
-  end-grows : (x : ℕ) (file : List ℕ) (place : ℕ) → IsEnd modes_ h x file place → IsEnd modes_ (h ++ e ∷ []) x file place
+  end-grows : (x : ℕ) (file : List ℕ) (place : ℕ) → IsEnd setup.pages modes_ h x file place → IsEnd setup.pages modes_ (h ++ e ∷ []) x file place
   end-grows x file place (by_known stamp r low) = by_known stamp (recent-grows x file stamp r) low
-  end-grows x file place (by_page stamp index page is r short low) = by_page stamp index page (page-grows h e file stamp index page is) (recent-grows x file stamp r) short low
+  end-grows x file place (by_page stamp index page is r short low) = by_page stamp index page (page-grows setup.pages h e file stamp index page is) (recent-grows x file stamp r) short low
   end-grows x file place (by_reply since offset count counted attr given later answered low) = by_reply since offset count counted attr given later (answered-last h e since _ _ answered) low
 
-  ends-grow : (x : ℕ) (file : List ℕ) (b : Bytes) → EndsSo modes_ h x file b → EndsSo modes_ (h ++ e ∷ []) x file b
+  ends-grow : (x : ℕ) (file : List ℕ) (b : Bytes) → EndsSo setup.pages modes_ h x file b → EndsSo setup.pages modes_ (h ++ e ∷ []) x file b
   ends-grow x file b (inl whole) = inl whole
   ends-grow x file b (inr end) = inr (end-grows x file (place_after b) end)
 
-  aligned-grows : (x : ℕ) (file : List ℕ) (p : Phase) (b : Bytes) → AlignedIn modes_ h x file p b → AlignedIn modes_ (h ++ e ∷ []) x file p b
+  aligned-grows : (x : ℕ) (file : List ℕ) (p : Phase) (b : Bytes) → AlignedIn setup.pages modes_ h x file p b → AlignedIn setup.pages modes_ (h ++ e ∷ []) x file p b
   aligned-grows x file phases.Attrs b a = a
   aligned-grows x file phases.AskedAttrs b a = a
   aligned-grows x file phases.Pages b a = a
@@ -182,7 +181,7 @@ module _ (mo : ℕ → Op → Machine) (setup : Setup) (modes_ : Modes) (h : Lis
     };
   }
     where
-      by : (count ≤ length r.server) ⊎ IsEnd modes_ h x r.file (offset + length r.server) → (count ≤ length r.server) ⊎ IsEnd modes_ (h ++ e ∷ []) x r.file (offset + length r.server)
+      by : (count ≤ length r.server) ⊎ IsEnd setup.pages modes_ h x r.file (offset + length r.server) → (count ≤ length r.server) ⊎ IsEnd setup.pages modes_ (h ++ e ∷ []) x r.file (offset + length r.server)
       by (inl whole) = inl whole
       by (inr end) = inr (end-grows x r.file (offset + length r.server) end)
 
@@ -203,8 +202,8 @@ module _ (mo : ℕ → Op → Machine) (setup : Setup) (modes_ : Modes) (h : Lis
 
 module _ (mo : ℕ → Op → Machine) (setup : Setup) (modes_ : Modes) (h : List Entry) (x : ℕ) (file : List ℕ) where
   -- those of a view through which the core passes
-  good-passed : (shelf : Shelf) → Good h shelf.pages → (p : HasPassed mo setup (All setup modes_) h x shelf)
-      → (modes_.noac ≡ true → (k : ℕ) × SinceIn p.before x file k p.view.shelf.pages) → GoodFor modes_ h x file shelf.pages
+  good-passed : (shelf : Shelf) → Good setup.pages h shelf.pages → (p : HasPassed mo setup (All setup modes_) h x shelf)
+      → (modes_.noac ≡ true → (k : ℕ) × SinceIn p.before x file k p.view.shelf.pages) → GoodFor setup.pages modes_ h x file shelf.pages
   good-passed shelf good p own_ = (
     good,
     λ stamp known. record {
@@ -241,9 +240,9 @@ module _ (mo : ℕ → Op → Machine) (setup : Setup) (modes_ : Modes) (h : Lis
     age_now o s (inl same) = inl same
     age_now o s (inr old) = inr (subst (λ (g : List Entry). IsAged modes_ g o s) (sym w.passed.is) (aged-more w.passed.before w.passed.after modes_ o s old))
 
-    good-then : (later : Pages) → Good h later
+    good-then : (later : Pages) → Good setup.pages h later
         → ((o k : ℕ) → fed.FedLaws (SinceIn h o file k) call came sent turn → SinceIn h o file k shelf.pages → SinceIn h o file k later)
-        → (modes_.noac ≡ true → (k : ℕ) × SinceIn h x file k later) → GoodFor modes_ h x file later
+        → (modes_.noac ≡ true → (k : ℕ) × SinceIn h x file k later) → GoodFor setup.pages modes_ h x file later
     good-then later good step own_ = (
       good,
       λ stamp known. record {
@@ -337,7 +336,7 @@ module _ (mo : ℕ → Op → Machine) (setup : Setup) (modes_ : Modes) where
     as-file next m r k f new is at same a = as-machine next m k r new (is ∙ ap machines.File at) same a
 
     goes-from : (room : Bool) (m : ReadFile) (shelf : Shelf) (r : Reading) (next : Next) (k : ReadFile) (later : Pages) (f : FileMachine) (new : Machine) → new ≡ machines.File f
-        → f ≡ files.Read k → ReadAt mo setup modes_ (All setup modes_) (each-sound setup modes_) h x op offset count r → (past r.phase ≡ true → GoodFor modes_ h x r.file shelf.pages)
+        → f ≡ files.Read k → ReadAt mo setup modes_ (All setup modes_) (each-sound setup modes_) h x op offset count r → (past r.phase ≡ true → GoodFor setup.pages modes_ h x r.file shelf.pages)
         → HasPassed mo setup (All setup modes_) h x shelf → reads.GoesFrom room m shelf.back (reading.settled r shelf.pages) next k later → ThenState h x op offset count next new
     goes-from room m shelf r next k later f new is at a good passed g =
         as-file next m (reading.gone room (reading.settled r shelf.pages)).reading k f new is at g.machine
@@ -346,15 +345,15 @@ module _ (mo : ℕ → Op → Machine) (setup : Setup) (modes_ : Modes) where
 
     resumes-in : (o : Option Reading) (m : ReadFile) (r : Reading) (room : Bool) (shelf : Shelf) (next : Next) (k : ReadFile) (later : Pages) (f : FileMachine) (new : Machine)
         → o ≡ Some r → new ≡ machines.File f → f ≡ files.Read k → ReadAt mo setup modes_ (All setup modes_) (each-sound setup modes_) h x op offset count r
-        → (past r.phase ≡ true → GoodFor modes_ h x r.file shelf.pages) → HasPassed mo setup (All setup modes_) h x shelf → reads.ResumesIn o room m shelf.pages shelf.back next k later → ThenState h x op offset count next new
+        → (past r.phase ≡ true → GoodFor setup.pages modes_ h x r.file shelf.pages) → HasPassed mo setup (All setup modes_) h x shelf → reads.ResumesIn o room m shelf.pages shelf.back next k later → ThenState h x op offset count next new
     resumes-in None m r room shelf next k later f new there is at a good passed s = absurd (let no_way : None ≡ Some r = there in cc)
     resumes-in (Some q) m r room shelf next k later f new there is at a good passed s =
         let same : r ≡ q = cc in
         goes-from room m shelf q next k later f new is at (subst (ReadAt mo setup modes_ (All setup modes_) (each-sound setup modes_) h x op offset count) same a)
-        (subst (λ (z : Reading). past z.phase ≡ true → GoodFor modes_ h x z.file shelf.pages) same good) passed s
+        (subst (λ (z : Reading). past z.phase ≡ true → GoodFor setup.pages modes_ h x z.file shelf.pages) same good) passed s
 
     takes-in : (o : Option Reading) (m : ReadFile) (r : Reading) (call : Call) (sent turn : Turn) (came : Result Reply Fault) (repeats : List Repeat) (shelf : Shelf) (next : Next) (k : ReadFile)
-        (later : Pages) (f : FileMachine) (new : Machine) → o ≡ Some r → new ≡ machines.File f → f ≡ files.Read k → ReadAt mo setup modes_ (All setup modes_) (each-sound setup modes_) h x op offset count r → Good h shelf.pages
+        (later : Pages) (f : FileMachine) (new : Machine) → o ≡ Some r → new ≡ machines.File f → f ≡ files.Read k → ReadAt mo setup modes_ (All setup modes_) (each-sound setup modes_) h x op offset count r → Good setup.pages h shelf.pages
         → PartAwaits r call → IsOn r.file call → (told : (reply : Reply) → came ≡ Ok reply → WasTaken mo setup (All setup modes_) h x call sent turn shelf reply)
         → ((reply : Reply) → (got : came ≡ Ok reply) → modes_.noac ≡ true → marked.AskedSo (told reply got).passed.before (told reply got).passed.view x r) → reads.TakesIn o sent turn came repeats m shelf.pages shelf.back next k later → ThenState h x op offset count next new
     takes-in None m r call sent turn came repeats shelf next k later f new there is at a good asked on told begun t = absurd (let no_way : None ≡ Some r = there in cc)
@@ -373,11 +372,11 @@ module _ (mo : ℕ → Op → Machine) (setup : Setup) (modes_ : Modes) where
         own : (reply : Reply) (got : came ≡ Ok reply) → modes_.noac ≡ true → marked.AskedSo (told reply got).passed.before (told reply got).passed.view x q
         own reply got noac = subst (marked.AskedSo (told reply got).passed.before (told reply got).passed.view x) same (begun reply got noac)
 
-        attrs_good : (attr : Attr) (after : Pages) → came ≡ Ok (replies.File (kept.GetAttr attr)) → after ≡ opened_pages q.file attr q.moment sent turn shelf.pages → GoodFor modes_ h x q.file after
+        attrs_good : (attr : Attr) (after : Pages) → came ≡ Ok (replies.File (kept.GetAttr attr)) → after ≡ opened_pages q.file attr q.moment sent turn shelf.pages → GoodFor setup.pages modes_ h x q.file after
         attrs_good attr after got o =
             let reply : Reply = replies.File (kept.GetAttr attr) in
             good-then mo setup modes_ h x q.file call came sent turn shelf reply got (told reply got) after
-            (pages-opened (Good h) (quiet-good h) (Ok tt) q.file attr q.moment sent turn shelf.pages after o good)
+            (pages-opened (Good setup.pages h) (quiet-good setup.pages h) (Ok tt) q.file attr q.moment sent turn shelf.pages after o good)
             (λ p n laws marked_. fed.pages-opened (SinceIn h p q.file n) (λ file index c. shows-marks h p q.file n file index c) call came sent turn laws (Ok tt) q.file attr q.moment shelf.pages after got mine o marked_)
             (λ noac. (
               q.moment,
@@ -386,13 +385,13 @@ module _ (mo : ℕ → Op → Machine) (setup : Setup) (modes_ : Modes) where
             ))
 
         part_good : (attr : Option Attr) (counted : ℕ) (eof : Bool) (given : List ℕ) (size : ℕ) → came ≡ Ok (replies.File (kept.Read attr counted eof given))
-            → call ≡ calls.File (file_calls.Read q.file (place_after q.base) size) → past q.phase ≡ true → GoodFor modes_ h x q.file (reading.noted attr q.file sent.moment (place_after q.base) given eof shelf.pages)
+            → call ≡ calls.File (file_calls.Read q.file (place_after q.base) size) → past q.phase ≡ true → GoodFor setup.pages modes_ h x q.file (reading.noted attr q.file sent.moment (place_after q.base) given eof shelf.pages)
         part_good attr counted eof given size got asks far =
             let reply : Reply = replies.File (kept.Read attr counted eof given) in
             let later : Pages = reading.noted attr q.file sent.moment (place_after q.base) given eof shelf.pages in
             good-then mo setup modes_ h x q.file call came sent turn shelf reply got (told reply got) later
-            (noted-pages (Good h) (quiet-good h) call came
-            (told-good-laws h call came (λ reply there_. let w = told reply there_ in from-start h w.since.told.since call reply w.since.told.answered))
+            (noted-pages (Good setup.pages h) (quiet-good setup.pages h) call came
+            (told-good-laws setup.pages h call came (λ reply there_. let w = told reply there_ in from-start h w.since.told.since call reply w.since.told.answered))
             attr q.file counted eof given (place_after q.base) size sent.moment shelf.pages got asks good)
             (λ p n laws marked_. fed.noted-pages (SinceIn h p q.file n) (λ file index c. shows-marks h p q.file n file index c) call came sent turn laws attr q.file counted eof given (place_after q.base) size shelf.pages
             got asks marked_)
@@ -457,7 +456,7 @@ module _ (mo : ℕ → Op → Machine) (setup : Setup) (modes_ : Modes) where
       was = record { back = old.back; passed = record { shelf = old; passed = passed; same = refl }; at = ap (λ (k : List Entry). length k) place; is = refl };
       start = omega arith;
       reaches = begins-reach offset count;
-      framed = framed-begins modes_ later (length h) b.o.file offset count;
+      framed = framed-begins setup.pages modes_ later (length h) b.o.file offset count;
       base = λ j v is. absurd (let no_way : None ≡ Some v = is in cc);
       aligned = first noac;
     })
@@ -465,12 +464,12 @@ module _ (mo : ℕ → Op → Machine) (setup : Setup) (modes_ : Modes) where
         k : Held modes_ later (length h) (ops.Read slot offset count)
         k = held-begins modes_ h lane line slot (ops.Read slot offset count) b.o old given refl b.there b.right
 
-        first : (n : Bool) → AlignedIn modes_ later (length h) b.o.file (reads.first_phase n) (nothing_of offset count)
+        first : (n : Bool) → AlignedIn setup.pages modes_ later (length h) b.o.file (reads.first_phase n) (nothing_of offset count)
         first true = (0, refl)
         first false = (0, refl)
 
     starts-with : (begun : Result Reading Fault) (rsize : ℕ) (noac : Bool) → noac ≡ modes_.noac → (turn : Turn) (next : Next) (k : ReadFile) (after_ : Pages) (f : FileMachine) (new : Machine) → new ≡ machines.File f
-        → f ≡ files.Read k → (p : HasPassed mo setup (All setup modes_) later (length h) old) → p.before ≡ h → Good later old.pages
+        → f ≡ files.Read k → (p : HasPassed mo setup (All setup modes_) later (length h) old) → p.before ≡ h → Good setup.pages later old.pages
         → reads.Begins (reads.begun_at (finite.get old.opens (lane, slot)) (turn.moment - 1)
         (record { lane = lane; slot = slot; offset = offset; count = count; rsize = rsize; noac = noac; reading = None }) old.back) begun
         → reads.StartsWith begun turn.room (record { lane = lane; slot = slot; offset = offset; count = count; rsize = rsize; noac = noac; reading = None }) old.pages old.back next k after_
@@ -494,7 +493,7 @@ module _ (mounted : Mounted) (modes_ : Modes) (same_noac : mounted.noac ≡ mode
   mo = machine_of mounted
 
   starts-read : (h : List Entry) (lane line slot offset count wsize : ℕ) (turn : Turn) (old : Shelf) (next : Next) (new : Machine) (after : Shelf) → Given modes_ h lane old
-      → (p : HasPassed mo setup (All setup modes_) (h ++ Began lane line (ops.Read slot offset count) ∷ []) (length h) old) → p.before ≡ h → Good (h ++ Began lane line (ops.Read slot offset count) ∷ []) old.pages
+      → (p : HasPassed mo setup (All setup modes_) (h ++ Began lane line (ops.Read slot offset count) ∷ []) (length h) old) → p.before ≡ h → Good setup.pages (h ++ Began lane line (ops.Read slot offset count) ∷ []) old.pages
       → Starts wsize (machine_of mounted lane (ops.Read slot offset count)) turn old next new after
       → ThenState mo setup modes_ (h ++ Began lane line (ops.Read slot offset count) ∷ []) (length h) (ops.Read slot offset count) offset count next new
   starts-read h lane line slot offset count wsize turn old next new after given passed place good s =
@@ -520,18 +519,18 @@ module _ (mounted : Mounted) (modes_ : Modes) (same_noac : mounted.noac ≡ mode
       same-reading : (a b : ReadFile) (p q : Reading) → machines.File (files.Read a) ≡ machines.File (files.Read b) → a.reading ≡ Some p → b.reading ≡ Some q → p ≡ q
       same-reading a b p q e at_a at_b = some-reading p q (sym at_a ∙ ap (λ (z : ReadFile). z.reading) (same-file a b e) ∙ at_b)
 
-  laws : BondLaws mo setup (All setup modes_) Both (Given modes_) GoodShelf (Story mo setup modes_)
+  laws : BondLaws mo setup (All setup modes_) Both (Given modes_) (GoodShelf setup.pages) (Story mo setup modes_)
   laws = record {
     starts = λ h lane line op wsize turn old next new after given passed place good late s. record {
-      kept = pages-starts (Good (h ++ Began lane line op ∷ [])) (quiet-good (h ++ Began lane line op ∷ [])) (mo lane op) wsize turn old next new after s good;
+      kept = pages-starts (Good setup.pages (h ++ Began lane line op ∷ [])) (quiet-good setup.pages (h ++ Began lane line op ∷ [])) (mo lane op) wsize turn old next new after s good;
       then_ = then-story mo setup modes_ (h ++ Began lane line op ∷ []) (length h) op next new (λ slot offset count is.
           subst (λ (o : Op). Starts wsize (machine_of mounted lane o) turn old next new after
           → (p : HasPassed mo setup (All setup modes_) (h ++ Began lane line o ∷ []) (length h) old) → p.before ≡ h
-          → Good (h ++ Began lane line o ∷ []) old.pages → ThenState mo setup modes_ (h ++ Began lane line o ∷ []) (length h) o offset count next new) (sym is)
+          → Good setup.pages (h ++ Began lane line o ∷ []) old.pages → ThenState mo setup modes_ (h ++ Began lane line o ∷ []) (length h) o offset count next new) (sym is)
           (λ starts has place_ good. starts-read h lane line slot offset count wsize turn old next new after given has place_ good starts) s passed place good);
     };
     resumes = λ h x op machine wsize turn old next new after good passed runs within late story r. record {
-      kept = pages-resumes (Good h) (quiet-good h) machine wsize turn old next new after r good;
+      kept = pages-resumes (Good setup.pages h) (quiet-good setup.pages h) machine wsize turn old next new after r good;
       then_ = then-story mo setup modes_ h x op next new (λ slot offset count is.
           let k = story slot offset count is in
           let moved : Resumes wsize (machines.File (files.Read k.m)) turn old next new after = subst (λ (n : Machine). Resumes wsize n turn old next new after) k.is r in
@@ -541,7 +540,7 @@ module _ (mounted : Mounted) (modes_ : Modes) (same_noac : mounted.noac ≡ mode
           (λ noac. (k.r.moment, (asked-of noac passed.before passed.view x op machine runs passed.good slot offset count is k.m k.r k.is k.reading).marked far))) passed moved.step.step);
     };
     takes = λ h x op machine call wsize sent turn came old next new after good within late story on told t. record {
-      kept = takes-good h machine call wsize sent turn came old next new after on.1
+      kept = takes-good setup.pages h machine call wsize sent turn came old next new after on.1
           (λ reply is. let w = (told reply is).0 in (from-start h w.since.told.since call reply w.since.told.answered, w.link)) t good;
       then_ = then-story mo setup modes_ h x op next new (λ slot offset count is.
           let k = story slot offset count is in
@@ -554,7 +553,7 @@ module _ (mounted : Mounted) (modes_ : Modes) (same_noac : mounted.noac ≡ mode
           moved.machine_is moved.step.machine_is k.at good asked mine (λ reply got. (told reply got).0)
           (λ reply got noac. let w = told reply got in asked-of noac w.0.passed.before w.0.passed.view x op machine w.1 w.0.passed.good slot offset count is k.m k.r k.is k.reading) moved.step.step);
     };
-    still = λ h e shelf good. good-grows h e shelf.pages good;
+    still = λ h e shelf good. good-grows setup.pages h e shelf.pages good;
     grows = λ h e x op state story slot offset count is. state-grows mo setup modes_ h e x op offset count state (story slot offset count is);
     lost = λ h x op shown slot offset count is. λ bytes no_way. absurd cc;
   }
@@ -568,17 +567,17 @@ pub record HadRead (mo : ℕ → Op → Machine) (setup : Setup) (modes_ : Modes
   pub shown : ReadShown mo setup modes_ before x op offset count bytes
 
 pub had-read : (m : Mounted) (terms : Terms) (setup : Setup) (h : List Entry) (v : View) → GoesWith m terms setup h v → m.noac ≡ terms.modes.noac
-    → (terms.modes.nocto ≡ true → LastAtMost setup.lives terms.modes.longest) → setup.pages ≡ nothing_kept
+    → (terms.modes.nocto ≡ true → LastAtMost setup.lives terms.modes.longest)
     → (lane x slot offset count y : ℕ) (bytes : List ℕ)
     → Ended h lane x (ops.Read slot offset count) y (answers.Done (values.Bytes bytes))
     → HadRead (machine_of m) setup terms.modes h x y (ops.Read slot offset count) offset count bytes
-had-read m terms setup h v g noac lasts bare lane x slot offset count y bytes ended =
+had-read m terms setup h v g noac lasts lane x slot offset count y bytes ended =
     let s = reached-answered m setup h v (All setup terms.modes)
     (of-moments (machine_of m) setup (All setup terms.modes) (keeps-all m terms.modes setup
     (subst (λ (b : Bool). KeepsMoments (machine_of m) setup (marked.Good b terms.modes)) noac (marked.keeps-good m terms.modes g.nocto setup lasts))))
-    Unwatched (nothing-watched (machine_of m) setup) Both both-asks (Given terms.modes) GoodShelf
+    Unwatched (nothing-watched (machine_of m) setup) Both both-asks (Given terms.modes) (GoodShelf setup.pages)
     (Story (machine_of m) setup terms.modes)
-    (laws-plain (machine_of m) setup h v (All setup terms.modes) Unwatched Both (Given terms.modes) GoodShelf (Story (machine_of m) setup terms.modes) (laws m terms.modes noac setup))
-    (λ k w lane r found other. is-given terms.modes m g.nocto setup k w r found lane other) (λ k w fresh. none-good k w.shelf.pages (fresh.pages ∙ bare)) h v g.reaches (onward.stays h v refl refl) lane x
+    (laws-plain (machine_of m) setup h v (All setup terms.modes) Unwatched Both (Given terms.modes) (GoodShelf setup.pages) (Story (machine_of m) setup terms.modes) (laws m terms.modes noac setup))
+    (λ k w lane r found other. is-given terms.modes m g.nocto setup k w r found lane other) (λ k w fresh. first-good setup.pages k w.shelf.pages fresh.pages fresh.sound) h v g.reaches (onward.stays h v refl refl) lane x
     (ops.Read slot offset count) y (answers.Done (values.Bytes bytes)) ended in
     record { before = s.before; after = s.after; is = s.is; there = s.there; shown = s.story slot offset count refl bytes refl }

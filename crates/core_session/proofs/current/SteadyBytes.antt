@@ -37,10 +37,10 @@ module _ (modes : Modes) (t : History) (x y o : ℕ) (file : List ℕ) (place b 
   same-byte v (past q u zero_is size_ less w) = absurd (not-short place (omega arith) size_)
 
 pub steady-read : SteadyRead
-steady-read m terms setup t v g noac brief lawful fresh bare x y o file offset count bytes read k b low steady = by (slice_get bytes k) refl (cases_lt k (length bytes))
+steady-read m terms setup t v g noac brief lawful fresh given x y o file offset count bytes read k b low steady = by (slice_get bytes k) refl (cases_lt k (length bytes))
   where
     r : ReadRecent terms.modes t x y o file offset count bytes
-    r = reads-recent m terms setup t v g noac brief lawful fresh bare x y o file offset count bytes read
+    r = reads-recent m terms setup t v g noac brief lawful fresh given x y o file offset count bytes read
 
     by : (found : Option ℕ) → slice_get bytes k ≡ found → (k < length bytes) ⊎ (length bytes ≤ k) → slice_get bytes k ≡ Some b
     by (Some v) is within = is ∙ ap Some (same-byte terms.modes t x y o file (offset + k) b steady v (r.each k v is))
@@ -57,10 +57,10 @@ module _ (modes : Modes) (t : History) (asks : modes.nocto ≡ false) (x o e : �
   late n (kept noac may some young) = absurd (let no_way : true ≡ false = sym may ∙ asks in cc)
 
 pub stable-read : StableRead
-stable-read m terms setup t v g noac asks lawful fresh bare x y o file offset count bytes read e k b after low s =
+stable-read m terms setup t v g noac asks lawful fresh given x y o file offset count bytes read e k b after low s =
     let began = read.holds.opens.ended.later in
     let before = read.holds.before in
-    steady-read m terms setup t v g noac (λ may. absurd (let no_way : true ≡ false = sym may ∙ asks in cc)) lawful fresh bare x y o file offset count bytes read k b low (record {
+    steady-read m terms setup t v g noac (λ may. absurd (let no_way : true ≡ false = sym may ∙ asks in cc)) lawful fresh given x y o file offset count bytes read k b low (record {
       held = λ n since soon. let h = s.stays n (late terms.modes t asks x o e (omega (arith, began, before)) after n since) soon in record { now = h.now; stable = h.stable; has = h.has; holds = h.holds };
       alone = s.alone;
     })

@@ -1,6 +1,6 @@
 -- On an honest server a stamp that was shown since the reply to an own WRITE is one that the file had at a moment since that was executed; and so are the bytes
 -- that a read found under such stamps.
-use Rattle.core_session.proofs.Prelude.{◌≡◌, ◌<◌, ◌≤◌, inl, inr, ℕ, suc, List, ◌++◌, length, length-append, drop, slice_get, Option, Some, true, refl, sym, ap, subst, ◌∙◌, arith, cases_lt, length-take, length-drop, Attr, SetAttr, Time, Verf, Stamp, Wcc, stamp_of, start_of, Entry, Call, Reply, resized, Fresh, HoldsSized, SetsAttr, History, Lawful, HeldSize, Server, Object, Holds, Bytes, Entries, Text, Numbered, HasStamp, serves, IsAnswered}
+use Rattle.core_session.proofs.Prelude.{◌≡◌, ◌<◌, ◌≤◌, inl, inr, ℕ, suc, List, ◌++◌, length, length-append, drop, slice_get, Option, Some, true, refl, sym, ap, subst, ◌∙◌, arith, cases_lt, length-take, length-drop, Attr, SetAttr, Time, Verf, Stamp, Wcc, stamp_of, start_of, Entry, Call, Reply, resized, Fresh, HoldsSized, SetsAttr, History, Lawful, HeldSize, Server, Object, Holds, Bytes, Entries, Text, Numbered, HasStamp, serves, IsAnswered, Pages}
 use Rattle.claims.specs.ReadTrue.{HeldByte}
 use Rattle.world_model.specs.Server.{Listed, IsSound}
 use Rattle.law_reads.specs.Kept.{Done, Leads}
@@ -19,6 +19,7 @@ use Rattle.core_session.proofs.current.ReadsRecent.{page-is, done-by, bytes-same
 use Rattle.core_session.proofs.current.SeenTrue.{HadSince}
 use Rattle.core_session.proofs.current.StampStays.{stamp-stays, is-file}
 use Rattle.core_session.proofs.kept.OwnSeen.{SeenAfter, itself, shown, written, cut}
+use Rattle.core_answers.specs.pages.True.{GivenTrue}
 use Rattle.core_session.proofs.kept.ReadFound.{IsFound, in_page, in_reply, IsEnd, by_known, by_page, by_reply}
 
 -- what a SETATTR that was answered did
@@ -145,11 +146,11 @@ module _ (t : History) (l : Lawful t) (fresh : Fresh t) (numbered : Numbered t.e
 
   -- ---- what a read found
 
-  module _ (R : List Entry → ℕ → List ℕ → Stamp → Type 0) (x : ℕ) (late_read : d < x) (seen : (stamp : Stamp) → R before x file stamp → Had stamp) where
-    pub found-after : (place v : ℕ) → IsFound R before x file place v → HeldByte t (λ (n : ℕ). own.0 < n) (length before) file place v
+  module _ (first : Pages) (given : GivenTrue first t) (R : List Entry → ℕ → List ℕ → Stamp → Type 0) (x : ℕ) (late_read : d < x) (seen : (stamp : Stamp) → R before x file stamp → Had stamp) where
+    pub found-after : (place v : ℕ) → IsFound first R before x file place v → HeldByte t (λ (n : ℕ). own.0 < n) (length before) file place v
     found-after place v (in_page stamp index at page p r there same) =
         let had = seen stamp r in
-        let page_is = page-is t l fresh numbered before after is file stamp index page p had.n had.now had.has in
+        let page_is = page-is t l fresh numbered before after is file first given stamp index page p had.n had.now had.has in
         record {
           n = had.n;
           now = had.now;
@@ -187,7 +188,7 @@ module _ (t : History) (l : Lawful t) (fresh : Fresh t) (numbered : Numbered t.e
         by (sound.other text holds k m) = absurd (not-text now has.stable text (sym has.holds ∙ holds))
 
     -- where the file was found to end it ended at such a moment
-    pub end-after : (place : ℕ) → IsEnd R before x file place → HeldSize t (λ (n : ℕ). own.0 < n) (length before) file place
+    pub end-after : (place : ℕ) → IsEnd first R before x file place → HeldSize t (λ (n : ℕ). own.0 < n) (length before) file place
     end-after place (by_known stamp r less) =
         let had = seen stamp r in
         let long = sized stamp had.n had.now had.has in
@@ -202,7 +203,7 @@ module _ (t : History) (l : Lawful t) (fresh : Fresh t) (numbered : Numbered t.e
         }
     end-after place (by_page stamp index page p r less at) =
         let had = seen stamp r in
-        let page_is = ap length (page-is t l fresh numbered before after is file stamp index page p had.n had.now had.has) in
+        let page_is = ap length (page-is t l fresh numbered before after is file first given stamp index page p had.n had.now had.has) in
         let cut_ = length-take 4096 (drop (start_of index) had.now) in
         let rest = length-drop (start_of index) had.now in
         record {

@@ -26,7 +26,7 @@ use Rattle.core_session.proofs.kept.OwnStamps.{stamp-laws}
 use Rattle.core_session.proofs.kept.OwnStays.{own-calls, own-done, own-there, ran_}
 use Rattle.core_session.proofs.kept.ReadFound.{StampLaws, RecentOwn, IsFound, IsEnd}
 use Rattle.core_session.proofs.kept.ReadTaken.{AllOf, HadRead, had-read}
-use Rattle.page_cache.specs.Pages.{nothing_kept}
+use Rattle.core_answers.specs.pages.True.{GivenTrue}
 
 some-object : (a b : Object) → Some a ≡ Some b → a ≡ b
 some-object a b e = cc
@@ -43,7 +43,7 @@ some-byte a b e = cc
 
 module _ (m : Mounted) (terms : Terms) (setup : Setup) (t : History) (v : View) (g : GoesWith m terms setup t.entries v) (noac : m.noac ≡ terms.modes.noac)
     (brief : terms.modes.nocto ≡ true → KeepsBriefly terms.modes setup t.entries) (roots : KnowsRoot terms.origin t.entries m.root) (puts : PutsNamed t.entries) (alone : OnlySetsUp t.entries)
-    (lawful : Lawful t) (fresh : Fresh t) (bare : setup.pages ≡ nothing_kept) (once : Once t.entries)
+    (lawful : Lawful t) (fresh : Fresh t) (given : GivenTrue setup.pages t) (once : Once t.entries)
     (r y o : ℕ) (f : List ℕ) (offset count : ℕ) (bytes : List ℕ) (read : ReadsBytes terms.modes t.entries r y o f offset count bytes)
     (w e i byte : ℕ) (wrote : Wrote terms.modes t.entries w e f i byte) (early : e < r) (untouched : Touched terms.modes terms.origin t w y f i → ⊥) (saved : IsSaved t.entries w r y f i byte)
     (stated : Stated m setup t.entries saved.evidence.wrote.asked.heard.got_at f (files.Write f saved.evidence.wrote.offset saved.evidence.wrote.how saved.evidence.wrote.bytes)) where
@@ -174,20 +174,20 @@ module _ (m : Mounted) (terms : Terms) (setup : Setup) (t : History) (v : View) 
         had-after t lawful fresh numbered s.before s.after s.is f X.offset X.how X.count ev.firm X.bytes X.wcc ev.verf own X.asked.heard.got_at (let ran = executed in omega (arith, ran)) ran-soon
         (suc own.0) some.0 some.1 some.2 stamp (known.fact s.after (sym s.is) got-early refl)
 
-    found-so : (b : ℕ) → IsFound R s.before r f i b → b ≡ byte
+    found-so : (b : ℕ) → IsFound setup.pages R s.before r f i b → b ≡ byte
     found-so b found =
         let h = found-after t lawful fresh numbered s.before s.after s.is f X.offset X.how X.count ev.firm X.bytes X.wcc ev.verf own X.asked.heard.got_at (let ran = executed in omega (arith, ran)) ran-soon
-        R r got-early seen i b found in
+        setup.pages given R r got-early seen i b found in
         let soon = h.soon in
         let until_y = there in
         let k = there-at h.n h.late (omega (arith, soon, until_y)) in
         some-byte b byte (sym h.holds ∙ ap (λ (z : List ℕ). slice_get z i) (one-now (t.at h.n) f h.now h.stable k.now k.stable h.has k.has) ∙ k.holds)
 
     -- the file doesn't end before it
-    end-not : (place : ℕ) → place ≤ i → IsEnd R s.before r f place → ⊥
+    end-not : (place : ℕ) → place ≤ i → IsEnd setup.pages R s.before r f place → ⊥
     end-not place low end =
         let h = end-after t lawful fresh numbered s.before s.after s.is f X.offset X.how X.count ev.firm X.bytes X.wcc ev.verf own X.asked.heard.got_at (let ran = executed in omega (arith, ran)) ran-soon
-        R r got-early seen place end in
+        setup.pages given R r got-early seen place end in
         let soon = h.soon in
         let until_y = there in
         let k = there-at h.n h.late (omega (arith, soon, until_y)) in
@@ -200,9 +200,9 @@ module _ (m : Mounted) (terms : Terms) (setup : Setup) (t : History) (v : View) 
     server-not : length s.shown.server < count → offset + length s.shown.server ≤ i → ⊥
     server-not less low = by s.shown.ends
       where
-        by : (count ≤ length s.shown.server) ⊎ IsEnd R s.before r s.shown.file (offset + length s.shown.server) → ⊥
+        by : (count ≤ length s.shown.server) ⊎ IsEnd setup.pages R s.before r s.shown.file (offset + length s.shown.server) → ⊥
         by (inl whole) = omega (arith, whole, less)
-        by (inr end) = end-not (offset + length s.shown.server) low (subst (λ (z : List ℕ). IsEnd R s.before r z (offset + length s.shown.server)) (sym same) end)
+        by (inr end) = end-not (offset + length s.shown.server) low (subst (λ (z : List ℕ). IsEnd setup.pages R s.before r z (offset + length s.shown.server)) (sym same) end)
 
     part : (before after : List Entry) → s.before ≡ before ++ after → before ++ (after ++ s.after) ≡ t.entries
     part before after is = sym (append_assoc before after s.after) ∙ ap (λ (z : List Entry). z ++ s.after) (sym is) ∙ sym s.is
@@ -219,7 +219,7 @@ module _ (m : Mounted) (terms : Terms) (setup : Setup) (t : History) (v : View) 
         own-is b (pending-at p.before (p.after ++ s.after) (part p.before p.after p.is) p.view p.good p.late (within-read p.before p.after p.is) b
         (ap (newest_at (of_file f p.view.shelf.back).segments) is ∙ subst (λ (z : List ℕ). newest_at (of_file z p.view.shelf.back).segments (offset + k) ≡ Some b) (sym same) p.pending))
     byte-so k b low is (shown.served has) =
-        found-so b (subst (λ (n : ℕ). IsFound R s.before r f n b) (sym is) (subst (λ (z : List ℕ). IsFound R s.before r z (offset + k) b) (sym same) (s.shown.found k b has)))
+        found-so b (subst (λ (n : ℕ). IsFound setup.pages R s.before r f n b) (sym is) (subst (λ (z : List ℕ). IsFound setup.pages R s.before r z (offset + k) b) (sym same) (s.shown.found k b has)))
     byte-so k b low is (shown.empty zero_ past p) = absurd (server-not (omega (arith, past, low)) (omega (arith, past, is)))
 
     answered-so : (k : ℕ) → k < count → i ≡ offset + k → (a : Option ℕ) → slice_get bytes k ≡ a → slice_get bytes k ≡ Some byte
@@ -242,7 +242,7 @@ module _ (m : Mounted) (terms : Terms) (setup : Setup) (t : History) (v : View) 
 
   story : HadRead (machine_of m) setup terms.modes t.entries v W Laws t.entries r y (ops.Read read.slot offset count) offset count bytes
   story =
-      had-read m terms setup t.entries v g noac (λ may. (brief may).lasts) bare (StandsAll m terms setup t.entries v g roots puts f) (keeps-stands m terms setup t.entries v g roots puts f) Laws read.lane r read.slot
+      had-read m terms setup t.entries v g noac (λ may. (brief may).lasts) (StandsAll m terms setup t.entries v g roots puts f) (keeps-stands m terms setup t.entries v g roots puts f) Laws read.lane r read.slot
       offset count y bytes read.ended
 
   -- it is in the answer, where it was asked for

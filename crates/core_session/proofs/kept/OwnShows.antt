@@ -21,7 +21,7 @@ use Rattle.core_session.proofs.kept.ReadTaken.{AllOf, HadRead, had-read}
 use Rattle.core_session.proofs.kept.StateKept.{stated-at}
 use Rattle.core_session.proofs.kept.Stands.{Case, Stands}
 use Rattle.core_session.proofs.kept.Written.{case-of}
-use Rattle.page_cache.specs.Pages.{nothing_kept}
+use Rattle.core_answers.specs.pages.True.{GivenTrue}
 
 -- of the stamps nothing is said
 abbrev no-stamps : (mo : ℕ → Op → Machine) (setup : Setup) → StampLaws mo setup
@@ -88,7 +88,7 @@ saved-later t w to more p f i v le s = record {
 
 module _ (m : Mounted) (terms : Terms) (setup : Setup) (t : History) (v : View) (g : GoesWith m terms setup t.entries v) (noac : m.noac ≡ terms.modes.noac)
     (brief : terms.modes.nocto ≡ true → KeepsBriefly terms.modes setup t.entries) (roots : KnowsRoot terms.origin t.entries m.root) (puts : PutsNamed t.entries) (alone : OnlySetsUp t.entries)
-    (lawful : Lawful t) (fresh : Fresh t) (bare : setup.pages ≡ nothing_kept) (once : Once t.entries)
+    (lawful : Lawful t) (fresh : Fresh t) (given : GivenTrue setup.pages t) (once : Once t.entries)
     (r y o : ℕ) (f : List ℕ) (offset count : ℕ) (bytes : List ℕ) (read : ReadsBytes terms.modes t.entries r y o f offset count bytes)
     (w e i byte : ℕ) (wrote : Wrote terms.modes t.entries w e f i byte) (early : e < r) (untouched : Touched terms.modes terms.origin t w y f i → ⊥) where
   ends : y < length t.entries
@@ -108,11 +108,11 @@ module _ (m : Mounted) (terms : Terms) (setup : Setup) (t : History) (v : View) 
 
   saved-shows : IsSaved t.entries w r y f i byte → (k : ℕ) → k < count → i ≡ offset + k → slice_get bytes k ≡ Some byte
   saved-shows s =
-      shown-saved m terms setup t v g noac brief roots puts alone lawful fresh bare once r y o f offset count bytes read w e i byte wrote early untouched s (stated-for s)
+      shown-saved m terms setup t v g noac brief roots puts alone lawful fresh given once r y o f offset count bytes read w e i byte wrote early untouched s (stated-for s)
 
   saved-ends : IsSaved t.entries w r y f i byte → length bytes < count → offset + length bytes ≤ i → ⊥
   saved-ends s =
-      end-saved m terms setup t v g noac brief roots puts alone lawful fresh bare once r y o f offset count bytes read w e i byte wrote early untouched s (stated-for s)
+      end-saved m terms setup t v g noac brief roots puts alone lawful fresh given once r y o f offset count bytes read w e i byte wrote early untouched s (stated-for s)
 
   -- ---- the read's story
 
@@ -149,7 +149,7 @@ module _ (m : Mounted) (terms : Terms) (setup : Setup) (t : History) (v : View) 
   J = AllOf (machine_of m) setup terms.modes t.entries v Watched (no-stamps (machine_of m) setup)
 
   s : HadRead (machine_of m) setup terms.modes t.entries v Watched (no-stamps (machine_of m) setup) t.entries r y (ops.Read read.slot offset count) offset count bytes
-  s = had-read m terms setup t.entries v g noac (λ may. (brief may).lasts) bare Watched watching (no-stamps (machine_of m) setup) read.lane r read.slot offset count y bytes read.ended
+  s = had-read m terms setup t.entries v g noac (λ may. (brief may).lasts) Watched watching (no-stamps (machine_of m) setup) read.lane r read.slot offset count y bytes read.ended
 
   of : IsOf terms.modes t.entries r (ops.Read read.slot offset count) s.shown.file
   of = subst (λ (h : List Entry). IsOf terms.modes h r (ops.Read read.slot offset count) s.shown.file) (sym s.is)
@@ -231,12 +231,12 @@ module _ (m : Mounted) (terms : Terms) (setup : Setup) (t : History) (v : View) 
       then-saved (subst (λ (z : List ℕ). pending_in s.shown.own_shown.first.view z i ≡ None) (sym same) (s.shown.own_shown.beyond_then short i low)) (λ its. saved-ends its short low)
 
 pub own-bytes-read : OwnBytesRead
-own-bytes-read m terms setup t v g noac brief roots puts alone lawful fresh bare once r y o f offset count bytes read w e k byte wrote early low untouched =
-    shows m terms setup t v g noac brief roots puts alone lawful fresh bare once r y o f offset count bytes read w e (offset + k) byte wrote early untouched k low refl
+own-bytes-read m terms setup t v g noac brief roots puts alone lawful fresh given once r y o f offset count bytes read w e k byte wrote early low untouched =
+    shows m terms setup t v g noac brief roots puts alone lawful fresh given once r y o f offset count bytes read w e (offset + k) byte wrote early untouched k low refl
 
 pub reads-end-rightly : ReadsEndRightly
-reads-end-rightly m terms setup t v g noac brief roots puts alone lawful fresh bare once r y o f offset count bytes read few = record {
-  short = (reads-recent m terms setup t v g noac brief lawful fresh bare r y o f offset count bytes read).short few;
+reads-end-rightly m terms setup t v g noac brief roots puts alone lawful fresh given once r y o f offset count bytes read few = record {
+  short = (reads-recent m terms setup t v g noac brief lawful fresh given r y o f offset count bytes read).short few;
   own = λ w e i byte wrote early past untouched.
-      ends-past m terms setup t v g noac brief roots puts alone lawful fresh bare once r y o f offset count bytes read w e i byte wrote early untouched few past;
+      ends-past m terms setup t v g noac brief roots puts alone lawful fresh given once r y o f offset count bytes read w e i byte wrote early untouched few past;
 }

@@ -28,21 +28,21 @@ pub record RecentOwn (modes : Modes) (O : ℕ → List Entry → List ℕ → St
   pub fact : O x h file stamp
 
 -- A byte of the file at a place that the operation at the place x found, as `current.Read`.
-pub data IsFound (R : List Entry → ℕ → List ℕ → Stamp → Type 0) (h : List Entry) (x : ℕ) (file : List ℕ) (place v : ℕ) : Type 0 where
-  in_page : (stamp : Stamp) (index at : ℕ) (page : List ℕ) → IsPage h file stamp index page → R h x file stamp
-      → slice_get page at ≡ Some v → place ≡ start_of index + at → IsFound R h x file place v
+pub data IsFound (first : Pages) (R : List Entry → ℕ → List ℕ → Stamp → Type 0) (h : List Entry) (x : ℕ) (file : List ℕ) (place v : ℕ) : Type 0 where
+  in_page : (stamp : Stamp) (index at : ℕ) (page : List ℕ) → IsPage first h file stamp index page → R h x file stamp
+      → slice_get page at ≡ Some v → place ≡ start_of index + at → IsFound first R h x file place v
   in_reply : (since offset count counted at : ℕ) (attr : Option Attr) (eof : Bool) (given : List ℕ) → x < since
       → IsAnswered h since (length h) (calls.File (files.Read file offset count)) (answers.File (kept.Read attr counted eof given))
-      → slice_get given at ≡ Some v → place ≡ offset + at → IsFound R h x file place v
+      → slice_get given at ≡ Some v → place ≡ offset + at → IsFound first R h x file place v
 
 -- And where it found the file to end.
-pub data IsEnd (R : List Entry → ℕ → List ℕ → Stamp → Type 0) (h : List Entry) (x : ℕ) (file : List ℕ) (place : ℕ) : Type 0 where
-  by_known : (stamp : Stamp) → R h x file stamp → stamp.size ≤ place → IsEnd R h x file place
-  by_page : (stamp : Stamp) (index : ℕ) (page : List ℕ) → IsPage h file stamp index page → R h x file stamp → length page < 4096
-      → start_of index + length page ≤ place → IsEnd R h x file place
+pub data IsEnd (first : Pages) (R : List Entry → ℕ → List ℕ → Stamp → Type 0) (h : List Entry) (x : ℕ) (file : List ℕ) (place : ℕ) : Type 0 where
+  by_known : (stamp : Stamp) → R h x file stamp → stamp.size ≤ place → IsEnd first R h x file place
+  by_page : (stamp : Stamp) (index : ℕ) (page : List ℕ) → IsPage first h file stamp index page → R h x file stamp → length page < 4096
+      → start_of index + length page ≤ place → IsEnd first R h x file place
   by_reply : (since offset count counted : ℕ) (attr : Option Attr) (given : List ℕ) → x < since
       → IsAnswered h since (length h) (calls.File (files.Read file offset count)) (answers.File (kept.Read attr counted true given))
-      → offset + length given ≤ place → IsEnd R h x file place
+      → offset + length given ≤ place → IsEnd first R h x file place
 
 -- A view of which this is known, after so much of the history.
 pub record GoodThen (mo : ℕ → Op → Machine) (setup : Setup) (I : List Entry → View → Type 0) (h : List Entry) (place : ℕ → Type 0) : Type 0 where
@@ -72,8 +72,8 @@ pub record ReadShown (mo : ℕ → Op → Machine) (setup : Setup) (I : List Ent
   pub file : List ℕ
   pub of : IsOf modes h x op file
   pub server : List ℕ
-  pub found : (k v : ℕ) → slice_get server k ≡ Some v → IsFound R h x file (offset + k) v
-  pub ends : (count ≤ length server) ⊎ IsEnd R h x file (offset + length server)
+  pub found : (k v : ℕ) → slice_get server k ≡ Some v → IsFound setup.pages R h x file (offset + k) v
+  pub ends : (count ≤ length server) ⊎ IsEnd setup.pages R h x file (offset + length server)
   pub long : (length bytes ≡ count) ⊎ (length server ≤ length bytes)
   pub most : length bytes ≤ count
   pub each : (k v : ℕ) → slice_get bytes k ≡ Some v → IsShown I h x file server k (offset + k) v

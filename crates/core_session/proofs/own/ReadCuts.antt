@@ -30,11 +30,11 @@ use Rattle.core_session.proofs.kept.OwnSeen.{SeenAfter}
 use Rattle.core_session.proofs.kept.OwnStamps.{stamp-laws}
 use Rattle.core_session.proofs.kept.OwnStated.{stated-opens}
 use Rattle.core_session.proofs.own.Zeros.{zeros-since}
-use Rattle.page_cache.specs.Pages.{nothing_kept}
+use Rattle.core_answers.specs.pages.True.{GivenTrue}
 
 module _ (m : Mounted) (terms : Terms) (setup : Setup) (t : History) (v : View) (nocto : m.nocto ≡ terms.modes.nocto) (noac : m.noac ≡ terms.modes.noac) (notes : Notes (machine_of m) setup t.entries v)
     (brief : terms.modes.nocto ≡ true → KeepsBriefly terms.modes setup t.entries) (roots : KnowsRoot terms.origin t.entries m.root) (puts : PutsNamed t.entries) (alone : OnlySetsUp t.entries)
-    (lawful : Lawful t) (fresh : Fresh t) (bare : setup.pages ≡ nothing_kept) (once : Once t.entries) where
+    (lawful : Lawful t) (fresh : Fresh t) (given : GivenTrue setup.pages t) (once : Once t.entries) where
   abbrev g : GoesWith m terms setup t.entries v
   g = record { nocto = nocto; reaches = notes-reach (machine_of m) setup t.entries v notes }
 
@@ -115,13 +115,13 @@ module _ (m : Mounted) (terms : Terms) (setup : Setup) (t : History) (v : View) 
 
       -- and with a stamp since then
       held-led : (before after : List Entry) (is : t.entries ≡ before ++ after) → length before ≤ y → r ≤ length before → (stamp : Stamp) → SeenAfter c.wcc before c.asked.heard.got_at f stamp → (index : ℕ) (page : List ℕ)
-          → IsPage before f stamp index page → (at : ℕ) → slice_get page at ≡ Some value → offset + k ≡ start_of index + at → value ≡ 0
+          → IsPage setup.pages before f stamp index page → (at : ℕ) → slice_get page at ≡ Some value → offset + k ≡ start_of index + at → value ≡ 0
       held-led before after is soon begun stamp seen index page p at there same =
           let done : Ran t c.asked.heard.sent_at c.asked.heard.got_at c.asked.xid (calls.File (files.SetAttr f c.set c.guard)) (replies.File (kept.SetAttr c.wcc)) =
           ran t lawful numbered (suc x) e (files.SetAttr f c.set c.guard) (kept.SetAttr c.wcc) c.asked in
           let within = c.asked.heard.before in
           let had = had-after t lawful fresh numbered before after is f c.wcc c.asked.heard.got_at size c.set c.guard (done.place, c.asked.xid, done.at) c.sets done.before (omega (arith, within, early, begun)) stamp seen in
-          let page_is : page ≡ page_at index had.now = page-is t lawful fresh numbered before after is f stamp index page p had.n had.now had.has in
+          let page_is : page ≡ page_at index had.now = page-is t lawful fresh numbered before after is f setup.pages given stamp index page p had.n had.now had.has in
           let holds : slice_get had.now (offset + k) ≡ Some value =
           ap (slice_get had.now) same ∙ part_stands (start_of index) 4096 had.now at value (ap (λ (b : List ℕ). slice_get b at) (sym page_is) ∙ there) in
           let until_n = had.soon in
@@ -142,7 +142,7 @@ module _ (m : Mounted) (terms : Terms) (setup : Setup) (t : History) (v : View) 
         there : length s.before ≤ y
         there = let there = s.there in omega (arith, there)
 
-        found-so : (place : ℕ) → place ≡ offset + k → IsFound (RecentOwn terms.modes Fact) s.before r f place value → value ≡ 0
+        found-so : (place : ℕ) → place ≡ offset + k → IsFound setup.pages (RecentOwn terms.modes Fact) s.before r f place value → value ≡ 0
         found-so place place_is (in_page stamp index at page p known byte is) =
             let got = c.asked.heard.before in
             let later = read.ended.later in
@@ -175,7 +175,7 @@ module _ (m : Mounted) (terms : Terms) (setup : Setup) (t : History) (v : View) 
             (subst (λ (z : List ℕ). newest_at (of_file z p.view.shelf.back).segments (offset + k) ≡ Some value) (sym same) p.pending)))
         byte-so (shown.served is) =
             found-so (offset + k) refl
-            (subst (λ (z : List ℕ). IsFound (RecentOwn terms.modes Fact) s.before r z (offset + k) value) (sym same) (s.shown.found k value is))
+            (subst (λ (z : List ℕ). IsFound setup.pages (RecentOwn terms.modes Fact) s.before r z (offset + k) value) (sym same) (s.shown.found k value is))
         byte-so (shown.empty is beyond p) = is
 
         cut-so : slice_get bytes k ≡ Some value → value ≡ 0
@@ -184,9 +184,9 @@ module _ (m : Mounted) (terms : Terms) (setup : Setup) (t : History) (v : View) 
   pub read-cut : ReadCut terms.modes terms.origin t
   read-cut r y o f offset count bytes read x e size k value cuts early low is untouched =
       cut-so x e f size cuts r y o offset count bytes read early k value low untouched
-      (had-read m terms setup t.entries v g noac (λ may. (brief may).lasts) bare (StandsAll m terms setup t.entries v g roots puts f) (keeps-stands m terms setup t.entries v g roots puts f)
+      (had-read m terms setup t.entries v g noac (λ may. (brief may).lasts) (StandsAll m terms setup t.entries v g roots puts f) (keeps-stands m terms setup t.entries v g roots puts f)
       (Laws x e f size cuts) read.lane r read.slot offset count y bytes read.ended) is
 
 pub cuts-read : CutsRead
-cuts-read m terms setup t v nocto noac notes brief roots puts alone lawful fresh bare once =
-    read-cut m terms setup t v nocto noac notes brief roots puts alone lawful fresh bare once
+cuts-read m terms setup t v nocto noac notes brief roots puts alone lawful fresh given once =
+    read-cut m terms setup t v nocto noac notes brief roots puts alone lawful fresh given once

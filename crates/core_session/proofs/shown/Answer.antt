@@ -1,6 +1,6 @@
 -- What a read answers, with what is known of the views in which the bytes of its own client were pending.
 use Rattle.std.specs.Prelude.{◌≡◌, ◌<◌, ◌≤◌, ◌+◌, ◌⊎◌, ℕ, List, ◌++◌, length, Some, slice_get}
-use Rattle.core_session.proofs.Prelude.{of_file, newest_at, Entry, Op, Modes, IsOf, View, IsFound, IsEnd}
+use Rattle.core_session.proofs.Prelude.{of_file, newest_at, Entry, Op, Modes, IsOf, View, IsFound, IsEnd, Pages}
 
 -- The byte was pending in a view of which this is known, since the place x.
 pub record OwnByte (J : List Entry → View → Type 0) (h : List Entry) (x : ℕ) (file : List ℕ) (place v : ℕ) : Type 0 where
@@ -33,12 +33,12 @@ pub data IsShown (J : List Entry → View → Type 0) (h : List Entry) (x : ℕ)
   empty : v ≡ 0 → length server ≤ k → OwnPast J h x file place → IsShown J h x file server k place v
 
 -- The answer of a read of so many bytes, as `specs.current.Read`.
-pub record ReadShown (J : List Entry → View → Type 0) (modes : Modes) (h : List Entry) (x : ℕ) (op : Op) (offset count : ℕ) (bytes : List ℕ) : Type 0 where
+pub record ReadShown (first : Pages) (J : List Entry → View → Type 0) (modes : Modes) (h : List Entry) (x : ℕ) (op : Op) (offset count : ℕ) (bytes : List ℕ) : Type 0 where
   pub file : List ℕ
   pub of : IsOf modes h x op file
   pub server : List ℕ
-  pub found : (k v : ℕ) → slice_get server k ≡ Some v → IsFound modes h x file (offset + k) v
-  pub ends : (count ≤ length server) ⊎ IsEnd modes h x file (offset + length server)
+  pub found : (k v : ℕ) → slice_get server k ≡ Some v → IsFound first modes h x file (offset + k) v
+  pub ends : (count ≤ length server) ⊎ IsEnd first modes h x file (offset + length server)
   pub long : (length bytes ≡ count) ⊎ (length server ≤ length bytes)
   pub most : length bytes ≤ count
   pub each : (k v : ℕ) → slice_get bytes k ≡ Some v → IsShown J h x file server k (offset + k) v

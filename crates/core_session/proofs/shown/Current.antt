@@ -8,6 +8,7 @@ use Rattle.core_session.proofs.current.ReadsRecent.{opens-front, found-held, end
 use Rattle.core_session.proofs.current.ReadsTaken.{of-grows}
 use Rattle.core_session.proofs.pending.Standing.{Stands}
 use Rattle.core_session.proofs.pending.Unsettled.{stands-all}
+use Rattle.core_answers.specs.pages.True.{GivenTrue}
 use Rattle.core_session.specs.shown.Shown.{ReadsCurrent}
 use Rattle.core_session.proofs.shown.Answer.{IsShown}
 use Rattle.core_session.proofs.shown.Answer as shown
@@ -38,6 +39,7 @@ module _ (m : Mounted) (terms : Terms) (setup : Setup) (H : List Entry) (V : Vie
 
 module _ (m : Mounted) (terms : Terms) (setup : Setup) (t : History) (v : View) (g : GoesWith m terms setup t.entries v) (noac : m.noac ≡ terms.modes.noac)
     (brief : terms.modes.nocto ≡ true → KeepsBriefly terms.modes setup t.entries) (roots : KnowsRoot terms.origin t.entries m.root) (puts : PutsNamed t.entries) (lawful : Lawful t) (fresh : Fresh t)
+    (given : GivenTrue setup.pages t)
     (x y o : ℕ) (f : List ℕ) (offset count : ℕ) (bytes : List ℕ) (read : ReadsBytes terms.modes t.entries x y o f offset count bytes) where
   abbrev W : List Entry → View → Type 0
   W = StandsAll m terms setup t.entries v g roots puts f
@@ -91,14 +93,14 @@ module _ (m : Mounted) (terms : Terms) (setup : Setup) (t : History) (v : View) 
     found-so k b is =
         subst (λ (n : ℕ). HeldByte t (Since terms.modes t.entries x o) n f (offset + k) b) s.there
         (subst (λ (z : List ℕ). HeldByte t (Since terms.modes t.entries x o) (length s.before) z (offset + k) b) (sym same)
-        (found-held t lawful fresh numbered s.before s.after s.is s.shown.file terms.modes (λ may. (brief may).takes) x read.lane read.slot o read.holds.y opens early (offset + k) b
+        (found-held t lawful fresh numbered s.before s.after s.is s.shown.file setup.pages given terms.modes (λ may. (brief may).takes) x read.lane read.slot o read.holds.y opens early (offset + k) b
         (s.shown.found k b is)))
 
-    end-so : (place : ℕ) → IsEnd terms.modes s.before x s.shown.file place → Size place
+    end-so : (place : ℕ) → IsEnd setup.pages terms.modes s.before x s.shown.file place → Size place
     end-so place end =
         subst (λ (n : ℕ). HeldSize t (Since terms.modes t.entries x o) n f place) s.there
         (subst (λ (z : List ℕ). HeldSize t (Since terms.modes t.entries x o) (length s.before) z place) (sym same)
-        (end-held t lawful fresh numbered s.before s.after s.is s.shown.file terms.modes (λ may. (brief may).takes) x read.lane read.slot o read.holds.y opens early place end))
+        (end-held t lawful fresh numbered s.before s.after s.is s.shown.file setup.pages given terms.modes (λ may. (brief may).takes) x read.lane read.slot o read.holds.y opens early place end))
 
     later-end : (a b : ℕ) → a ≤ b → Size a → Size b
     later-end a b le z = record { n = z.n; now = z.now; stable = z.stable; late = z.late; soon = z.soon; has = z.has; short = let short = z.short in omega (arith, short, le) }
@@ -107,7 +109,7 @@ module _ (m : Mounted) (terms : Terms) (setup : Setup) (t : History) (v : View) 
     server-short : (k : ℕ) → k < count → length s.shown.server ≤ k → Size (offset + k)
     server-short k within past = by s.shown.ends
       where
-        by : (count ≤ length s.shown.server) ⊎ IsEnd terms.modes s.before x s.shown.file (offset + length s.shown.server) → Size (offset + k)
+        by : (count ≤ length s.shown.server) ⊎ IsEnd setup.pages terms.modes s.before x s.shown.file (offset + length s.shown.server) → Size (offset + k)
         by (inl whole) = absurd (omega (arith, whole, within, past))
         by (inr end) = later-end (offset + length s.shown.server) (offset + k) (omega (arith, past)) (end-so (offset + length s.shown.server) end)
 
@@ -140,7 +142,7 @@ module _ (m : Mounted) (terms : Terms) (setup : Setup) (t : History) (v : View) 
         byte-so k b (omega (arith, within, most)) (s.shown.each k b is)
 
 pub reads-current : ReadsCurrent
-reads-current m terms setup t v g noac brief roots puts lawful fresh bare x y o f offset count bytes read k b is =
-    current m terms setup t v g noac brief roots puts lawful fresh x y o f offset count bytes read
-    (had-read m terms setup t.entries v g noac (λ may. (brief may).lasts) bare (StandsAll m terms setup t.entries v g roots puts f) (keeps-stands m terms setup t.entries v g roots puts f) read.lane x
+reads-current m terms setup t v g noac brief roots puts lawful fresh given x y o f offset count bytes read k b is =
+    current m terms setup t v g noac brief roots puts lawful fresh given x y o f offset count bytes read
+    (had-read m terms setup t.entries v g noac (λ may. (brief may).lasts) (StandsAll m terms setup t.entries v g roots puts f) (keeps-stands m terms setup t.entries v g roots puts f) read.lane x
     read.slot offset count y bytes read.ended) k b is

@@ -49,37 +49,37 @@ or-cases : (a b : Bool) → (a || b) ≡ true → (a ≡ true) ⊎ (b ≡ true)
 or-cases true b e = inl refl
 or-cases false b e = inr e
 
-module _ (modes : Modes) (h : List Entry) (x : ℕ) (file : List ℕ) where
+module _ (initial : Pages) (modes : Modes) (h : List Entry) (x : ℕ) (file : List ℕ) where
   -- what is known of the kept pages where the read looks at them
   abbrev pub GoodFor : Pages → Type 0
-  GoodFor c = Good h c × ((stamp : Stamp) → known_of file c ≡ Some stamp → RecentThen modes h x file stamp)
+  GoodFor c = Good initial h c × ((stamp : Stamp) → known_of file c ≡ Some stamp → RecentThen modes h x file stamp)
 
   abbrev pub FoundBase : Bytes → Type 0
-  FoundBase b = (k v : ℕ) → slice_get b.bytes k ≡ Some v → IsFound modes h x file (b.start + k) v
+  FoundBase b = (k v : ℕ) → slice_get b.bytes k ≡ Some v → IsFound initial modes h x file (b.start + k) v
 
   -- they are all, or the file ends where they do
   abbrev pub EndsSo : Bytes → Type 0
-  EndsSo b = (b.limit ≤ length b.bytes) ⊎ IsEnd modes h x file (place_after b)
+  EndsSo b = (b.limit ≤ length b.bytes) ⊎ IsEnd initial modes h x file (place_after b)
 
-  pub end-later : (a b : ℕ) → a ≤ b → IsEnd modes h x file a → IsEnd modes h x file b
+  pub end-later : (a b : ℕ) → a ≤ b → IsEnd initial modes h x file a → IsEnd initial modes h x file b
   end-later a b le (by_known stamp r low) = by_known stamp r (omega (arith, le, low))
   end-later a b le (by_page stamp index page is r short low) = by_page stamp index page is r short (omega (arith, le, low))
   end-later a b le (by_reply since offset count counted attr given after answered low) = by_reply since offset count counted attr given after answered (omega (arith, le, low))
 
-  place-as : (a b v : ℕ) → a ≡ b → IsFound modes h x file a v → IsFound modes h x file b v
-  place-as a b v is f = subst (λ (p : ℕ). IsFound modes h x file p v) is f
+  place-as : (a b v : ℕ) → a ≡ b → IsFound initial modes h x file a v → IsFound initial modes h x file b v
+  place-as a b v is f = subst (λ (p : ℕ). IsFound initial modes h x file p v) is f
 
-  pub more-found : (more : List ℕ) (b : Bytes) → FoundBase b → ((at v : ℕ) → slice_get more at ≡ Some v → IsFound modes h x file (place_after b + at) v) → FoundBase (with_more more b)
+  pub more-found : (more : List ℕ) (b : Bytes) → FoundBase b → ((at v : ℕ) → slice_get more at ≡ Some v → IsFound initial modes h x file (place_after b + at) v) → FoundBase (with_more more b)
   more-found more b old new k v is = by (get-joined b.bytes (take (b.limit - length b.bytes) more) k v is)
     where
-      by : InPart b.bytes (take (b.limit - length b.bytes) more) k v → IsFound modes h x file (b.start + k) v
+      by : InPart b.bytes (take (b.limit - length b.bytes) more) k v → IsFound initial modes h x file (b.start + k) v
       by (inl e) = old k v e
       by (inr e) =
           let at = e.1 in
           place-as (place_after b + e.0) (b.start + k) v (omega (arith, at)) (new e.0 v (get-taken (b.limit - length b.bytes) more e.0 v e.2))
 
   -- they end with all of these, or are as many as they may be
-  pub more-ends : (more : List ℕ) (b : Bytes) → IsEnd modes h x file (place_after b + length more) → EndsSo (with_more more b)
+  pub more-ends : (more : List ℕ) (b : Bytes) → IsEnd initial modes h x file (place_after b + length more) → EndsSo (with_more more b)
   more-ends more b end = by (cases_lt (length more) (b.limit - length b.bytes))
     where
       joined : length (b.bytes ++ take (b.limit - length b.bytes) more) ≡ length b.bytes + length (take (b.limit - length b.bytes) more)
@@ -133,7 +133,7 @@ module _ (modes : Modes) (h : List Entry) (x : ℕ) (file : List ℕ) where
       let place : place_after b ≡ (f.first + a.0) * 4096 = omega (arith, start, long) in
       omega (arith, whole, place)
 
-  page-found : (b : Bytes) → IsFramed b → Aligned b → (stamp : Stamp) (page : List ℕ) → IsPage h file stamp (gather.next_page b) page → RecentThen modes h x file stamp → FoundBase b
+  page-found : (b : Bytes) → IsFramed b → Aligned b → (stamp : Stamp) (page : List ℕ) → IsPage initial h file stamp (gather.next_page b) page → RecentThen modes h x file stamp → FoundBase b
       → FoundBase (with_more page b)
   page-found b f a stamp page is r old =
       more-found page b old (λ at v there.
@@ -152,15 +152,15 @@ module _ (modes : Modes) (h : List Entry) (x : ℕ) (file : List ℕ) where
     page-by : (page : List ℕ) → page_of file (gather.next_page b) c ≡ Some page → (less : Bool) → nat_lt (length page) 4096 ≡ less
         → OkBy (suc n) (if less then founds.Ended else founds.Page) (with_more page b)
     page-by page is true e =
-        let k = kept-of h c file (gather.next_page b) page is good.0 in
+        let k = kept-of initial h c file (gather.next_page b) page is good.0 in
         let r = good.1 k.stamp k.known in
         let place = page-place b framed aligned in
         let less : length page < 4096 = grind (arith, nat_tests) in
         (page-found b framed aligned k.stamp page k.page r found, more-ends page b (by_page k.stamp (gather.next_page b) page k.page r less (omega (arith, place))))
     page-by page is false e =
-        let k = kept-of h c file (gather.next_page b) page is good.0 in
+        let k = kept-of initial h c file (gather.next_page b) page is good.0 in
         let r = good.1 k.stamp k.known in
-        let fits = page-fits h file k.stamp (gather.next_page b) page k.page in
+        let fits = page-fits initial h file k.stamp (gather.next_page b) page k.page in
         let most : 4096 ≤ length page = grind (arith, nat_tests) in
         let long = page-long b framed aligned page (omega (arith, fits, most)) short in
         let count = aligned.1 in
@@ -217,11 +217,11 @@ module _ (modes : Modes) (h : List Entry) (x : ℕ) (file : List ℕ) where
   then-ok n start limit g founds.Wanted is ok framed good = (ok.0, ok.1, subst (λ (f : Found). OkBy (suc n) f g.base) (sym is) (subst (λ (f : Found). OkBy n f g.base) is ok.2))
 
   -- pages that are shown go to the front, and that is all
-  shown-good : (index : ℕ) (c : Pages) → Good h (after_page file index c) → GoodFor c → GoodFor (after_page file index c)
+  shown-good : (index : ℕ) (c : Pages) → Good initial h (after_page file index c) → GoodFor c → GoodFor (after_page file index c)
   shown-good index c good g = (good, g.1)
 
   gathered-good : (n : ℕ) (b : Bytes) (c : Pages) → GoodFor c → GoodFor (gather.gathered file n b c).pages
-  gathered-good n b c g = gathered-shown GoodFor (λ f index d good. ((quiet-good h).shows f index d good.0, good.1)) file n b c g
+  gathered-good n b c g = gathered-shown GoodFor (λ f index d good. ((quiet-good initial h).shows f index d good.0, good.1)) file n b c g
 
   gathered-ok : (n : ℕ) (b : Bytes) (c : Pages) → IsFramed b → Aligned b → FoundBase b → GoodFor c → OkGathered n b.start b.limit (gather.gathered file n b c)
   gathered-ok zero b c framed aligned found good = (refl, refl, (found, aligned, omega arith))
@@ -267,18 +267,18 @@ module _ (mo : ℕ → Op → Machine) (setup : Setup) (modes : Modes) (I : List
     pub was : WasThen h x r.file offset count r.was
     pub start : r.base.start ≤ offset
     pub reaches : Reaches offset count r.base
-    pub framed : IsFramed modes h x r.file r.base
-    pub base : FoundBase modes h x r.file r.base
-    pub aligned : AlignedIn modes h x r.file r.phase r.base
+    pub framed : IsFramed setup.pages modes h x r.file r.base
+    pub base : FoundBase setup.pages modes h x r.file r.base
+    pub aligned : AlignedIn setup.pages modes h x r.file r.phase r.base
 
   -- the same in another phase
-  pub in-phase : (h : List Entry) (x : ℕ) (op : Op) (offset count : ℕ) (r : Reading) (phase : Phase) → ReadAt h x op offset count r → AlignedIn modes h x r.file phase r.base
+  pub in-phase : (h : List Entry) (x : ℕ) (op : Op) (offset count : ℕ) (r : Reading) (phase : Phase) → ReadAt h x op offset count r → AlignedIn setup.pages modes h x r.file phase r.base
       → ReadAt h x op offset count (record r { phase = phase })
   in-phase h x op offset count r phase a aligned =
       record { of = a.of; at = a.at; space = a.space; was = a.was; start = a.start; reaches = a.reaches; framed = a.framed; base = a.base; aligned = aligned }
 
   abbrev pub Answered : List Entry → ℕ → Op → ℕ → ℕ → Answer → Type 0
-  Answered h x op offset count answer = (bytes : List ℕ) → answer ≡ answers.Done (values.Bytes bytes) → ReadShown I modes h x op offset count bytes
+  Answered h x op offset count answer = (bytes : List ℕ) → answer ≡ answers.Done (values.Bytes bytes) → ReadShown setup.pages I modes h x op offset count bytes
 
   module _ (h : List Entry) (x : ℕ) (op : Op) (offset count : ℕ) where
     own-of : (file : List ℕ) (back : Pending) (place v : ℕ) → HadBack h x back → newest_at (of_file file back).segments place ≡ Some v → OwnByte I h x file place v
@@ -323,10 +323,10 @@ module _ (mo : ℕ → Op → Machine) (setup : Setup) (modes : Modes) (I : List
                 absurd (let no_way : Some byte ≡ None = sym is ∙ ap (λ (n : ℕ). newest_at (of_file file p.passed.view.shelf.back).segments n) at ∙ none in cc)
 
     -- what was found is all, or the file ends with it
-    ends-of : (r : Reading) → ReadAt h x op offset count r → EndsSo modes h x r.file r.base → (count ≤ length (bytes_from r.offset r.base)) ⊎ IsEnd modes h x r.file (offset + length (bytes_from r.offset r.base))
+    ends-of : (r : Reading) → ReadAt h x op offset count r → EndsSo setup.pages modes h x r.file r.base → (count ≤ length (bytes_from r.offset r.base)) ⊎ IsEnd setup.pages modes h x r.file (offset + length (bytes_from r.offset r.base))
     ends-of r a (inl whole) = by a.reaches
       where
-        by : Reaches offset count r.base → (count ≤ length (bytes_from r.offset r.base)) ⊎ IsEnd modes h x r.file (offset + length (bytes_from r.offset r.base))
+        by : Reaches offset count r.base → (count ≤ length (bytes_from r.offset r.base)) ⊎ IsEnd setup.pages modes h x r.file (offset + length (bytes_from r.offset r.base))
         by (inl none) = inl (omega (arith, none))
         by (inr far) =
             let at = a.at in
@@ -337,19 +337,19 @@ module _ (mo : ℕ → Op → Machine) (setup : Setup) (modes : Modes) (I : List
         let at = a.at in
         let start = a.start in
         let long = length-drop (r.offset - r.base.start) r.base.bytes in
-        inr (end-later modes h x r.file (place_after r.base) (offset + length (bytes_from r.offset r.base)) (omega (arith, at, start, long)) end)
+        inr (end-later setup.pages modes h x r.file (place_after r.base) (offset + length (bytes_from r.offset r.base)) (omega (arith, at, start, long)) end)
 
-    shown-of : (r : Reading) (back : Pending) → ReadAt h x op offset count r → EndsSo modes h x r.file r.base → HadBack h x back → ReadShown I modes h x op offset count (reading.answer_of r back)
+    shown-of : (r : Reading) (back : Pending) → ReadAt h x op offset count r → EndsSo setup.pages modes h x r.file r.base → HadBack h x back → ReadShown setup.pages I modes h x op offset count (reading.answer_of r back)
     shown-of r back a so passed = record { file = r.file; of = a.of; server = server; found = found; ends = ends-of r a so; long = long; most = most; each = each }
       where
         server : List ℕ
         server = bytes_from r.offset r.base
 
-        found : (k v : ℕ) → slice_get server k ≡ Some v → IsFound modes h x r.file (offset + k) v
+        found : (k v : ℕ) → slice_get server k ≡ Some v → IsFound setup.pages modes h x r.file (offset + k) v
         found k v is =
             let at = a.at in
             let start = a.start in
-            place-as modes h x r.file (r.base.start + (r.offset - r.base.start + k)) (offset + k) v (omega (arith, at, start))
+            place-as setup.pages modes h x r.file (r.base.start + (r.offset - r.base.start + k)) (offset + k) v (omega (arith, at, start))
             (a.base (r.offset - r.base.start + k) v (sym (get-drop (r.offset - r.base.start) r.base.bytes k) ∙ is))
 
         same : reading.answer_of r back ≡ shown_over r.file offset count server (was_pending r.file offset count a.was.back) back
@@ -403,10 +403,10 @@ module _ (mo : ℕ → Op → Machine) (setup : Setup) (modes : Modes) (I : List
     stays (phases.Asked size) r back next in_ a passed is = goes-as nexts.Wait next r r is refl a
     stays phases.Ended r back next in_ a passed is =
         goes-as (reading.shown_next (reading.answer_of r back)) next (record r { space = 0 }) (record r { space = 0 }) is refl
-        (λ bytes same. subst (λ (bs : List ℕ). ReadShown I modes h x op offset count bs) (same-bytes (reading.answer_of r back) bytes same)
-        (shown-of r back a (subst (λ (p : Phase). AlignedIn modes h x r.file p r.base) in_ a.aligned) passed))
+        (λ bytes same. subst (λ (bs : List ℕ). ReadShown setup.pages I modes h x op offset count bs) (same-bytes (reading.answer_of r back) bytes same)
+        (shown-of r back a (subst (λ (p : Phase). AlignedIn setup.pages modes h x r.file p r.base) in_ a.aligned) passed))
 
-    asks-aligned : (p : Phase) (file : List ℕ) (b : Bytes) → reading.asks_attrs p ≡ true → AlignedIn modes h x file p b → Aligned modes h x file b
+    asks-aligned : (p : Phase) (file : List ℕ) (b : Bytes) → reading.asks_attrs p ≡ true → AlignedIn setup.pages modes h x file p b → Aligned setup.pages modes h x file b
     asks-aligned phases.Attrs file b is a = a
     asks-aligned phases.AskedAttrs file b is a = absurd cc
     asks-aligned phases.Pages file b is a = absurd cc
@@ -439,14 +439,14 @@ module _ (mo : ℕ → Op → Machine) (setup : Setup) (modes : Modes) (I : List
     reaches-as b c start limit (inl none) = inl none
     reaches-as b c start limit (inr far) = inr (omega (arith, start, limit, far))
 
-    settled-in : (p : Phase) (r : Reading) (c : Pages) → r.phase ≡ p → (past p ≡ true → GoodFor modes h x r.file c) → ReadAt h x op offset count r → OfState (reading.settled_in p r c)
+    settled-in : (p : Phase) (r : Reading) (c : Pages) → r.phase ≡ p → (past p ≡ true → GoodFor setup.pages modes h x r.file c) → ReadAt h x op offset count r → OfState (reading.settled_in p r c)
     settled-in phases.Attrs r c is good a = a
     settled-in phases.AskedAttrs r c is good a = a
     settled-in phases.Pages r c is good a =
-        let aligned : Aligned modes h x r.file r.base = subst (λ (p : Phase). AlignedIn modes h x r.file p r.base) is a.aligned in
+        let aligned : Aligned setup.pages modes h x r.file r.base = subst (λ (p : Phase). AlignedIn setup.pages modes h x r.file p r.base) is a.aligned in
         let n = r.base.limit / 4096 + 1 in
         let g = gather.gathered r.file n r.base c in
-        let ok = gathered-ok modes h x r.file n r.base c a.framed aligned a.base (good refl) in
+        let ok = gathered-ok setup.pages modes h x r.file n r.base c a.framed aligned a.base (good refl) in
         let parts = div-add-mod' r.base.limit 4096 in
         let limit = ok.1 in
         record {
@@ -456,15 +456,15 @@ module _ (mo : ℕ → Op → Machine) (setup : Setup) (modes : Modes) (I : List
           was = a.was;
           start = let s = ok.0 in let was = a.start in omega (arith, s, was);
           reaches = reaches-as r.base g.base ok.0 limit a.reaches;
-          framed = framed-as modes h x r.file r.base g.base ok.0 ok.1 a.framed;
-          base = ok-found modes h x r.file n g.found g.base ok.2;
-          aligned = ok-aligned modes h x r.file n g.found g.base (let framed = a.framed.limit in omega (arith, limit, parts, framed)) ok.2;
+          framed = framed-as setup.pages modes h x r.file r.base g.base ok.0 ok.1 a.framed;
+          base = ok-found setup.pages modes h x r.file n g.found g.base ok.2;
+          aligned = ok-aligned setup.pages modes h x r.file n g.found g.base (let framed = a.framed.limit in omega (arith, limit, parts, framed)) ok.2;
         }
     settled-in phases.Rest r c is good a = a
     settled-in (phases.Asked size) r c is good a = a
     settled-in phases.Ended r c is good a = a
 
-    pub from-settled : (room : Bool) (back : Pending) (r : Reading) (c : Pages) (next : Next) (new : reading.State) → ReadAt h x op offset count r → (past r.phase ≡ true → GoodFor modes h x r.file c) → HadBack h x back
+    pub from-settled : (room : Bool) (back : Pending) (r : Reading) (c : Pages) (next : Next) (new : reading.State) → ReadAt h x op offset count r → (past r.phase ≡ true → GoodFor setup.pages modes h x r.file c) → HadBack h x back
         → reading.Goes room back (reading.settled r c) next → new ≡ reading.gone room (reading.settled r c) → Goes next new.reading
     from-settled room back r c next new a good passed g is =
         goes-as next next (reading.gone room (reading.settled r c)).reading new.reading refl (ap (λ (s : reading.State). s.reading) is)
@@ -477,13 +477,13 @@ module _ (mo : ℕ → Op → Machine) (setup : Setup) (modes : Modes) (I : List
         goes-as (reading.refused fault) next r new.reading is (ap (λ (s : reading.State). s.reading) same) (λ bytes no_way. absurd cc)
 
     after-opened : (result : Result (Unit {0}) memory.Memory) (turn : Turn) (r : Reading) (c : Pages) (back : Pending) (next : Next) (new : reading.State) → ReadAt h x op offset count r
-        → Aligned modes h x r.file r.base → (result ≡ Ok tt → GoodFor modes h x r.file c) → HadBack h x back → reading.AfterOpened result turn r c back next new → Goes next new.reading
+        → Aligned setup.pages modes h x r.file r.base → (result ≡ Ok tt → GoodFor setup.pages modes h x r.file c) → HadBack h x back → reading.AfterOpened result turn r c back next new → Goes next new.reading
     after-opened (Ok tt) turn r c back next new a aligned good passed o =
         from-settled turn.room back (record r { phase = phases.Pages }) c next new (in-phase h x op offset count r phases.Pages a aligned) (λ far. good refl) passed o.0 o.1
     after-opened (Err no_memory) turn r c back next new a aligned good passed o =
         goes-as (reading.refused faults.Memory) next r new.reading o.0 (ap (λ (s : reading.State). s.reading) o.1) (λ bytes no_way. absurd cc)
 
-    waits-aligned : (p : Phase) (file : List ℕ) (b : Bytes) → reading.waits_attrs p ≡ true → AlignedIn modes h x file p b → Aligned modes h x file b
+    waits-aligned : (p : Phase) (file : List ℕ) (b : Bytes) → reading.waits_attrs p ≡ true → AlignedIn setup.pages modes h x file p b → Aligned setup.pages modes h x file b
     waits-aligned phases.Attrs file b is a = a
     waits-aligned phases.AskedAttrs file b is a = a
     waits-aligned phases.Pages file b is a = a
@@ -492,7 +492,7 @@ module _ (mo : ℕ → Op → Machine) (setup : Setup) (modes : Modes) (I : List
     waits-aligned phases.Ended file b is a = absurd cc
 
     attrs-read : (told : Result Attr Fault) (again : Bool) (sent turn : Turn) (r : Reading) (c : Pages) (back : Pending) (next : Next) (new : reading.State) → ReadAt h x op offset count r
-        → Aligned modes h x r.file r.base → ((attr : Attr) (later : Pages) → told ≡ Ok attr → later ≡ opened_pages r.file attr r.moment sent turn c → GoodFor modes h x r.file later)
+        → Aligned setup.pages modes h x r.file r.base → ((attr : Attr) (later : Pages) → told ≡ Ok attr → later ≡ opened_pages r.file attr r.moment sent turn c → GoodFor setup.pages modes h x r.file later)
         → ((attr : Attr) → told ≡ Ok attr → HadBack h x back) → reading.TakesAttrs again told sent turn r c back next new → Goes next new.reading
     attrs-read (Ok attr) again sent turn r c back next new a aligned good passed t =
         after-opened t.result turn r t.later back next new a aligned
@@ -507,11 +507,11 @@ module _ (mo : ℕ → Op → Machine) (setup : Setup) (modes : Modes) (I : List
       had reply is = record { shelf = shelf; passed = (told reply is).passed; same = refl }
 
       module _ (r : Reading) (c : Pages) (a : ReadAt h x op offset count r)
-          (opened : (attr : Attr) (later : Pages) → came ≡ Ok (replies.File (kept.GetAttr attr)) → later ≡ opened_pages r.file attr r.moment sent turn c → GoodFor modes h x r.file later)
+          (opened : (attr : Attr) (later : Pages) → came ≡ Ok (replies.File (kept.GetAttr attr)) → later ≡ opened_pages r.file attr r.moment sent turn c → GoodFor setup.pages modes h x r.file later)
           (noted : (attr : Option Attr) (counted : ℕ) (eof : Bool) (given : List ℕ) (size : ℕ) → came ≡ Ok (replies.File (kept.Read attr counted eof given))
-          → call ≡ calls.File (file_calls.Read r.file (place_after r.base) size) → past r.phase ≡ true → GoodFor modes h x r.file (reading.noted attr r.file sent.moment (place_after r.base) given eof c)) where
-        part-aligned : (eof more : Bool) (size : ℕ) (b : Bytes) → IsFramed modes h x r.file b → (more ≡ false → place_after b % 4096 ≡ 0) → (eof ≡ true → EndsSo modes h x r.file b)
-            → AlignedIn modes h x r.file (if eof then phases.Ended else if more then phases.Rest else phases.Pages) b
+          → call ≡ calls.File (file_calls.Read r.file (place_after r.base) size) → past r.phase ≡ true → GoodFor setup.pages modes h x r.file (reading.noted attr r.file sent.moment (place_after r.base) given eof c)) where
+        part-aligned : (eof more : Bool) (size : ℕ) (b : Bytes) → IsFramed setup.pages modes h x r.file b → (more ≡ false → place_after b % 4096 ≡ 0) → (eof ≡ true → EndsSo setup.pages modes h x r.file b)
+            → AlignedIn setup.pages modes h x r.file (if eof then phases.Ended else if more then phases.Rest else phases.Pages) b
         part-aligned true more size b framed whole ends = ends refl
         part-aligned false true size b framed whole ends = tt
         part-aligned false false size b framed whole ends =
@@ -527,7 +527,7 @@ module _ (mo : ℕ → Op → Machine) (setup : Setup) (modes : Modes) (I : List
             → call ≡ calls.File (file_calls.Read r.file (place_after r.base) size) → ReadAt h x op offset count (reading.added (reading.count_of r.phase) eof given r)
         added-at attr counted eof given size is asked =
             let w = told (replies.File (kept.Read attr counted eof given)) is in
-            let framed = framed-as modes h x r.file r.base (with_more given r.base) refl refl a.framed in
+            let framed = framed-as setup.pages modes h x r.file r.base (with_more given r.base) refl refl a.framed in
             let answered = subst (λ (q : Call). IsAnswered h w.since.told.since (length h) q (replies.File (kept.Read attr counted eof given))) asked w.since.told.answered in
             record {
               of = a.of;
@@ -537,12 +537,12 @@ module _ (mo : ℕ → Op → Machine) (setup : Setup) (modes : Modes) (I : List
               start = a.start;
               reaches = a.reaches;
               framed = framed;
-              base = more-found modes h x r.file given r.base a.base (λ at v there.
+              base = more-found setup.pages modes h x r.file given r.base a.base (λ at v there.
                   in_reply w.since.told.since (place_after r.base) size counted at attr eof given w.since.later
                   answered there refl);
               aligned = part-aligned eof (nat_lt (length given) (reading.count_of r.phase) || not (place_after (with_more given r.base) % 4096 == 0)) size (with_more given r.base) framed
                   (λ no_more. ends-whole (nat_lt (length given) (reading.count_of r.phase)) (place_after (with_more given r.base) % 4096) no_more)
-                  (λ ends. more-ends modes h x r.file given r.base
+                  (λ ends. more-ends setup.pages modes h x r.file given r.base
                   (by_reply w.since.told.since (place_after r.base) size counted attr given w.since.later (subst (λ (z : Bool). IsAnswered h w.since.told.since (length h) (calls.File (file_calls.Read r.file (place_after r.base) size)) (replies.File (kept.Read attr counted z given))) ends answered) (omega arith)));
             }
 
@@ -596,8 +596,8 @@ module _ (mo : ℕ → Op → Machine) (setup : Setup) (modes : Modes) (I : List
 
 -- ---- as it begins
 
-pub framed-begins : (modes : Modes) (h : List Entry) (x : ℕ) (file : List ℕ) (offset count : ℕ) → IsFramed modes h x file (nothing_of offset count)
-framed-begins modes h x file offset count = record {
+pub framed-begins : (initial : Pages) (modes : Modes) (h : List Entry) (x : ℕ) (file : List ℕ) (offset count : ℕ) → IsFramed initial modes h x file (nothing_of offset count)
+framed-begins initial modes h x file offset count = record {
   first = offset / 4096;
   last = last (count == 0);
   start = let whole = div-add-mod' offset 4096 in omega (arith, whole);

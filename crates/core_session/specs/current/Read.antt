@@ -6,6 +6,7 @@ use Rattle.nfs_types.specs.declared.wcc.Stamp.{Stamp}
 use Rattle.nfs_file_calls.specs.declared.call.FileCall.TheVariants as files
 use Rattle.nfs_file_calls.specs.declared.owned.FileKept.TheVariants as replies
 use Rattle.page_cache.specs.Bytes.{start_of}
+use Rattle.page_cache.specs.Pages.{Pages}
 use Rattle.write_back.specs.Files.{of_file}
 use Rattle.write_back.specs.Segments.{newest_at}
 use Rattle.world_model.specs.declared.entry.Entry.{Entry}
@@ -35,22 +36,22 @@ pub record RecentThen (modes : Modes) (h : List Entry) (x : ℕ) (file : List �
 
 -- A byte of the file at a place that the operation at the place x found: in a page that was kept under a recent stamp, or in the reply to a READ that was
 -- first sent since the operation began.
-pub data IsFound (modes : Modes) (h : List Entry) (x : ℕ) (file : List ℕ) (place v : ℕ) : Type 0 where
-  in_page : (stamp : Stamp) (index at : ℕ) (page : List ℕ) → IsPage h file stamp index page → RecentThen modes h x file stamp
-      → slice_get page at ≡ Some v → place ≡ start_of index + at → IsFound modes h x file place v
+pub data IsFound (first : Pages) (modes : Modes) (h : List Entry) (x : ℕ) (file : List ℕ) (place v : ℕ) : Type 0 where
+  in_page : (stamp : Stamp) (index at : ℕ) (page : List ℕ) → IsPage first h file stamp index page → RecentThen modes h x file stamp
+      → slice_get page at ≡ Some v → place ≡ start_of index + at → IsFound first modes h x file place v
   in_reply : (since offset count counted at : ℕ) (attr : Option Attr) (eof : Bool) (given : List ℕ) → x < since
       → IsAnswered h since (length h) (calls.File (files.Read file offset count)) (answers.File (replies.Read attr counted eof given))
-      → slice_get given at ≡ Some v → place ≡ offset + at → IsFound modes h x file place v
+      → slice_get given at ≡ Some v → place ≡ offset + at → IsFound first modes h x file place v
 
 -- And where it found the file to end, at the place or before it: a recent stamp has no greater size; or a page that was kept under one is short; or the
 -- reply to such a READ says that the file ends there.
-pub data IsEnd (modes : Modes) (h : List Entry) (x : ℕ) (file : List ℕ) (place : ℕ) : Type 0 where
-  by_known : (stamp : Stamp) → RecentThen modes h x file stamp → stamp.size ≤ place → IsEnd modes h x file place
-  by_page : (stamp : Stamp) (index : ℕ) (page : List ℕ) → IsPage h file stamp index page → RecentThen modes h x file stamp → length page < 4096
-      → start_of index + length page ≤ place → IsEnd modes h x file place
+pub data IsEnd (first : Pages) (modes : Modes) (h : List Entry) (x : ℕ) (file : List ℕ) (place : ℕ) : Type 0 where
+  by_known : (stamp : Stamp) → RecentThen modes h x file stamp → stamp.size ≤ place → IsEnd first modes h x file place
+  by_page : (stamp : Stamp) (index : ℕ) (page : List ℕ) → IsPage first h file stamp index page → RecentThen modes h x file stamp → length page < 4096
+      → start_of index + length page ≤ place → IsEnd first modes h x file place
   by_reply : (since offset count counted : ℕ) (attr : Option Attr) (given : List ℕ) → x < since
       → IsAnswered h since (length h) (calls.File (files.Read file offset count)) (answers.File (replies.Read attr counted true given))
-      → offset + length given ≤ place → IsEnd modes h x file place
+      → offset + length given ≤ place → IsEnd first modes h x file place
 
 -- A byte was pending in the core past the place, and none at it, in a view through which it passed since the place x.
 pub record WasPast (machine_of : ℕ → Op → Machine) (setup : Setup) (h : List Entry) (x : ℕ) (file : List ℕ) (place : ℕ) : Type 0 where
@@ -101,8 +102,8 @@ pub record ReadShown (machine_of : ℕ → Op → Machine) (setup : Setup) (mode
   pub file : List ℕ
   pub of : IsOf modes h x op file
   pub server : List ℕ
-  pub found : (k v : ℕ) → slice_get server k ≡ Some v → IsFound modes h x file (offset + k) v
-  pub ends : (count ≤ length server) ⊎ IsEnd modes h x file (offset + length server)
+  pub found : (k v : ℕ) → slice_get server k ≡ Some v → IsFound setup.pages modes h x file (offset + k) v
+  pub ends : (count ≤ length server) ⊎ IsEnd setup.pages modes h x file (offset + length server)
   pub long : (length bytes ≡ count) ⊎ (length server ≤ length bytes)
   pub most : length bytes ≤ count
   pub each : (k v : ℕ) → slice_get bytes k ≡ Some v → IsShown machine_of setup h x file server k (offset + k) v

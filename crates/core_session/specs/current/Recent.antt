@@ -14,7 +14,7 @@ use Rattle.core_facts.specs.SlotAnswers.{GoesWith}
 use Rattle.core_answers.specs.bonds.Aged.{TakesReadings}
 use Rattle.core_answers.specs.bonds.Kept.{LastAtMost}
 use Rattle.core_answers.specs.writes.Written.{IsWritten}
-use Rattle.page_cache.specs.Pages.{nothing_kept}
+use Rattle.core_answers.specs.pages.True.{GivenTrue}
 
 -- A byte that was read at the place: an operation of this client gave it there; or the file held it at a moment of which the read may show bytes; or it is a
 -- zero, where the file ended at such a moment, and an operation of this client gave a byte to a later place.
@@ -34,10 +34,10 @@ pub record KeepsBriefly (modes : Modes) (setup : Setup) (h : List Entry) : Type 
   pub takes : TakesReadings h
   pub lasts : LastAtMost setup.lives modes.longest
 
--- Each answer to a read is so, where the server is honest and gives each change of a file another stamp, and no page was kept from the start. Opens and
+-- Each answer to a read is so, where the server is honest and gives each change of a file another stamp, and the pages that were kept from the start are true. Opens and
 -- reads ask for the file's attributes, or go by what is kept and by what the open showed, as the session may.
 abbrev pub ReadsRecent : Type 0
 ReadsRecent = (m : Mounted) (terms : Terms) (setup : Setup) (t : History) (v : View) → GoesWith m terms setup t.entries v → m.noac ≡ terms.modes.noac
-    → (terms.modes.nocto ≡ true → KeepsBriefly terms.modes setup t.entries) → Lawful t → Fresh t → setup.pages ≡ nothing_kept
+    → (terms.modes.nocto ≡ true → KeepsBriefly terms.modes setup t.entries) → Lawful t → Fresh t → GivenTrue setup.pages t
     → (x y o : ℕ) (file : List ℕ) (offset count : ℕ) (bytes : List ℕ) → ReadsBytes terms.modes t.entries x y o file offset count bytes
     → ReadRecent terms.modes t x y o file offset count bytes

@@ -14,7 +14,7 @@ use Rattle.client_core.specs.View.{View}
 use Rattle.core_facts.specs.SlotAnswers.{GoesWith}
 use Rattle.core_answers.specs.writes.Written.{IsWritten}
 use Rattle.core_session.specs.current.Recent.{KeepsBriefly}
-use Rattle.page_cache.specs.Pages.{nothing_kept}
+use Rattle.core_answers.specs.pages.True.{GivenTrue}
 
 -- at the moment n the file has this byte at the place
 pub record HasByte (t : History) (n : ℕ) (file : List ℕ) (place b : ℕ) : Type 0 where
@@ -29,11 +29,11 @@ pub record IsSteady (modes : Modes) (t : History) (x y o : ℕ) (file : List ℕ
   pub held : (n : ℕ) → Since modes t.entries x o n → n ≤ y → HasByte t n file place b
   pub alone : (u : ℕ) → IsWritten modes (take y t.entries) file place u → u ≡ b
 
--- Each such byte of the range is in the answer, where the server is honest and gives each change of a file another stamp, and no page was kept from the
--- start.
+-- Each such byte of the range is in the answer, where the server is honest and gives each change of a file another stamp, and the pages that were kept
+-- from the start are true.
 abbrev pub SteadyRead : Type 0
 SteadyRead = (m : Mounted) (terms : Terms) (setup : Setup) (t : History) (v : View) → GoesWith m terms setup t.entries v → m.noac ≡ terms.modes.noac
-    → (terms.modes.nocto ≡ true → KeepsBriefly terms.modes setup t.entries) → Lawful t → Fresh t → setup.pages ≡ nothing_kept
+    → (terms.modes.nocto ≡ true → KeepsBriefly terms.modes setup t.entries) → Lawful t → Fresh t → GivenTrue setup.pages t
     → (x y o : ℕ) (file : List ℕ) (offset count : ℕ) (bytes : List ℕ) → ReadsBytes terms.modes t.entries x y o file offset count bytes
     → (k b : ℕ) → k < count → IsSteady terms.modes t x y o file (offset + k) b → slice_get bytes k ≡ Some b
 
@@ -46,7 +46,7 @@ pub record IsStable (modes : Modes) (t : History) (e y : ℕ) (file : List ℕ) 
 -- Such a byte is in the answer of each read by an open that began after e, in a session in which each open asks for attributes anew.
 abbrev pub StableRead : Type 0
 StableRead = (m : Mounted) (terms : Terms) (setup : Setup) (t : History) (v : View) → GoesWith m terms setup t.entries v → m.noac ≡ terms.modes.noac
-    → terms.modes.nocto ≡ false → Lawful t → Fresh t → setup.pages ≡ nothing_kept
+    → terms.modes.nocto ≡ false → Lawful t → Fresh t → GivenTrue setup.pages t
     → (x y o : ℕ) (file : List ℕ) (offset count : ℕ) (bytes : List ℕ)
     → ReadsBytes terms.modes t.entries x y o file offset count bytes → (e k b : ℕ) → e < o → k < count → IsStable terms.modes t e y file (offset + k) b
     → slice_get bytes k ≡ Some b

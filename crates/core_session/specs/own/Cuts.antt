@@ -16,7 +16,7 @@ use Rattle.core_facts.specs.Notes.{Notes}
 use Rattle.core_session.specs.current.Recent.{KeepsBriefly}
 use Rattle.core_session.specs.settled.Settling.{OnlySetsUp}
 use Rattle.core_session.specs.syncs.Synced.{PutsNamed}
-use Rattle.page_cache.specs.Pages.{nothing_kept}
+use Rattle.core_answers.specs.pages.True.{GivenTrue}
 
 -- Of a session in which answers are noted before records are sent and received: where a truncate went well, an honest server that executes no late copies has
 -- no byte but zeros past its size from then on, as long as nothing of this client, and no other client, may have changed the place.
@@ -29,4 +29,4 @@ CutsStayBare = (m : Mounted) (terms : Terms) (setup : Setup) (t : History) (v : 
 abbrev pub CutsRead : Type 0
 CutsRead = (m : Mounted) (terms : Terms) (setup : Setup) (t : History) (v : View) → m.nocto ≡ terms.modes.nocto → m.noac ≡ terms.modes.noac
     → Notes (machine_of m) setup t.entries v → (terms.modes.nocto ≡ true → KeepsBriefly terms.modes setup t.entries) → KnowsRoot terms.origin t.entries m.root
-    → PutsNamed t.entries → OnlySetsUp t.entries → Lawful t → Fresh t → setup.pages ≡ nothing_kept → Once t.entries → ReadCut terms.modes terms.origin t
+    → PutsNamed t.entries → OnlySetsUp t.entries → Lawful t → Fresh t → GivenTrue setup.pages t → Once t.entries → ReadCut terms.modes terms.origin t

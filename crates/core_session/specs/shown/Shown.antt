@@ -12,12 +12,12 @@ use Rattle.core_facts.specs.Naming.{KnowsRoot}
 use Rattle.core_facts.specs.SlotAnswers.{GoesWith}
 use Rattle.core_session.specs.current.Recent.{KeepsBriefly}
 use Rattle.core_session.specs.syncs.Synced.{PutsNamed}
-use Rattle.page_cache.specs.Pages.{nothing_kept}
+use Rattle.core_answers.specs.pages.True.{GivenTrue}
 
 -- Each byte of each answer to a read is current, by world_model, where the server is honest and gives each change of a file another stamp, the root's handle is
 -- known and the paths of puts name a file.
 abbrev pub ReadsCurrent : Type 0
 ReadsCurrent = (m : Mounted) (terms : Terms) (setup : Setup) (t : History) (v : View) → GoesWith m terms setup t.entries v → m.noac ≡ terms.modes.noac
     → (terms.modes.nocto ≡ true → KeepsBriefly terms.modes setup t.entries) → KnowsRoot terms.origin t.entries m.root → PutsNamed t.entries → Lawful t → Fresh t
-    → setup.pages ≡ nothing_kept
+    → GivenTrue setup.pages t
     → ReadCurrent terms.modes terms.origin t
