@@ -23,7 +23,7 @@ use Rattle.pair_runs.specs.declared.client.State.TheVariants as states
 use Rattle.pair_runs.specs.declared.turns.Pair.{Pair}
 use Rattle.pair_runs.specs.Beginnings.{IsOneRefused, for_first, for_second, IsRefused, for_fault, for_memory, ReadsBoth, ReadsOne, ReadsTexts}
 use Rattle.pair_runs.specs.Clients.{AreOver, AreReady, IsEnding, IsOver, IsReady, Stands, status_in}
-use Rattle.pair_runs.specs.PairGoing.{BothCut, BothGo, GoesDone, OpensAt, PairAdds, PairBreaks, PairBy, PairOpens, PairPasses, SamePair, StateGoes}
+use Rattle.pair_runs.specs.PairGoing.{BothCut, BothGo, GoesDone, OpensAt, PairAdds, PairBreaks, PairBy, PairEnds, turns_cut, turns_done, PairOpens, PairPasses, SamePair, StateGoes}
 use Rattle.pair_runs.specs.PairRuns.{BothRan, ClientRan, unbegun, cut_text, whole_text, by_both, cut_off, NoneBegan, unread, refused_a, refused_b, PairLeaves, none_began, both_ran, PairRelates, RefusesOne}
 use Rattle.pair_runs.specs.Texts.{pair_clocks, pair_transcript}
 use Rattle.pair_runs.proofs.Both.{other-goes}
@@ -96,7 +96,7 @@ session-status script (states.Done status) over stands = stands
 
 module _ (first second : List ScriptLine) (p : Pair) (same_a : p.a.script ≡ first) (same_b : p.b.script ≡ second) (h k l : PairTold) (none : h.steps ≡ []) (opens : PairOpens first second (Ok p) h k) where
   -- each line has its answer
-  pub both-done : {T : Type 0} → (x : T) (q : Pair) (status : ℕ) (given text : List ℕ) → AreReady q → AreOver q → status ≡ max (status_in q.a.state) (status_in q.b.state)
+  both-done : {T : Type 0} → (x : T) (q : Pair) (status : ℕ) (given text : List ℕ) → AreReady q → AreOver q → status ≡ max (status_in q.a.state) (status_in q.b.state)
       → PairBy p q (Ok x) given text k l → BothRan first second given l status text
   both-done x q status given text ready over is by =
       let go = by.2 opens.1 in
@@ -114,7 +114,7 @@ module _ (first second : List ScriptLine) (p : Pair) (same_a : p.a.script ≡ fi
       }
 
   -- the run was cut off
-  pub both-cut : (T : Type 0) (halt : Halt) (q : Pair) (status : ℕ) (given text : List ℕ) → status ≡ of_halt halt → PairBy {T = T} p q (Err halt) given text k l → BothRan first second given l status text
+  both-cut : (T : Type 0) (halt : Halt) (q : Pair) (status : ℕ) (given text : List ℕ) → status ≡ of_halt halt → PairBy {T = T} p q (Err halt) given text k l → BothRan first second given l status text
   both-cut T halt q status given text is by =
       let cut = by.1 opens.1 in
       let early = whole-of [] [] h k none opens.0 in
@@ -138,6 +138,11 @@ module _ (first second : List ScriptLine) (p : Pair) (same_a : p.a.script ≡ fi
           whole = λ other. none-left halt by.0.last by.0.left (λ same. other (is ∙ same));
         };
       }
+
+  -- by their status
+  pub turns-ran : (status : ℕ) (given text : List ℕ) → PairEnds p status given text k l → BothRan first second given l status text
+  turns-ran status given text (turns_done q ready over is by) = both-done tt q status given text ready over is by
+  turns-ran status given text (turns_cut q halt is by) = both-cut (Unit {0}) halt q status given text is by
 
 -- memory ran out in a set-up
 pub none-opened : (first second : List ScriptLine) (e : Memory) (status : ℕ) (h k : PairTold) → h.steps ≡ [] → status ≡ 7 → PairOpens first second (Err e) h k → BothRan first second [] k status []

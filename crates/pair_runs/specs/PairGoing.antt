@@ -1,5 +1,5 @@
 -- How two clients go along the history of both, each along its side.
-use Rattle.std.specs.Prelude.{◌≡◌, ℕ, List, [], ◌∷◌, ◌++◌, length, false, Option, Result, Ok, Err}
+use Rattle.std.specs.Prelude.{◌≡◌, ℕ, List, [], ◌∷◌, ◌++◌, length, max, false, Option, Result, Ok, Err}
 use Rattle.xdr_codec.specs.declared.blob.Memory.{Memory}
 use Rattle.world_model.specs.declared.entry.Entry.{Entry}
 use Rattle.world_model.specs.declared.tally.Tally.{Tally}
@@ -27,7 +27,7 @@ use Rattle.pair_runs.specs.declared.client.Client.{Client}
 use Rattle.pair_runs.specs.declared.client.State.{State}
 use Rattle.pair_runs.specs.declared.client.State.TheVariants as states
 use Rattle.pair_runs.specs.declared.turns.Pair.{Pair}
-use Rattle.pair_runs.specs.Clients.{moved}
+use Rattle.pair_runs.specs.Clients.{AreOver, AreReady, moved, status_in}
 use Rattle.pair_runs.specs.Given.{pair_settings}
 use Rattle.pair_runs.specs.PairRuns.{ClientRan, LosesAmong, RunsLines, PairRelates}
 use Rattle.pair_runs.specs.Texts.{pair_transcript, pair_clocks}
@@ -155,6 +155,12 @@ pub record SamePair (old new : Pair) : Type 0 where
 abbrev pub PairBy : {T : Type 0} → Pair → Pair → Result T Halt → List ℕ → List ℕ → PairTold → PairTold → Type 0
 PairBy old new (Ok x) given text h k = SamePair old new × PairAdds given text h k × (BothGo old h → BothGo new k)
 PairBy old new (Err halt) given text h k = PairBreaks halt given text h k × (BothGo old h → BothCut old halt k)
+
+-- The turns ended with this status: by the answers of both once both were done, or by what cut the run off.
+pub data PairEnds (p : Pair) (status : ℕ) (given text : List ℕ) (h k : PairTold) : Type 0 where
+  turns_done : (q : Pair) → AreReady q → AreOver q → status ≡ max (status_in q.a.state) (status_in q.b.state) → PairBy {T = Unit {0}} p q (Ok tt) given text h k
+      → PairEnds p status given text h k
+  turns_cut : (q : Pair) (halt : Halt) → status ≡ of_halt halt → PairBy {T = Unit {0}} p q (Err halt) given text h k → PairEnds p status given text h k
 
 -- both were set up, in turn, where nothing was told before; or memory ran out
 abbrev pub PairOpens : List ScriptLine → List ScriptLine → Result Pair Memory → PairTold → PairTold → Type 0

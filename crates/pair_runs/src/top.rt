@@ -136,10 +136,7 @@ fn run_scripts<P: PairLink, C: Clock, K: Sink>(
         (λ given text h k. h.steps ≡ [] → BothRan first second given k result text) }
 {
     match set_up_both(alloc, first, second, link) {
-        Ok(mut pair) => match pair.run(order, link, clock, out) {
-            Ok(()) => pair.status(),
-            Err(halt) => status::of_halt(halt),
-        },
+        Ok(mut pair) => pair.finish(order, link, clock, out),
         Err(_) => status::NO_MEMORY,
     }
 }

@@ -3,11 +3,11 @@
 ghost use Rattle.std.specs.Prelude.{◌≡◌, ◌≤◌, ◌<◌, ◌+◌, IfOk, OnOk, max, true, false};
 ghost use Rattle.outside.specs.Causes.{Rose};
 ghost use Rattle.lane_session.specs.Statuses.{CausedBy, IsSessionStatus};
-ghost use Rattle.pair_runs.specs.Clients.{AreOver, AreReady, left_in, status_in};
-ghost use Rattle.pair_runs.specs.PairGoing.{PairBy, PairPasses};
+ghost use Rattle.pair_runs.specs.Clients.{AreOver, AreReady, IsEnding, left_in, status_in};
+ghost use Rattle.pair_runs.specs.PairGoing.{PairBy, PairEnds, PairPasses};
 
 use crate::client::Client;
-use crate::status::of_both;
+use crate::status::{of_both, of_halt};
 use lane_session::Halt;
 use outside::{Clock, PairLink, Sink};
 
@@ -19,8 +19,29 @@ pub(crate) struct Pair {
 }
 
 impl Pair {
+    /// The clients take turns until both are done. It answers the status.
+    pub(crate) fn finish<P: PairLink, C: Clock, K: Sink>(
+        &mut self,
+        order: &[u8],
+        link: &mut P,
+        clock: &mut C,
+        out: &mut K,
+    ) -> u8
+        requires { AreReady self.old }
+        ensures ending { IsEnding result }
+        ensures sink { result ≡ 5 → Rose (K.faults out.old) (K.faults out.new) }
+        ensures honest { P.honest link.old → P.honest link.new }
+        ensures goes { PairPasses (C.readings clock.old) (C.readings clock.new) (P.told link.old) (P.told link.new) (K.written out.old) (K.written out.new)
+            (PairEnds self.old result) }
+    {
+        match self.run(order, link, clock, out) {
+            Ok(()) => self.status(),
+            Err(halt) => of_halt(halt),
+        }
+    }
+
     /// The clients take turns in that order, and then one after the other until both are done.
-    pub(crate) fn run<P: PairLink, C: Clock, K: Sink>(
+    fn run<P: PairLink, C: Clock, K: Sink>(
         &mut self,
         order: &[u8],
         link: &mut P,
@@ -151,7 +172,7 @@ impl Pair {
     }
 
     /// The status by the answers of both.
-    pub(crate) fn status(&self) -> u8
+    fn status(&self) -> u8
         requires { AreReady self.now }
         ensures is { result ≡ max (status_in self.now.a.state) (status_in self.now.b.state) }
         ensures range { IsSessionStatus result }
