@@ -25,7 +25,7 @@ module _ (p : Pair) (ready : AreReady p) (r0 r1 : Option (List ℕ)) (t0 t1 : Op
   a-turned x y a same t =
       passes-less r0 r1 t0 t1 w0 w1 (TurnsBy (number_of p.a.side) p.a.script p.a.state a.state (Ok x)) (PairBy p (record { a = a; b = p.b }) (Ok y))
       (λ g u h k z. first-turns p (record { a = a; b = p.b }) ready g u h k x y same refl
-          (subst (λ (s : Side). TurnsBy (number_of s) p.a.script p.a.state a.state (Ok x) g u h k) ready.first z))
+      (subst (λ (s : Side). TurnsBy (number_of s) p.a.script p.a.state a.state (Ok x) g u h k) ready.first z))
       t
 
   pub b-turned : {T U : Type 0} → (x : T) (y : U) (b : Client) → b ≡ record p.b { state = b.state }
@@ -33,7 +33,7 @@ module _ (p : Pair) (ready : AreReady p) (r0 r1 : Option (List ℕ)) (t0 t1 : Op
   b-turned x y b same t =
       passes-less r0 r1 t0 t1 w0 w1 (TurnsBy (number_of p.b.side) p.b.script p.b.state b.state (Ok x)) (PairBy p (record { a = p.a; b = b }) (Ok y))
       (λ g u h k z. second-turns p (record { a = p.a; b = b }) ready g u h k x y refl same
-          (subst (λ (s : Side). TurnsBy (number_of s) p.b.script p.b.state b.state (Ok x) g u h k) ready.second z))
+      (subst (λ (s : Side). TurnsBy (number_of s) p.b.script p.b.state b.state (Ok x) g u h k) ready.second z))
       t
 
   pub a-cut : (T U : Type 0) (halt : Halt) (a : Client) (q : Pair)
@@ -41,7 +41,7 @@ module _ (p : Pair) (ready : AreReady p) (r0 r1 : Option (List ℕ)) (t0 t1 : Op
   a-cut T U halt a q t =
       passes-less r0 r1 t0 t1 w0 w1 (TurnsBy {T = T} (number_of p.a.side) p.a.script p.a.state a.state (Err halt)) (PairBy {T = U} p q (Err halt))
       (λ g u h k z. first-cuts p q ready g u h k T U halt a.state
-          (subst (λ (s : Side). TurnsBy {T = T} (number_of s) p.a.script p.a.state a.state (Err halt) g u h k) ready.first z))
+      (subst (λ (s : Side). TurnsBy {T = T} (number_of s) p.a.script p.a.state a.state (Err halt) g u h k) ready.first z))
       t
 
   pub b-cut : (T U : Type 0) (halt : Halt) (b : Client) (q : Pair)
@@ -49,7 +49,7 @@ module _ (p : Pair) (ready : AreReady p) (r0 r1 : Option (List ℕ)) (t0 t1 : Op
   b-cut T U halt b q t =
       passes-less r0 r1 t0 t1 w0 w1 (TurnsBy {T = T} (number_of p.b.side) p.b.script p.b.state b.state (Err halt)) (PairBy {T = U} p q (Err halt))
       (λ g u h k z. second-cuts p q ready g u h k T U halt b.state
-          (subst (λ (s : Side). TurnsBy {T = T} (number_of s) p.b.script p.b.state b.state (Err halt) g u h k) ready.second z))
+      (subst (λ (s : Side). TurnsBy {T = T} (number_of s) p.b.script p.b.state b.state (Err halt) g u h k) ready.second z))
       t
 
 -- a turn of each
