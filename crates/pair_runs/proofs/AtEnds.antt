@@ -51,12 +51,12 @@ module _ (e new_end : Side) (same_end : new_end ≡ e) (label : List ℕ) (own :
         (passes-both r0 r1 _ _ w0 w1 (CutsOff label script old halt) (Dials old.port) p keeps.only)
 
     -- what the session's turn comes to, before the state moves
-    pub turn-went : (went : Bool) (done : Option ℕ) → done ≡ done_by went new.status → length new.lanes ≡ 16 → (went ≡ false → AreIdle new.lanes) → (went ≡ false → AreQuiet script new)
+    pub turn-went : (went : Bool) (ended : Option ℕ) → ended ≡ done_by went new.status → length new.lanes ≡ 16 → (went ≡ false → AreIdle new.lanes) → (went ≡ false → AreQuiet script new)
         → Passes r0 r1 (option_map (side (number_of e)) t0) (option_map (side (number_of new_end)) t1) w0 w1 (GoesOn label script old new)
-        → PairPasses r0 r1 t0 t1 w0 w1 (AdvancesBy (number_of e) script (states.Open old) (states.Open new) (Ok done))
-    turn-went true done is long idle quiet p =
+        → PairPasses r0 r1 t0 t1 w0 w1 (AdvancesBy (number_of e) script (states.Open old) (states.Open new) (Ok ended))
+    turn-went true ended is long idle quiet p =
         subst (λ (d : Option ℕ). PairPasses r0 r1 t0 t1 w0 w1 (AdvancesBy (number_of e) script (states.Open old) (states.Open new) (Ok d))) (sym is) (turn-on {T = Option ℕ} None p)
-    turn-went false done is long idle quiet p =
+    turn-went false ended is long idle quiet p =
         subst (λ (d : Option ℕ). PairPasses r0 r1 t0 t1 w0 w1 (AdvancesBy (number_of e) script (states.Open old) (states.Open new) (Ok d))) (sym is)
         (turn-done {T = Option ℕ} (Some new.status) new.status refl long (idle refl) (quiet refl) p)
 

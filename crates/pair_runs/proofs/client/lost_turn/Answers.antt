@@ -1,5 +1,4 @@
 use Rattle.std.proofs.Common.{ℕ, Option, Some, refl, arith}
-use Rattle.std.specs.Prelude.{Unit}
 use Rattle.lane_session.proofs.Outcomes.{caused-later}
 use Rattle.pair_ends.proofs.Calls.{spares-none}
 use Rattle.pair_runs.specs.declared.client.State.TheVariants as states

@@ -1,5 +1,4 @@
 use Rattle.std.proofs.Common.{arith, Bool, Ok, Err}
-use Rattle.std.specs.Prelude.{Unit}
 use Rattle.lane_session.proofs.Outcomes.{caused-later}
 use Rattle.pair_runs.proofs.Both.{pair-none, pair-then}
 use Rattle.pair_runs.proofs.Passages.{passes-same, passes-then}

@@ -1,5 +1,4 @@
 use Rattle.std.proofs.Common.{Bool}
-use Rattle.std.specs.Prelude.{Unit}
 use Rattle.pair_runs.proofs.Turned.{a-cut, a-turned, b-cut, b-turned}
 use Rattle.pair_runs.proofs.turns.Pair.turn_of.Goals as goal
 
