@@ -11,14 +11,6 @@ use Rattle.pair_runs.specs.PairGoing.{PairBy, PairPasses, TurnsBy}
 use Rattle.pair_runs.proofs.Both.{first-cuts, first-turns, pair-then, second-cuts, second-turns}
 use Rattle.pair_runs.proofs.Passages.{passes-less, passes-then}
 
-pub both-ready : (p : Pair) (a b : Client) → AreReady p → IsReady a → IsReady b → a ≡ record p.a { state = a.state } → b ≡ record p.b { state = b.state } → AreReady (record { a = a; b = b })
-both-ready p a b r ready_a ready_b same_a same_b = record {
-  a = ready_a;
-  b = ready_b;
-  first = ap (λ (c : Client). c.side) same_a ∙ r.first;
-  second = ap (λ (c : Client). c.side) same_b ∙ r.second;
-}
-
 module _ (p : Pair) (ready : AreReady p) (r0 r1 : Option (List ℕ)) (t0 t1 : Option PairTold) (w0 w1 : Option (List ℕ)) where
   pub a-turned : {T U : Type 0} → (x : T) (y : U) (a : Client) → a ≡ record p.a { state = a.state }
       → PairPasses r0 r1 t0 t1 w0 w1 (TurnsBy (number_of p.a.side) p.a.script p.a.state a.state (Ok x)) → PairPasses r0 r1 t0 t1 w0 w1 (PairBy p (record { a = a; b = p.b }) (Ok y))
