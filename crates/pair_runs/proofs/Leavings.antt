@@ -141,7 +141,7 @@ module _ (first second : List ScriptLine) (p : Pair) (same_a : p.a.script ≡ fi
 
   -- by their status
   pub turns-ran : (status : ℕ) (given text : List ℕ) → PairEnds p status given text k l → BothRan first second given l status text
-  turns-ran status given text (turns_done q ready over is by) = both-done tt q status given text ready over is by
+  turns-ran status given text (turns_done q ready over is by) = both-done (tt {0}) q status given text ready over is by
   turns-ran status given text (turns_cut q halt is by) = both-cut (Unit {0}) halt q status given text is by
 
 -- memory ran out in a set-up
