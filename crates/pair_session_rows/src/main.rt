@@ -9,6 +9,8 @@
 
 mod case;
 
+ghost use Rattle.pair_runs.specs.Clients.{AreLetters};
+
 use crate::case::{Case, empty, takes};
 use outside::{MemSink, MemSource, TickClock};
 use pair_runs::run_pair;
@@ -32,7 +34,9 @@ fn run_over(
     world: &mut PairWorld,
     tick: u64,
     order: &[u8],
-) -> io::Result<()> {
+) -> io::Result<()>
+    requires { AreLetters order.now }
+{
     let (Ok(mut a), Ok(mut b), Ok(mut sink)) = (
         MemSource::new(alloc, case.script_a.as_slice(), case.reads_a.as_slice()),
         MemSource::new(alloc, case.script_b.as_slice(), case.reads_b.as_slice()),

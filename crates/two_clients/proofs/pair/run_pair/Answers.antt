@@ -1,4 +1,4 @@
-use Rattle.two_clients.proofs.Pair.{says-headline}
+use Rattle.two_clients.proofs.Keeping.{says-headline}
 use Rattle.two_clients.proofs.pair.run_pair.Goals as goal
 
 pub returns-clause-headline : goal.returns-clause-headline
