@@ -61,10 +61,10 @@ module _ (p : Pair) (ready : AreReady p) (r0 r1 r2 : Option (List ℕ)) (t0 t1 t
       (λ g1 g2 s1 s2 h k l v w. pair-then p with_a (record { a = a; b = b }) x g1 s1 g2 s2 h k l v (Ok z) w)
       (a-turned p ready r0 r1 t0 t1 w0 w1 x x a same_a t) (b-turned with_a ready-then r1 r2 t1 t2 w1 w2 y z b same_b u)
 
-  pub both-halted : {T : Type 0} → (x : T) (U V : Type 0) (halt : Halt) (b : Client) (q : Pair)
+  pub both-halted : (T U V : Type 0) (x : T) (halt : Halt) (b : Client) (q : Pair)
       → PairPasses r0 r1 t0 t1 w0 w1 (TurnsBy (number_of p.a.side) p.a.script p.a.state a.state (Ok x))
       → PairPasses r1 r2 t1 t2 w1 w2 (TurnsBy {T = U} (number_of p.b.side) p.b.script p.b.state b.state (Err halt)) → PairPasses r0 r2 t0 t2 w0 w2 (PairBy {T = V} p q (Err halt))
-  both-halted x U V halt b q t u =
+  both-halted T U V x halt b q t u =
       passes-then r0 r1 r2 t0 t1 t2 w0 w1 w2 (PairBy p with_a (Ok x)) (PairBy {T = V} with_a q (Err halt)) (PairBy {T = V} p q (Err halt))
       (λ g1 g2 s1 s2 h k l v w. pair-then {T = T} {U = V} p with_a q x g1 s1 g2 s2 h k l v (Err halt) w)
       (a-turned p ready r0 r1 t0 t1 w0 w1 x x a same_a t) (b-cut with_a ready-then r1 r2 t1 t2 w1 w2 U V halt b q u)

@@ -17,5 +17,5 @@ returns-else-first-clause-goes g c =
 
 pub returns-in-Err-turn-clause-goes : goal.returns-in-Err-turn-clause-goes
 returns-in-Err-turn-clause-goes g c =
-    both-halted c.args.self.now c.requires _ _ _ _ _ _ _ _ _ c.turn.new.self c.in-Ok.ensures.ready c.in-Ok.ensures.same c.in-Ok.first Bool Bool c.in-Err-turn.halt
+    both-halted c.args.self.now c.requires _ _ _ _ _ _ _ _ _ c.turn.new.self c.in-Ok.ensures.ready c.in-Ok.ensures.same Bool Bool Bool c.in-Ok.first c.in-Err-turn.halt
     c.turn-in-Ok.new.self c.args.self.now c.in-Ok.ensures.goes c.in-Err-turn.ensures.goes
