@@ -166,6 +166,9 @@ impl Client {
         }
     }
 
+    /// The client is let go.
+    pub(crate) fn end(self) {}
+
     /// The status by its answers so far.
     pub(crate) fn status(&self) -> u8
         requires { IsReady self.now }

@@ -136,7 +136,11 @@ fn run_scripts<P: PairLink, C: Clock, K: Sink>(
         (λ given text h k. h.steps ≡ [] → BothRan first second given k result text) }
 {
     match set_up_both(alloc, first, second, link) {
-        Ok(mut pair) => pair.finish(order, link, clock, out),
+        Ok(mut pair) => {
+            let status = pair.finish(order, link, clock, out);
+            pair.end();
+            status
+        }
         Err(_) => status::NO_MEMORY,
     }
 }
