@@ -10,5 +10,5 @@ returns-in-Err-clause-goes g c =
 pub returns-in-Ok-clause-goes : goal.returns-in-Ok-clause-goes
 returns-in-Ok-clause-goes g c =
     passes-behind _ _ _ _ _ _ _ _ _ _
-    (λ given text h k l x by none. turns-ran c.args.first c.args.second c.in-Ok.pair c.in-Ok.ensures.made.0 c.in-Ok.ensures.made.1 h k l none (x none) c.finish.result given text by)
-    c.in-Ok.ensures.opens c.finish.ensures.goes
+    (λ given text h k l x by none. turns-ran c.args.first c.args.second c.in-Ok.pair c.in-Ok.ensures.made.0 c.in-Ok.ensures.made.1 h k l none (x none) c.finish-status.result given text by)
+    c.in-Ok.ensures.opens c.finish-status.ensures.goes
