@@ -1,0 +1,5 @@
+pub mod Deciding
+pub mod Ending
+pub mod Sendings
+pub mod Callings
+pub mod Files

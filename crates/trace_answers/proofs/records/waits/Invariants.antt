@@ -1,0 +1,10 @@
+-- None was sent or came from there on.
+use Rattle.std.proofs.Common.{◌≤◌}
+use Rattle.trace_answers.proofs.Sendings.{Quiet}
+use Rattle.trace_answers.proofs.records.waits.Given as goal
+
+abbrev pub invariant-loop-left : goal.invariant-loop-left
+invariant-loop-left l = record { within : l.left ≤ l.place; quiet : Quiet l.entries l.xid l.left l.place }
+
+abbrev pub decreases-loop-left : goal.decreases-loop-left
+decreases-loop-left l = l.left
