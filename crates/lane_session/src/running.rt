@@ -522,7 +522,7 @@ impl Session {
         let Some(rec) = self.core.next_send() else {
             return Ok(Sending::Nothing);
         };
-        self.counts.count(rec);
+        self.counts.count(rec.bytes());
         match link.send(rec) {
             Ok(()) => Ok(Sending::Went),
             Err(LinkFault::Failed) => {

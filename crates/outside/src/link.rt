@@ -7,7 +7,7 @@ ghost use Rattle.outside.specs.Causes.{HasCause, HasCauseReceived};
 ghost use Rattle.outside.specs.Link.{NotesOnly, dialed_as, sent_as, received_as, noted_as};
 
 use world_model::Mark;
-use xdr_codec::Memory;
+use xdr_codec::{Memory, Record};
 
 /// Why the outside did not do what it was asked.
 #[derive(Clone, Copy, Debug, PartialEq, Eq)]
@@ -54,7 +54,7 @@ pub trait Link {
         ensures cause { HasCause (faults self.old) (faults self.new) result };
 
     /// Sends a record. When out of memory nothing was sent.
-    fn send(&mut self, rec: &[u8]) -> Result<(), LinkFault>
+    fn send(&mut self, rec: &Record) -> Result<(), LinkFault>
         ensures told { Tells (told self.old) (told self.new) (sent_as rec.now result) }
         ensures stays { (first : Self) → stays first self.old → stays first self.new }
         ensures honest { honest self.old → honest self.new }

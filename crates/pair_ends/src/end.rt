@@ -5,7 +5,7 @@ ghost use Rattle.std.specs.Prelude.{◌≡◌, ◌<◌, ◌≤◌};
 use crate::side::Side;
 use outside::{Link, LinkFault, PairLink, Received};
 use world_model::Mark;
-use xdr_codec::Memory;
+use xdr_codec::{Memory, Record};
 
 /// One end of a link, lent for a while.
 #[derive(Drop)]
@@ -35,7 +35,7 @@ impl<P: PairLink> Link for End<'_, P> {
         self.link.dial(self.side.number(), port)
     }
 
-    fn send(&mut self, rec: &[u8]) -> Result<(), LinkFault> {
+    fn send(&mut self, rec: &Record) -> Result<(), LinkFault> {
         self.link.send(self.side.number(), rec)
     }
 

@@ -21,7 +21,7 @@ use nfs_types::PROGRAM_VERSION;
 use rpc_message::{CallHead, Cred, read_reply, write_call, xid_of};
 use std::alloc::Global;
 use std::marker::Model;
-use xdr_codec::{Blob, Memory, Writer};
+use xdr_codec::{Memory, Record, Writer};
 
 /// The bytes of a record for which there is room from the beginning: those of a call without data are fewer, mostly.
 const ROOM: usize = 512;
@@ -151,13 +151,13 @@ impl<P: Drop> Calls<P> {
             vers: PROGRAM_VERSION,
             proc,
         };
-        let mut record = Writer::with_room(self.alloc, ROOM)?;
+        let mut record = Writer::record(self.alloc, ROOM)?;
         write_call(&mut record, &head, &self.cred)?;
         Ok(record)
     }
 
     /// As `put`, of a call whose record is spelled already: it is taken as it is, and not copied.
-    pub fn put_record(&mut self, bytes: Blob, purpose: P) -> Result<u32, PutFault>
+    pub fn put_record(&mut self, bytes: Record, purpose: P) -> Result<u32, PutFault>
         requires spelled { IsRecord self.old.cred (next_xid self.old) bytes }
         ensures answer { AnswersPut self.old (check_of self.old) result }
         ensures settings { KeepsSettings self.old self.new }
@@ -176,7 +176,7 @@ impl<P: Drop> Calls<P> {
 
     /// Gives the oldest record that is due, and counts one attempt for it: it is due no more. None exactly where none
     /// is due.
-    pub fn next_send(&mut self) -> Option<&[u8]>
+    pub fn next_send(&mut self) -> Option<&Record>
         ensures* ends { sem 𝓛 (ends_with P.row self.entry (sent self.old.calls)) }
         ensures gives { option_map (λ bytes. bytes.now) result ≡ option_map (λ e. e.1.bytes) (first_due self.old.calls) }
         ensures records { KeepsRecords self.old (sent self.old.calls) }
@@ -185,7 +185,7 @@ impl<P: Drop> Calls<P> {
         let at = place_of_due(&self.calls)?;
         let call = &mut self.calls[at];
         call.send();
-        Some(call.bytes.bytes())
+        Some(&call.bytes)
     }
 
     /// Takes the reply to a call that waits, which waits no more (RFC 5531, section 9). Dropped exactly where the
@@ -238,12 +238,13 @@ impl<P: Drop> Calls<P> {
     }
 
     /// The record of the next call.
-    fn spell(&self, prog: u32, proc: u32, args: &[u8]) -> Result<Blob, Memory>
+    #[tactic(auto, using(xdr_codec::proofs::Written::finished))]
+    fn spell(&self, prog: u32, proc: u32, args: &[u8]) -> Result<Record, Memory>
         ensures bytes { IfOk result (λ bytes. bytes ≡ call_bytes self.now.cred (next_xid self.now) prog proc args.now) }
         ensures spelled { IfOk result (λ bytes. SpellsCallHead (call_head (next_xid self.now) prog proc) args.now bytes) }
     {
         let mut record = self.begin(prog, proc)?;
         record.raw(args)?;
-        Ok(record.finish())
+        record.finish_record(self.alloc)
     }
 }
