@@ -37,7 +37,7 @@ use nfs_file_calls::{file_proc, write_file_call};
 use nfs_types::NFS_PROGRAM;
 use op_machines::{Machine, resting_is_still};
 use page_cache::PageCache;
-use rpc_retry::{AfterFailure, Calls, Taken};
+use rpc_retry::{AfterFailure, Calls};
 use std::alloc::Global;
 use std::marker::Model;
 use world_model::{Answer, Call, Fault};
@@ -381,9 +381,7 @@ impl Work {
         ensures sound { IsSound self.new }
     {
         self.calls.is_sound();
-        let Taken::Took { purpose, .. } = self.calls.take(rec) else {
-            return None;
-        };
+        let (_xid, purpose) = self.calls.take_purpose(rec)?;
         self.moments += 1;
         Some(purpose)
     }

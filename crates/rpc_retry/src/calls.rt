@@ -1,15 +1,15 @@
 //! The calls that wait, in order of making.
 
-ghost use Rattle.std.specs.Prelude.{◌≡◌, ◌+◌, ◌-◌, ◌≤◌, ◌^◌, length, [], ◌∷◌, ◌++◌, OnOk, OnErr, IfOk, option_map, List, ℕ};
+ghost use Rattle.std.specs.Prelude.{◌≡◌, ◌+◌, ◌-◌, ◌≤◌, ◌^◌, length, [], ◌∷◌, ◌++◌, None, OnOk, OnErr, IfOk, IfSome, IfNone, option_map, List, ℕ};
 ghost use Rattle.std.specs.Borrow.{sem};
 ghost use Rattle.rpc_message.specs.Call.{xid_at, call_head_bytes, SpellsCallHead};
 ghost use Rattle.rpc_retry.specs.Held.{Held, next_xid, KeepsSettings};
 ghost use Rattle.rpc_retry.specs.Sound.{IsRecord, IsSound};
-ghost use Rattle.rpc_retry.specs.Waiting.{made_call, first_due, sent, first_given_up};
+ghost use Rattle.rpc_retry.specs.Waiting.{made_call, first_due, sent, first_given_up, waiting_at};
 ghost use Rattle.rpc_retry.specs.Put.{check_of, AnswersPut, call_head, call_bytes};
-ghost use Rattle.rpc_retry.specs.Take.{Takes, after_taking, IfDropped};
+ghost use Rattle.rpc_retry.specs.Take.{Takes, TakesPurpose, after_taking, IfDropped};
 ghost use Rattle.rpc_retry.specs.Records.{KeepsRecords, IsGone};
-ghost use Rattle.rpc_retry.specs.Runs.{Done, Runs, Story, SentApart, DoesMake, DoesGive, DoesAnswer, DoesFail};
+ghost use Rattle.rpc_retry.specs.Runs.{Done, Runs, Story, SentApart, DoesMake, DoesGive, DoesTake, DoesAnswer, DoesFail};
 ghost use Rattle.rpc_retry.specs.Fail.{answer_after, after_failure, ShowsAttempts};
 
 use crate::answers::{AfterFailure, PutFault, PutRefusal, Taken};
@@ -200,16 +200,34 @@ impl<P: Drop> Calls<P> {
         ensures records { KeepsRecords self.old self.new.calls }
         ensures dropped { IfDropped result (self.new ≡ self.old) }
     {
-        let Some(xid) = xid_of(rec) else {
-            return Taken::Dropped;
-        };
-        match self.calls.shift_remove(&xid) {
-            Some(call) => Taken::Took {
+        match self.take_purpose(rec) {
+            Some((xid, purpose)) => Taken::Took {
                 xid,
-                purpose: call.purpose,
+                purpose,
                 body: read_reply(rec),
             },
             None => Taken::Dropped,
+        }
+    }
+
+    /// As `take`, for a caller that reads the record itself: the xid of the call, and what it was made for. None exactly where
+    /// `take` drops the record.
+    pub fn take_purpose(&mut self, rec: &[u8]) -> Option<(u32, P)>
+        ensures answer { TakesPurpose self.old.calls rec.now result }
+        ensures settings { KeepsSettings self.old self.new }
+        ensures made { self.new.made ≡ self.old.made }
+        ensures calls { self.new.calls ≡ after_taking (xid_at rec.now) self.old.calls }
+        ensures step { IfSome result (λ took. DoesTake self.old took.0 self.new) }
+        ensures gone { IfSome result (λ took. waiting_at took.0 self.new.calls ≡ None) }
+        ensures records { KeepsRecords self.old self.new.calls }
+        ensures dropped { IfNone result (self.new ≡ self.old) }
+    {
+        let Some(xid) = xid_of(rec) else {
+            return None;
+        };
+        match self.calls.shift_remove(&xid) {
+            Some(call) => Some((xid, call.purpose)),
+            None => None,
         }
     }
 
