@@ -128,6 +128,10 @@ impl Link for HostileLink {
         Received::Whole
     }
 
+    fn tells(&self) -> bool {
+        true
+    }
+
     fn note(&mut self, mark: Mark) -> Result<(), Memory>
         ensures told { NotesOnly (Some (history self.old.entries)) (Some (history self.new.entries)) (noted_as mark result) }
         ensures cause { self.old.faults ≤ self.new.faults }

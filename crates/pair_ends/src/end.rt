@@ -43,6 +43,10 @@ impl<P: PairLink> Link for End<'_, P> {
         self.link.receive(self.side.number(), wait_ms, rec)
     }
 
+    fn tells(&self) -> bool {
+        self.link.tells()
+    }
+
     fn note(&mut self, mark: Mark) -> Result<(), Memory> {
         self.link.note(self.side.number(), mark)
     }

@@ -1,6 +1,6 @@
 //! A wire, with what the link placed behind each of its calls.
 
-ghost use Rattle.std.specs.Prelude.{◌≡◌, ◌<◌, ◌≤◌, length, drop, IfOk, false, true, ◌==◌, if◌then◌else◌};
+ghost use Rattle.std.specs.Prelude.{◌≡◌, ◌<◌, ◌≤◌, length, drop, IfOk, None, false, true, ◌==◌, if◌then◌else◌};
 ghost use Rattle.std.specs.Bool.{OnTrue, OnFalse};
 ghost use Rattle.outside.specs.Causes.{HasCause};
 ghost use Rattle.outside.specs.Sink.{TakesSome};
@@ -174,6 +174,13 @@ impl<W: Wire + Drop> Line<W> {
             }
             Err(LinkFault::Memory) => Err(LinkFault::Memory),
         }
+    }
+
+    /// Whether the wire tells its calls.
+    pub(crate) fn tells(&self) -> bool
+        ensures { OnFalse result (now_in W.told self.now ≡ None) }
+    {
+        self.wire.tells()
     }
 
     /// Notes a mark.

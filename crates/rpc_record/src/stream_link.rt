@@ -216,6 +216,8 @@ impl<W: Wire + Drop> StreamLink<W> {
 }
 
 impl<W: Wire + Drop> Link for StreamLink<W> {
+    ghost use Rattle.std.specs.Prelude.{None};
+    ghost use Rattle.std.specs.Bool.{OnFalse};
     ghost use Rattle.rpc_record.specs.Shown.{Dials, Hears, Notes};
 
     ghost told = { λ s. told_by W.told s };
@@ -267,6 +269,12 @@ impl<W: Wire + Drop> Link for StreamLink<W> {
         ensures waits { Waits (shown_by W.told self.old) (shown_by W.told self.new) result }
     {
         self.wait(wait_ms, rec)
+    }
+
+    fn tells(&self) -> bool
+        ensures { OnFalse result (told_by W.told self.now ≡ None) }
+    {
+        self.line.tells()
     }
 
     fn note(&mut self, mark: Mark) -> Result<(), Memory>

@@ -209,6 +209,12 @@ impl<D: Datagrams + Drop> Link for UdpLink<D> {
         self.wait(wait_ms, rec)
     }
 
+    fn tells(&self) -> bool
+        ensures { OnFalse result (told_by D.told self.now ≡ None) }
+    {
+        self.over.tells()
+    }
+
     fn note(&mut self, mark: Mark) -> Result<(), Memory>
         ensures told { NotesOnly (told_by D.told self.old) (told_by D.told self.new) (noted_as mark result) }
         ensures honest { HonestOver D.told D.honest self.old.over self.old.kept → HonestOver D.told D.honest self.new.over self.new.kept }

@@ -118,6 +118,10 @@ impl PairLink for PairWorld {
         self.hand_out(end, rec)
     }
 
+    fn tells(&self) -> bool {
+        true
+    }
+
     fn note(&mut self, end: u8, mark: Mark) -> Result<(), Memory>
         requires { end < 2 }
         ensures told { PairNotes end (Some (told_pair (seen_pair self.old))) (Some (told_pair (seen_pair self.new))) (noted_as mark result) }

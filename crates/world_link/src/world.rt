@@ -427,6 +427,10 @@ impl Link for World {
         self.hand_out(ONLY, rec)
     }
 
+    fn tells(&self) -> bool {
+        true
+    }
+
     fn note(&mut self, mark: Mark) -> Result<(), Memory>
         ensures told { NotesOnly (Some (told (seen self.old))) (Some (told (seen self.new))) (noted_as mark result) }
         ensures stays { (first : World) → (told (seen self.old)).at 0 ≡ (told (seen first)).at 0 → (told (seen self.new)).at 0 ≡ (told (seen first)).at 0 }
