@@ -1,14 +1,13 @@
 -- What holds of each entry goes on holding, and what is looked up is an entry's. For the proofs of callers.
-use Rattle.std.proofs.Common.{◌≡◌, ◌<◌, ◌≤◌, ℕ, ◌+◌, ◌*◌, Bool, true, false, cond, min, nat_eq, nat_lt, if◌then◌else◌, List, [], ◌∷◌, All, Option, Some, None, option_and_then, refl, sym, subst, arith}
-use Rattle.std.proofs.lemmas.List.Elements.{All-nil, All-head, All-tail, All-cons, All-drop}
+use Rattle.std.proofs.Common.{◌≡◌, ◌<◌, ◌≤◌, ℕ, zero, suc, take, ◌+◌, ◌*◌, Bool, true, false, cond, min, nat_eq, nat_lt, if◌then◌else◌, List, [], ◌∷◌, All, Option, Some, None, option_and_then, refl, sym, subst, arith}
+use Rattle.std.proofs.lemmas.List.Elements.{All-nil, All-head, All-tail, All-cons}
 use Rattle.std.proofs.lemmas.Bool.Decides.{nat_tests}
 use Rattle.std.specs.Cmp.Lexicographic.{pointwise, bytes_decides}
 use Rattle.std.specs.Map.{lookup, remove_entry}
-use Rattle.indexmap.specs.IndexMap.{insert_entry}
 use Rattle.nfs_types.specs.declared.attr.Attr.{Attr}
 use Rattle.attr_cache.specs.declared.lives.Lives.{Lives}
 use Rattle.attr_cache.specs.declared.kept.KeptAttr.{KeptAttr}
-use Rattle.attr_cache.specs.Attrs.{Attrs, kept_of, is_fresh, looked, shortest, longest, next_lifetime, has_stamp, noted, learnt_over, learnt, forgotten}
+use Rattle.attr_cache.specs.Attrs.{Attrs, kept_of, is_fresh, looked, shortest, longest, next_lifetime, has_stamp, fronted, noted, learnt_over, learnt, forgotten}
 
 -- no lifetime is longer
 pub record LastsAtMost (lives : Lives) (most : ℕ) : Type 0 where
@@ -42,20 +41,23 @@ module _ (P : List ℕ × KeptAttr → Type 0) where
     | false ↦ λ t. All-lookup file entries kept (All-tail P e entries all) (rw t at found)
   ]) refl
 
-  All-insert_entry : (file : List ℕ) (kept : KeptAttr) (entries : List (List ℕ × KeptAttr)) → All P entries → P (file, kept) → All P (insert_entry (pointwise nat_eq) entries file kept)
-  All-insert_entry file kept [] all p = All-cons P (file, kept) [] p (All-nil P)
-  All-insert_entry file kept (e ∷ entries) all p = (elim (pointwise nat_eq file e.0) as
-      (λ y. pointwise nat_eq file e.0 ≡ y → All P (if y then (e.0, kept) ∷ entries else e ∷ insert_entry (pointwise nat_eq) entries file kept)) [
-        | true ↦ λ t. All-cons P (e.0, kept) entries (subst (λ f. P (f, kept)) ((bytes_decides file e.0).0 t) p) (All-tail P e entries all)
-        | false ↦ λ t. All-cons P e _ (All-head P e entries all) (All-insert_entry file kept entries (All-tail P e entries all) p)
-      ]) refl
-
   pub All-remove_entry : (file : List ℕ) (entries : List (List ℕ × KeptAttr)) → All P entries → All P (remove_entry (pointwise nat_eq file) entries)
   All-remove_entry file [] all = All-nil P
   All-remove_entry file (e ∷ entries) all = (elim (pointwise nat_eq file e.0) as (λ y. All P (cond y entries (e ∷ remove_entry (pointwise nat_eq file) entries))) [
     | true ↦ All-tail P e entries all
     | false ↦ All-cons P e _ (All-head P e entries all) (All-remove_entry file entries (All-tail P e entries all))
   ])
+
+  All-take : (n : ℕ) (entries : List (List ℕ × KeptAttr)) → All P entries → All P (take n entries)
+  All-take zero entries all = All-nil P
+  All-take (suc n) [] all = All-nil P
+  All-take (suc n) (e ∷ entries) all = All-cons P e (take n entries) (All-head P e entries all) (All-take n entries (All-tail P e entries all))
+
+  -- after a file went to the front
+  pub All-fronted : (file : List ℕ) (kept : KeptAttr) (entries : List (List ℕ × KeptAttr)) → All P entries → P (file, kept) → All P (fronted file kept entries)
+  All-fronted file kept entries all p =
+      let rest = remove_entry (pointwise nat_eq file) entries in
+      All-take 1024 ((file, kept) ∷ rest) (All-cons P (file, kept) rest p (All-remove_entry file entries all))
 
   -- after a file is forgotten
   pub All-forgotten : (file : List ℕ) (c : Attrs) → All P c.entries → All P (forgotten file c).entries
@@ -85,7 +87,7 @@ module _ (P : List ℕ × KeptAttr → Type 0) (most : ℕ) (file : List ℕ) (a
   All-learnt all told = by (kept_of file c) refl
     where
       taken : (lifetime : ℕ) → lifetime ≤ most → All (Believed P most) (noted file attr sent_at lifetime c).entries
-      taken lifetime fits = All-drop (Believed P most) _ _ (All-insert_entry (Believed P most) file _ c.entries all (told lifetime, fits))
+      taken lifetime fits = All-fronted (Believed P most) file _ c.entries all (told lifetime, fits)
 
       by : (o : Option KeptAttr) → kept_of file c ≡ o → All (Believed P most) (learnt_over o file attr sent_at c).entries
       by None found = taken _ (shortest-le c.lives most bound attr)

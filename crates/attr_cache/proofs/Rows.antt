@@ -114,22 +114,22 @@ never_then = refl
 
 -- ---- what stands after each call
 
-two_files : kept (Learn 1 (attr 1 10) 1000 ∷ Learn 2 (attr 2 5) 1500 ∷ []) ≡ row (file 1) 10 1000 3000 ∷ row (file 2) 5 1500 30000 ∷ []
+two_files : kept (Learn 1 (attr 1 10) 1000 ∷ Learn 2 (attr 2 5) 1500 ∷ []) ≡ row (file 2) 5 1500 30000 ∷ row (file 1) 10 1000 3000 ∷ []
 two_files = refl
 
--- a last moment before the end: the lifetime stays, and so does the place; an earlier call is passed over, whatever it tells
+-- a last moment before the end: the lifetime stays, and the file goes to the front; an earlier call is passed over, whatever it tells
 earlier_call : kept (Learn 1 (attr 1 10) 1000 ∷ Learn 2 (attr 2 5) 1500 ∷ Learn 1 (attr 1 10) 3999 ∷ Learn 1 (attr 1 11) 3998 ∷ [])
     ≡ row (file 1) 10 3999 3000 ∷ row (file 2) 5 1500 30000 ∷ []
 earlier_call = refl
 
 -- a call of the same moment counts; a lifetime that has ended doubles, a directory's too; a file that isn't known is forgotten in vain
 doubled_once : kept (Learn 1 (attr 1 10) 1000 ∷ Learn 2 (attr 2 5) 1500 ∷ Learn 1 (attr 1 12) 3999 ∷ Learn 1 (attr 1 12) 6999 ∷ Learn 2 (attr 2 5) 31500 ∷ Forget 4 ∷ [])
-    ≡ row (file 1) 12 6999 6000 ∷ row (file 2) 5 31500 60000 ∷ []
+    ≡ row (file 2) 5 31500 60000 ∷ row (file 1) 12 6999 6000 ∷ []
 doubled_once = refl
 
--- a file that was forgotten goes last when it is learnt again; kind 5 is a symbolic link
+-- a file that was forgotten goes to the front when it is learnt again; kind 5 is a symbolic link
 forgotten_file : kept (Learn 1 (attr 1 10) 1000 ∷ Learn 2 (attr 2 5) 1500 ∷ Learn 3 (attr 5 7) 31600 ∷ Forget 1 ∷ Forget 1 ∷ Learn 1 (attr 1 12) 40000 ∷ [])
-    ≡ row (file 2) 5 1500 30000 ∷ row (file 3) 7 31600 3000 ∷ row (file 1) 12 40000 3000 ∷ []
+    ≡ row (file 1) 12 40000 3000 ∷ row (file 3) 7 31600 3000 ∷ row (file 2) 5 1500 30000 ∷ []
 forgotten_file = refl
 
 -- a directory that has changed begins again with 30 seconds
@@ -165,7 +165,7 @@ mode_is_new = refl
 last_moment : looked (file 1) 18446744073709551615 (after fresh (Learn 1 (attr 1 10) 18446744073709551614 ∷ [])) ≡ Some (attr 1 10)
 last_moment = refl
 
--- ---- of 1,024 files the one that was learnt first goes
+-- ---- of 1,024 files the one that wasn't learnt for the longest time goes
 
 -- so many files, numbered from 0 on, the first one in front
 abbrev files : ℕ → List (List ℕ × KeptAttr) → List (List ℕ × KeptAttr)
@@ -182,12 +182,16 @@ first_of (r ∷ more) = r ∷ []
 new_file : length (learnt (file 1) (attr 1 20) 1 full).entries ≡ 1024
 new_file = refl
 
-first_goes : first_of (rows_of (learnt (file 1) (attr 1 20) 1 full).entries) ≡ row (0 ∷ 1 ∷ 9 ∷ []) 10 0 3000 ∷ []
-first_goes = refl
+-- the file of number 1,023 stood last
+last_goes : rows_of (drop 1023 (learnt (file 1) (attr 1 20) 1 full).entries) ≡ row (3 ∷ 254 ∷ 9 ∷ []) 10 0 3000 ∷ []
+last_goes = refl
 
-new_goes_last : rows_of (drop 1023 (learnt (file 1) (attr 1 20) 1 full).entries) ≡ row (file 1) 20 1 3000 ∷ []
-new_goes_last = refl
+new_goes_first : first_of (rows_of (learnt (file 1) (attr 1 20) 1 full).entries) ≡ row (file 1) 20 1 3000 ∷ []
+new_goes_first = refl
 
--- one that is learnt again takes no room, and keeps its place
-known_stays : first_of (rows_of (learnt (0 ∷ 0 ∷ 9 ∷ []) (attr 1 20) 1 full).entries) ≡ row (0 ∷ 0 ∷ 9 ∷ []) 20 1 3000 ∷ []
-known_stays = refl
+-- one that is learnt again takes no room, and none goes for it
+known_goes_first : first_of (rows_of (learnt (3 ∷ 255 ∷ 9 ∷ []) (attr 1 20) 1 full).entries) ≡ row (3 ∷ 255 ∷ 9 ∷ []) 20 1 3000 ∷ []
+known_goes_first = refl
+
+others_stay : rows_of (drop 1023 (learnt (3 ∷ 255 ∷ 9 ∷ []) (attr 1 20) 1 full).entries) ≡ row (3 ∷ 254 ∷ 9 ∷ []) 10 0 3000 ∷ []
+others_stay = refl

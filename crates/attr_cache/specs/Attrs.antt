@@ -1,14 +1,13 @@
 -- Attributes that are believed for a while (nfs(5), acregmin to acdirmax), by file handle. Moments and lifetimes are milliseconds.
-use Rattle.std.specs.Prelude.{ℕ, ◌+◌, ◌*◌, ◌-◌, Bool, ◌==◌, nat_eq, nat_lt, min, if◌then◌else◌, List, [], length, drop, Option, Some, None, option_and_then}
+use Rattle.std.specs.Prelude.{ℕ, ◌+◌, ◌*◌, Bool, ◌==◌, nat_eq, nat_lt, min, if◌then◌else◌, List, [], ◌∷◌, take, Option, Some, None, option_and_then}
 use Rattle.std.specs.Cmp.Lexicographic.{pointwise}
 use Rattle.std.specs.Map.{lookup, remove_entry}
-use Rattle.indexmap.specs.IndexMap.{insert_entry}
 use Rattle.nfs_types.specs.declared.attr.Attr.{Attr}
 use Rattle.nfs_types.specs.Stamps.{same_stamp, stamp_of}
 use Rattle.attr_cache.specs.declared.lives.Lives.{Lives}
 use Rattle.attr_cache.specs.declared.kept.KeptAttr.{KeptAttr}
 
--- the files that are known, the one that was learnt first in front, and the bounds of the lifetimes
+-- the files that are known, the one that was learnt last in front, and the bounds of the lifetimes
 pub record Attrs : Type 0 where
   pub entries : List (List ℕ × KeptAttr)
   pub lives : Lives
@@ -50,14 +49,12 @@ abbrev pub next_lifetime : Lives → KeptAttr → Attr → ℕ → ℕ
 next_lifetime lives kept attr sent_at =
     if has_stamp attr kept then (if is_fresh sent_at kept then kept.lifetime else min (kept.lifetime * 2) (longest lives attr)) else shortest lives attr
 
--- the last 1,024 entries
-abbrev pub newest : List (List ℕ × KeptAttr) → List (List ℕ × KeptAttr)
-newest entries = drop (length entries - 1024) entries
+-- what is kept of a file goes to the front, in place of what was kept of it before, and at most 1,024 entries stay
+abbrev pub fronted : List ℕ → KeptAttr → List (List ℕ × KeptAttr) → List (List ℕ × KeptAttr)
+fronted file kept entries = take 1024 ((file, kept) ∷ remove_entry (pointwise nat_eq file) entries)
 
--- a file that is known keeps its place, another one goes last, and the first one is dropped where there are too many
 abbrev pub noted : List ℕ → Attr → ℕ → ℕ → Attrs → Attrs
-noted file attr sent_at lifetime c =
-    record c { entries = newest (insert_entry (pointwise nat_eq) c.entries file (record { attr = attr; sent_at = sent_at; lifetime = lifetime })) }
+noted file attr sent_at lifetime c = record c { entries = fronted file (record { attr = attr; sent_at = sent_at; lifetime = lifetime }) c.entries }
 
 -- after attributes were learnt over what was kept of the file; those of an earlier call than the kept ones change nothing
 abbrev pub learnt_over : Option KeptAttr → List ℕ → Attr → ℕ → Attrs → Attrs

@@ -1,1 +1,2 @@
 pub mod Attrs
+pub mod Tables

@@ -1,5 +1,5 @@
 //! Kept attributes: what a server told of a file's attributes is believed for a while (nfs(5), acregmin to acdirmax).
-//! A contract sees a cache as its entries, the file that was learnt first in front, and its lifetimes.
+//! A contract sees a cache as its entries, the file that was learnt last in front, and its lifetimes.
 #![tactic(auto)]
 
 mod cache;

@@ -62,7 +62,7 @@ fn put_many(rt: &impl Print, calls: &mut Calls<u32>, count: u64) -> io::Result<(
 
 fn send(rt: &impl Print, alloc: Global, calls: &mut Calls<u32>) -> io::Result<()> {
     match calls.next_send() {
-        Some(record) => show_bytes(rt, alloc, record),
+        Some(record) => show_bytes(rt, alloc, record.bytes()),
         None => println!(rt; "= none"),
     }
 }

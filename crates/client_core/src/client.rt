@@ -16,7 +16,7 @@ use page_cache::PageCache;
 use std::alloc::Global;
 use std::marker::Model;
 use world_model::Answer;
-use xdr_codec::Memory;
+use xdr_codec::{Memory, Record};
 
 /// Sixteen lanes, each with one operation under way, over one shelf and one table of calls.
 #[derive(Drop)]
@@ -71,7 +71,7 @@ impl Core {
     }
 
     /// The record that is sent next; none in a lost session.
-    pub fn next_send(&mut self) -> Option<&[u8]>
+    pub fn next_send(&mut self) -> Option<&Record>
         ensures* ends { sem 𝓛 (ends_as self.entry (SendsBy self.old (option_map (λ b. b.now) result))) }
     {
         self.work.next_send()

@@ -37,11 +37,11 @@ use nfs_file_calls::{file_proc, write_file_call};
 use nfs_types::NFS_PROGRAM;
 use op_machines::{Machine, resting_is_still};
 use page_cache::PageCache;
-use rpc_retry::{AfterFailure, Calls, Taken};
+use rpc_retry::{AfterFailure, Calls};
 use std::alloc::Global;
 use std::marker::Model;
 use world_model::{Answer, Call, Fault};
-use xdr_codec::{Blob, Memory, Writer};
+use xdr_codec::{Memory, Record, Writer};
 
 /// Lanes in order of beginning, their shelf and their calls. Between the step of an operation and the call that it asks
 /// for, what the next step needs doesn't hold yet; so it is no part of this type.
@@ -119,7 +119,7 @@ impl Work {
     }
 
     /// The record that is sent next; none in a lost session.
-    pub(crate) fn next_send(&mut self) -> Option<&[u8]>
+    pub(crate) fn next_send(&mut self) -> Option<&Record>
         ensures* ends { sem 𝓛 (ends_as self.entry (SendsBy self.old (option_map (λ b. b.now) result))) }
     {
         if self.lost {
@@ -381,9 +381,7 @@ impl Work {
         ensures sound { IsSound self.new }
     {
         self.calls.is_sound();
-        let Taken::Took { purpose, .. } = self.calls.take(rec) else {
-            return None;
-        };
+        let (_xid, purpose) = self.calls.take_purpose(rec)?;
         self.moments += 1;
         Some(purpose)
     }
@@ -482,17 +480,17 @@ impl Work {
     }
 
     /// The record of a call of this procedure under the next xid. Its arguments are written behind its head, and not copied.
-    fn spell(&self, proc: u32, call: &Call) -> Result<Blob, Memory>
+    fn spell(&self, proc: u32, call: &Call) -> Result<Record, Memory>
         requires { IsSpellable call.now }
         ensures { IfOk result (SpellsCall self.now proc call.now) }
     {
         let mut writer = self.calls.begin(NFS_PROGRAM, proc)?;
         write_arguments(&mut writer, call)?;
-        Ok(writer.finish())
+        writer.finish_record(self.alloc)
     }
 
     /// The call of a record waits for a purpose.
-    fn put(&mut self, purpose: Purpose, bytes: Blob) -> Result<(), Fault>
+    fn put(&mut self, purpose: Purpose, bytes: Record) -> Result<(), Fault>
         requires bound { IsBound self.old }
         requires may { check_of self.old.calls ≡ Ok tt }
         requires spelled { IsRecord self.old.calls.cred (next_xid self.old.calls) bytes }

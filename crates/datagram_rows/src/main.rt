@@ -18,7 +18,7 @@ mod text;
 
 use crate::case::{Case, datagrams, empty, takes};
 use crate::show::{show_answer, show_bytes, show_calls};
-use crate::text::{bytes_of, port_of, spread};
+use crate::text::{port_of, record_of, spread};
 use outside::{Link, MemDatagrams, Received};
 use std::alloc::Global;
 use std::io;
@@ -35,8 +35,8 @@ fn call(
 ) -> io::Result<()> {
     match word {
         "dial" => show_answer(rt, link.dial(port_of(rest))),
-        "send" => match bytes_of(alloc, rest) {
-            Ok(record) => show_answer(rt, link.send(record.as_slice())),
+        "send" => match record_of(alloc, rest) {
+            Ok(record) => show_answer(rt, link.send(&record)),
             Err(_) => println!(rt; "  out of memory"),
         },
         "note" => match link.note(Mark::Clock { ms: 4 }) {

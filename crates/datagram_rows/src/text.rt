@@ -1,6 +1,7 @@
 //! Texts of lines.
 
 use std::alloc::{AllocError, Global};
+use xdr_codec::{Memory, Record};
 
 /// A line with `[N*TEXT]` as so many copies of the text.
 pub fn spread(alloc: Global, line: &str) -> Result<String, AllocError> {
@@ -32,6 +33,11 @@ pub fn bytes_of(alloc: Global, text: &str) -> Result<Vec<u8>, AllocError> {
         digits.push_str(part)?;
     }
     Ok(hex::decode(alloc, digits.as_str()).unwrap_or(Vec::new(alloc)))
+}
+
+/// The record of hex digits, with blanks between them.
+pub fn record_of(alloc: Global, text: &str) -> Result<Record, Memory> {
+    Record::copy(alloc, bytes_of(alloc, text)?.as_slice())
 }
 
 /// The number of decimal digits; 0 where they aren't of a number below 2^32.

@@ -14,6 +14,7 @@ use nfs_types::NFS_PROGRAM;
 use outside::{Link, LinkFault, Received};
 use portmap_calls::{PORTMAP_PROGRAM, read_mapping};
 use rpc_message::read_call;
+use xdr_codec::Record;
 
 impl Serving {
     /// Answers what comes over a link until it fails or is silent, which is None; or how serving ends. After the last port that
@@ -71,7 +72,19 @@ impl Serving {
         ensures served { result ≡ Stop Served → self.new.calls ≡ 0 }
         ensures lost { result ≡ Stop Lost → self.new.strays ≡ 0 }
     {
-        match link.send(reply) {
+        match Record::copy(self.alloc, reply) {
+            Ok(record) => self.send_record(link, &record),
+            Err(_) => Next::Stop(End::Memory),
+        }
+    }
+
+    /// Sends the record of a reply, and counts the call.
+    fn send_record<L: Link>(&mut self, link: &mut L, record: &Record) -> Next
+        ensures sends { Does (L.told link.old) (L.told link.new) (Sends record.now result self.old self.new) }
+        ensures served { result ≡ Stop Served → self.new.calls ≡ 0 }
+        ensures lost { result ≡ Stop Lost → self.new.strays ≡ 0 }
+    {
+        match link.send(record) {
             Ok(()) => self.count_call(),
             Err(LinkFault::Failed) => Next::Close,
             Err(LinkFault::Memory) => Next::Stop(End::Memory),

@@ -30,10 +30,6 @@ none-left halts.Memory = omega arith
 -- ---- one line
 
 module _ (label : List ℕ) (script : List ScriptLine) (at : ℕ) (l : ScriptLine) (there : slice_get script at ≡ Some l) where
-  -- it wasn't begun
-  pub line-kept : (h : List Entry) → LosesLine label script at (Err halts.Memory) [] [] h h
-  line-kept h = (l, there, ([], sym (append-nil h), nothing refl, record { last = []; clocked = refl; left = none-left halts.Memory; shown = all_told refl }))
-
   line-noted : (e : Memory) (ms : ℕ) (h k : List Entry) → NotesBeginning l.lane l.line l.op ms (Err e) h k → LosesLine label script at (Err halts.Memory) (ms ∷ []) [] h k
   line-noted e ms h k (inl is) = (l, there, ([], is ∙ sym (append-nil h), nothing refl, record { last = ms ∷ []; clocked = refl; left = omega arith; shown = all_told refl }))
   line-noted e ms h k (inr is) = (l, there, (Clock ms ∷ [], is, timed ms refl, record { last = []; clocked = refl; left = none-left halts.Memory; shown = all_told refl }))

@@ -17,21 +17,38 @@ use std::alloc::Global;
 use world_model::{Answer, Mark, Op, Tally};
 use xdr_codec::{Blob, Memory, Writer};
 
-/// Notes the time, and right after it that a line begins: the time.
+/// Notes the time, and right after it that a line begins: the time. The operation is copied only if the link tells its history.
 pub fn note_beginning<L: Link, C: Clock>(
+    alloc: Global,
     lane: u8,
     line: u32,
-    op: Op,
+    op: &Op,
     link: &mut L,
     clock: &mut C,
 ) -> Result<u64, Memory>
     ensures goes { ReadsOnce (C.readings clock.old) (C.readings clock.new) (λ ms.
-        Relates (L.told link.old) (L.told link.new) (NotesBeginning lane line op ms result)) }
+        Relates (L.told link.old) (L.told link.new) (NotesBeginning lane line op.now ms result)) }
     ensures reading { IfOk result (ReadsClock (C.readings clock.old) (C.readings clock.new)) }
     ensures stays { (first : L) → L.stays first link.old → L.stays first link.new }
     ensures honest { L.honest link.old → L.honest link.new }
 {
     let ms = clock.now();
+    if !link.tells() {
+        return Ok(ms);
+    }
+    match op.copy(alloc) {
+        Ok(op) => note_at(ms, lane, line, op, link),
+        Err(_) => Err(Memory),
+    }
+}
+
+/// Notes this time, and right after it that a line begins.
+fn note_at<L: Link>(ms: u64, lane: u8, line: u32, op: Op, link: &mut L) -> Result<u64, Memory>
+    ensures goes { Relates (L.told link.old) (L.told link.new) (NotesBeginning lane line op ms result) }
+    ensures is { IfOk result (λ now. now ≡ ms) }
+    ensures stays { (first : L) → L.stays first link.old → L.stays first link.new }
+    ensures honest { L.honest link.old → L.honest link.new }
+{
     match link.note(Mark::Clock { ms }) {
         Ok(()) => {}
         Err(wanting) => return Err(wanting),

@@ -111,10 +111,7 @@ fn lose_line<L: Link, C: Clock, K: Sink>(
     ensures cause { CausedBy result (Rose (K.faults out.old) (K.faults out.new)) }
 {
     let (lane, line, op) = script.op(at);
-    let Ok(op) = op.copy(alloc) else {
-        return Err(Halt::Memory);
-    };
-    match note_beginning(lane, line, op, link, clock) {
+    match note_beginning(alloc, lane, line, op, link, clock) {
         Ok(_) => tell_answer(
             alloc,
             lane,

@@ -435,10 +435,7 @@ impl Session {
         let Ok(machine) = self.machine(lane, op) else {
             return Err(Memory);
         };
-        let Ok(noted) = op.copy(self.alloc) else {
-            return Err(Memory);
-        };
-        match note_beginning(lane, line, noted, link, clock) {
+        match note_beginning(self.alloc, lane, line, op, link, clock) {
             Ok(now) => {
                 self.core.begin(lane, machine, now);
                 Ok(())
@@ -522,7 +519,7 @@ impl Session {
         let Some(rec) = self.core.next_send() else {
             return Ok(Sending::Nothing);
         };
-        self.counts.count(rec);
+        self.counts.count(rec.bytes());
         match link.send(rec) {
             Ok(()) => Ok(Sending::Went),
             Err(LinkFault::Failed) => {

@@ -25,7 +25,7 @@ use std::alloc::Global;
 use std::io;
 use world_link::ScheduleFault;
 use write_back::WriteBack;
-use xdr_codec::{Memory, Reader, Writer};
+use xdr_codec::{Memory, Reader, Record, Writer};
 
 /// An entry that is written and read again.
 fn show_entry(rt: &impl Print, alloc: Global) -> io::Result<()> {
@@ -97,9 +97,12 @@ fn show_exchange(rt: &impl Print, alloc: Global) -> io::Result<()> {
     let Ok(wire) = wire_of_one(alloc) else {
         return println!(rt; "out of memory");
     };
+    let Ok(record) = Record::copy(alloc, &[7]) else {
+        return println!(rt; "out of memory");
+    };
     let mut link = StreamLink::new(alloc, wire);
     let mut reply = Vec::new(alloc);
-    match exchange(&mut link, &[7], &mut reply) {
+    match exchange(&mut link, &record, &mut reply) {
         Received::Whole => println!(rt; "a record of {} bytes", reply.len()),
         _ => println!(rt; "no record"),
     }

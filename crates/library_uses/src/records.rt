@@ -7,6 +7,7 @@ ghost use Rattle.rpc_record.specs.Shown.{line_of};
 
 use outside::{Link, LinkFault, Received, Wire};
 use rpc_record::StreamLink;
+use xdr_codec::Record;
 
 /// How long a reply is waited for at most, in milliseconds.
 const WAIT_MS: u32 = 15_000;
@@ -16,7 +17,7 @@ const WAIT_MS: u32 = 15_000;
 #[tactic(auto, using(crate::proofs::Causes::cause_since))]
 pub fn exchange<W: Wire + Drop>(
     link: &mut StreamLink<W>,
-    record: &[u8],
+    record: &Record,
     reply: &mut Vec<u8>,
 ) -> Received
     ensures honest { HonestOver W.told W.honest (line_of link.old) → HonestOver W.told W.honest (line_of link.new) }

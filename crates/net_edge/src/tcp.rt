@@ -172,6 +172,10 @@ impl<R: Net + Clock> Wire for TcpWire<'_, R> {
         }
     }
 
+    fn tells(&self) -> bool {
+        false
+    }
+
     /// Keeps nothing.
     fn note(&mut self, mark: Mark) -> Result<(), Memory>
         ensures told { WireNotes None None (marked_as mark result) }

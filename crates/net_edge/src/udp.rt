@@ -162,6 +162,10 @@ impl<R: Net + Clock + AllocGlobal> Datagrams for UdpDatagrams<'_, R> {
         self.counted(arrived)
     }
 
+    fn tells(&self) -> bool {
+        false
+    }
+
     /// Keeps nothing.
     fn note(&mut self, mark: Mark) -> Result<(), Memory>
         ensures told { DatagramsNote None None (remarked_as mark result) }

@@ -1,6 +1,6 @@
 //! Datagrams to the server and back, each of them whole.
 
-ghost use Rattle.std.specs.Prelude.{◌≡◌, ◌≤◌, [], ℕ, List, Option};
+ghost use Rattle.std.specs.Prelude.{◌≡◌, ◌≤◌, [], ℕ, List, Option, None};
 ghost use Rattle.std.specs.Bool.{OnTrue, OnFalse};
 ghost use Rattle.outside.specs.Causes.{HasCause};
 ghost use Rattle.outside.specs.Datagrams.{DatagramsTold, DatagramsTell, DatagramsNote, AreLawful, HasCauseArrived, aimed_as, datagram_as, arrived_as, remarked_as};
@@ -78,6 +78,10 @@ pub trait Datagrams {
         ensures placed { placed self.new ≡ placed self.old }
         ensures honest { honest self.old → honest self.new }
         ensures cause { HasCauseArrived (faults self.old) (faults self.new) result };
+
+    /// Whether they tell their calls. Those that don't keep no marks.
+    fn tells(&self) -> bool
+        ensures { OnFalse result (told self.now ≡ None) };
 
     /// Notes a mark among the calls, and nothing else.
     fn note(&mut self, mark: Mark) -> Result<(), Memory>

@@ -6,7 +6,7 @@ use crate::link::{Link, LinkFault, Received};
 use std::alloc::Global;
 use std::marker::Model;
 use world_model::{Entry, Mark};
-use xdr_codec::{Blob, Memory};
+use xdr_codec::{Blob, Memory, Record};
 
 /// A link that hands out given records, one at each wait, and is silent exactly after the last. It never fails, and
 /// tells its history, with a server that has no objects. It isn't honest.
@@ -86,13 +86,13 @@ impl Link for HostileLink {
         Ok(())
     }
 
-    fn send(&mut self, rec: &[u8]) -> Result<(), LinkFault>
+    fn send(&mut self, rec: &Record) -> Result<(), LinkFault>
         ensures told { Tells (Some (history self.old.entries)) (Some (history self.new.entries)) (sent_as rec.now result) }
         ensures cause { HasCause self.old.faults self.new.faults result }
         ensures never { NeverFails result }
         ensures given { HandsOutNone self.old self.new }
     {
-        let Ok(bytes) = Blob::copy(self.alloc, rec) else {
+        let Ok(bytes) = rec.share(self.alloc) else {
             return Err(LinkFault::Memory);
         };
         if self.entries.push(Entry::Sent { bytes }).is_err() {
@@ -126,6 +126,10 @@ impl Link for HostileLink {
         }
         self.next += 1;
         Received::Whole
+    }
+
+    fn tells(&self) -> bool {
+        true
     }
 
     fn note(&mut self, mark: Mark) -> Result<(), Memory>

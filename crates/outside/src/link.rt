@@ -1,13 +1,14 @@
 //! The way to the server, by what happened on it.
 
-ghost use Rattle.std.specs.Prelude.{◌≤◌, ℕ, Option};
+ghost use Rattle.std.specs.Prelude.{◌≡◌, ◌≤◌, ℕ, Option, None};
+ghost use Rattle.std.specs.Bool.{OnFalse};
 ghost use Rattle.world_model.specs.History.{History};
 ghost use Rattle.world_model.specs.Told.{Tells, IsLawful};
 ghost use Rattle.outside.specs.Causes.{HasCause, HasCauseReceived};
 ghost use Rattle.outside.specs.Link.{NotesOnly, dialed_as, sent_as, received_as, noted_as};
 
 use world_model::Mark;
-use xdr_codec::Memory;
+use xdr_codec::{Memory, Record};
 
 /// Why the outside did not do what it was asked.
 #[derive(Clone, Copy, Debug, PartialEq, Eq)]
@@ -54,7 +55,7 @@ pub trait Link {
         ensures cause { HasCause (faults self.old) (faults self.new) result };
 
     /// Sends a record. When out of memory nothing was sent.
-    fn send(&mut self, rec: &[u8]) -> Result<(), LinkFault>
+    fn send(&mut self, rec: &Record) -> Result<(), LinkFault>
         ensures told { Tells (told self.old) (told self.new) (sent_as rec.now result) }
         ensures stays { (first : Self) → stays first self.old → stays first self.new }
         ensures honest { honest self.old → honest self.new }
@@ -67,6 +68,10 @@ pub trait Link {
         ensures stays { (first : Self) → stays first self.old → stays first self.new }
         ensures honest { honest self.old → honest self.new }
         ensures cause { HasCauseReceived (faults self.old) (faults self.new) result };
+
+    /// Whether it tells its history. One that doesn't keeps no marks.
+    fn tells(&self) -> bool
+        ensures { OnFalse result (told self.now ≡ None) };
 
     /// Notes a mark in the history, and nothing else. When out of memory nothing was noted.
     fn note(&mut self, mark: Mark) -> Result<(), Memory>

@@ -204,6 +204,10 @@ impl Datagrams for MemDatagrams {
         Arrived::From(port)
     }
 
+    fn tells(&self) -> bool {
+        true
+    }
+
     #[tactic(auto, using(crate::proofs::Arrivals::notes_itself))]
     fn note(&mut self, mark: Mark) -> Result<(), Memory>
         ensures told { DatagramsNote (Some (of_memory self.old.told)) (Some (of_memory self.new.told)) (remarked_as mark result) }

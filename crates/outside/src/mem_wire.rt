@@ -204,6 +204,10 @@ impl Wire for MemWire {
         WireRead::Got(count)
     }
 
+    fn tells(&self) -> bool {
+        true
+    }
+
     #[tactic(auto, using(crate::proofs::Pieces::notes_alone))]
     fn note(&mut self, mark: Mark) -> Result<(), Memory>
         ensures told { WireNotes (Some (in_memory self.old.told)) (Some (in_memory self.new.told)) (marked_as mark result) }

@@ -1,6 +1,6 @@
 //! Bytes to the server and back, in pieces that may be cut anywhere.
 
-ghost use Rattle.std.specs.Prelude.{◌≡◌, ◌≤◌, ◌<◌, [], ℕ, List, Option, length, IfOk};
+ghost use Rattle.std.specs.Prelude.{◌≡◌, ◌≤◌, ◌<◌, [], ℕ, List, Option, None, length, IfOk};
 ghost use Rattle.std.specs.Bool.{OnTrue, OnFalse};
 ghost use Rattle.outside.specs.Causes.{HasCause};
 ghost use Rattle.outside.specs.Sink.{TakesSome};
@@ -82,6 +82,10 @@ pub trait Wire {
         ensures placed { placed self.new ≡ placed self.old }
         ensures honest { honest self.old → honest self.new }
         ensures cause { HasCauseRead (faults self.old) (faults self.new) result };
+
+    /// Whether it tells its calls. One that doesn't keeps no marks.
+    fn tells(&self) -> bool
+        ensures { OnFalse result (told self.now ≡ None) };
 
     /// Notes a mark among the calls, and nothing else.
     fn note(&mut self, mark: Mark) -> Result<(), Memory>

@@ -5,7 +5,7 @@ ghost use Rattle.std.specs.Prelude.{◌≡◌, ◌<◌, ◌≤◌};
 use crate::side::Side;
 use outside::{Link, LinkFault, PairLink, Received};
 use world_model::Mark;
-use xdr_codec::Memory;
+use xdr_codec::{Memory, Record};
 
 /// One end of a link, lent for a while.
 #[derive(Drop)]
@@ -35,12 +35,16 @@ impl<P: PairLink> Link for End<'_, P> {
         self.link.dial(self.side.number(), port)
     }
 
-    fn send(&mut self, rec: &[u8]) -> Result<(), LinkFault> {
+    fn send(&mut self, rec: &Record) -> Result<(), LinkFault> {
         self.link.send(self.side.number(), rec)
     }
 
     fn receive(&mut self, wait_ms: u32, rec: &mut Vec<u8>) -> Received {
         self.link.receive(self.side.number(), wait_ms, rec)
+    }
+
+    fn tells(&self) -> bool {
+        self.link.tells()
     }
 
     fn note(&mut self, mark: Mark) -> Result<(), Memory> {

@@ -12,7 +12,7 @@ mod text;
 ghost use Rattle.std.specs.Prelude.{◌<◌};
 
 use crate::show::{show_answer, show_begun, show_bytes};
-use crate::text::{bytes_of, port_of};
+use crate::text::{port_of, record_of};
 use outside::{PairLink, Received};
 use std::alloc::{AllocError, Global};
 use std::io;
@@ -37,8 +37,8 @@ fn call(
     let (word, rest) = rest.split_once(' ').unwrap_or((rest, ""));
     match word {
         "dial" => show_answer(rt, world.dial(end, port_of(rest))),
-        "send" => match bytes_of(alloc, rest) {
-            Ok(record) => show_answer(rt, world.send(end, record.as_slice())),
+        "send" => match record_of(alloc, rest) {
+            Ok(record) => show_answer(rt, world.send(end, &record)),
             Err(_) => println!(rt; "  out of memory"),
         },
         "note" => match world.note(end, Mark::Clock { ms: 4 }) {

@@ -8,7 +8,7 @@ use limits::{CONNECTS, STRAY_RECORDS, WAIT_MS};
 use outside::{Link, LinkFault, Received};
 use rpc_message::xid_of;
 use std::alloc::Global;
-use xdr_codec::Blob;
+use xdr_codec::{Blob, Record};
 
 /// So often is a call sent again, at most.
 const MOST_RETRIES: u32 = 3;
@@ -37,7 +37,7 @@ pub fn exchange<L: Link>(
     link: &mut L,
     port: u16,
     xid: u32,
-    call: &[u8],
+    call: &Record,
 ) -> Result<Blob, Halt>
     ensures does { Does (L.told link.old) (L.told link.new) (L.faults link.old) (L.faults link.new) (Exchanges port xid call.now result) }
     ensures stays { (first : L) → L.stays first link.old → L.stays first link.new }
@@ -66,7 +66,7 @@ fn retry<L: Link>(
     link: &mut L,
     port: u16,
     xid: u32,
-    call: &[u8],
+    call: &Record,
 ) -> Result<Option<Blob>, Halt>
     ensures does { Does (L.told link.old) (L.told link.new) (L.faults link.old) (L.faults link.new) (Tries port xid call.now result) }
     ensures stays { (first : L) → L.stays first link.old → L.stays first link.new }
@@ -85,7 +85,7 @@ fn retry<L: Link>(
 }
 
 /// One attempt: the record goes out, and the one under its xid is waited for.
-fn attempt<L: Link>(alloc: Global, link: &mut L, xid: u32, call: &[u8]) -> Result<Blob, Miss>
+fn attempt<L: Link>(alloc: Global, link: &mut L, xid: u32, call: &Record) -> Result<Blob, Miss>
     ensures does { Does (L.told link.old) (L.told link.new) (L.faults link.old) (L.faults link.new) (Attempts xid call.now result) }
     ensures stays { (first : L) → L.stays first link.old → L.stays first link.new }
     ensures honest { L.honest link.old → L.honest link.new }

@@ -91,7 +91,7 @@ fn ask<L: Link>(
     let Ok(call) = get_port_call(alloc, xid, &wanted) else {
         return Err(PortFault::Memory);
     };
-    let reply = match exchange(alloc, link, port, xid, call.bytes()) {
+    let reply = match exchange(alloc, link, port, xid, &call) {
         Ok(reply) => reply,
         Err(halt) => return Err(fault_of(halt)),
     };

@@ -12,7 +12,7 @@ ghost use Rattle.portmap_calls.specs.Ports.{get_port_head};
 use crate::mapping::{Mapping, write_mapping};
 use rpc_message::{CallHead, Cred, write_call};
 use std::alloc::Global;
-use xdr_codec::{Blob, Memory, Reader, Writer, XdrFault};
+use xdr_codec::{Memory, Reader, Record, Writer, XdrFault};
 
 /// The number of the port mapper's program (RFC 1833, section 3).
 pub const PORTMAP_PROGRAM: u32 = 100_000;
@@ -23,11 +23,15 @@ pub const PORTMAP_VERSION: u32 = 2;
 /// The procedure that asks for a port (RFC 1833, section 3.2).
 pub const GETPORT: u32 = 3;
 
+/// The bytes of the record of such a call: ten words of its head, and four of what it asks for.
+const ROOM: usize = 56;
+
 /// The record of a call of GETPORT under an xid, with AUTH_NONE.
-pub fn get_port_call(alloc: Global, xid: u32, wanted: &Mapping) -> Result<Blob, Memory>
-    ensures { IfOk result (λ b. b ≡ call_head_bytes (get_port_head xid) creds.None ++ mapping_bytes wanted.now) }
+#[tactic(auto, using(xdr_codec::proofs::Written::finished))]
+pub fn get_port_call(alloc: Global, xid: u32, wanted: &Mapping) -> Result<Record, Memory>
+    ensures { IfOk result (λ r. r ≡ call_head_bytes (get_port_head xid) creds.None ++ mapping_bytes wanted.now) }
 {
-    let mut w = Writer::new(alloc);
+    let mut w = Writer::record(alloc, ROOM)?;
     let head = CallHead {
         xid,
         prog: PORTMAP_PROGRAM,
@@ -36,7 +40,7 @@ pub fn get_port_call(alloc: Global, xid: u32, wanted: &Mapping) -> Result<Blob, 
     };
     write_call(&mut w, &head, &Cred::None)?;
     write_mapping(&mut w, wanted)?;
-    Ok(w.finish())
+    w.finish_record(alloc)
 }
 
 /// Reads the port from all of the results of a GETPORT; 0 is one where none is registered.

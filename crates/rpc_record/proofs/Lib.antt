@@ -10,3 +10,4 @@ pub mod LawfulAlong
 pub mod SplitRecords
 pub mod LinkMirrorsWire
 pub mod LineStaysHonest
+pub mod Untold

@@ -150,8 +150,3 @@ fine_sends old new rec result fine wire own phase wrote because = record {
   wrote = rw fine wrote;
   because = rw fine because;
 }
-
--- nothing was tried
-pub nothing_sent : {T : Type 0} (old : Shown) (rec : List ℕ) → old.sending ≡ sendings.Fine → Sends {T = T} old old rec (Err faults.Memory)
-nothing_sent {T = T} old rec fine = fine_sends old old rec (Err faults.Memory) fine (omega arith) refl refl
-    (goes_as old.now old.now (WroteMore []) (Writes {T = T} rec (Err faults.Memory) old.sending) (λ s t e. record { at = 0; part = fragment_some rec; went = e; leaves = fine }) (wrote_nothing old.now)) tt

@@ -7,6 +7,7 @@ use Rattle.byteorder.specs.Endian.{big_number, big_bytes}
 use Rattle.byteorder.specs.Numbers.{big_number-reads_back}
 use Rattle.std.proofs.Math.Seq.{take-nil}
 use Rattle.outside.specs.Records.{◌>>=◌, joined, record_at, left, nth_record}
+use Rattle.xdr_codec.specs.Marks.{marked}
 use Rattle.rpc_record.specs.Records.{one_fragment}
 use Rattle.rpc_record.specs.Limits.{Found, Cut, Long, Whole, found, found_at, body, opened}
 use Rattle.rpc_record.proofs.Replays.{bind_some}
@@ -119,7 +120,7 @@ unfolding found_at record_at
 found_is b rec rest e = found_joined 4096 (length b) [] b rec rest (omega arith) e
 
 pub fragment_record : (rec : List ℕ) → length rec < 2 ^ 31 → record_at (one_fragment rec) ≡ Some (rec, [])
-unfolding record_at one_fragment
+unfolding record_at marked
 fragment_record rec fits =
     let b : List ℕ = big_bytes 4 (2 ^ 31 + length rec) ++ rec in
     let big : big_number 4 b ≡ 2 ^ 31 + length rec = big_number-reads_back 4 (2 ^ 31 + length rec) rec (omega (arith, fits)) in
@@ -127,17 +128,8 @@ fragment_record rec fits =
     joined_last (length b) [] b (omega arith) (omega arith) (rw len (omega arith)) (rw big (omega arith)) ∙ rw (len, take_all (length rec) rec (omega arith), drop_all (length rec) rec (omega arith)) refl
 
 pub fragment_some : (rec : List ℕ) → 0 < length (one_fragment rec)
-unfolding one_fragment
+unfolding marked
 fragment_some rec = omega arith
-
--- its header, and the record behind it
-pub fragment_header : (rec : List ℕ) → 4 ≤ length (one_fragment rec)
-unfolding one_fragment
-fragment_header rec = omega arith
-
-pub fragment_rest : (rec : List ℕ) → drop 4 (one_fragment rec) ≡ rec
-unfolding one_fragment
-fragment_rest rec = refl
 
 pub last_part : (text rec : List ℕ) (at n : ℕ) → text ≡ one_fragment rec → length rec < 2 ^ 31 → n ≡ length (drop at text) → record_at (take at text ++ take n (drop at text)) ≡ Some (rec, [])
 last_part text rec at n e fits is =

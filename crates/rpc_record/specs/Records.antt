@@ -1,6 +1,6 @@
 -- A record as one fragment of a stream of bytes. (RFC 5531 section 11)
-use Rattle.std.specs.Prelude.{ℕ, ◌+◌, ◌^◌, List, ◌++◌, length}
-use Rattle.byteorder.specs.Endian.{big_bytes}
+use Rattle.std.specs.Prelude.{ℕ, List}
+use Rattle.xdr_codec.specs.Marks.{marked}
 
-unfoldable pub one_fragment : List ℕ → List ℕ
-one_fragment rec = big_bytes 4 (2 ^ 31 + length rec) ++ rec
+abbrev pub one_fragment : List ℕ → List ℕ
+one_fragment rec = marked rec

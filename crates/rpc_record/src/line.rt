@@ -1,21 +1,20 @@
 //! A wire, with what the link placed behind each of its calls.
 
-ghost use Rattle.std.specs.Prelude.{◌≡◌, ◌<◌, ◌≤◌, length, drop, IfOk, false, true, ◌==◌, if◌then◌else◌};
+ghost use Rattle.std.specs.Prelude.{◌≡◌, ◌<◌, ◌≤◌, length, drop, IfOk, None, false, true, ◌==◌, if◌then◌else◌};
 ghost use Rattle.std.specs.Bool.{OnTrue, OnFalse};
 ghost use Rattle.outside.specs.Causes.{HasCause};
 ghost use Rattle.outside.specs.Sink.{TakesSome};
 ghost use Rattle.outside.specs.Wire.{connected_as, wrote_as, read_as, IfGot, GetsSome, HasCauseRead};
 ghost use Rattle.outside.specs.declared.places.WireAdds.TheVariants as added;
+ghost use Rattle.rpc_record.specs.Records.{one_fragment};
 ghost use Rattle.rpc_record.specs.Honest.{HonestOver, EndsRecord, IsOwn, IsFresh};
 ghost use Rattle.rpc_record.specs.Stream.{Goes, Did, Marked, KeepsNone, places, if_wrote, if_missed, if_dialed, IsBegun, now_in};
 
-use crate::sending::HEADER;
 use outside::{LinkFault, Wire, WireAdds, WirePlace, WireRead};
 use std::alloc::Global;
 use std::marker::Model;
-use std::mem;
 use world_model::Mark;
-use xdr_codec::{Blob, Memory};
+use xdr_codec::{Memory, Record};
 
 /// A wire, with what is placed behind its calls. Each call keeps its place before the wire is called, so that nothing
 /// that happened is left without one for lack of memory. The wire keeps the places; one that doesn't tell its calls has
@@ -45,18 +44,6 @@ fn after_write(n: usize, len: usize) -> WireAdds
     } else {
         WireAdds::Nothing
     }
-}
-
-/// Takes the record out of the text of its fragment, and leaves nothing. It takes no memory.
-fn take_record(alloc: Global, text: &mut Vec<u8>) -> Blob
-    requires { 4 ≤ length text.old.items }
-    ensures { result ≡ drop 4 text.old.items }
-{
-    let mut bytes = mem::replace(text, Vec::new(alloc));
-    let size = bytes.len() - HEADER;
-    bytes.rotate_left(HEADER);
-    bytes.truncate(size);
-    Blob::of(bytes)
 }
 
 impl<W: Wire + Drop> Line<W> {
@@ -126,35 +113,34 @@ impl<W: Wire + Drop> Line<W> {
         got
     }
 
-    /// Writes the text of a fragment from a place on, the last bytes of a record. Where the wire takes them all, the
-    /// record is placed; where it fails, the record is one that was not written whole, and it is taken out of the text.
-    pub(crate) fn write(&mut self, text: &mut Vec<u8>, at: usize) -> Result<usize, LinkFault>
-        requires place { at ≤ length text.old.items }
-        requires header { 4 ≤ length text.old.items }
-        ensures now { Goes (now_in W.told self.old) (now_in W.told self.new) (Did (wrote_as (drop at text.old.items) result) (if_wrote (length (drop at text.old.items)) (drop 4 text.old.items) result)) }
-        ensures honest { EndsRecord (now_in W.told self.old) (drop at text.old.items) → HonestOver W.told W.honest self.old → HonestOver W.told W.honest self.new }
-        ensures takes { IfOk result (TakesSome (drop at text.old.items)) }
-        ensures text { IfOk result (λ n. text.new ≡ text.old) }
+    /// Writes a record behind its mark, from a place on. If the wire takes all that is left, the record is placed. If it
+    /// fails, the record is placed as one that was not written whole.
+    pub(crate) fn write(&mut self, rec: &Record, at: usize) -> Result<usize, LinkFault>
+        requires { at ≤ length (one_fragment rec.now) }
+        ensures now { Goes (now_in W.told self.old) (now_in W.told self.new) (Did (wrote_as (drop at (one_fragment rec.now)) result) (if_wrote (length (drop at (one_fragment rec.now))) rec.now result)) }
+        ensures honest { EndsRecord (now_in W.told self.old) (drop at (one_fragment rec.now)) → HonestOver W.told W.honest self.old → HonestOver W.told W.honest self.new }
+        ensures takes { IfOk result (TakesSome (drop at (one_fragment rec.now))) }
         ensures cause { HasCause self.old.faults self.new.faults result }
     {
         let nothing = WirePlace {
             call: false,
             adds: WireAdds::Nothing,
         };
+        let Ok(bytes) = rec.share(self.alloc) else {
+            return Err(LinkFault::Memory);
+        };
         if !self.wire.keep_place(nothing) {
             return Err(LinkFault::Memory);
         }
-        let (_, bytes) = text.as_slice().split_at(at);
-        match self.wire.write(bytes) {
+        let (_, left) = rec.marked().split_at(at);
+        match self.wire.write(left) {
             Ok(n) => {
-                let adds = after_write(n, bytes.len());
+                let adds = after_write(n, left.len());
                 self.wire.put_place(WirePlace { call: true, adds });
                 Ok(n)
             }
             Err(LinkFault::Failed) => {
-                let adds = WireAdds::Part {
-                    bytes: take_record(self.alloc, text),
-                };
+                let adds = WireAdds::Part { bytes };
                 self.wire.put_place(WirePlace { call: true, adds });
                 Err(LinkFault::Failed)
             }
@@ -188,6 +174,13 @@ impl<W: Wire + Drop> Line<W> {
             }
             Err(LinkFault::Memory) => Err(LinkFault::Memory),
         }
+    }
+
+    /// Whether the wire tells its calls.
+    pub(crate) fn tells(&self) -> bool
+        ensures { OnFalse result (now_in W.told self.now ≡ None) }
+    {
+        self.wire.tells()
     }
 
     /// Notes a mark.

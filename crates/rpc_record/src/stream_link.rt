@@ -13,12 +13,12 @@ ghost use Rattle.rpc_record.specs.Shown.{Waits, Turned, Turns, GoesOn, Sends, le
 use crate::gather::Phase;
 use crate::inbox::Inbox;
 use crate::line::Line;
-use crate::sending::{SendState, framed};
+use crate::sending::SendState;
 use outside::{Link, LinkFault, Received, Wire, WireAdds, WireRead};
 use std::alloc::Global;
 use std::marker::Model;
 use world_model::Mark;
-use xdr_codec::{Blob, Memory};
+use xdr_codec::{Memory, Record};
 
 /// The most turns of a wait: a record within the limits has no more bytes with its headers, and each turn that goes on
 /// brings one at least.
@@ -154,19 +154,17 @@ impl<W: Wire + Drop> StreamLink<W> {
     }
 
     /// Sends a record on a connection on which all before it went out whole or not at all.
-    fn send_fine(&mut self, rec: &[u8]) -> Result<(), LinkFault>
+    fn send_fine(&mut self, rec: &Record) -> Result<(), LinkFault>
         requires { self.old.sending ≡ sendings.Fine }
         ensures told { Tells (told_by W.told self.old) (told_by W.told self.new) (sent_as rec.now result) }
         ensures honest { HonestOver W.told W.honest (line_of self.old) → HonestOver W.told W.honest (line_of self.new) }
         ensures sends { Sends (shown_by W.told self.old) (shown_by W.told self.new) rec.now result }
     {
-        let Ok(mut text) = framed(self.alloc, rec) else {
-            return Err(LinkFault::Memory);
-        };
+        let size = rec.marked().len();
         let mut at = 0;
-        while at < text.len() {
-            let left = text.len() - at;
-            match self.line.write(&mut text, at) {
+        while at < size {
+            let left = size - at;
+            match self.line.write(rec, at) {
                 Ok(n) => {
                     if n == left {
                         return Ok(());
@@ -187,13 +185,13 @@ impl<W: Wire + Drop> StreamLink<W> {
     }
 
     /// Refuses a record on a connection on which another went out in part.
-    fn refuse_send(&mut self, rec: &[u8]) -> Result<(), LinkFault>
+    fn refuse_send(&mut self, rec: &Record) -> Result<(), LinkFault>
         requires { self.old.sending ≡ sendings.Broken }
         ensures told { Tells (told_by W.told self.old) (told_by W.told self.new) (sent_as rec.now result) }
         ensures honest { HonestOver W.told W.honest (line_of self.old) → HonestOver W.told W.honest (line_of self.new) }
         ensures sends { Sends (shown_by W.told self.old) (shown_by W.told self.new) rec.now result }
     {
-        let Ok(bytes) = Blob::copy(self.alloc, rec) else {
+        let Ok(bytes) = rec.share(self.alloc) else {
             return Err(LinkFault::Memory);
         };
         if !self.line.place(WireAdds::Part { bytes }) {
@@ -204,7 +202,7 @@ impl<W: Wire + Drop> StreamLink<W> {
     }
 
     /// Sends a record, as the connection allows.
-    fn send_on(&mut self, rec: &[u8]) -> Result<(), LinkFault>
+    fn send_on(&mut self, rec: &Record) -> Result<(), LinkFault>
         ensures told { Tells (told_by W.told self.old) (told_by W.told self.new) (sent_as rec.now result) }
         ensures honest { HonestOver W.told W.honest (line_of self.old) → HonestOver W.told W.honest (line_of self.new) }
         ensures sends { Sends (shown_by W.told self.old) (shown_by W.told self.new) rec.now result }
@@ -218,6 +216,8 @@ impl<W: Wire + Drop> StreamLink<W> {
 }
 
 impl<W: Wire + Drop> Link for StreamLink<W> {
+    ghost use Rattle.std.specs.Prelude.{None};
+    ghost use Rattle.std.specs.Bool.{OnFalse};
     ghost use Rattle.rpc_record.specs.Shown.{Dials, Hears, Notes};
 
     ghost told = { λ s. told_by W.told s };
@@ -251,7 +251,7 @@ impl<W: Wire + Drop> Link for StreamLink<W> {
         }
     }
 
-    fn send(&mut self, rec: &[u8]) -> Result<(), LinkFault>
+    fn send(&mut self, rec: &Record) -> Result<(), LinkFault>
         ensures told { Tells (told_by W.told self.old) (told_by W.told self.new) (sent_as rec.now result) }
         ensures honest { HonestOver W.told W.honest (line_of self.old) → HonestOver W.told W.honest (line_of self.new) }
         ensures cause { HasCause (self.old.wire + self.old.own) (self.new.wire + self.new.own) result }
@@ -269,6 +269,12 @@ impl<W: Wire + Drop> Link for StreamLink<W> {
         ensures waits { Waits (shown_by W.told self.old) (shown_by W.told self.new) result }
     {
         self.wait(wait_ms, rec)
+    }
+
+    fn tells(&self) -> bool
+        ensures { OnFalse result (told_by W.told self.now ≡ None) }
+    {
+        self.line.tells()
     }
 
     fn note(&mut self, mark: Mark) -> Result<(), Memory>

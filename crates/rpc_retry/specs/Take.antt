@@ -32,6 +32,11 @@ module _ {P : Type 0} where
   Takes calls rec Dropped = awaited (xid_at rec) calls ≡ None
   Takes calls rec (Took xid purpose body) = TakesReply calls rec xid purpose × ReadsBody rec body
 
+  -- the same without what the record is as a reply: the xid, and what the call was made for
+  abbrev pub TakesPurpose : List (ℕ × Waiting P) → List ℕ → Option (ℕ × P) → Type 0
+  TakesPurpose calls rec None = awaited (xid_at rec) calls ≡ None
+  TakesPurpose calls rec (Some took) = TakesReply calls rec took.0 took.1
+
   -- the calls that wait after a record with this first word
   abbrev pub after_taking : Option ℕ → List (ℕ × Waiting P) → List (ℕ × Waiting P)
   after_taking None calls = calls

@@ -1,15 +1,15 @@
 //! The calls that wait, in order of making.
 
-ghost use Rattle.std.specs.Prelude.{◌≡◌, ◌+◌, ◌-◌, ◌≤◌, ◌^◌, length, [], ◌∷◌, ◌++◌, OnOk, OnErr, IfOk, option_map, List, ℕ};
+ghost use Rattle.std.specs.Prelude.{◌≡◌, ◌+◌, ◌-◌, ◌≤◌, ◌^◌, length, [], ◌∷◌, ◌++◌, None, OnOk, OnErr, IfOk, IfSome, IfNone, option_map, List, ℕ};
 ghost use Rattle.std.specs.Borrow.{sem};
 ghost use Rattle.rpc_message.specs.Call.{xid_at, call_head_bytes, SpellsCallHead};
 ghost use Rattle.rpc_retry.specs.Held.{Held, next_xid, KeepsSettings};
 ghost use Rattle.rpc_retry.specs.Sound.{IsRecord, IsSound};
-ghost use Rattle.rpc_retry.specs.Waiting.{made_call, first_due, sent, first_given_up};
+ghost use Rattle.rpc_retry.specs.Waiting.{made_call, first_due, sent, first_given_up, waiting_at};
 ghost use Rattle.rpc_retry.specs.Put.{check_of, AnswersPut, call_head, call_bytes};
-ghost use Rattle.rpc_retry.specs.Take.{Takes, after_taking, IfDropped};
+ghost use Rattle.rpc_retry.specs.Take.{Takes, TakesPurpose, after_taking, IfDropped};
 ghost use Rattle.rpc_retry.specs.Records.{KeepsRecords, IsGone};
-ghost use Rattle.rpc_retry.specs.Runs.{Done, Runs, Story, SentApart, DoesMake, DoesGive, DoesAnswer, DoesFail};
+ghost use Rattle.rpc_retry.specs.Runs.{Done, Runs, Story, SentApart, DoesMake, DoesGive, DoesTake, DoesAnswer, DoesFail};
 ghost use Rattle.rpc_retry.specs.Fail.{answer_after, after_failure, ShowsAttempts};
 
 use crate::answers::{AfterFailure, PutFault, PutRefusal, Taken};
@@ -21,7 +21,7 @@ use nfs_types::PROGRAM_VERSION;
 use rpc_message::{CallHead, Cred, read_reply, write_call, xid_of};
 use std::alloc::Global;
 use std::marker::Model;
-use xdr_codec::{Blob, Memory, Writer};
+use xdr_codec::{Memory, Record, Writer};
 
 /// The bytes of a record for which there is room from the beginning: those of a call without data are fewer, mostly.
 const ROOM: usize = 512;
@@ -151,13 +151,13 @@ impl<P: Drop> Calls<P> {
             vers: PROGRAM_VERSION,
             proc,
         };
-        let mut record = Writer::with_room(self.alloc, ROOM)?;
+        let mut record = Writer::record(self.alloc, ROOM)?;
         write_call(&mut record, &head, &self.cred)?;
         Ok(record)
     }
 
     /// As `put`, of a call whose record is spelled already: it is taken as it is, and not copied.
-    pub fn put_record(&mut self, bytes: Blob, purpose: P) -> Result<u32, PutFault>
+    pub fn put_record(&mut self, bytes: Record, purpose: P) -> Result<u32, PutFault>
         requires spelled { IsRecord self.old.cred (next_xid self.old) bytes }
         ensures answer { AnswersPut self.old (check_of self.old) result }
         ensures settings { KeepsSettings self.old self.new }
@@ -176,7 +176,7 @@ impl<P: Drop> Calls<P> {
 
     /// Gives the oldest record that is due, and counts one attempt for it: it is due no more. None exactly where none
     /// is due.
-    pub fn next_send(&mut self) -> Option<&[u8]>
+    pub fn next_send(&mut self) -> Option<&Record>
         ensures* ends { sem 𝓛 (ends_with P.row self.entry (sent self.old.calls)) }
         ensures gives { option_map (λ bytes. bytes.now) result ≡ option_map (λ e. e.1.bytes) (first_due self.old.calls) }
         ensures records { KeepsRecords self.old (sent self.old.calls) }
@@ -185,7 +185,7 @@ impl<P: Drop> Calls<P> {
         let at = place_of_due(&self.calls)?;
         let call = &mut self.calls[at];
         call.send();
-        Some(call.bytes.bytes())
+        Some(&call.bytes)
     }
 
     /// Takes the reply to a call that waits, which waits no more (RFC 5531, section 9). Dropped exactly where the
@@ -200,16 +200,34 @@ impl<P: Drop> Calls<P> {
         ensures records { KeepsRecords self.old self.new.calls }
         ensures dropped { IfDropped result (self.new ≡ self.old) }
     {
-        let Some(xid) = xid_of(rec) else {
-            return Taken::Dropped;
-        };
-        match self.calls.shift_remove(&xid) {
-            Some(call) => Taken::Took {
+        match self.take_purpose(rec) {
+            Some((xid, purpose)) => Taken::Took {
                 xid,
-                purpose: call.purpose,
+                purpose,
                 body: read_reply(rec),
             },
             None => Taken::Dropped,
+        }
+    }
+
+    /// As `take`, for a caller that reads the record itself: the xid of the call, and what it was made for. None exactly where
+    /// `take` drops the record.
+    pub fn take_purpose(&mut self, rec: &[u8]) -> Option<(u32, P)>
+        ensures answer { TakesPurpose self.old.calls rec.now result }
+        ensures settings { KeepsSettings self.old self.new }
+        ensures made { self.new.made ≡ self.old.made }
+        ensures calls { self.new.calls ≡ after_taking (xid_at rec.now) self.old.calls }
+        ensures step { IfSome result (λ took. DoesTake self.old took.0 self.new) }
+        ensures gone { IfSome result (λ took. waiting_at took.0 self.new.calls ≡ None) }
+        ensures records { KeepsRecords self.old self.new.calls }
+        ensures dropped { IfNone result (self.new ≡ self.old) }
+    {
+        let Some(xid) = xid_of(rec) else {
+            return None;
+        };
+        match self.calls.shift_remove(&xid) {
+            Some(call) => Some((xid, call.purpose)),
+            None => None,
         }
     }
 
@@ -238,12 +256,13 @@ impl<P: Drop> Calls<P> {
     }
 
     /// The record of the next call.
-    fn spell(&self, prog: u32, proc: u32, args: &[u8]) -> Result<Blob, Memory>
+    #[tactic(auto, using(xdr_codec::proofs::Written::finished))]
+    fn spell(&self, prog: u32, proc: u32, args: &[u8]) -> Result<Record, Memory>
         ensures bytes { IfOk result (λ bytes. bytes ≡ call_bytes self.now.cred (next_xid self.now) prog proc args.now) }
         ensures spelled { IfOk result (λ bytes. SpellsCallHead (call_head (next_xid self.now) prog proc) args.now bytes) }
     {
         let mut record = self.begin(prog, proc)?;
         record.raw(args)?;
-        Ok(record.finish())
+        record.finish_record(self.alloc)
     }
 }

@@ -3,13 +3,13 @@
 ghost use Rattle.std.specs.Prelude.{◌≡◌, ◌<◌};
 ghost use Rattle.rpc_retry.specs.Waiting.{made_call, sent_call, failed_call};
 
-use xdr_codec::Blob;
+use xdr_codec::Record;
 
 /// A call that waits for its reply, as contracts show it; no call hands one out.
 #[derive(Debug, Drop)]
 pub struct Waiting<P> {
     /// Its record, which never changes.
-    pub bytes: Blob,
+    pub bytes: Record,
     /// What it was made for.
     pub purpose: P,
     /// Whether it is to be sent.
@@ -22,7 +22,7 @@ pub struct Waiting<P> {
 
 impl<P> Waiting<P> {
     /// A call that was just made.
-    pub(crate) fn new(bytes: Blob, purpose: P) -> Waiting<P>
+    pub(crate) fn new(bytes: Record, purpose: P) -> Waiting<P>
         ensures { result ≡ made_call bytes purpose }
     {
         Waiting {

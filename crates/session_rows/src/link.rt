@@ -2,7 +2,7 @@
 
 use crate::case::Case;
 use crate::narrow::Narrow;
-use crate::text::{bytes_of, number_of};
+use crate::text::{number_of, record_of};
 use export_fs::Export;
 use nfs_file_calls::{FileCall, FileKept};
 use nfs_types::Handle;
@@ -93,8 +93,8 @@ fn call<L: Link>(
 ) -> io::Result<()> {
     match word {
         "dial" => show_answer(rt, link.dial(port_of(rest))),
-        "send" => match bytes_of(alloc, rest) {
-            Ok(record) => show_answer(rt, link.send(record.as_slice())),
+        "send" => match record_of(alloc, rest) {
+            Ok(record) => show_answer(rt, link.send(&record)),
             Err(_) => println!(rt; "  out of memory"),
         },
         "note" => match link.note(Mark::Clock { ms: 4 }) {

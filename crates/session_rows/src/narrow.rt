@@ -63,6 +63,10 @@ impl Wire for Narrow {
         WireRead::Silent
     }
 
+    fn tells(&self) -> bool {
+        false
+    }
+
     fn note(&mut self, _mark: Mark) -> Result<(), Memory> {
         Ok(())
     }

@@ -6,3 +6,4 @@ pub mod StaysHonest
 pub mod AfterCalls
 pub mod WaitTurns
 pub mod TurnEnds
+pub mod Untold

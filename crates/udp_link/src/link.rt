@@ -12,7 +12,7 @@ use outside::{Arrived, DatagramAdds, Datagrams, Link, LinkFault, Received};
 use std::alloc::Global;
 use std::marker::Model;
 use world_model::Mark;
-use xdr_codec::Memory;
+use xdr_codec::{Memory, Record};
 
 /// The most datagrams from other ports that one wait passes over.
 const MOST_PASSED: u32 = 1_024;
@@ -176,16 +176,17 @@ impl<D: Datagrams + Drop> Link for UdpLink<D> {
         }
     }
 
-    fn send(&mut self, rec: &[u8]) -> Result<(), LinkFault>
+    fn send(&mut self, rec: &Record) -> Result<(), LinkFault>
         ensures told { Tells (told_by D.told self.old) (told_by D.told self.new) (sent_as rec.now result) }
         ensures honest { HonestOver D.told D.honest self.old.over self.old.kept → HonestOver D.told D.honest self.new.over self.new.kept }
         ensures cause { HasCause (self.old.below + self.old.own) (self.new.below + self.new.own) result }
         ensures sends { Sends D.told self.old self.new rec.now result }
     {
-        if !self.over.keep_unsent(rec) {
+        let bytes = rec.bytes();
+        if !self.over.keep_unsent(bytes) {
             return Err(LinkFault::Memory);
         }
-        match self.over.send(rec) {
+        match self.over.send(bytes) {
             Ok(()) => {
                 self.over.put_place(DatagramAdds::Nothing);
                 Ok(())
@@ -206,6 +207,12 @@ impl<D: Datagrams + Drop> Link for UdpLink<D> {
         ensures waited { Waited D.told rec.new.items result self.old self.new }
     {
         self.wait(wait_ms, rec)
+    }
+
+    fn tells(&self) -> bool
+        ensures { OnFalse result (told_by D.told self.now ≡ None) }
+    {
+        self.over.tells()
     }
 
     fn note(&mut self, mark: Mark) -> Result<(), Memory>

@@ -1,6 +1,6 @@
 //! Calls of GETPORT, and their replies.
 
-use portmap_calls::{answer, get_port_call, read_mapping, read_port};
+use portmap_calls::{Mapping, answer, get_port_call, read_mapping, read_port};
 use std::alloc::Global;
 use std::io;
 use xdr_codec::{Blob, Memory};
@@ -8,9 +8,14 @@ use xdr_codec::{Blob, Memory};
 /// Prints the record of the call under an xid that asks for the mapping which arguments hold.
 pub fn call(rt: &impl Print, alloc: Global, xid: u32, bytes: &[u8]) -> io::Result<()> {
     match read_mapping(bytes) {
-        Ok(wanted) => record(rt, alloc, get_port_call(alloc, xid, &wanted)),
+        Ok(wanted) => record(rt, alloc, call_bytes(alloc, xid, &wanted)),
         Err(fault) => println!(rt; "{fault:?}"),
     }
+}
+
+/// The record of the call under an xid.
+fn call_bytes(alloc: Global, xid: u32, wanted: &Mapping) -> Result<Blob, Memory> {
+    get_port_call(alloc, xid, wanted)?.share(alloc)
 }
 
 /// Prints the port that results hold.

@@ -13,7 +13,7 @@ use crate::server::Server;
 use crate::world::World;
 use outside::{LinkFault, PairLink, Received};
 use world_model::Mark;
-use xdr_codec::Memory;
+use xdr_codec::{Memory, Record};
 
 /// A link of two clients to one simulated server that does what a schedule says, and tells the history of both. Transmissions and dials are counted
 /// over both ends. A transmission of either end waits for its turn, which it has when a client waits and no reply for that client is ready. A dial fails
@@ -94,14 +94,14 @@ impl PairLink for PairWorld {
         self.world.dial_port(end, port)
     }
 
-    fn send(&mut self, end: u8, rec: &[u8]) -> Result<(), LinkFault>
+    fn send(&mut self, end: u8, rec: &Record) -> Result<(), LinkFault>
         requires { end < 2 }
         ensures told { PairTells end (Some (told_pair (seen_pair self.old))) (Some (told_pair (seen_pair self.new))) (sent_as rec.now result) }
         ensures honest { IsHonestPair (seen_pair self.old) → IsHonestPair (seen_pair self.new) }
         ensures cause { HasCause (seen_pair self.old).world.faults (seen_pair self.new).world.faults result }
         ensures exact { SendsAt end (seen_pair self.old) (seen_pair self.new) rec.now result }
     {
-        self.world.send_record(end, rec)
+        self.world.send_record(end, rec.bytes())
     }
 
     fn receive(&mut self, end: u8, _wait_ms: u32, rec: &mut Vec<u8>) -> Received
@@ -116,6 +116,10 @@ impl PairLink for PairWorld {
             return Received::Memory;
         }
         self.hand_out(end, rec)
+    }
+
+    fn tells(&self) -> bool {
+        true
     }
 
     fn note(&mut self, end: u8, mark: Mark) -> Result<(), Memory>

@@ -33,7 +33,7 @@ use outside::{Link, LinkFault, Received};
 use std::alloc::Global;
 use std::collections::{BTreeMap, VecDeque};
 use world_model::{Call, Entry, Mark};
-use xdr_codec::{Blob, Memory};
+use xdr_codec::{Blob, Memory, Record};
 
 /// The number of the last dial that a schedule can name.
 const LAST_DIAL: u32 = 4_294_967_295;
@@ -403,14 +403,14 @@ impl Link for World {
         self.dial_port(ONLY, port)
     }
 
-    fn send(&mut self, rec: &[u8]) -> Result<(), LinkFault>
+    fn send(&mut self, rec: &Record) -> Result<(), LinkFault>
         ensures told { Tells (Some (told (seen self.old))) (Some (told (seen self.new))) (sent_as rec.now result) }
         ensures stays { (first : World) → (told (seen self.old)).at 0 ≡ (told (seen first)).at 0 → (told (seen self.new)).at 0 ≡ (told (seen first)).at 0 }
         ensures honest { IsHonestWorld (seen self.old) → IsHonestWorld (seen self.new) }
         ensures cause { HasCause self.old.faults self.new.faults result }
         ensures exact { steps.Sends (seen self.old) (seen self.new) rec.now result }
     {
-        self.send_record(ONLY, rec)
+        self.send_record(ONLY, rec.bytes())
     }
 
     fn receive(&mut self, _wait_ms: u32, rec: &mut Vec<u8>) -> Received
@@ -425,6 +425,10 @@ impl Link for World {
             return Received::Memory;
         }
         self.hand_out(ONLY, rec)
+    }
+
+    fn tells(&self) -> bool {
+        true
     }
 
     fn note(&mut self, mark: Mark) -> Result<(), Memory>

@@ -1,5 +1,5 @@
 -- The written spelling is a spelling.
-use Rattle.std.proofs.Common.{replicate, ◌≡◌, ◌≤◌, ◌<◌, ◌^◌, ℕ, Bool, true, false, List, ◌++◌, length, Option, Some, None, Result, Ok, Err, OnOk, refl, ◌∙◌}
+use Rattle.std.proofs.Common.{replicate, ◌≡◌, ◌≤◌, ◌<◌, ◌^◌, ℕ, Bool, true, false, List, ◌++◌, length, Option, Some, None, Result, Ok, Err, OnOk, IfOk, refl, sym, subst, ◌∙◌}
 use Rattle.std.proofs.lemmas.List.{length-replicate}
 use Rattle.xdr_codec.specs.Reading.{padding}
 use Rattle.xdr_codec.specs.Spelling.{u32_bytes, u64_bytes, flag_bytes, fixed_bytes, opaque_bytes, opt_bytes}
@@ -62,3 +62,8 @@ wrote_u64 v old new fits is = wrote (SpellsU64 v) (u64_bytes v) old new (u64_wri
 
 pub wrote_flag : (v : Bool) (old new : List ℕ) → new ≡ old ++ flag_bytes v → Wrote (SpellsFlag v) old new
 wrote_flag v old new is = wrote (SpellsFlag v) (flag_bytes v) old new (flag_written v) is
+
+-- what is so of the bytes that were written is so of the record that they become
+pub finished : {E : Type 0} (P : List ℕ → Type 0) (out : List ℕ) (result : Result (List ℕ) E) → IfOk result (λ (rec : List ℕ). rec ≡ out) → P out → IfOk result P
+finished P out (Ok rec) is p = subst P (sym is) p
+finished P out (Err e) is p = tt

@@ -6,3 +6,4 @@ pub mod Lists
 pub mod Arms
 pub mod Whole
 pub mod Blobs
+pub mod Marks

@@ -5,10 +5,12 @@ mod blob;
 mod codec_fault;
 mod fits;
 mod reader;
+mod record;
 mod writer;
 
 pub use blob::{Blob, Memory};
 pub use codec_fault::CodecFault;
 pub use fits::{fits_u32, fits_u64};
 pub use reader::{Reader, XdrFault};
+pub use record::Record;
 pub use writer::Writer;

@@ -5,22 +5,26 @@ ghost use Rattle.xdr_codec.specs.Spelling.{u32_bytes, u64_bytes, flag_bytes, fix
 ghost use Rattle.xdr_codec.specs.Spells.{SpellsU32, SpellsU64, SpellsFlag, SpellsFixed, SpellsOpaque, Wrote};
 
 use crate::blob::{Blob, Memory};
+use crate::record::{MARK, Record};
 use byteorder::{BigEndian, ByteOrder};
 use std::alloc::Global;
 use std::marker::Model;
 
-/// Bytes to which more are appended.
+/// Bytes to which more are appended. In front of them there may be room for the mark of a record.
 #[derive(Drop)]
 pub struct Writer {
+    front: usize,
     bytes: Vec<u8>,
 }
 
 impl Model for Writer {
-    ghost use Rattle.std.specs.Prelude.{List, ℕ};
+    ghost use Rattle.std.specs.Prelude.{List, ℕ, ◌≤◌, drop, length};
 
     ghost Value = { List ℕ };
 
-    ghost view = { λ w. w.bytes.items };
+    ghost view = { λ w. drop w.front w.bytes.items };
+
+    ghost invariant = { λ w. w.front ≤ length w.bytes.items };
 }
 
 impl Writer {
@@ -29,6 +33,7 @@ impl Writer {
         ensures { result ≡ [] }
     {
         Writer {
+            front: 0,
             bytes: Vec::new(alloc),
         }
     }
@@ -38,8 +43,19 @@ impl Writer {
         ensures { IfOk result (λ w. w ≡ []) }
     {
         Ok(Writer {
+            front: 0,
             bytes: Vec::with_capacity(alloc, room)?,
         })
+    }
+
+    /// A writer of a record: as `with_room`, and there is room for the record's mark before its bytes, so that
+    /// `finish_record` copies nothing.
+    pub fn record(alloc: Global, room: usize) -> Result<Writer, Memory>
+        ensures { IfOk result (λ w. w ≡ []) }
+    {
+        let mut bytes = Vec::with_capacity(alloc, room.saturating_add(MARK))?;
+        bytes.extend_from_slice(&[0; MARK])?;
+        Ok(Writer { front: MARK, bytes })
     }
 
     /// Appends bytes as they are. When out of memory it is as it was.
@@ -93,7 +109,7 @@ impl Writer {
         ensures err { OnErr result (self.new ≡ self.old) }
         ensures spelled { OnOk result (Wrote (SpellsFixed (length bytes.now) bytes.now) self.old self.new) }
     {
-        let held = self.bytes.len();
+        let held = self.held();
         let written = self.padded(bytes);
         self.keep_or_cut(held, written)
     }
@@ -107,7 +123,7 @@ impl Writer {
         ensures err { OnErr result (self.new ≡ self.old) }
         ensures spelled { (max : ℕ) → length bytes.now ≤ max → OnOk result (Wrote (SpellsOpaque max bytes.now) self.old self.new) }
     {
-        let held = self.bytes.len();
+        let held = self.held();
         let written = self.counted(bytes);
         self.keep_or_cut(held, written)
     }
@@ -116,7 +132,37 @@ impl Writer {
     pub fn finish(self) -> Blob
         ensures { result ≡ self }
     {
-        Blob::of(self.bytes)
+        let mut bytes = self.bytes;
+        let held = bytes.len() - self.front;
+        bytes.rotate_left(self.front);
+        bytes.truncate(held);
+        Blob::of(bytes)
+    }
+
+    /// What was written, as a record that goes out. It is copied only where the writer wasn't made by `record`. One of 2^31
+    /// bytes or more is a record for which there is no memory.
+    pub fn finish_record(self, alloc: Global) -> Result<Record, Memory>
+        ensures { IfOk result (λ r. r ≡ self) }
+    {
+        if self.front == MARK {
+            Record::behind_room(alloc, self.bytes)
+        } else {
+            Record::copy(alloc, &self.bytes.as_slice()[self.front..])
+        }
+    }
+
+    /// How many bytes were written.
+    fn held(&self) -> usize
+        ensures { result ≡ length self.now }
+    {
+        self.bytes.len() - self.front
+    }
+
+    /// All behind the first `held` bytes goes.
+    fn cut(&mut self, held: usize)
+        ensures { self.new ≡ take held self.old }
+    {
+        self.bytes.truncate(self.front.saturating_add(held));
     }
 
     /// What was written stays if it was written whole. Else all behind the first `held` bytes goes.
@@ -126,7 +172,7 @@ impl Writer {
         ensures err { OnErr result (self.new ≡ take held self.old) }
     {
         if written.is_err() {
-            self.bytes.truncate(held);
+            self.cut(held);
         }
         written
     }

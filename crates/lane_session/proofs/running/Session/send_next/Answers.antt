@@ -54,7 +54,7 @@ pub returns-in-Ok-clause-core : goal.returns-in-Ok-clause-core
 returns-in-Ok-clause-core g c =
     let sent = rw c.in-Some.is at c.next_send.follows.holds-at-none in
     let new : Session = record c.args.self.now { core = c.next_send.follows.lender-at-none; counts = c.count.new.self } in
-    relates_call _ _ (Sent c.in-Some.rec.now ∷ []) (CoreGoes c.args.self.now new) (λ a b p. core-sends c.args.self.now new c.in-Some.rec.now a b c.requires.told sent c.count.ensures refl refl p) c.in-Ok.ensures.told
+    relates_call _ _ (Sent c.in-Some.rec.now ∷ []) (CoreGoes c.args.self.now new) (λ a b p. core-sends c.args.self.now new c.in-Some.rec.now a b c.requires.told sent (rw c.bytes.ensures at c.count.ensures) refl refl p) c.in-Ok.ensures.told
 
 pub returns-in-Err-Failed-clause-core : goal.returns-in-Err-Failed-clause-core
 returns-in-Err-Failed-clause-core g c =
@@ -62,7 +62,7 @@ returns-in-Err-Failed-clause-core g c =
     let r = rw c.in-Err-Failed.field-0-is at c.in-Err-Failed.ensures in
     let mid : Session = record c.args.self.now { core = c.next_send.follows.lender-at-none; counts = c.count.new.self } in
     relates_call _ _ (Sent c.in-Some.rec.now ∷ Failed ∷ []) (CoreGoes c.args.self.now c.fail.new.self)
-    (λ a b p. core-sends-fails c.args.self.now mid c.fail.new.self c.in-Some.rec.now a b c.requires.told c.requires.live.calls sent c.count.ensures refl refl c.fail.ensures p) r.told
+    (λ a b p. core-sends-fails c.args.self.now mid c.fail.new.self c.in-Some.rec.now a b c.requires.told c.requires.live.calls sent (rw c.bytes.ensures at c.count.ensures) refl refl c.fail.ensures p) r.told
 
 pub returns-in-Err-Memory-clause-core : goal.returns-in-Err-Memory-clause-core
 returns-in-Err-Memory-clause-core g c =

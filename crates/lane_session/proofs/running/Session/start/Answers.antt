@@ -10,20 +10,17 @@ returns-in_default-clause-goes g c = start-none _ _ c.args.lane c.args.line c.ar
 
 pub returns-in-Ok-note_beginning-clause-goes : goal.returns-in-Ok-note_beginning-clause-goes
 returns-in-Ok-note_beginning-clause-goes g c =
-    start-now _ _ _ _ c.args.lane c.args.line c.args.op.now c.in-Ok-copy.noted c.in-Ok.machine c.args.self.now c.begin.new.self c.in-Ok-note_beginning.now c.in-Ok-copy.ensures c.in-Ok.ensures.is
+    start-now _ _ _ _ c.args.lane c.args.line c.args.op.now c.args.op.now c.in-Ok.machine c.args.self.now c.begin.new.self c.in-Ok-note_beginning.now refl c.in-Ok.ensures.is
     c.in-Ok-note_beginning.ensures.reading c.begin.ensures c.in-Ok-note_beginning.ensures.goes
 
 pub returns-in-Err-clause-goes : goal.returns-in-Err-clause-goes
-returns-in-Err-clause-goes g c = start-cut _ _ _ _ c.args.lane c.args.line c.args.op.now c.in-Ok-copy.noted c.args.self.now c.args.self.now c.in-Err.wanting c.in-Err.ensures.goes
+returns-in-Err-clause-goes g c = start-cut _ _ _ _ c.args.lane c.args.line c.args.op.now c.args.op.now c.args.self.now c.args.self.now c.in-Err.wanting c.in-Err.ensures.goes
 
 pub returns-in-Ok-note_beginning-clause-fits : goal.returns-in-Ok-note_beginning-clause-fits
 returns-in-Ok-note_beginning-clause-fits g c = subst Fits c.in-Ok.ensures.is c.in-Ok.ensures.fits
 
 pub returns-in_default-clause-dials : goal.returns-in_default-clause-dials
 returns-in_default-clause-dials g c = keeps_none _ _
-
-pub returns-in_default-copy-clause-dials : goal.returns-in_default-copy-clause-dials
-returns-in_default-copy-clause-dials g c = keeps_none _ _
 
 pub returns-in-Ok-note_beginning-clause-dials : goal.returns-in-Ok-note_beginning-clause-dials
 returns-in-Ok-note_beginning-clause-dials g c = record { same = refl; only = dials_notes c.args.self.now.port _ _ _ _ _ _ _ c.note_beginning.ensures.goes.is }
@@ -33,9 +30,6 @@ returns-in-Err-clause-dials g c = record { same = refl; only = dials_notes c.arg
 
 pub returns-in_default-clause-marks : goal.returns-in_default-clause-marks
 returns-in_default-clause-marks g c = marks_none _
-
-pub returns-in_default-copy-clause-marks : goal.returns-in_default-copy-clause-marks
-returns-in_default-copy-clause-marks g c = marks_none _
 
 pub returns-in-Ok-note_beginning-clause-marks : goal.returns-in-Ok-note_beginning-clause-marks
 returns-in-Ok-note_beginning-clause-marks g c = marks_notes _ _ _ _ _ _ _ c.note_beginning.ensures.goes.is

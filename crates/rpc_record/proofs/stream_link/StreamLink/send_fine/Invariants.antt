@@ -10,9 +10,9 @@ use Rattle.rpc_record.proofs.stream_link.StreamLink.send_fine.Given as goal
 abbrev pub invariant-loop-at : goal.invariant-loop-at
 invariant-loop-at g l =
     Writing (shown_by g.W.Wire.told l.fn.self) (now_in g.W.Wire.told l.self-inside.line) l.self-inside.inbox (one_fragment l.rec) l.at
-    × (l.text.items ≡ one_fragment l.rec) × (l.self-inside.sending ≡ sendings.Fine)
+    × (l.size ≡ length (one_fragment l.rec)) × (l.self-inside.sending ≡ sendings.Fine)
     × (l.fn.self.wire ≤ l.self-inside.line.faults) × (l.self-inside.faults ≡ l.fn.self.own) × (l.self-inside.inbox.gather.phase ≡ l.fn.self.phase)
     × (HonestOver g.W.Wire.told g.W.Wire.honest (line_of l.fn.self) → HonestOver g.W.Wire.told g.W.Wire.honest l.self-inside.line)
 
 abbrev pub decreases-loop-at : goal.decreases-loop-at
-decreases-loop-at g l = length l.text.items - l.at
+decreases-loop-at g l = l.size - l.at

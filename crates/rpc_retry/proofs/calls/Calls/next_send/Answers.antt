@@ -34,8 +34,8 @@ returns g c =
       (refl, λ _. tt, ends_as _ c.args.self.now _ c.self.view_is (ap (set_value_at c.self.inside.calls.entries c.in_ok-at.at) c.send.ensures ∙ s.is)),
       record {
         ends = tt;
-        gives = ap Some (c.bytes.ensures ∙ ap (λ w. w.bytes) c.send.ensures) ∙ sym (ap (λ h. option_map (λ e. e.1.bytes) (first_due h.calls)) (sym c.self.view_is) ∙ s.bytes);
+        gives = ap Some (ap (λ w. w.bytes) c.send.ensures) ∙ sym (ap (λ h. option_map (λ e. e.1.bytes) (first_due h.calls)) (sym c.self.view_is) ∙ s.bytes);
         records = keeps_sent c.args.self.now;
-        step = (s.xid, does_send _ c.args.self.now s.xid c.index_mut-call.result.now c.bytes.result.now c.self.view_is s.oldest (c.bytes.ensures ∙ ap (λ w. w.bytes) c.send.ensures));
+        step = (s.xid, does_send _ c.args.self.now s.xid c.index_mut-call.result.now c.send.new.self.bytes c.self.view_is s.oldest (ap (λ w. w.bytes) c.send.ensures));
       },
     )
