@@ -2,6 +2,7 @@
 use Rattle.std.proofs.Common.{◌≡◌, ◌≤◌, ℕ, List, [], ◌++◌, length, false, Option, Some, None, Result, Ok, Err, refl, sym, ap, subst, ◌∙◌, arith, append-nil}
 use Rattle.std.proofs.lemmas.List.{length-append}
 use Rattle.std.specs.FinMap as map
+use Rattle.std.specs.Prelude.{IfOk}
 use Rattle.world_model.specs.declared.entry.Entry.{Entry}
 use Rattle.world_model.specs.declared.entry.Entry.TheVariants.{Dialed, Sent, Delivered, Failed}
 use Rattle.world_model.specs.declared.tally.Tally.{Tally}
@@ -24,7 +25,7 @@ use Rattle.core_facts.specs.Notes.{notes_fresh}
 use Rattle.lane_session.specs.declared.halt.Halt.{Halt}
 use Rattle.lane_session.specs.declared.running.Session.{Session}
 use Rattle.lane_session.specs.declared.top.End.{End}
-use Rattle.lane_session.specs.Bonds.{IsOpened, CanCount, EndsWith}
+use Rattle.lane_session.specs.Bonds.{IsOpened, CanCount, EndsPages, EndsWith, PagesOf}
 use Rattle.lane_session.specs.Going.{GoesOn, CutsOff}
 use Rattle.lane_session.specs.Losing.{LosesBy, LostLines, no_line, one_line, lost_line}
 use Rattle.lane_session.specs.Running.{IsFreshFor}
@@ -35,7 +36,7 @@ use Rattle.lane_session.proofs.LostOnce.{unmarked-stays}
 use Rattle.lane_session.proofs.Ending.{fresh-goes}
 use Rattle.lane_session.proofs.Passing.{relates_same, relates_less}
 use Rattle.lane_session.proofs.Resending.{resends-none}
-use Rattle.lane_session.proofs.Reaching.{ends-with, breaks-with, counts-with}
+use Rattle.lane_session.proofs.Reaching.{ends-with, breaks-with, counts-with, notes-with}
 use Rattle.lane_session.proofs.Tallying.{tally-by}
 
 -- ---- a session that is lost stays so
@@ -96,6 +97,9 @@ module _ (label : List ℕ) (script : List ScriptLine) (settings : Settings) (se
   done-with : (t : Session) (given text : List ℕ) → GoesOn label script s t given text h k → IsOpened (Some setup) h → EndsWith settings (Some setup) h k
   done-with t given text g o = ends-with settings setup s t h k may f (g.core [] (length h) (fresh-goes script settings setup s f h o.0.unmarked)) o
 
+  pages-with : (t : Session) (given text : List ℕ) → GoesOn label script s t given text h k → IsOpened (Some setup) h → PagesOf settings (Some setup) (Some t.core.shelf.pages) k
+  pages-with t given text g o = (t.core, notes-with settings setup s t h k may f (g.core [] (length h) (fresh-goes script settings setup s f h o.0.unmarked)) o, refl)
+
   broken-with : (halt : Halt) (given text : List ℕ) → CutsOff label script s halt given text h k → IsOpened (Some setup) h → EndsWith settings (Some setup) h k
   broken-with halt given text g o = breaks-with settings setup s h k may f (g.core [] (length h) (fresh-goes script settings setup s f h o.0.unmarked)) o
 
@@ -154,6 +158,35 @@ none-with settings setup h may sound o = record { core = first_view setup; notes
 
 -- ---- where the link tells its history
 
+-- a session that was cut off has no pages to hand back
+no-pages : (settings : Settings) (setup : Option Setup) (k : List Entry) → PagesOf settings setup None k
+no-pages settings None k = refl
+no-pages settings (Some setup) k = tt
+
+-- nor has one without a set-up
+none-pages : (settings : Settings) (result : Result End Halt) (k : List Entry) → IfOk result (λ end. end.pages ≡ None) → EndsPages settings None result k
+none-pages settings (Ok end) k none = none
+none-pages settings (Err halt) k none = tt
+
+-- a session that was cut off
+pub cut-pages : (a b : Option History) (R : List Entry → List Entry → Type 0) (settings : Settings) (setup : Setup) (halt : Halt) → Relates a b R
+    → Relates a b (λ h k. IsOpened (Some setup) h → EndsPages settings (Some setup) (Err halt) k)
+cut-pages a b R settings setup halt r = relates_less a b R (λ h k. IsOpened (Some setup) h → EndsPages settings (Some setup) (Err halt) k) (λ h k p o. tt) r
+
+-- one that was cut off before it began
+pub unbegun-pages : (t : Option History) (settings : Settings) (setup : Setup) (halt : Halt) → Relates t t (λ h k. IsOpened (Some setup) h → EndsPages settings (Some setup) (Err halt) k)
+unbegun-pages t settings setup halt = relates_same t (λ h k. IsOpened (Some setup) h → EndsPages settings (Some setup) (Err halt) k) (λ h o. tt)
+
+-- one without a set-up
+pub lost-pages : (a b : Option History) (R : List Entry → List Entry → Type 0) (settings : Settings) (result : Result End Halt) → IfOk result (λ end. end.pages ≡ None) → Relates a b R
+    → Relates a b (λ h k. IsOpened None h → EndsPages settings None result k)
+lost-pages a b R settings result none r = relates_less a b R (λ h k. IsOpened None h → EndsPages settings None result k) (λ h k p o. none-pages settings result k none) r
+
+-- and one that has none to hand back
+pub without-pages : (a b : Option History) (R : List Entry → List Entry → Type 0) (settings : Settings) (setup : Option Setup) → Relates a b R
+    → Relates a b (λ h k. IsOpened setup h → PagesOf settings setup None k)
+without-pages a b R settings setup r = relates_less a b R (λ h k. IsOpened setup h → PagesOf settings setup None k) (λ h k p o. no-pages settings setup k) r
+
 pub told-none : (t : Option History) (settings : Settings) (setup : Setup) → MaySetUp setup → AreSoundPages setup.pages → Relates t t (λ h k. IsOpened (Some setup) h → EndsWith settings (Some setup) h k)
 told-none t settings setup may sound = relates_same t (λ h k. IsOpened (Some setup) h → EndsWith settings (Some setup) h k) (λ h o. none-with settings setup h may sound o)
 
@@ -173,6 +206,12 @@ module _ (a b : Option History) (label : List ℕ) (script : List ScriptLine) (g
     told-done t p =
         relates_less a b (λ h k. GoesOn label script s t given text h k) (λ h k. IsOpened (Some setup) h → EndsWith settings (Some setup) h k)
         (λ h k g o. done-with label script settings setup s h k may f t given text g o) p
+
+    pub told-pages : (t : Session) → Relates a b (λ h k. GoesOn label script s t given text h k)
+        → Relates a b (λ h k. IsOpened (Some setup) h → PagesOf settings (Some setup) (Some t.core.shelf.pages) k)
+    told-pages t p =
+        relates_less a b (λ h k. GoesOn label script s t given text h k) (λ h k. IsOpened (Some setup) h → PagesOf settings (Some setup) (Some t.core.shelf.pages) k)
+        (λ h k g o. pages-with label script settings setup s h k may f t given text g o) p
 
     pub told-counted : (begun : Tally) (t : Session) → s.counts ≡ record { tally = begun; next = setup.first_xid } → Relates a b (λ h k. GoesOn label script s t given text h k)
         → Relates a b (λ h k. IsOpened (Some setup) h → begun ≡ tally_of h → t.counts.tally ≡ tally_of k)

@@ -38,7 +38,7 @@ use Rattle.core_facts.proofs.Cases.{sent_now}
 use Rattle.core_facts.proofs.Rows.{reached-rows, under}
 use Rattle.core_facts.proofs.Sound.{reached-sound}
 use Rattle.core_facts.specs.Reaches.{MaySetUp, MayHear, IsOpenLine, StepsTo, last_reading}
-use Rattle.core_facts.specs.Notes.{ComesAfter, NoneReady, notes_fresh}
+use Rattle.core_facts.specs.Notes.{Notes, ComesAfter, NoneReady, notes_fresh}
 use Rattle.lane_session.specs.declared.counts.Counts.{Counts}
 use Rattle.lane_session.specs.declared.running.Session.{Session}
 use Rattle.lane_session.specs.Bonds.{Start, SentSince, TakesAll, Bond, Bonded, HasCore, CoreGoes, CoreWent, CoreBy, steps, Redials, RedialsBy, IsOpened, EndsWith}
@@ -435,6 +435,12 @@ counted_from h = record { from = h; counted = true }
 pub ends-with : (settings : Settings) (setup : Setup) (s t : Session) (h k : List Entry) → MaySetUp setup → IsFreshFor settings setup s → CoreGoes s t h k → IsOpened (Some setup) h → EndsWith settings (Some setup) h k
 ends-with settings setup s t h k may f g o =
     core-of (mounted_by settings setup) setup (uncounted h) k t (g (mounted_by settings setup) setup (uncounted h) (fresh-bonded settings setup (uncounted h) s h may f refl (λ is. absurd cc) o))
+
+-- the core at the end of its lines
+pub notes-with : (settings : Settings) (setup : Setup) (s t : Session) (h k : List Entry) → MaySetUp setup → IsFreshFor settings setup s → CoreGoes s t h k → IsOpened (Some setup) h
+    → Notes (machine_of (mounted_by settings setup)) setup k t.core
+notes-with settings setup s t h k may f g o =
+    (g (mounted_by settings setup) setup (uncounted h) (fresh-bonded settings setup (uncounted h) s h may f refl (λ is. absurd cc) o)).bond.notes
 
 pub breaks-with : (settings : Settings) (setup : Setup) (s : Session) (h k : List Entry) → MaySetUp setup → IsFreshFor settings setup s → CoreWent s h k → IsOpened (Some setup) h → EndsWith settings (Some setup) h k
 breaks-with settings setup s h k may f g o = g (mounted_by settings setup) setup (uncounted h) (fresh-bonded settings setup (uncounted h) s h may f refl (λ is. absurd cc) o)

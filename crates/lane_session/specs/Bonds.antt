@@ -1,5 +1,6 @@
 -- How the core goes with the history, so that all that holds of such a core holds of a session.
 use Rattle.std.specs.Prelude.{◌≡◌, ◌≤◌, ◌<◌, ◌⊎◌, ℕ, suc, List, [], ◌∷◌, ◌++◌, length, Bool, true, false, slice_get, Option, Some, None, Result, Ok, Err}
+use Rattle.page_cache.specs.Pages.{Pages}
 use Rattle.rpc_retry.specs.declared.waiting.Waiting.{Waiting}
 use Rattle.rpc_retry.specs.Waiting.{waiting_at}
 use Rattle.xdr_codec.specs.declared.blob.Memory.{Memory}
@@ -154,6 +155,17 @@ CanCount None h = Unit {0}
 abbrev pub EndsWith : Settings → Option Setup → List Entry → List Entry → Type 0
 EndsWith settings (Some setup) h k = HasCore (mounted_by settings setup) setup h k
 EndsWith settings None h k = IsLost k (length k)
+
+-- Pages that a session hands back are those of a core that goes with its history. Without a set-up there are none.
+abbrev pub PagesOf : Settings → Option Setup → Option Pages → List Entry → Type 0
+PagesOf settings (Some setup) (Some pages) k = (v : View) × Notes (machine_of (mounted_by settings setup)) setup k v × (pages ≡ v.shelf.pages)
+PagesOf settings (Some setup) None k = Unit {0}
+PagesOf settings None pages k = pages ≡ None
+
+-- so it is where each line had its answer
+abbrev pub EndsPages : Settings → Option Setup → Result End Halt → List Entry → Type 0
+EndsPages settings setup (Ok end) k = PagesOf settings setup end.pages k
+EndsPages settings setup (Err halt) k = Unit {0}
 
 -- Without a set-up nothing but the loss is noted.
 abbrev pub LosesAll : Option Setup → List ScriptLine → List Entry → List Entry → Type 0

@@ -35,6 +35,7 @@ use limits::{ATTEMPTS, CONNECTS, LANES, STRAY_RECORDS, WAIT_MS};
 use nfs_script::Script;
 use op_machines::{Machine, Mounted};
 use outside::{Clock, Link, LinkFault, Received, Sink};
+use page_cache::PageCache;
 use session_words::Settings;
 use std::alloc::Global;
 use world_model::{Op, Tally};
@@ -110,6 +111,13 @@ impl Session {
         ensures { result ≡ self.now.status }
     {
         self.status
+    }
+
+    /// The pages that are kept at the end.
+    pub(crate) fn into_pages(self) -> PageCache
+        ensures { result ≡ self.core.shelf.pages }
+    {
+        self.core.into_pages()
     }
 
     /// The calls that were sent so far, with those of the set-up.

@@ -8,7 +8,7 @@ ghost use Rattle.world_model.specs.Lost.{IsLost};
 ghost use Rattle.world_model.specs.Told.{Relates};
 ghost use Rattle.link_dials.specs.Dials.{DialsOnly};
 ghost use Rattle.core_facts.specs.Reaches.{MaySetUp};
-ghost use Rattle.lane_session.specs.Bonds.{IsOpened, CanCount, EndsWith, LosesAll, StaysLost, AreCounted};
+ghost use Rattle.lane_session.specs.Bonds.{IsOpened, CanCount, EndsWith, EndsPages, PagesOf, LosesAll, StaysLost, AreCounted};
 ghost use Rattle.lane_session.specs.Losing.{LosesOnly, status_of};
 ghost use Rattle.lane_session.specs.Sessions.{MayGo, IsUnmarked, SessionCounts, EndsBy, TellsEnd};
 ghost use Rattle.lane_session.specs.Statuses.{IsEnding, IsSessionStatus, CausedBy};
@@ -22,21 +22,25 @@ use crate::status;
 use client_core::Setup;
 use nfs_script::Script;
 use outside::{Clock, Link, Sink};
+use page_cache::PageCache;
 use session_words::Settings;
 use std::alloc::Global;
 use world_model::Tally;
 
 /// What a session comes to.
-#[derive(Clone, Copy, Debug)]
+#[derive(Drop)]
 pub struct End {
     /// The status by its answers.
     pub status: u8,
     /// The calls that were sent.
     pub tally: Tally,
+    /// The pages that are kept at the end. None where the session had no set-up.
+    pub pages: Option<PageCache>,
 }
 
 /// Runs each line of the script in its lane, and answers the status: 0 where each operation went well, 1 where one was refused, 5 where the
-/// sink failed, 6 where the link is lost, 7 for lack of memory outside an operation. Without a set-up the session is lost.
+/// sink failed, 6 where the link is lost, 7 for lack of memory outside an operation. Without a set-up the session is lost. Where each line had its
+/// answer, the pages that are kept at the end come with it.
 pub fn session<L: Link, C: Clock, K: Sink>(
     alloc: Global,
     settings: &Settings,
@@ -46,12 +50,13 @@ pub fn session<L: Link, C: Clock, K: Sink>(
     link: &mut L,
     clock: &mut C,
     out: &mut K,
-) -> u8
+) -> (u8, Option<PageCache>)
     requires may { MayGo setup }
     requires asked { All IsAskedLine script.now }
     requires few { length script.now ≤ 16384 }
-    ensures ending { IsEnding result }
-    ensures sink { result ≡ 5 → Rose (K.faults out.old) (K.faults out.new) }
+    ensures ending { IsEnding result.0 }
+    ensures sink { result.0 ≡ 5 → Rose (K.faults out.old) (K.faults out.new) }
+    ensures pages { Relates (L.told link.old) (L.told link.new) (λ h k. IsOpened setup h → PagesOf settings.now setup result.1 k) }
     ensures core { Relates (L.told link.old) (L.told link.new)
         (λ h k. IsOpened setup h → EndsWith settings.now setup h k) }
     ensures stays_lost { Relates (L.told link.old) (L.told link.new) (λ h k. IsUnmarked h → IsOpened setup h → StaysLost k) }
@@ -61,11 +66,14 @@ pub fn session<L: Link, C: Clock, K: Sink>(
     ensures honest { L.honest link.old → L.honest link.new }
     ensures shown { Passes (C.readings clock.old) (C.readings clock.new) (L.told link.old) (L.told link.new) (K.written out.old) (K.written out.new)
         (λ given text h k. IsUnmarked h
-        → SessionCounts (CanCount setup h) tally settings.now.count script.now given h k result text) }
+        → SessionCounts (CanCount setup h) tally settings.now.count script.now given h k result.0 text) }
 {
     match all_lines(alloc, settings, script, setup, tally, link, clock, out) {
-        Ok(end) => finish(alloc, &end, settings.count, out),
-        Err(halt) => status::of_halt(halt),
+        Ok(end) => {
+            let status = finish(alloc, &end, settings.count, out);
+            (status, end.pages)
+        }
+        Err(halt) => (status::of_halt(halt), None),
     }
 }
 
@@ -92,6 +100,7 @@ fn all_lines<L: Link, C: Clock, K: Sink>(
     ensures loses { Relates (L.told link.old) (L.told link.new) (LosesAll setup script.now) }
     ensures counted { Relates (L.told link.old) (L.told link.new)
         (λ h k. CanCount setup h → tally ≡ tally_of h → AreCounted result k) }
+    ensures pages { Relates (L.told link.old) (L.told link.new) (λ h k. IsOpened setup h → EndsPages settings.now setup result k) }
     ensures dials { DialsOnly settings.now.nfs_port (L.told link.old) (L.told link.new) }
     ensures stays { (first : L) → L.stays first link.old → L.stays first link.new }
     ensures honest { L.honest link.old → L.honest link.new }
@@ -124,6 +133,7 @@ fn run_lines<L: Link, C: Clock, K: Sink>(
     ensures core { Relates (L.told link.old) (L.told link.new)
         (λ h k. IsOpened (Some setup) h → EndsWith settings.now (Some setup) h k) }
     ensures counted { Relates (L.told link.old) (L.told link.new) (λ h k. IsOpened (Some setup) h → tally ≡ tally_of h → AreCounted result k) }
+    ensures pages { Relates (L.told link.old) (L.told link.new) (λ h k. IsOpened (Some setup) h → EndsPages settings.now (Some setup) result k) }
     ensures dials { DialsOnly settings.now.nfs_port (L.told link.old) (L.told link.new) }
     ensures stays { (first : L) → L.stays first link.old → L.stays first link.new }
     ensures honest { L.honest link.old → L.honest link.new }
@@ -135,10 +145,16 @@ fn run_lines<L: Link, C: Clock, K: Sink>(
         return Err(Halt::Memory);
     };
     match session.work(script, &[], link, clock, out) {
-        Ok(()) => Ok(End {
-            status: session.status,
-            tally: session.counts.tally,
-        }),
+        Ok(()) => {
+            let status = session.status;
+            let tally = session.counts.tally;
+            let pages = Some(session.into_pages());
+            Ok(End {
+                status,
+                tally,
+                pages,
+            })
+        }
         Err(halt) => Err(halt),
     }
 }
@@ -160,6 +176,7 @@ fn lose_all<L: Link, C: Clock, K: Sink>(
     ensures stays_lost { Relates (L.told link.old) (L.told link.new) (λ h k. IsUnmarked h → IsLost h (length h) → StaysLost k) }
     ensures loses { Relates (L.told link.old) (L.told link.new) (LosesOnly script.now) }
     ensures counted { Relates (L.told link.old) (L.told link.new) (λ h k. CanCount None h → tally ≡ tally_of h → AreCounted result k) }
+    ensures pages { IfOk result (λ end. end.pages ≡ None) }
     ensures dials { (port : ℕ) → DialsOnly port (L.told link.old) (L.told link.new) }
     ensures stays { (first : L) → L.stays first link.old → L.stays first link.new }
     ensures honest { L.honest link.old → L.honest link.new }
@@ -170,6 +187,7 @@ fn lose_all<L: Link, C: Clock, K: Sink>(
         Ok(()) => Ok(End {
             status: lost_status(script),
             tally,
+            pages: None,
         }),
         Err(halt) => Err(halt),
     }

@@ -59,7 +59,8 @@ pub fn run_lanes<L: Link, C: Clock, K: Sink>(
         Relates (L.told link.old) (L.told link.new) (λ before h. before ≡ [] → SessionBy Leaves settings.now script.now given h result text))) }
 {
     if script.count() == 0 {
-        return session(alloc, settings, script, None, NO_CALLS, link, clock, out);
+        let (status, _) = session(alloc, settings, script, None, NO_CALLS, link, clock, out);
+        return status;
     }
     let first = first_xid(settings.xid, clock);
     match set_up(alloc, settings, first, link) {
@@ -105,7 +106,7 @@ fn run_ready<L: Link, C: Clock, K: Sink>(
         lives: settings.lives,
         pages,
     };
-    session(
+    let (status, _) = session(
         alloc,
         settings,
         script,
@@ -114,7 +115,8 @@ fn run_ready<L: Link, C: Clock, K: Sink>(
         link,
         clock,
         out,
-    )
+    );
+    status
 }
 
 /// Ends a session that can't be set up: where it is lost each line is answered so, and else none begins.
@@ -140,7 +142,8 @@ fn end_early<L: Link, C: Clock, K: Sink>(
 {
     match fault {
         SetUpFault::Lost(tally) => {
-            session(alloc, settings, script, None, tally, link, clock, out)
+            let (status, _) = session(alloc, settings, script, None, tally, link, clock, out);
+            status
         }
         SetUpFault::Refused(fault) => refuse_mount(alloc, fault, out),
         SetUpFault::Memory => status::NO_MEMORY,

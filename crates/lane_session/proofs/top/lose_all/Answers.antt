@@ -1,4 +1,4 @@
-use Rattle.std.proofs.Common.{[], Ok, Err, refl}
+use Rattle.std.proofs.Common.{[], None, Ok, Err, refl}
 use Rattle.lane_session.specs.declared.top.End.{End}
 use Rattle.lane_session.specs.Losing.{by_lanes}
 use Rattle.lane_session.proofs.CoreEnds.{told-lost, told-lost-counted}
@@ -41,7 +41,7 @@ returns-in-Err-clause-loses g c = let p = c.in-Err.ensures.goes in told-loses _ 
 pub returns-in-Ok-clause-counted : goal.returns-in-Ok-clause-counted
 returns-in-Ok-clause-counted g c =
     let p = c.in-Ok.ensures.goes in
-    let end : End = record { status = c.lost_status.result; tally = c.args.tally } in
+    let end : End = record { status = c.lost_status.result; tally = c.args.tally; pages = None } in
     told-lost-counted _ _ [] (by_lanes 16 c.args.script.now) p.given p.text end c.args.tally refl p.told
 
 pub returns-in-Ok-clause-dials : goal.returns-in-Ok-clause-dials

@@ -3,7 +3,7 @@ use Rattle.script_runs.proofs.LaneRuns.{early_says, ready_says, empty_says, not_
 use Rattle.script_runs.proofs.lanes.run_lanes.Goals as goal
 
 pub returns-then-count-eq0-clause-shown : goal.returns-then-count-eq0-clause-shown
-returns-then-count-eq0-clause-shown g c = empty_says _ _ _ _ _ _ _ _ _ _ (omega (arith, c.count.ensures, c.if-count-eq0.true)) refl c.session.ensures.shown c.session.ensures.loses
+returns-then-count-eq0-clause-shown g c = empty_says _ _ _ _ _ _ _ _ _ _ (omega (arith, c.count.ensures, c.if-count-eq0.true)) refl c.session-status.ensures.shown c.session-status.ensures.loses
 
 pub returns-in-Ok-clause-shown : goal.returns-in-Ok-clause-shown
 returns-in-Ok-clause-shown g c = ready_says _ _ _ _ _ _ _ _ _ _ _ _ _ (not_empty _ (λ z. c.if-count-eq0.false (omega (arith, c.count.ensures, z)))) c.requires.asked c.in-Ok.ensures.fits c.first_xid-first.ensures.read c.in-Ok.ensures.goes c.run_ready.ensures.shown c.run_ready.ensures.core

@@ -19,11 +19,11 @@ pub returns-in_default-clause-shown : goal.returns-in_default-clause-shown
 returns-in_default-clause-shown g c =
     passes_same _ _ _ _ (λ h u. broken-counts _ c.args.ready.tally c.args.settings.now.count c.args.script.now Memory _ [] [] h h refl (broken-none c.args.script.now h u))
 
-pub session-requires-clause-may : goal.session-requires-clause-may
-session-requires-clause-may g c = rw c.in-Ok.ensures (c.requires.may)
+pub session-status-requires-clause-may : goal.session-status-requires-clause-may
+session-status-requires-clause-may g c = rw c.in-Ok.ensures (c.requires.may)
 
 pub returns-clause-core : goal.returns-clause-core
-returns-clause-core g c = rw c.in-Ok.ensures at c.session.ensures.core
+returns-clause-core g c = rw c.in-Ok.ensures at c.session-status.ensures.core
 
 pub returns-clause-shown : goal.returns-clause-shown
-returns-clause-shown g c = rw c.in-Ok.ensures at c.session.ensures.shown
+returns-clause-shown g c = rw c.in-Ok.ensures at c.session-status.ensures.shown
