@@ -102,7 +102,7 @@ pub record CallsShown (terms : Terms) (setup : Setup) (before h : List Entry) : 
   pub among : (i xid : ℕ) (bytes : List ℕ) → At h i (Sent bytes) → HasXid bytes xid → (i < length before) ⊎ IsAmong setup.first_xid setup.limit xid
   pub lone_puts : (i : ℕ) (bytes : List ℕ) → At h i (Sent bytes) → (i < length before) ⊎ IsMadeAlone terms terms.cred h i bytes
 
--- Of a session that follows a script no more calls are made than its operations need, by `CallCounts` of `world_model`, each at most four times where a busy
+-- Of a session that follows a script no more calls are made than its operations need, by `CallCounts` of `claims`, each at most four times where a busy
 -- server puts it off: of equal plain calls, for each operation that asks, as many as its paths have names and three more; of a file as many READs as the pages
 -- take that its reads ask for, and one more for each short reply; of WRITEs that cover a place of it, one for each operation that writes it, for each reply
 -- that leaves it unwritten, and for each COMMIT of the file; two COMMITs for each sync, close and put of it, and 32 for each writer where these may have no
@@ -192,7 +192,7 @@ pub record KeptShown (terms : Terms) (setup : Setup) (h : List Entry) (core : Vi
 
 -- ---- in the words of the model
 
--- The history of a session that follows a script and ends with a status is `Caused`, by `world_model`: each call was asked for, and not too many were made;
+-- The history of a session that follows a script and ends with a status is `Caused`, by `claims`: each call was asked for, and not too many were made;
 -- each answer has its row; a missing place or right is answered so; a session that is lost stays lost; and where an operation was refused since all calls
 -- were made, at status 0 or 1, they were.
 abbrev pub CausedShown : Terms → List Entry → Type 0
@@ -207,7 +207,7 @@ CausedShown terms h = (lines : List ScriptLine) (status : ℕ) → Follows (entr
 -- file at every moment at which the file has the known stamp. The attributes of a stat are as old at most as the lifetimes allow, and an open or put
 -- found its file under its name. Where cookies rise too, a list shows what its directory held. What is stable when an open begins, and stays, is in the
 -- answers of its reads, where this client gave its place no other byte. And each byte of a read is current, by
--- `world_model`: one that may be pending at a moment of the read, one that the file had at a moment of which the read may show bytes, or a zero in a hole.
+-- `claims`: one that may be pending at a moment of the read, one that the file had at a moment of which the read may show bytes, or a zero in a hole.
 pub record HonestShown (s : Settings) (root : List ℕ) (core : View) (t : History) : Type 0 where
   pub stats : (lane x y : ℕ) (path : List (List ℕ)) (attr : Attr) → Ended t.entries lane x (ops.Stat path) y (Done (Attrs attr))
       → HadWhereLed t (longest_of s.lives) x y root path attr
@@ -232,9 +232,9 @@ pub record HonestShown (s : Settings) (root : List ℕ) (core : View) (t : Histo
 
 -- Of an honest server that executes no late copies: each byte of a put that went well, as the only operation until then, is in its file from the answer
 -- on, and stable; and so is each byte of a write, fill or put from the answer on that settled it: of a sync, close or put that went well and began after the
--- write was answered, or of the put itself: `world_model`'s `Settled`. (`synced` says it without the server's objects: as long as no other operation of this
+-- write was answered, or of the put itself: `claims`'s `Settled`. (`synced` says it without the server's objects: as long as no other operation of this
 -- client, and no other client, changes its place; and before it was settled no last close left the file, with a refusal.) Past the size of a truncate that went
--- well there is no byte but a zero, unless the place was touched. Where each change of an object gives it another stamp, too, reads are true, by `world_model`:
+-- well there is no byte but a zero, unless the place was touched. Where each change of an object gives it another stamp, too, reads are true, by `claims`:
 -- each shows the bytes of the writes, fills and puts that went well before it, settled or not, and zeros past the sizes of truncates, unless these places were
 -- touched; and a short answer ends where the file did, and past all that this client wrote.
 pub record StableShown (s : Settings) (t : History) : Type 0 where
@@ -260,7 +260,7 @@ pub record CompleteShown (terms : Terms) (t : History) : Type 0 where
 -- ---- all
 
 -- A core goes with the history of a session that was set up so, with the history before, and this is what the history shows: among it that it is `Thrifty`, by
--- `world_model`: READs are long, and in one lane kept pages aren't asked for again, and WRITEs end only where they must; and of the server, where
+-- `claims`: READs are long, and in one lane kept pages aren't asked for again, and WRITEs end only where they must; and of the server, where
 -- it is honest and gives each change another stamp.
 pub record RunShows (s : Settings) (first : ℕ) (v : SetUp) (before h : List Entry) : Type 0 where
   pub has : HasCore (mounted_by s (setup_of s v)) (setup_of s v) before h
