@@ -1,13 +1,15 @@
 //! A user-space client of NFS version 3. `nfs3 run HOST WORDS` runs the script on standard input with the server at HOST over
-//! TCP, `nfs3 run --udp HOST WORDS` over UDP, and `nfs3 replay SCHEDULE WORDS` over a simulated server, which the file SCHEDULE
-//! describes. `nfs3 make N WORDS` runs a script that is made over such a server without a file. `nfs3 pair SCHEDULE SCRIPT` runs two
-//! scripts as two clients of a simulated server. `nfs3 export PORT CALLS`, with or without a SCHEDULE, serves a test export, over UDP
+//! TCP, `nfs3 run --udp HOST WORDS` over UDP, `nfs3 run --fsc FILE HOST WORDS` over TCP with pages that are kept in FILE, and
+//! `nfs3 replay SCHEDULE WORDS` over a simulated server, which the file SCHEDULE describes. `nfs3 make N WORDS` runs a script that
+//! is made over such a server without a file. `nfs3 pair SCHEDULE SCRIPT` runs two scripts as two clients of a simulated server.
+//! `nfs3 export PORT CALLS`, with or without a SCHEDULE, serves a test export, over UDP
 //! with `--udp` before the port. `nfs3 fsc-make FILE` makes a file of kept pages.
 #![tactic(auto)]
 
 mod connections;
 mod ending;
 mod export;
+mod kept;
 mod make;
 mod page_file;
 mod pair;
@@ -65,6 +67,13 @@ fn command(rt: &HostRuntime, mut words: Vec<String>) -> Ending {
             let host = words.remove(1);
             run::run_over_udp(rt, host.as_str(), words.as_slice())
         }
+        [name, fsc, _, _, ..] if name.as_str() == "run" && fsc.as_str() == "--fsc" => {
+            words.remove(1);
+            let path = words.remove(1);
+            let host = words.remove(1);
+            kept::run(rt, path.as_str(), host.as_str(), words.as_slice())
+        }
+        [name, fsc, ..] if name.as_str() == "run" && fsc.as_str() == "--fsc" => Ending::Usage,
         [name, _, ..] if name.as_str() == "run" => {
             let host = words.remove(1);
             run::run(rt, host.as_str(), words.as_slice())

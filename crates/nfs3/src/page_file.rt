@@ -50,7 +50,7 @@ fn format(rt: &HostRuntime, path: &str, pages: u32) -> Ending
 }
 
 /// How the program ends where a store failed.
-fn unformatted(fault: StoreFault) -> Ending
+pub(crate) fn unformatted(fault: StoreFault) -> Ending
     ensures { result ≡ unformatted_as fault }
 {
     match fault {
