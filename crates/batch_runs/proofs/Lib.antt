@@ -1,0 +1,15 @@
+pub mod Cuts
+pub mod Finding
+pub mod Idle
+pub mod Joining
+pub mod Nexts
+pub mod Opens
+pub mod Parts
+pub mod Saying
+pub mod Steps
+pub mod UpTo
+pub mod Whole
+pub mod Over
+pub mod LostSo
+pub mod Telling
+pub mod LostUpTo
