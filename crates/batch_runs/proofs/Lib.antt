@@ -1,3 +1,4 @@
+pub mod Causing
 pub mod Cuts
 pub mod Finding
 pub mod Idle
